@@ -11,7 +11,6 @@ use Rattle.lego_model.specs.declared.fault.TxnFault.{TxnFault}
 use Rattle.lego_model.specs.declared.fault.TxnFault.TheVariants.{NoMemory}
 use Rattle.net_txn.specs.Net.{NetState}
 use Rattle.net_txn.specs.Changes.{Changes}
-use Rattle.net_txn.specs.Agreement.{Reaches, Steps}
 use Rattle.app_visor.specs.Talks.{Told, Wants, give_act}
 
 -- one message for a switch, with its answer, and what was seen and kept before and after it
@@ -27,8 +26,6 @@ pub record Exchange (Own : Type 0) : Type 0 where
 -- as the network answered it
 pub record IsExchange {Own : Type 0} (Tells : Type 0) (x : Exchange Own) : Type 0 where
   pub changes : Changes Tells x.dpid x.bytes x.before x.after x.net x.now_net (Ok x.answer)
-  pub reached : Reaches Tells x.dpid x.bytes x.before x.after x.net (Ok x.answer)
-  pub in_step : Steps Tells x.dpid x.bytes x.before x.after x.net x.now_net (Ok x.answer)
 
 pub data Beat (Own : Type 0) : Type 0 where
   Talk : Act → Beat Own
@@ -77,10 +74,10 @@ pub record Exchanges {Own : Type 0} (Tells : Type 0) (app dpid : ℕ) (bytes : L
 
 -- ---- A turn that stops
 
--- memory was wanting, or the network failed at a message, in step with its switch where the world keeps its word
+-- memory was wanting, or the network failed at a message
 abbrev pub Halts : {Own : Type 0} → Type 0 → Seen Own → Seen Own → NetState → NetState → TxnFault → Type 0
 Halts Tells old new net now_net fault =
-    ((fault ≡ NoMemory) × (now_net ≡ net) × Wants Tells old new) ⊎ ((dpid : ℕ) × ((bytes : List ℕ) × (Changes Tells dpid bytes old new net now_net (Err fault) × Steps Tells dpid bytes old new net now_net (Err fault))))
+    ((fault ≡ NoMemory) × (now_net ≡ net) × Wants Tells old new) ⊎ ((dpid : ℕ) × ((bytes : List ℕ) × Changes Tells dpid bytes old new net now_net (Err fault)))
 
 -- Some beats lead to where it stopped.
 pub record Stops {Own : Type 0} (Tells : Type 0) (app : ℕ) (old new : Seen Own) (net now_net : NetState) (fault : TxnFault) : Type 0 where
@@ -91,7 +88,6 @@ pub record Stops {Own : Type 0} (Tells : Type 0) (app : ℕ) (old new : Seen Own
 
 -- what no message of an application changes of what the host keeps
 pub record Stays (net now_net : NetState) : Type 0 where
-  pub ports : now_net.ports ≡ net.ports
   pub moment : now_net.moment ≡ net.moment
   pub room : now_net.room ≡ net.room
 

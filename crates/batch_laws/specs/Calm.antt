@@ -1,10 +1,9 @@
--- How a run stands between batches: nothing waits anywhere, no packet is held, and what the engine knows is what is so. All of this is our own.
+-- How a run stands between batches: nothing waits anywhere, no packet is held, each switch that was lost is told, and what the engine knows is
+-- what is so. All of this is our own.
 use Rattle.std.specs.Prelude.{◌≡◌, ◌==◌, ℕ, false, List, [], ◌∷◌, Option, Some, None, if◌then◌else◌}
-use Rattle.std.specs.Option.{option_map}
 use Rattle.of_types.specs.declared.port_desc.PortDesc.{PortDesc}
-use Rattle.lego_model.specs.Controller.{ports_of}
 use Rattle.outside.specs.Seen.{Seen}
-use Rattle.outside.specs.State.{state, switch_of}
+use Rattle.outside.specs.State.{state}
 use Rattle.net_txn.specs.declared.ports.KnownPorts.{KnownPorts}
 use Rattle.net_txn.specs.Net.{NetState}
 use Rattle.switch_laws.specs.Since.{Ready}
@@ -20,9 +19,9 @@ pub record Calm {Own : Type 0} (seen : Seen Own) (net : NetState) : Type 0 where
   pub ready : Ready seen net
   pub sound : Sound (state seen)
   pub order : ViewsAscend 0 net.views
-  pub ports : (d : ℕ) → known_ports d net.ports ≡ option_map ports_of (switch_of d (state seen))
   pub kept : net.kept ≡ []
   pub moment : net.moment ≡ (state seen).moment
   pub none_begun : (state seen).begun ≡ false
   pub none_due : (state seen).due ≡ []
   pub held : net.held ≡ []
+  pub left : net.left ≡ []

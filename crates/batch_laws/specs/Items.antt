@@ -1,6 +1,6 @@
 -- What the engine does with one item that the outside told, in every world: what it then knows, what it has sent, and which messages it
 -- keeps (OpenFlow 1.0.0, 5.3.1 Handshake and 5.5.2 Echo Request). All of this is our own.
-use Rattle.std.specs.Prelude.{◌≡◌, ◌==◌, ℕ, Bool, true, false, not, List, [], ◌++◌, filter, Result, Ok, Err, IsOk, is_some, ◌⊎◌, map, Some}
+use Rattle.std.specs.Prelude.{◌≡◌, ◌≢◌, ◌==◌, ℕ, Bool, true, false, not, List, [], ◌∷◌, ◌++◌, filter, Result, Ok, Err, IsOk, is_some, ◌⊎◌, map, Some, None}
 use Rattle.of_types.specs.Fields.{IsBytes}
 use Rattle.of_types.specs.declared.port_desc.PortDesc.{PortDesc}
 use Rattle.of_wire.specs.declared.message.Message.{Message}
@@ -21,11 +21,14 @@ use Rattle.net_txn.specs.Views.{rows_at}
 use Rattle.net_txn.specs.Arriving.{arrival_steps}
 use Rattle.net_txn.specs.Joining.{Joins}
 use Rattle.net_txn.specs.JoiningSteps.{JoinsInStep}
-use Rattle.batch_laws.specs.Knowledge.{knowledge_of, joined_by, handled}
+use Rattle.lego_model.specs.RunReport.{lost_line}
+use Rattle.net_txn.specs.LinkSteps.{OnLinks, AsksWithoutStrays}
+use Rattle.net_txn.specs.Losing.{IsLost}
+use Rattle.batch_laws.specs.Knowledge.{knowledge_of, joined_by, handled, LosesAt, known_lost, text_lost}
 use Rattle.std.specs.List.{flat_map}
 use Rattle.of_types.specs.declared.journal.Act.TheVariants.{Sent, Got}
 use Rattle.flow_table.specs.Switch.{SwitchState, first_config}
-use Rattle.lego_model.specs.History.{released_of}
+use Rattle.lego_model.specs.History.{released_of, lost_of}
 use Rattle.lego_model.specs.Journal.{is_of, stimuli}
 use Rattle.switch_laws.specs.Orderly.{OrderlySince}
 use Rattle.batch_laws.specs.InBatch.{SameBesides}
@@ -105,32 +108,63 @@ pub record Departs (d : ℕ) (net now_net : NetState) (queue now_queue : List Ev
   pub log : now_net.log ≡ net.log
   pub room : now_net.room ≡ net.room
   pub held : now_net.held ≡ net.held
+  pub left : now_net.left ≡ net.left
   pub kept : now_net.kept ≡ kept_left (is_some (rows_at d net.views)) d net.kept
 
-pub record Enters {Own : Type 0} (Tells : Type 0) (d : ℕ) (m : Message) (old new : Seen Own) (net now_net : NetState) (queue now_queue : List Event) : Type 0 where
+pub record EntersStill {Own : Type 0} (Tells : Type 0) (d : ℕ) (m : Message) (text : List ℕ) (old new : Seen Own) (net now_net : NetState) (queue now_queue : List Event) : Type 0 where
   pub knowledge : knowledge_of now_net now_queue ≡ joined_by d m (knowledge_of net queue)
+  pub takes : TakesInBy Tells d m old new net now_net
+  pub text_so : text ≡ []
+
+-- it is lost
+pub record EntersNot {Own : Type 0} (Tells : Type 0) (d : ℕ) (text : List ℕ) (old new : Seen Own) (net now_net : NetState) (queue now_queue : List Event) : Type 0 where
+  pub is_lost : IsLost Tells d [] old new
+  pub knowledge : knowledge_of now_net now_queue ≡ knowledge_of net queue
+  pub kept : now_net.kept ≡ filter (λ m. not (m.0 == d)) net.kept
+  pub text_so : text ≡ lost_line d
+
+pub record Enters {Own : Type 0} (Tells : Type 0) (d : ℕ) (m : Message) (text : List ℕ) (old new : Seen Own) (net now_net : NetState) (queue now_queue : List Event) : Type 0 where
   pub log : now_net.log ≡ net.log
   pub room : now_net.room ≡ net.room
   pub held : now_net.held ≡ net.held
-  pub takes : TakesInBy Tells d m old new net now_net
+  pub left : now_net.left ≡ net.left
+  pub went : EntersStill Tells d m text old new net now_net queue now_queue ⊎ EntersNot Tells d text old new net now_net queue now_queue
 
 -- ---- The whole
 
-pub record Handles {Own : Type 0} (Tells : Type 0) (item : WorldStep) (old new : Seen Own) (net now_net : NetState) (queue now_queue : List Event) : Type 0 where
-  pub continues : Continues Tells old new
+-- no switch is lost at it
+pub record HandlesStill {Own : Type 0} (Tells : Type 0) (item : WorldStep) (text : List ℕ) (old new : Seen Own) (net now_net : NetState) (queue now_queue : List Event) : Type 0 where
   pub knowledge : knowledge_of now_net now_queue ≡ handled item (knowledge_of net queue)
+  pub does : Does Tells item old new net now_net
+  pub text_so : text ≡ []
+
+-- a switch is lost at it, and told
+pub record HandlesLost {Own : Type 0} (Tells : Type 0) (item : WorldStep) (text : List ℕ) (old new : Seen Own) (net now_net : NetState) (queue now_queue : List Event) : Type 0 where
+  pub dpid : ℕ
+  pub at : LosesAt dpid item (knowledge_of net queue)
+  pub is_lost : IsLost Tells dpid [] old new
+  pub links : OnLinks Tells old new
+  pub no_strays : AsksWithoutStrays Tells dpid old new
+  pub knowledge : knowledge_of now_net now_queue ≡ known_lost dpid item (knowledge_of net queue)
+  pub kept : now_net.kept ≡ filter (λ m. not (m.0 == dpid)) net.kept
+  pub text_so : text ≡ text_lost dpid item (knowledge_of net queue)
+
+-- It is handled, and this text noted.
+pub record Handles {Own : Type 0} (Tells : Type 0) (item : WorldStep) (text : List ℕ) (old new : Seen Own) (net now_net : NetState) (queue now_queue : List Event) : Type 0 where
+  pub continues : Continues Tells old new
   pub log : now_net.log ≡ net.log
   pub room : now_net.room ≡ net.room
   pub held : now_net.held ≡ net.held
-  pub does : Does Tells item old new net now_net
+  pub left : now_net.left ≡ []
+  pub went : HandlesStill Tells item text old new net now_net queue now_queue ⊎ HandlesLost Tells item text old new net now_net queue now_queue
 
 -- The outside told an item, whose bytes stand in a buffer of bytes, and the engine did this with it.
-pub record TakesNext {Own : Type 0} (Tells : Type 0) (item : Item) (old new : Seen Own) (net now_net : NetState) (queue now_queue : List Event) : Type 0 where
+pub record TakesNext {Own : Type 0} (Tells : Type 0) (item : Item) (text : List ℕ) (old new : Seen Own) (net now_net : NetState) (queue now_queue : List Event) : Type 0 where
   pub mid : Seen Own
   pub buf : List ℕ
   pub fit : IsBytes buf
   pub nexts : Nexts Tells old mid (Ok item) buf
-  pub handles : Handles Tells (item_step item buf) mid new net now_net queue now_queue
+  pub handles : Handles Tells (item_step item buf) text mid new net now_net queue now_queue
 
 abbrev pub waiting : List Link → List WorldStep
 waiting ls = flat_map (λ l. map (From l.declared.dpid) l.waits) ls
@@ -145,11 +179,30 @@ pub record Leaves (s t : State) : Type 0 where
   pub switches : (d : ℕ) → switch_of d t ≡ switch_of d s
   pub upcoming_so : upcoming t ≡ upcoming s
 
+-- the rest of a state, whatever becomes of switches
+pub record SameRest (s t : State) : Type 0 where
+  pub besides : SameBesides t s
+  pub begun : t.begun ≡ s.begun
+  pub due : t.due ≡ s.due
+
+-- A switch was lost where nothing waited of any: it is out, and nothing else moved or was told.
+pub record LossLeaves {Own : Type 0} (d : ℕ) (mid new : Seen Own) : Type 0 where
+  pub rest : SameRest (state mid) (state new)
+  pub out : switch_of d (state new) ≡ None
+  pub others : (e : ℕ) → e ≢ d → switch_of e (state new) ≡ switch_of e (state mid)
+  pub waits : (e : ℕ) → waits_of e (state new) ≡ []
+  pub lost : lost_of new ≡ lost_of mid ++ d ∷ []
+  pub stimuli_so : stimuli (journal new.history) ≡ stimuli (journal mid.history)
+  pub acts : (app : ℕ) → filter (is_of app) (journal new.history) ≡ filter (is_of app) (journal mid.history)
+  pub released : released_of new ≡ released_of mid
+  pub orderly : (app : ℕ) → OrderlySince app mid new
+
 abbrev pub IsSentOrGot : WorldStep → Type 0
 IsSentOrGot step = (d : ℕ) × (bytes : List ℕ) × ((step ≡ Acted (Sent d bytes)) ⊎ (step ≡ Acted (Got d bytes)))
 
 pub record ItemDone {Own : Type 0} (mid new : Seen Own) : Type 0 where
   pub given : new.given ≡ mid.given
+  pub lost : lost_of new ≡ lost_of mid
   pub leaves : Leaves (state mid) (state new)
   pub stimuli_so : stimuli (journal new.history) ≡ stimuli (journal mid.history)
   pub acts : (app : ℕ) → filter (is_of app) (journal new.history) ≡ filter (is_of app) (journal mid.history)

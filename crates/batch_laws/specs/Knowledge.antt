@@ -1,8 +1,10 @@
 -- What the engine knows of its network, and what each item that the outside tells makes of it: the events that wait then, and what is known
 -- of tables, ports and the moment (OpenFlow 1.0.0, 5.4 Asynchronous Messages). All of this is our own.
-use Rattle.std.specs.Prelude.{◌==◌, ℕ, Bool, not, List, [], ◌∷◌, ◌++◌, filter, Option, Some, None, Result, Ok, Err, is_some, if◌then◌else◌}
+use Rattle.std.specs.Prelude.{◌≡◌, ◌⊎◌, ◌==◌, ℕ, Bool, true, false, not, List, [], ◌∷◌, ◌++◌, filter, map, Option, Some, None, Result, Ok, Err, is_some, if◌then◌else◌}
+use Rattle.std.specs.List.{flat_map}
+use Rattle.lego_model.specs.RunReport.{lost_line}
 use Rattle.of_wire.specs.declared.message.Message.{Message}
-use Rattle.of_wire.specs.declared.message.Message.TheVariants.{FlowRemoved, PortStatus, FeaturesReply}
+use Rattle.of_wire.specs.declared.message.Message.TheVariants.{EchoRequest, FlowRemoved, PortStatus, FeaturesReply}
 use Rattle.of_wire.specs.declared.message.Envelope.{Envelope}
 use Rattle.of_wire.specs.declared.fault.WireFault.{WireFault}
 use Rattle.of_wire.specs.Reading.{reading_of}
@@ -16,7 +18,7 @@ use Rattle.net_txn.specs.declared.ports.KnownPorts.{KnownPorts}
 use Rattle.net_txn.specs.Net.{NetState}
 use Rattle.net_txn.specs.Views.{rows_at, with_rows}
 use Rattle.net_txn.specs.Joining.{with_view}
-use Rattle.net_txn.specs.Leaving.{ports_at, ports_text}
+use Rattle.net_txn.specs.Leaving.{ports_at, ports_text, left_event}
 use Rattle.net_txn.specs.Arriving.{key_removed, without_key, known_after, event_of}
 
 pub record Knowledge : Type 0 where
@@ -94,3 +96,53 @@ handled other k = k
 abbrev pub handled_all : List WorldStep → Knowledge → Knowledge
 handled_all [] k = k
 handled_all (item ∷ items) k = handled_all items (handled item k)
+
+-- ---- A switch is lost: at its joining, which makes no event then; or where its ECHO_REQUEST could not be answered (5.5.2 Echo Request)
+
+abbrev pub IsEcho : Message → Type 0
+IsEcho (EchoRequest payload) = Unit {0}
+IsEcho other = ⊥
+
+abbrev pub IsEchoRead : Result Envelope WireFault → Type 0
+IsEchoRead (Ok e) = IsEcho e.message
+IsEchoRead (Err fault) = ⊥
+
+-- the switch of the number may be lost at this item
+abbrev pub LosesAt : ℕ → WorldStep → Knowledge → Type 0
+LosesAt d (From e bytes) k = (e ≡ d) × (is_known d k ≡ true) × IsEchoRead (reading_of bytes)
+LosesAt d (Joined e bytes) k = (e ≡ d) × (is_known d k ≡ false)
+LosesAt d other k = ⊥
+
+-- the Leave events of switches that were lost, and their lines
+abbrev pub left_events : List KnownPorts → List Event
+left_events left = map left_event left
+
+abbrev pub lost_text : List KnownPorts → List ℕ
+lost_text left = flat_map (λ p. lost_line p.dpid) left
+
+abbrev pub ports_lost : ℕ → List KnownPorts → List KnownPorts
+ports_lost d ports = filter (λ p. p.dpid == d) ports
+
+-- a switch that is known leaves
+abbrev pub lost_by : ℕ → Knowledge → Knowledge
+lost_by d k = record {
+  views = filter (λ v. not (v.dpid == d)) k.views;
+  ports = filter (λ p. not (p.dpid == d)) k.ports;
+  moment = k.moment;
+  queue = k.queue ++ left_events (ports_lost d k.ports);
+}
+
+-- what is known then, and the line of the loss
+abbrev pub known_lost : ℕ → WorldStep → Knowledge → Knowledge
+known_lost d (From e bytes) k = lost_by d k
+known_lost d other k = k
+
+abbrev pub text_lost : ℕ → WorldStep → Knowledge → List ℕ
+text_lost d (From e bytes) k = lost_text (ports_lost d k.ports)
+text_lost d other k = lost_line d
+
+-- items, one after the other, at each of which a switch may be lost
+abbrev pub HandledTo : List WorldStep → Knowledge → Knowledge → Type 0
+HandledTo [] k now = now ≡ k
+HandledTo (item ∷ items) k now =
+    (mid : Knowledge) × (((mid ≡ handled item k) ⊎ ((d : ℕ) × LosesAt d item k × (mid ≡ known_lost d item k))) × HandledTo items mid now)

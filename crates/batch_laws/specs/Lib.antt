@@ -9,4 +9,6 @@ pub mod Keys
 pub mod Tells
 pub mod LinkTells
 pub mod Waiting
+pub mod Alone
+pub mod Told
 pub mod laws

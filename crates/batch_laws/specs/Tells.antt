@@ -1,5 +1,5 @@
 -- What items tell of a switch. All of this is our own.
-use Rattle.std.specs.Prelude.{◌≡◌, ◌≢◌, ℕ, ◌^◌, ◌<◌, List, ◌++◌, Some, Result, Ok, Err}
+use Rattle.std.specs.Prelude.{◌≡◌, ◌≢◌, ℕ, ◌^◌, ◌<◌, List, ◌++◌, Some, None, Result, Ok, Err}
 use Rattle.std.specs.List.{AllByRecursion}
 use Rattle.of_types.specs.declared.journal.Stimulus.{Stimulus}
 use Rattle.of_wire.specs.declared.message.Message.{Message}
@@ -13,15 +13,17 @@ use Rattle.flow_table.specs.Switch.{SwitchState}
 use Rattle.flow_table.specs.Step.{after_stimulus, sent_by_stimulus}
 use Rattle.undo_laws.specs.Owned.{owned_switch}
 use Rattle.lego_model.specs.Answers.{rows_of_table, rows_of_view}
-use Rattle.lego_model.specs.Controller.{ports_of, events_of, places_after, events_after}
+use Rattle.lego_model.specs.Events.{ports_of, events_of}
+use Rattle.lego_model.specs.Controller.{places_after, events_after, left_at}
+use Rattle.lego_model.specs.Places.{Place, with_place}
 use Rattle.outside.specs.declared.step.WorldStep.{WorldStep}
 use Rattle.outside.specs.declared.step.WorldStep.TheVariants.{From}
 use Rattle.net_txn.specs.Views.{rows_at, ViewsAscend}
 use Rattle.switch_laws.specs.Shown.{flags_in, shown_places}
-use Rattle.batch_laws.specs.Knowledge.{Knowledge}
+use Rattle.switch_laws.specs.Since.{ports_known}
+use Rattle.batch_laws.specs.Knowledge.{Knowledge, ports_lost}
 use Rattle.batch_laws.specs.Calm.{known_ports}
 use Rattle.outside.specs.State.{State, switch_of, after_stim, state}
-use Rattle.std.specs.Option.{option_map}
 use Rattle.of_types.specs.declared.journal.WorldStim.{WorldStim}
 use Rattle.app_frames.specs.declared.frame.Event.{Event}
 use Rattle.outside.specs.Seen.{Seen}
@@ -92,7 +94,19 @@ pub record StimulusHandled {Own : Type 0} (x : WorldStim) (seen : Seen Own) (net
   pub queue_so : k.queue ≡ queue ++ events_after x (state seen).moment (shown_places seen.given.declared net.views (state seen))
   pub places : shown_places seen.given.declared k.views (after_stim x (state seen)) ≡ places_after x (state seen).moment (shown_places seen.given.declared net.views (state seen))
   pub agrees : (d : ℕ) → Agrees d k.views (after_stim x (state seen))
-  pub ports : (d : ℕ) → known_ports d k.ports ≡ option_map ports_of (switch_of d (after_stim x (state seen)))
+  pub known : (d : ℕ) → ports_lost d k.ports ≡ ports_known d (switch_of d (after_stim x (state seen)))
   pub order : ViewsAscend 0 k.views
   pub moment : k.moment ≡ (after_stim x (state seen)).moment
   pub sound : Sound (after_stim x (state seen))
+
+-- What is so once a switch was lost while they were handled: as the reference controller has it, the switch is out.
+pub record StimulusLost {Own : Type 0} (x : WorldStim) (d : ℕ) (seen new : Seen Own) (net : NetState) (queue : List Event) (k : Knowledge) : Type 0 where
+  pub after : List Place
+  pub after_so : after ≡ places_after x (state seen).moment (shown_places seen.given.declared net.views (state seen))
+  pub queue_so : k.queue ≡ queue ++ left_at x d after
+  pub places : shown_places seen.given.declared k.views (state new) ≡ with_place d (λ o. None) after
+  pub agrees : (e : ℕ) → Agrees e k.views (state new)
+  pub known : (e : ℕ) → ports_lost e k.ports ≡ ports_known e (switch_of e (state new))
+  pub order : ViewsAscend 0 k.views
+  pub moment : k.moment ≡ (after_stim x (state seen)).moment
+  pub sound : Sound (state new)

@@ -9,7 +9,14 @@ pub mod ReferenceLaws
 pub mod AfterLaws
 pub mod LeaveTellLaws
 pub mod JoinTellLaws
+pub mod AloneLaws
+pub mod KnownPortsLaws
 pub mod StimulusLaws
+pub mod KeepingLaws
+pub mod LossLaws
 pub mod HandleLaws
 pub mod ItemLaws
+pub mod GoneLaws
+pub mod UpcomingLaws
+pub mod BatchItemLaws
 pub mod InBatchLaws

@@ -1,6 +1,6 @@
 //! Laws of batches, each the contract of a function that does nothing.
 
-ghost use Rattle.std.specs.Prelude.{◌≡◌, ℕ, List};
+ghost use Rattle.std.specs.Prelude.{◌≡◌, ℕ, Bool, List};
 ghost use Rattle.std.specs.List.{AllByRecursion};
 ghost use Rattle.of_types.specs.declared.journal.WorldStim.{WorldStim};
 ghost use Rattle.app_frames.specs.declared.frame.Event.{Event};
@@ -10,7 +10,9 @@ ghost use Rattle.outside.specs.Conforming.{Conforming, IsWorldStim};
 ghost use Rattle.net_txn.specs.Net.{NetState};
 ghost use Rattle.batch_laws.specs.Knowledge.{knowledge_of, handled_all};
 ghost use Rattle.batch_laws.specs.Calm.{Calm};
-ghost use Rattle.batch_laws.specs.Tells.{FitsItem, StimulusHandled};
+ghost use Rattle.batch_laws.specs.Batches.{Standing};
+ghost use Rattle.batch_laws.specs.InBatch.{BatchLost};
+ghost use Rattle.batch_laws.specs.Tells.{FitsItem, StimulusHandled, StimulusLost};
 
 use outside::World;
 
@@ -21,4 +23,10 @@ pub fn stimuli_are_handled<W: World>()
     ensures { (x : WorldStim) (seen : Seen W.Own) (net : NetState) (queue : List Event) → Conforming seen → Calm seen net
         → IsWorldStim seen.given.declared (state seen).moment x → AllByRecursion FitsItem (upcoming (after_stim x (state seen)))
         → StimulusHandled x seen net queue (handled_all (upcoming (after_stim x (state seen))) (knowledge_of net queue)) }
+{}
+
+/// So it is where the switch of the stimulus was lost at its item: it is out then, as the reference controller has it.
+pub fn losses_are_handled<W: World>()
+    ensures { (x : WorldStim) (begun : Bool) (first now : Standing W.Own) → Conforming first.seen → Calm first.seen first.net
+        → (l : BatchLost x begun first now) → StimulusLost x l.dpid first.seen now.seen first.net first.queue (knowledge_of now.net now.queue) }
 {}

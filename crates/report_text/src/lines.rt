@@ -68,6 +68,15 @@ pub fn out_line(alloc: Global, dpid: Dpid, len: u32) -> Result<ByteList, AllocEr
     Ok(ByteList::from_vec(line.into_bytes()))
 }
 
+/// Writes `lost DPID`: the switch was lost.
+#[tactic(auto, unfolding(lego_model::specs::RunReport::lost_line, lego_model::specs::RunReport::line_of))]
+pub fn lost_line(alloc: Global, dpid: Dpid) -> Result<ByteList, AllocError>
+    ensures { IfOk result (λ line. line ≡ report.lost_line dpid) }
+{
+    let line = format!(in alloc; "lost {dpid}\n")?;
+    Ok(ByteList::from_vec(line.into_bytes()))
+}
+
 /// Writes `switch DPID flows N`: how many entries a joined switch has at the end.
 #[tactic(auto, unfolding(lego_model::specs::RunReport::switch_line, lego_model::specs::RunReport::line_of))]
 pub fn switch_line(alloc: Global, dpid: Dpid, flows: u64) -> Result<ByteList, AllocError>

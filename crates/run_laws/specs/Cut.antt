@@ -15,6 +15,7 @@ use Rattle.run_laws.specs.Moves.{Moved}
 use Rattle.lego_model.specs.CutRun.{reference_so_far, start_said}
 use Rattle.lego_model.specs.Journal.{Reply, Start}
 use Rattle.lego_model.specs.Controller.{Run}
+use Rattle.lego_model.specs.Losses.{Losses}
 use Rattle.lego_model.specs.ReferenceRun.{AreSaid}
 use Rattle.run_laws.specs.Whole.{RanAs}
 use Rattle.lego_model.specs.AllLines.{CutBehindLines, CutInLines, CutForMemory}
@@ -57,6 +58,7 @@ pub record GoneSoFar {Own : Type 0} (allows : List Place → Bool) (started : Bo
   pub begun_one : length begun ≤ 1
   pub moved : Moved (stimuli ++ begun) (reference_so_far allows started stimuli begun number) text first last e now_e
 
--- engine and reference controller stand alike, and what this said so far was noted; so it is over what is said of the application
-pub record RanTo {Own : Type 0} (f : Run → Run) (text : List ℕ) (last : Seen Own) (e : Engine) : Type 0 where
-  pub as_said : (starts : List Start) (replies : List Reply) → AreSaid last starts replies → RanAs text last e (f (start_said last starts replies))
+-- engine and reference controller stand alike, and what this said so far was noted; so it is over what is said of the application, where
+-- switches are lost at these places
+pub record RanTo {Own : Type 0} (f : Run → Run) (losses later : Losses) (text : List ℕ) (last : Seen Own) (e : Engine) : Type 0 where
+  pub as_said : (starts : List Start) (replies : List Reply) → AreSaid last starts replies → RanAs later text last e (f (start_said losses last starts replies))

@@ -1,5 +1,5 @@
 -- How a whole run ends: with the last part of the report, or with events left. All of this is our own.
-use Rattle.std.specs.Prelude.{◌≡◌, ℕ, ◌<◌, Bool, List, [], length, Option}
+use Rattle.std.specs.Prelude.{◌≡◌, ℕ, ◌<◌, Bool, List, [], ◌++◌, length, Option}
 use Rattle.std.specs.Io.KnownBytes.{append_known}
 use Rattle.of_types.specs.declared.journal.WorldStim.{WorldStim}
 use Rattle.flow_table.specs.View.{TableView}
@@ -9,13 +9,13 @@ use Rattle.outside.specs.Conforming.{Conforming}
 use Rattle.outside.specs.State.{state, switch_of}
 use Rattle.switch_laws.specs.Orderly.{OrderlySince}
 use Rattle.batch_laws.specs.Calm.{Calm}
-use Rattle.lego_model.specs.History.{starts_in, replies_in, own_acts, given_in, stimuli_in, released_of}
+use Rattle.lego_model.specs.History.{starts_in, replies_in, own_acts, given_in, stimuli_in, released_of, lost_of}
 use Rattle.lego_model.specs.AtOnce.{AtOnce}
 use Rattle.run_laws.specs.Engine.{Engine}
 use Rattle.lego_model.specs.Application.{index}
 use Rattle.run_laws.specs.Readings.{JudgesAlike}
 use Rattle.run_laws.specs.Moves.{AtRest, Moved}
-use Rattle.run_laws.specs.LastReport.{last_text}
+use Rattle.run_laws.specs.LastReport.{last_text, switch_left}
 use Rattle.lego_model.specs.ReferenceRun.{all_started}
 use Rattle.run_laws.specs.Whole.{whole}
 
@@ -36,30 +36,32 @@ pub record ShownWhole {Own : Type 0} (Tells : Type 0) (accepts : List TableView 
 
 -- ---- The last part
 
--- what it leaves as it was
-pub record Leaves {Own : Type 0} (last new : Seen Own) : Type 0 where
+-- what it leaves as it was, but for these switches, which are lost
+pub record Leaves {Own : Type 0} (lost : List ℕ) (last new : Seen Own) : Type 0 where
   pub given : new.given ≡ last.given
   pub starts : starts_in (own_acts new) ≡ starts_in (own_acts last)
   pub replies : replies_in (own_acts new) ≡ replies_in (own_acts last)
   pub inputs : given_in new ≡ given_in last
   pub stimuli : stimuli_in new ≡ stimuli_in last
   pub released : released_of new ≡ released_of last
+  pub lost_so : lost_of new ≡ lost_of last ++ lost
   pub marks : (state new).marks ≡ (state last).marks
-  pub switches : (d : ℕ) → switch_of d (state new) ≡ switch_of d (state last)
+  pub switches : (d : ℕ) → switch_of d (state new) ≡ switch_left lost (state last) d
   pub at_once : AtOnce index (journal last.history) → AtOnce index (journal new.history)
   pub orderly : OrderlySince index last new
 
 -- the last lines were written
 pub record Finished {Own : Type 0} (held now_contents : Option (List ℕ)) (last new : Seen Own) (e : Engine) : Type 0 where
-  pub written : now_contents ≡ append_known held (last_text last e)
-  pub leaves : Leaves last new
+  pub lost : List ℕ
+  pub written : now_contents ≡ append_known held (last_text lost last e)
+  pub leaves : Leaves lost last new
 
 pub record ShownFinish {Own : Type 0} (Tells : Type 0) (held now_contents : Option (List ℕ)) (last new : Seen Own) (e : Engine) : Type 0 where
   pub shown : Tells → Conforming new → Calm last e.net → Finished held now_contents last new e
 
 -- nothing was written, and nothing else changed
 pub record ShownLeaves {Own : Type 0} (Tells : Type 0) (last new : Seen Own) : Type 0 where
-  pub shown : Tells → Conforming new → Leaves last new
+  pub shown : Tells → Conforming new → Leaves [] last new
 
 -- ---- The whole
 

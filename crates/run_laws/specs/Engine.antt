@@ -1,8 +1,9 @@
 -- How a run of the engine stands to one of the reference controller, where the world keeps its word. All of this is our own.
-use Rattle.std.specs.Prelude.{◌≡◌, ℕ, Bool, true, List, [], ◌∷◌, ◌+◌}
+use Rattle.std.specs.Prelude.{◌≡◌, ℕ, Bool, true, List, [], ◌∷◌, ◌+◌, ◌++◌}
 use Rattle.app_frames.specs.declared.frame.Event.{Event}
 use Rattle.lego_model.specs.Journal.{Reply, Start}
 use Rattle.lego_model.specs.Controller.{App, Run}
+use Rattle.lego_model.specs.Losses.{TurnLosses, Losses}
 use Rattle.lego_model.specs.Agreement.{AgreeMarks}
 use Rattle.outside.specs.Seen.{Seen}
 use Rattle.outside.specs.State.{state}
@@ -11,7 +12,7 @@ use Rattle.journal_laws.specs.Readings.{LastStands}
 use Rattle.switch_laws.specs.Shown.{shown_places}
 use Rattle.batch_laws.specs.Calm.{Calm}
 use Rattle.lego_model.specs.Application.{budget}
-use Rattle.lego_model.specs.History.{own_acts, given_in, released_of, points_in}
+use Rattle.lego_model.specs.History.{own_acts, given_in, released_of, lost_of, points_in}
 
 -- ---- What the engine keeps of a run
 
@@ -42,9 +43,14 @@ app_at e given starts replies = record {
   failed = e.failed;
 }
 
--- ---- The two stand alike; the application of the reference controller has these starts and replies before it
+-- ---- The losses that are to come: of some batches and turns, and then these
 
-pub record Stands {Own : Type 0} (seen : Seen Own) (e : Engine) (starts : List Start) (replies : List Reply) (r : Run) : Type 0 where
+abbrev pub ahead : List Bool → List TurnLosses → Losses → Losses
+ahead batches turns later = record { batches = batches ++ later.batches; turns = turns ++ later.turns; last = later.last }
+
+-- ---- The two stand alike; the application of the reference controller has these starts and replies before it, and these losses are to come
+
+pub record Stands {Own : Type 0} (seen : Seen Own) (e : Engine) (starts : List Start) (replies : List Reply) (losses : Losses) (r : Run) : Type 0 where
   pub calm : Calm seen e.net
   pub moment : r.moment ≡ (state seen).moment
   pub places : r.places ≡ shown_places seen.given.declared e.net.views (state seen)
@@ -52,6 +58,8 @@ pub record Stands {Own : Type 0} (seen : Seen Own) (e : Engine) (starts : List S
   pub events : r.events ≡ e.events
   pub apps : r.apps ≡ app_at e (given_in seen) starts replies ∷ []
   pub released : r.released ≡ released_of seen
+  pub lost : r.lost ≡ lost_of seen
+  pub losses_so : r.losses ≡ losses
   pub marks : AgreeMarks (points_in seen) r.marks
   pub life : e.alive ≡ true → LastStands (own_acts seen)
 

@@ -3,15 +3,15 @@ use Rattle.std.specs.Prelude.{◌≡◌, ℕ, true, List, ◌++◌, length, drop
 use Rattle.flow_table.specs.Switch.{Declared}
 use Rattle.app_frames.specs.declared.cause.Tried.{Tried}
 use Rattle.lego_model.specs.Journal.{Reply, Start}
-use Rattle.lego_model.specs.Controller.{Started, attempts, started, gone_line, Ended, out_lines, restart_lines, turn}
-use Rattle.lego_model.specs.Packets.{Held}
+use Rattle.lego_model.specs.Controller.{Started, attempts, started, gone_line, Ended, out_lines, lost_lines, leavers, restart_lines, Release, turn}
+use Rattle.lego_model.specs.Losses.{TurnLosses}
 use Rattle.lego_model.specs.Scripted.{AreStartFronts, IsFront}
 use Rattle.outside.specs.Seen.{Seen, Continues}
 use Rattle.outside.specs.State.{state, marks_at_event}
 use Rattle.switch_laws.specs.Shown.{shown_places}
 use Rattle.batch_laws.specs.Calm.{Calm}
 use Rattle.journal_laws.specs.Readings.{LastStands}
-use Rattle.lego_model.specs.History.{starts_in, replies_in, own_acts, given_in, stimuli_in, released_of}
+use Rattle.lego_model.specs.History.{starts_in, replies_in, own_acts, given_in, stimuli_in, released_of, lost_of}
 use Rattle.run_laws.specs.Engine.{Engine, app_at}
 use Rattle.run_laws.specs.LinkSteps.{TriesKeep}
 use Rattle.run_laws.specs.LastReport.{lines_text}
@@ -42,6 +42,7 @@ pub record StartsAlike {Own : Type 0} (Tells : Type 0) (text : List ℕ) (old ne
   pub read_replies : replies_in (own_acts new) ≡ replies_in (own_acts old)
   pub read_stimuli : stimuli_in new ≡ stimuli_in old
   pub released : released_of new ≡ released_of old
+  pub lost : lost_of new ≡ lost_of old
   pub life : now_e.alive ≡ true → LastStands (own_acts new)
 
 -- what the journal has of the application by it: a reply, and the starts behind a failed turn
@@ -52,32 +53,36 @@ pub record TurnTells {Own : Type 0} (old new : Seen Own) (now_e : Engine) (start
   pub read_stimuli : stimuli_in new ≡ stimuli_in old
   pub life : now_e.alive ≡ true → LastStands (own_acts new)
 
--- The reference controller's turn leaves the same, where its application has a reply and starts before it of which these are the fronts: the
--- same packets are released, and the same events stand behind those that wait.
-pub record TurnAlike {Own : Type 0} (allows : List Place → Bool) (event : Event) (text : List ℕ) (old new : Seen Own) (e now_e : Engine) (starts : List Start) (reply : Reply) : Type 0 where
+-- The reference controller's turn leaves the same, where its application has a reply and starts before it of which these are the fronts, and it
+-- loses these switches: the same packets are released, and the same events stand behind those that wait.
+pub record TurnAlike {Own : Type 0} (allows : List Place → Bool) (event : Event) (text : List ℕ) (old new : Seen Own) (e now_e : Engine) (starts : List Start) (reply : Reply) (losses : TurnLosses) : Type 0 where
   pub outcome : Outcome
   pub tries : List Tried
   pub given : Bool
-  pub joining : List Event
-  pub packets : List Held
+  pub release : Release
+  pub left : List Event
   pub calm : Calm new now_e.net
   pub moment : (state new).moment ≡ (state old).moment
-  pub queue : now_e.queue ≡ e.queue ++ joining
-  pub released : released_of new ≡ released_of old ++ packets
+  pub places : release.places ≡ shown_places old.given.declared now_e.net.views (state new)
+  pub queue : now_e.queue ≡ e.queue ++ (release.events ++ left)
+  pub released : released_of new ≡ released_of old ++ release.packets
+  pub lost : lost_of new ≡ lost_of old ++ leavers left
   pub events : now_e.events ≡ e.events
   pub marks : (state new).marks ≡ (if given then marks_at_event (Some e.events) (state old) else (state old).marks)
   pub turned : (said_starts : List Start) (said : Reply) (later_replies : List Reply) → AreStartFronts starts said_starts → IsFront reply said
-      → turn allows e.events e.net.moment event (shown_places old.given.declared e.net.views (state old)) (app_at e (given_in old) said_starts (said ∷ later_replies))
+      → turn allows e.events e.net.moment event losses (shown_places old.given.declared e.net.views (state old)) (app_at e (given_in old) said_starts (said ∷ later_replies))
       ≡ record {
-        release = record { places = shown_places old.given.declared now_e.net.views (state new); events = joining; packets = packets };
+        release = release;
+        left = left;
         app = (app_at now_e (given_in new) (drop (length starts) said_starts) later_replies, tries);
         outcome = outcome;
         given = given;
       }
-  pub text_so : (later_starts : List Start) (later_replies : List Reply) → text ≡ lines_text (Ended 0 outcome ∷ out_lines packets ++ restart_lines 0 outcome (app_at now_e (given_in new) later_starts later_replies, tries))
+  pub text_so : (later_starts : List Start) (later_replies : List Reply) → text ≡ lines_text (Ended 0 outcome ∷ out_lines release.packets ++ lost_lines (leavers left) ++ restart_lines 0 outcome (app_at now_e (given_in new) later_starts later_replies, tries))
 
 pub record TurnMoves {Own : Type 0} (allows : List Place → Bool) (event : Event) (text : List ℕ) (old new : Seen Own) (e now_e : Engine) : Type 0 where
   pub starts : List Start
   pub reply : Reply
   pub tells : TurnTells old new now_e starts reply
-  pub alike : Calm old e.net → TurnAlike allows event text old new e now_e starts reply
+  pub losses : TurnLosses
+  pub alike : TurnAlike allows event text old new e now_e starts reply losses

@@ -1,6 +1,6 @@
 -- What the engine does at one event: the application, if it is alive, has its turn, whose changes are kept where it was done, with the
--- checkpoint that it handed over and the packets that it held released, and undone where it failed, after which it is started again at its
--- kept checkpoint. All of this is our own.
+-- checkpoint that it handed over and the packets that it held released, and undone where it failed; then the switches that were lost are told,
+-- and behind a turn that failed it is started again at its kept checkpoint. All of this is our own.
 use Rattle.std.specs.Prelude.{◌≡◌, ℕ, ◌+◌, Bool, true, false, List, [], ◌++◌, length, Option, Ok, is_some, unwrap_or}
 use Rattle.std.specs.List.{flat_map}
 use Rattle.flow_table.specs.View.{TableView}
@@ -19,6 +19,7 @@ use Rattle.app_visor.specs.declared.state.TurnEnd.{TurnEnd}
 use Rattle.app_visor.specs.declared.state.TurnEnd.TheVariants as ends
 use Rattle.app_visor.specs.Turns.{handed, Turns}
 use Rattle.app_visor.specs.Attempts.{Restarts}
+use Rattle.batch_laws.specs.Knowledge.{left_events, lost_text}
 use Rattle.run_laws.specs.Engine.{Engine}
 use Rattle.lego_model.specs.Application.{index, budget, name}
 
@@ -51,6 +52,10 @@ turn_word (ends.Failed cause) = words.Failed cause
 abbrev pub out_text : List (ℕ × ℕ) → List ℕ
 out_text sent = flat_map (λ p. out_line p.0 p.1) sent
 
+-- The switches that were lost are told, and their Leave events stand behind the events that wait.
+abbrev pub all_told : NetState → List Event → Engine → Engine
+all_told net queue e = record e { net = record net { left = [] }; queue = queue ++ left_events net.left }
+
 -- What it did stays, the packets that it held are released, with what switches sent then behind the events that wait, and the checkpoint that
 -- it handed over is the kept one.
 pub record StaysDone {Own : Type 0} (Tells : Type 0) (checkpoint : Option (List ℕ)) (unread : List ℕ) (stop : Bool) (text : List ℕ) (start : ℕ) (mid new : Seen Own) (mid_net : NetState) (e now_e : Engine) : Type 0 where
@@ -58,8 +63,8 @@ pub record StaysDone {Own : Type 0} (Tells : Type 0) (checkpoint : Option (List 
   pub queue : List Event
   pub sent : List (ℕ × ℕ)
   pub commits : Commits Tells start mid new mid_net net e.queue queue (Ok sent)
-  pub engine : now_e ≡ record e { net = net; queue = queue; rest = unread; kept = unwrap_or checkpoint e.kept; done = e.done + 1 }
-  pub text_so : text ≡ turn_line name (turn_word (ends.Done stop)) ++ out_text sent
+  pub engine : now_e ≡ all_told net queue (record e { rest = unread; kept = unwrap_or checkpoint e.kept; done = e.done + 1 })
+  pub text_so : text ≡ turn_line name (turn_word (ends.Done stop)) ++ (out_text sent ++ lost_text net.left)
 
 -- it was undone, and the application started again
 pub record IsUndone {Own : Type 0} (Tells : Type 0) (cause : Cause) (text : List ℕ) (start : ℕ) (mid new : Seen Own) (mid_net : NetState) (e now_e : Engine) : Type 0 where
@@ -67,8 +72,8 @@ pub record IsUndone {Own : Type 0} (Tells : Type 0) (cause : Cause) (text : List
   pub undone_net : NetState
   pub undoes : Undoes Tells start mid undone mid_net undone_net (Ok tt)
   pub later_text : List ℕ
-  pub starts : StartsAgain Tells later_text undone new (record e { net = undone_net; rest = []; failed = e.failed + 1 }) now_e
-  pub text_so : text ≡ turn_line name (words.Failed cause) ++ later_text
+  pub starts : StartsAgain Tells later_text undone new (all_told undone_net e.queue (record e { rest = []; failed = e.failed + 1 })) now_e
+  pub text_so : text ≡ turn_line name (words.Failed cause) ++ (lost_text undone_net.left ++ later_text)
 
 abbrev pub IsClosed : {Own : Type 0} → Type 0 → TurnEnd → Option (List ℕ) → List ℕ → List ℕ → ℕ → Seen Own → Seen Own → NetState → Engine → Engine → Type 0
 IsClosed Tells (ends.Done stop) checkpoint unread text start mid new mid_net e now_e = StaysDone Tells checkpoint unread stop text start mid new mid_net e now_e

@@ -10,7 +10,7 @@ abbrev pub IsOpened : {Own : Type 0} → Seen Own → Type 0
 IsOpened seen = seen.history ≡ Opened ∷ []
 
 abbrev pub net_at_first : NetState
-net_at_first = record { views = []; ports = []; log = []; held = []; xid = 1; moment = 0; kept = []; room = 2 }
+net_at_first = record { views = []; ports = []; log = []; held = []; xid = 1; moment = 0; kept = []; room = 2; left = [] }
 
 abbrev pub engine_at_first : Engine
 engine_at_first = record { net = net_at_first; queue = []; events = 0; alive = false; rest = []; kept = []; done = 0; failed = 0 }

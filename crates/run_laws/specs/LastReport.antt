@@ -1,19 +1,21 @@
 -- The last lines of a report, of the engine and of the reference controller. All of this is our own.
-use Rattle.std.specs.Prelude.{◌≡◌, ℕ, List, [], ◌∷◌, ◌++◌, length, Option, Some}
+use Rattle.std.specs.Prelude.{◌≡◌, ℕ, List, [], ◌∷◌, ◌++◌, length, Option, Some, None, if◌then◌else◌}
 use Rattle.std.specs.List.{flat_map}
 use Rattle.of_stats.specs.declared.flow_row.FlowRow.{FlowRow}
 use Rattle.flow_table.specs.declared.view.ViewRow.{ViewRow}
 use Rattle.lego_model.specs.Controller.{Run, Line}
-use Rattle.lego_model.specs.RunReport.{switch_line, flow_line, app_line, end_line, switch_text, apps_text, line_text}
+use Rattle.lego_model.specs.RunReport.{lost_line, switch_line, flow_line, app_line, end_line, switch_text, apps_text, line_text}
 use Rattle.outside.specs.Seen.{Seen, journal}
-use Rattle.outside.specs.State.{State, state}
+use Rattle.outside.specs.State.{State, state, switch_of}
+use Rattle.lego_model.specs.Places.{Place}
+use Rattle.net_txn.specs.Losing.{is_among}
 use Rattle.lego_model.specs.AtOnce.{AtOnce}
 use Rattle.flow_table.specs.View.{TableView}
 use Rattle.switch_laws.specs.Orderly.{OrderlySince}
 use Rattle.switch_laws.specs.Shown.{shown_switch, shown_places}
 use Rattle.run_laws.specs.Engine.{Engine}
 use Rattle.lego_model.specs.Application.{index, names, name}
-use Rattle.lego_model.specs.History.{own_acts, given_in, stimuli_in, released_of}
+use Rattle.lego_model.specs.History.{own_acts, given_in, stimuli_in, released_of, lost_of}
 use Rattle.flow_table.specs.Switch.{SwitchState}
 use Rattle.lego_model.specs.Answers.{rows_of_table, rows_of_view}
 
@@ -38,31 +40,40 @@ table_lines d rows vs = switch_line d (length rows) ++ flow_lines rows vs
 
 -- ---- All that have a view, in the order of the views
 
--- what is said of a switch of a world, as its owner sees it
-abbrev pub shown_text : List TableView → State → ℕ → List ℕ
-shown_text views s d = switch_text (shown_switch views s d)
+-- what is said of a switch of a world, as its owner sees it, where these are lost
+abbrev pub shown_text : List ℕ → List TableView → State → ℕ → List ℕ
+shown_text lost views s d = if is_among d lost then lost_line d else switch_text (shown_switch views s d)
+
+-- how a switch stands then
+abbrev pub switch_left : List ℕ → State → ℕ → Option SwitchState
+switch_left lost s d = if is_among d lost then None else switch_of d s
 
 -- ---- The end
 
 abbrev pub engine_end : Engine → List ℕ
 engine_end e = app_line name e.alive e.done e.failed ++ end_line e.net.moment e.events
 
--- what the engine says at the end
-abbrev pub last_text : {Own : Type 0} → Seen Own → Engine → List ℕ
-last_text seen e = flat_map (λ p. switch_text p.switch) (shown_places seen.given.declared e.net.views (state seen)) ++ engine_end e
+-- of a switch that is lost when it is asked for its rows, that alone
+abbrev pub place_lines : List ℕ → Place → List ℕ
+place_lines lost p = if is_among p.declared.dpid lost then lost_line p.declared.dpid else switch_text p.switch
+
+-- what the engine says at the end, where these switches are lost
+abbrev pub last_text : {Own : Type 0} → List ℕ → Seen Own → Engine → List ℕ
+last_text lost seen e = flat_map (place_lines lost) (shown_places seen.given.declared e.net.views (state seen)) ++ engine_end e
 
 -- what the reference controller says at the end
 abbrev pub last_lines : Run → List ℕ
-last_lines r = flat_map (λ p. switch_text p.switch) r.places ++ apps_text names r.apps ++ end_line r.moment r.events
+last_lines r = flat_map (place_lines r.losses.last) r.places ++ apps_text names r.apps ++ end_line r.moment r.events
 
--- ---- What it leaves: switches were asked, which tells nothing of an application, is no stimulus and releases nothing
+-- ---- What it leaves: switches were asked, which tells nothing of an application, is no stimulus and releases nothing; these were lost
 
-pub record OnlyAsked {Own : Type 0} (old new : Seen Own) : Type 0 where
+pub record OnlyAsked {Own : Type 0} (lost : List ℕ) (old new : Seen Own) : Type 0 where
   pub given : new.given ≡ old.given
   pub acts : own_acts new ≡ own_acts old
   pub inputs : given_in new ≡ given_in old
   pub stimuli : stimuli_in new ≡ stimuli_in old
   pub released : released_of new ≡ released_of old
+  pub lost_so : lost_of new ≡ lost_of old ++ lost
   pub marks : (state new).marks ≡ (state old).marks
   pub at_once : AtOnce index (journal old.history) → AtOnce index (journal new.history)
   pub orderly : OrderlySince index old new

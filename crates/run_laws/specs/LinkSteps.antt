@@ -5,9 +5,10 @@ use Rattle.of_types.specs.declared.journal.Act.{Act}
 use Rattle.lego_model.specs.Journal.{is_of, inputs, stimuli}
 use Rattle.outside.specs.declared.step.WorldStep.{WorldStep}
 use Rattle.outside.specs.Seen.{journal, Seen}
-use Rattle.outside.specs.State.{State, event_number, after_step}
+use Rattle.outside.specs.State.{State, event_number, after_step, state}
 use Rattle.app_visor.specs.Talks.{step_of}
-use Rattle.lego_model.specs.History.{own_acts, given_in, stimuli_in, released_of}
+use Rattle.switch_laws.specs.Sound.{Sound}
+use Rattle.lego_model.specs.History.{own_acts, given_in, stimuli_in, released_of, lost_of}
 
 -- all but the switches stands as it stood
 pub record OnlyLinks (s t : State) : Type 0 where
@@ -58,8 +59,17 @@ pub record TriesKeep (s t : State) : Type 0 where
   pub rests : Rests s t
   pub marks : t.marks ≡ s.marks
 
--- what the application was given more, and that no stimulus came and no packet was released
+-- what the application was given more, and that no stimulus came
 pub record TellsGiven {Own : Type 0} (old new : Seen Own) (frames : List (List ℕ)) : Type 0 where
   pub given : given_in new ≡ given_in old ++ frames
   pub stims : stimuli_in new ≡ stimuli_in old
+
+-- no packet was released, and no switch lost
+pub record TellsNoLoss {Own : Type 0} (old new : Seen Own) : Type 0 where
+  pub released : released_of new ≡ released_of old
+  pub lost : lost_of new ≡ lost_of old
+
+-- behind messages of a turn what is sound stays so, and no packet was released
+pub record ChainKeeps {Own : Type 0} (old new : Seen Own) : Type 0 where
+  pub sound : Sound (state new)
   pub released : released_of new ≡ released_of old

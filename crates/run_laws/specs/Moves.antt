@@ -6,6 +6,7 @@ use Rattle.lego_model.specs.Journal.{Reply, Start}
 use Rattle.lego_model.specs.Places.{Place}
 use Rattle.lego_model.specs.Scripted.{AreFronts, AreStartFronts}
 use Rattle.lego_model.specs.Controller.{Run, settle, happen}
+use Rattle.lego_model.specs.Losses.{TurnLosses, Losses}
 use Rattle.outside.specs.Seen.{Seen, journal}
 use Rattle.outside.specs.Conforming.{Conforming}
 use Rattle.std.specs.List.{AllByRecursion}
@@ -14,25 +15,28 @@ use Rattle.journal_laws.specs.Readings.{LastStands}
 use Rattle.lego_model.specs.History.{starts_in, replies_in, own_acts, stimuli_in}
 use Rattle.lego_model.specs.AtOnce.{Passes, AtOnce}
 use Rattle.batch_laws.specs.Calm.{Calm}
-use Rattle.run_laws.specs.Engine.{Engine, Stands}
+use Rattle.run_laws.specs.Engine.{Engine, Stands, ahead}
 use Rattle.lego_model.specs.Application.{index}
 use Rattle.lego_model.specs.ReferenceRun.{text_of, rounds}
 use Rattle.run_laws.specs.Readings.{JudgesAlike}
 
 -- A part of a run with these stimuli and this text: what the journal tells is longer by these starts and replies, and wherever engine and
--- reference controller stood alike, with starts and replies before its application of which these are the fronts, they do so after the part,
--- with those that follow.
+-- reference controller stood alike, with starts and replies before its application of which these are the fronts, and with these losses to come
+-- in front of others, they do so after the part, with those that follow.
 pub record Moves {Own : Type 0} (xs : List WorldStim) (f : Run → Run) (text : List ℕ) (old new : Seen Own) (e now_e : Engine) : Type 0 where
   pub starts : List Start
   pub replies : List Reply
+  -- at which of the batches a switch was lost, and those that were lost in the turns
+  pub batches : List Bool
+  pub turns : List TurnLosses
   pub given : new.given ≡ old.given
   pub read_starts : starts_in (own_acts new) ≡ starts_in (own_acts old) ++ starts
   pub read_replies : replies_in (own_acts new) ≡ replies_in (own_acts old) ++ replies
   pub read_stimuli : stimuli_in new ≡ stimuli_in old ++ xs
-  pub stands : (said_starts : List Start) (said_replies : List Reply) (r : Run) → AreStartFronts starts said_starts → AreFronts replies said_replies → Stands old e said_starts said_replies r
-      → Stands new now_e (drop (length starts) said_starts) (drop (length replies) said_replies) (f r)
-  pub says : (said_starts : List Start) (said_replies : List Reply) (r : Run) → AreStartFronts starts said_starts → AreFronts replies said_replies → Stands old e said_starts said_replies r
-      → text_of (f r) ≡ text_of r ++ text
+  pub stands : (said_starts : List Start) (said_replies : List Reply) (later : Losses) (r : Run) → AreStartFronts starts said_starts → AreFronts replies said_replies
+      → Stands old e said_starts said_replies (ahead batches turns later) r → Stands new now_e (drop (length starts) said_starts) (drop (length replies) said_replies) later (f r)
+  pub says : (said_starts : List Start) (said_replies : List Reply) (later : Losses) (r : Run) → AreStartFronts starts said_starts → AreFronts replies said_replies
+      → Stands old e said_starts said_replies (ahead batches turns later) r → text_of (f r) ≡ text_of r ++ text
 
 -- All that happened is a dialogue with the application; where it is alive, it runs, and what is unread stands behind frames that are no
 -- messages.
@@ -57,10 +61,10 @@ pub record Shown {Own : Type 0} (Tells : Type 0) (accepts : List TableView → B
 
 -- ---- Batch after batch
 
--- a batch with one stimulus
-pub record OneHappens {Own : Type 0} (old new : Seen Own) (e now_e : Engine) : Type 0 where
+-- a batch with one stimulus, which may lose its switch
+pub record OneHappens {Own : Type 0} (text : List ℕ) (old new : Seen Own) (e now_e : Engine) : Type 0 where
   pub stimulus : WorldStim
-  pub moved : Moved (stimulus ∷ []) (happen stimulus) [] old new e now_e
+  pub moved : Moved (stimulus ∷ []) (happen stimulus) text old new e now_e
 
 -- so many rounds, with a stimulus each
 pub record Rounds {Own : Type 0} (allows : List Place → Bool) (number : ℕ) (text : List ℕ) (old new : Seen Own) (e now_e : Engine) : Type 0 where
@@ -74,11 +78,11 @@ pub record ToEnd {Own : Type 0} (allows : List Place → Bool) (text : List ℕ)
   pub moved : Moved stimuli (λ r. settle allows (rounds allows stimuli r)) text old new e now_e
 
 -- the same in a world that keeps its word
-pub record ShownIdle {Own : Type 0} (Tells : Type 0) (old new : Seen Own) (e now_e : Engine) : Type 0 where
-  pub happens : Tells → Conforming new → AtRest old e → OneHappens old new e now_e
+pub record ShownIdle {Own : Type 0} (Tells : Type 0) (text : List ℕ) (old new : Seen Own) (e now_e : Engine) : Type 0 where
+  pub happens : Tells → Conforming new → AtRest old e → OneHappens text old new e now_e
 
-pub record ShownOver {Own : Type 0} (Tells : Type 0) (old new : Seen Own) (e now_e : Engine) : Type 0 where
-  pub moved : Tells → Conforming new → AtRest old e → Moved [] (λ r. r) [] old new e now_e
+pub record ShownOver {Own : Type 0} (Tells : Type 0) (text : List ℕ) (old new : Seen Own) (e now_e : Engine) : Type 0 where
+  pub moved : Tells → Conforming new → AtRest old e → Moved [] (λ r. r) text old new e now_e
 
 pub record ShownRounds {Own : Type 0} (Tells : Type 0) (accepts : List TableView → Bool) (number : ℕ) (text : List ℕ) (old new : Seen Own) (e now_e : Engine) : Type 0 where
   pub rounds_so : (allows : List Place → Bool) → Tells → Conforming new → JudgesAlike Own allows accepts → AtRest old e → Rounds allows number text old new e now_e

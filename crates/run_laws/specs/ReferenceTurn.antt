@@ -5,7 +5,8 @@ use Rattle.lego_model.specs.Journal.{Reply}
 use Rattle.lego_model.specs.Places.{Place}
 use Rattle.lego_model.specs.Packets.{Play}
 use Rattle.lego_model.specs.Turns.{Played}
-use Rattle.lego_model.specs.Controller.{App, Dispatched, Ended, Run, Turned, event_frame, given_in, after_outcome, release_by, out_lines, restart_lines, marked}
+use Rattle.lego_model.specs.Controller.{App, Dispatched, Ended, Run, Turned, event_frame, given_in, after_outcome, release_by, out_lines, lost_lines, leavers, restart_lines, marked}
+use Rattle.lego_model.specs.Losses.{TurnLosses, turn_fewer}
 
 -- the event has its number and its line
 abbrev pub numbered : Event → Run → Run
@@ -15,10 +16,12 @@ numbered event r = record r { events = r.events + 1; lines = r.lines ++ Dispatch
 abbrev pub after_turn : Turned → Run → Run
 after_turn t r = record r {
   places = t.release.places;
-  queue = r.queue ++ t.release.events;
+  queue = r.queue ++ (t.release.events ++ t.left);
   apps = t.app.0 ∷ [];
-  lines = r.lines ++ Ended 0 t.outcome ∷ out_lines t.release.packets ++ restart_lines 0 t.outcome t.app;
+  lines = r.lines ++ Ended 0 t.outcome ∷ out_lines t.release.packets ++ lost_lines (leavers t.left) ++ restart_lines 0 t.outcome t.app;
   released = r.released ++ t.release.packets;
+  lost = r.lost ++ leavers t.left;
+  losses = turn_fewer r.losses;
   marks = marked t.given r.events r.places r.marks;
 }
 
@@ -29,9 +32,10 @@ without_turn a r = record r { apps = a ∷ [] }
 abbrev pub after_given : App → Reply → List (List ℕ) → App
 after_given a reply given = record a { replies = drop 1 a.replies; inputs = a.inputs ++ given }
 
-abbrev pub turned_by : (number moment : ℕ) → Event → List Place → App → Reply → Played Play → Turned
-turned_by number moment event ps a reply played = record {
-  release = release_by played.outcome ps played.state;
+abbrev pub turned_by : (number moment : ℕ) → Event → TurnLosses → List Place → App → Reply → Played Play → Turned
+turned_by number moment event losses ps a reply played = record {
+  release = release_by played.outcome losses ps played.state;
+  left = played.state.left ++ (release_by played.outcome losses ps played.state).left;
   app = after_outcome played.outcome (after_given a reply (given_in reply.given (event_frame number moment event) played.answers));
   outcome = played.outcome;
   given = reply.given;

@@ -1,9 +1,10 @@
 -- A run from its start to its last batch. All of this is our own.
-use Rattle.std.specs.Prelude.{◌≡◌, ℕ, Bool, List}
+use Rattle.std.specs.Prelude.{◌≡◌, ℕ, Bool, List, []}
 use Rattle.of_types.specs.declared.journal.WorldStim.{WorldStim}
 use Rattle.lego_model.specs.Journal.{Reply, Start}
 use Rattle.lego_model.specs.Places.{Place}
 use Rattle.lego_model.specs.Controller.{Run, settle}
+use Rattle.lego_model.specs.Losses.{Losses}
 use Rattle.outside.specs.Seen.{Seen}
 use Rattle.run_laws.specs.Engine.{Engine, Stands}
 use Rattle.lego_model.specs.ReferenceRun.{text_of, rounds, all_started, reference_said, AreSaid}
@@ -12,14 +13,19 @@ use Rattle.lego_model.specs.ReferenceRun.{text_of, rounds, all_started, referenc
 abbrev pub whole : (List Place → Bool) → List WorldStim → Run → Run
 whole allows xs r = settle allows (rounds allows xs (all_started r))
 
+-- these switches are to be lost at the end
+abbrev pub at_last : List ℕ → Losses
+at_last lost = record { batches = []; turns = []; last = lost }
+
 -- engine and reference controller stand alike at the end, with more starts and replies before its application, and its report so far is
 -- what was noted
-pub record RanAs {Own : Type 0} (text : List ℕ) (last : Seen Own) (e : Engine) (r : Run) : Type 0 where
+pub record RanAs {Own : Type 0} (later : Losses) (text : List ℕ) (last : Seen Own) (e : Engine) (r : Run) : Type 0 where
   pub starts : List Start
   pub replies : List Reply
-  pub stands : Stands last e starts replies r
+  pub stands : Stands last e starts replies later r
   pub text_so : text_of r ≡ text
 
--- so it is over what is said of the application
-pub record Ran {Own : Type 0} (allows : List Place → Bool) (text : List ℕ) (last : Seen Own) (e : Engine) : Type 0 where
-  pub as_said : (starts : List Start) (replies : List Reply) → AreSaid last starts replies → RanAs text last e (reference_said allows last starts replies)
+-- so it is over what is said of the application, where switches are lost at some places, and some are to be lost at the end
+pub record Ran {Own : Type 0} (allows : List Place → Bool) (lost : List ℕ) (text : List ℕ) (last : Seen Own) (e : Engine) : Type 0 where
+  pub losses : Losses
+  pub as_said : (starts : List Start) (replies : List Reply) → AreSaid last starts replies → RanAs (at_last lost) text last e (reference_said allows losses last starts replies)

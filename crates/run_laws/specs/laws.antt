@@ -25,3 +25,4 @@ pub mod StimuliLaws
 pub mod StartShownLaws
 pub mod OrderlyRunLaws
 pub mod CutLaws
+pub mod EchoLaws

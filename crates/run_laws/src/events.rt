@@ -8,6 +8,7 @@ ghost use Rattle.lego_model.specs.Controller.{dispatch};
 ghost use Rattle.outside.specs.Seen.{Seen, Continues};
 ghost use Rattle.outside.specs.Conforming.{Conforming};
 ghost use Rattle.journal_laws.specs.Readings.{LastStands};
+ghost use Rattle.batch_laws.specs.Calm.{Calm};
 ghost use Rattle.run_laws.specs.Engine.{Engine};
 ghost use Rattle.lego_model.specs.History.{own_acts};
 ghost use Rattle.run_laws.specs.Facts.{StartsAgain, TakesTurn, Dispatches};
@@ -24,12 +25,13 @@ pub fn starts_move<W: World>()
         → StartsAgain W.Tells text old new e now_e → StartsAlike W.Tells text old new e now_e }
 {}
 
-/// In a world that keeps its word the turn of the engine leaves what that of the reference controller leaves, whether it was
-/// done and its packets released, or failed and was undone, and the application started again.
+/// In a world that keeps its word, where all was calm, the turn of the engine leaves what that of the reference controller leaves
+/// that loses the same switches in it, whether it was done and its packets released, or failed and was undone, and the
+/// application started again.
 pub fn turns_move<W: World>()
     ensures { (accepts : List TableView → Bool) (allows : List Place → Bool) (event : Event) (text : List ℕ) (old new : Seen W.Own) (e now_e : Engine)
         → W.Tells → Conforming new → JudgesAlike W.Own allows accepts → AreRead W.Own W.Tells accepts → e.events < 2 ^ 64 → LastStands (own_acts old)
-        → TakesTurn W.Tells accepts event text old new e now_e → TurnMoves allows event text old new e now_e }
+        → Calm old e.net → TakesTurn W.Tells accepts event text old new e now_e → TurnMoves allows event text old new e now_e }
 {}
 
 /// In a world that keeps its word: what the engine does at an event is what the reference controller does at it, and so it is
@@ -38,11 +40,11 @@ pub fn turns_move<W: World>()
 pub fn events_move<W: World>()
     ensures dispatched { (accepts : List TableView → Bool) (allows : List Place → Bool) (event : Event) (text : List ℕ) (old new : Seen W.Own) (e now_e : Engine)
         → W.Tells → Conforming new → Continues W.Tells old new → JudgesAlike W.Own allows accepts → AreRead W.Own W.Tells accepts → e.events + 1 < 2 ^ 64
-        → (e.alive ≡ true → LastStands (own_acts old)) → Dispatches W.Tells accepts event text old new e now_e
+        → (e.alive ≡ true → LastStands (own_acts old)) → Calm old e.net → Dispatches W.Tells accepts event text old new e now_e
         → Moves [] (dispatch allows event) text old new e now_e }
     ensures life { (accepts : List TableView → Bool) (allows : List Place → Bool) (event : Event) (text : List ℕ) (old new : Seen W.Own) (e now_e : Engine)
         → W.Tells → Conforming new → JudgesAlike W.Own allows accepts → AreRead W.Own W.Tells accepts → e.events + 1 < 2 ^ 64
-        → (e.alive ≡ true → LastStands (own_acts old)) → Dispatches W.Tells accepts event text old new e now_e
+        → (e.alive ≡ true → LastStands (own_acts old)) → Calm old e.net → Dispatches W.Tells accepts event text old new e now_e
         → now_e.alive ≡ true → LastStands (own_acts new) }
     ensures counted { (accepts : List TableView → Bool) (event : Event) (text : List ℕ) (old new : Seen W.Own) (e now_e : Engine)
         → Dispatches W.Tells accepts event text old new e now_e → (now_e.events ≡ e.events + 1) × Joins e.queue now_e.queue }

@@ -2,7 +2,7 @@
 //!
 //! There is no call here but laws, each the contract of a function that does nothing. Part by part: `starts_move`,
 //! `turns_move`, `events_move`, `oldest_events_move`, `batches_move`, `ends_leave`. The whole: `runs_are_the_references`
-//! (`out`, `full`), and of a run that a fault ends `cut_runs_are_the_references` (`cut`, `start`, `event`, `end`).
+//! (`out`, `full`), and of a run that a fault ends `cut_runs_are_the_references` (`cut`, `start`, `loss`, `event`, `end`).
 #![tactic(auto)]
 
 mod events;

@@ -1,6 +1,6 @@
 //! Laws of whole runs, each the contract of a function that does nothing.
 
-ghost use Rattle.std.specs.Prelude.{◌≡◌, ◌⊎◌, ℕ, ◌+◌, ◌^◌, ◌<◌, ◌≤◌, Bool, true, List, [], ◌∷◌, length, Option};
+ghost use Rattle.std.specs.Prelude.{◌≡◌, ◌⊎◌, ℕ, ◌+◌, ◌^◌, ◌<◌, ◌≤◌, Bool, true, List, [], ◌∷◌, ◌++◌, length, Option};
 ghost use Rattle.std.specs.Io.KnownBytes.{append_known};
 ghost use Rattle.lego_io.specs.Sink.{TookPart};
 ghost use Rattle.of_types.specs.declared.journal.WorldStim.{WorldStim};
@@ -10,8 +10,8 @@ ghost use Rattle.lego_model.specs.Places.{Place};
 ghost use Rattle.outside.specs.Seen.{Seen, Continues};
 ghost use Rattle.outside.specs.Calls.{Ends};
 ghost use Rattle.outside.specs.Conforming.{Conforming};
-ghost use Rattle.net_txn.specs.Net.{NetState};
-ghost use Rattle.batch_laws.specs.InBatch.{BatchDone, BatchOver};
+ghost use Rattle.batch_laws.specs.Batches.{Standing};
+ghost use Rattle.batch_laws.specs.InBatch.{BatchEnds, BatchOver};
 ghost use Rattle.run_laws.specs.Engine.{Engine, engine_then};
 ghost use Rattle.lego_model.specs.Application.{index};
 ghost use Rattle.lego_model.specs.History.{stimuli_in};
@@ -29,16 +29,14 @@ ghost use Rattle.lego_model.specs.CutRun.{CutBetweenLines};
 
 use outside::World;
 
-/// In a world that keeps its word a batch is the next stimulus of the reference controller, with the events that it makes;
-/// and the last one, that has none, is nothing.
+/// In a world that keeps its word a batch is the next stimulus of the reference controller, with the events that it makes,
+/// and with its switch lost where it is lost, and told; and the last one, that has none, is nothing.
 pub fn batches_move<W: World>()
-    ensures happens { (x : WorldStim) (old new : Seen W.Own) (net now_net : NetState) (queue now_queue : List Event) (e : Engine) → W.Tells
-        → Continues W.Tells old new → Conforming old → Conforming new → AtRest old e → e.net ≡ net → e.queue ≡ queue
-        → BatchDone x (record { seen = old; net = net; queue = queue }) (record { seen = new; net = now_net; queue = now_queue })
-        → OneHappens old new e (engine_then e now_net now_queue) }
-    ensures over { (old new : Seen W.Own) (net now_net : NetState) (queue now_queue : List Event) (e : Engine) → AtRest old e → e.net ≡ net
-        → e.queue ≡ queue → BatchOver (record { seen = old; net = net; queue = queue }) (record { seen = new; net = now_net; queue = now_queue })
-        → Moved [] (λ r. r) [] old new e (engine_then e now_net now_queue) }
+    ensures happens { (x : WorldStim) (text : List ℕ) (first now : Standing W.Own) (e : Engine) → W.Tells → Continues W.Tells first.seen now.seen
+        → Conforming first.seen → AtRest first.seen e → e.net ≡ first.net → e.queue ≡ first.queue → BatchEnds x first now
+        → now.text ≡ first.text ++ text → OneHappens text first.seen now.seen e (engine_then e now.net now.queue) }
+    ensures over { (text : List ℕ) (first now : Standing W.Own) (e : Engine) → AtRest first.seen e → e.net ≡ first.net → e.queue ≡ first.queue
+        → BatchOver first now → now.text ≡ first.text ++ text → Moved [] (λ r. r) text first.seen now.seen e (engine_then e now.net now.queue) }
 {}
 
 /// In a world that keeps its word the oldest event that waits is dispatched as the reference controller dispatches it.
@@ -48,11 +46,11 @@ pub fn oldest_events_move<W: World>()
         → Dispatches W.Tells accepts event text old new (record e { queue = queue }) now_e → Shown W.Tells accepts [] dispatch_next text old new e now_e }
 {}
 
-/// In a world that tells, the end of the application leaves what the world told of the run; and where two parts leave it, one
-/// after the other, both together do.
+/// In a world that tells, the end of the application leaves what the world told of the run; and behind the questions for rows, in
+/// which switches may be lost, both together do.
 pub fn ends_leave<W: World>()
-    ensures end { (old new : Seen W.Own) → W.Tells → Ends W.Tells index old new → Leaves old new }
-    ensures both { (old mid new : Seen W.Own) → Leaves old mid → Leaves mid new → Leaves old new }
+    ensures end { (old new : Seen W.Own) → W.Tells → Ends W.Tells index old new → Leaves [] old new }
+    ensures both { (lost : List ℕ) (old mid new : Seen W.Own) → Leaves lost old mid → Leaves [] mid new → Leaves lost old new }
 {}
 
 /// Of a world that was just opened and that keeps its word: a run whose parts are those of the reference controller is the run
@@ -74,7 +72,7 @@ pub fn runs_are_the_references<W: World>()
 /// reference controller so far, the run is the reference controller's up to there, and what was written is what this says so
 /// far. No line is missing where all events before the fault were dispatched, since none waits behind the last stimulus that was
 /// settled, or none at all, or the application is alive, which is given the next one. Or the sink failed at the lines of the
-/// start, of an event or of the end, behind all lines before them. Or memory was wanting: in the start, or behind its lines.
+/// start, of a switch that was lost in a batch, of an event or of the end, behind all lines before them. Or memory was wanting: in the start, or behind its lines.
 pub fn cut_runs_are_the_references<W: World>()
     ensures cut { (allows : List Place → Bool) (started : Bool) (number : ℕ) (text : List ℕ) (contents now_contents : Option (List ℕ)) (first last : Seen W.Own) (e : Engine)
         → IsOpened first → GoneSoFar allows started number text first last engine_at_first e → number ≤ 1000 → Conforming last
@@ -92,7 +90,10 @@ pub fn cut_runs_are_the_references<W: World>()
     ensures event { (allows : List Place → Bool) (number : ℕ) (text more : List ℕ) (contents now_contents : Option (List ℕ)) (first mid last : Seen W.Own) (e now_e : Engine)
         → IsOpened first → GoneSoFar allows true number text first mid engine_at_first e → Moved [] (dispatch_next allows) more mid last e now_e → number ≤ 999
         → Conforming last → TookPart (append_known contents text) now_contents more → CutInLines allows last contents now_contents }
-    ensures end { (allows : List Place → Bool) (text more : List ℕ) (contents now_contents : Option (List ℕ)) (first last stop : Seen W.Own) (e : Engine)
-        → IsOpened first → GoneSoFar allows true 1000 text first last engine_at_first e → e.queue ≡ [] → more ≡ last_text last e → Leaves last stop
+    ensures loss { (allows : List Place → Bool) (text more : List ℕ) (contents now_contents : Option (List ℕ)) (first mid last : Seen W.Own) (e now_e : Engine)
+        → IsOpened first → (gone : GoneSoFar allows true 0 text first mid engine_at_first e) → gone.begun ≡ [] → OneHappens more mid last e now_e
+        → Conforming last → TookPart (append_known contents text) now_contents more → CutInLines allows last contents now_contents }
+    ensures end { (allows : List Place → Bool) (lost : List ℕ) (text more : List ℕ) (contents now_contents : Option (List ℕ)) (first last stop : Seen W.Own) (e : Engine)
+        → IsOpened first → GoneSoFar allows true 1000 text first last engine_at_first e → e.queue ≡ [] → more ≡ last_text lost last e → Leaves lost last stop
         → Conforming stop → TookPart (append_known contents text) now_contents more → CutInLines allows stop contents now_contents }
 {}

@@ -1,9 +1,9 @@
 //! Laws of turns: in a world that keeps its word, a turn goes as the reference controller plays it.
 //!
 //! There is no call here but laws, each the contract of a function that does nothing: `turns_are_shown`,
-//! `stops_are_plain` (a turn that stops does so by a link or for want of memory, and so does the release of its packets,
-//! unless one made its switch send too many messages), `faults_are_undone` (after a fault each switch has its entries
-//! again, or failed in the undo), and `releases_leave` (what a commit that ended in a fault leaves).
+//! `stops_are_plain` (a turn that stops does so for want of memory, and so does the release of its packets, unless one made
+//! its switch send too many messages), `faults_are_undone` (after a fault each switch has its entries again, or failed in the
+//! undo, or was lost), and `releases_leave` (what a commit that ended in a fault leaves).
 #![tactic(auto)]
 
 mod turns;

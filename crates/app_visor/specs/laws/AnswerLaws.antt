@@ -17,8 +17,10 @@ use Rattle.flow_table.specs.Errors.{bad_type}
 use Rattle.flow_table.specs.Refusals.{or_else, stats_refusal}
 use Rattle.lego_model.specs.Answers.{Rows, wire_fault, host_refusal, host_answer_to, refused_or, host_answer, answer_by}
 use Rattle.outside.specs.Seen.{Seen}
+use Rattle.lego_model.specs.declared.fault.TxnFault.{TxnFault}
 use Rattle.net_txn.specs.Net.{NetState}
-use Rattle.net_txn.specs.Changes.{known_rows, error_in, Changes}
+use Rattle.net_txn.specs.Changes.{error_in, ChangesJoined, Changes}
+use Rattle.net_txn.specs.Answering.{known_rows}
 
 -- it has no body
 abbrev pub IsPlain : Answer → Type 0
@@ -102,13 +104,30 @@ plain_by : (error : Option OfError) → IsPlain (answer_by error)
 plain_by None = tt
 plain_by (Some error) = tt
 
-pub plain_change : {Own : Type 0} (Tells : Type 0) (d : ℕ) (bytes : List ℕ) (old new : Seen Own) (net now_net : NetState) (answer : Answer) → Changes Tells d bytes old new net now_net (Ok answer) → IsPlain answer
-plain_change Tells d bytes old new net now_net answer changes = elim (decided (known_rows d net.views) bytes) [
+plain_joined : {Own : Type 0} (Tells : Type 0) (d : ℕ) (bytes : List ℕ) (old new : Seen Own) (net now_net : NetState) (answer : Answer) → ChangesJoined Tells d bytes old new net now_net (Ok answer) → IsPlain answer
+plain_joined Tells d bytes old new net now_net answer changes = elim (decided (known_rows d net.views) bytes) [
   | inl h ↦ subst IsPlain (sym ((changes.by_host h.0 h.1.0).answers)) h.1.1
   | inr h ↦ elim h.1.1.0 [
     | inl none ↦ let asked = changes.by_switch h.0 h.1.0 none h.1.1.1 in subst IsPlain (sym asked.answer_so) (plain_by (error_in asked.refusal))
     | inr a ↦ subst IsPlain (sym ((changes.by_host a.0 a.1.0).answers)) a.1.1
   ]
+]
+
+abbrev answer_or : Answer → Result Answer TxnFault → Answer
+answer_or other (Ok answer) = answer
+answer_or other (Err fault) = other
+
+abbrev pub answered : Answer → Result Answer TxnFault
+answered answer = Ok answer
+
+-- the answer where the switch was lost
+pub is_unknown : (answer : Answer) → answered answer ≡ Ok Unknown → answer ≡ Unknown
+is_unknown answer is = ap (answer_or Unknown) is
+
+pub plain_change : {Own : Type 0} (Tells : Type 0) (d : ℕ) (bytes : List ℕ) (old new : Seen Own) (net now_net : NetState) (answer : Answer) → Changes Tells d bytes old new net now_net (Ok answer) → IsPlain answer
+plain_change Tells d bytes old new net now_net answer changes = elim changes.answered [
+  | inl joined ↦ plain_joined Tells d bytes old new net now_net answer joined
+  | inr lost ↦ subst IsPlain (sym (is_unknown answer lost.1)) tt
 ]
 
 -- so its frame can be written

@@ -96,7 +96,7 @@ stops_breaking net breaks = stops_wanting (leads_taken net breaks.taken) breaks.
 
 pub halts_continue : {Own : Type 0} (Tells : Type 0) (old new : Seen Own) (net now_net : NetState) (fault : TxnFault) → Halts Tells old new net now_net fault → Continues Tells old new
 halts_continue Tells old new net now_net fault (inl h) = h.2.continues
-halts_continue Tells old new net now_net fault (inr h) = h.1.1.0.continues
+halts_continue Tells old new net now_net fault (inr h) = h.1.1.continues
 
 pub Stops-continues : {Own : Type 0} {Tells : Type 0} {app : ℕ} {old new : Seen Own} {net now_net : NetState} {fault : TxnFault} → Stops Tells app old new net now_net fault → Continues Tells old new
 Stops-continues {Tells = Tells} {old = old} {new = new} {now_net = now_net} {fault = fault} stops =
@@ -105,13 +105,13 @@ Stops-continues {Tells = Tells} {old = old} {new = new} {now_net = now_net} {fau
 -- ---- What stays
 
 Stays-refl : (net : NetState) → Stays net net
-Stays-refl net = record { ports = refl; moment = refl; room = refl }
+Stays-refl net = record { moment = refl; room = refl }
 
 Stays-trans : (a b c : NetState) → Stays a b → Stays b c → Stays a c
-Stays-trans a b c first second = record { ports = second.ports ∙ first.ports; moment = second.moment ∙ first.moment; room = second.room ∙ first.room }
+Stays-trans a b c first second = record { moment = second.moment ∙ first.moment; room = second.room ∙ first.room }
 
 stays_changed : {Own : Type 0} {Tells : Type 0} {d : ℕ} {bytes : List ℕ} {old new : Seen Own} {net now_net : NetState} {result : Result Answer TxnFault} → Changes Tells d bytes old new net now_net result → Stays net now_net
-stays_changed changes = record { ports = changes.ports; moment = changes.moment; room = changes.room }
+stays_changed changes = record { moment = changes.moment; room = changes.room }
 
 Chain-stays : {Own : Type 0} (Tells : Type 0) (app : ℕ) (xs : List (Beat Own)) (a b : Seen Own) (m n : NetState) → Chain Tells app xs a b m n → Stays m n
 Chain-stays Tells app [] a b m n chain = rw chain.1 (Stays-refl m)
@@ -124,7 +124,7 @@ Leads-stays {Tells = Tells} {app = app} {a = a} {b = b} {m = m} {n = n} leads = 
 
 halts_stay : {Own : Type 0} (Tells : Type 0) (old new : Seen Own) (net now_net : NetState) (fault : TxnFault) → Halts Tells old new net now_net fault → Stays net now_net
 halts_stay Tells old new net now_net fault (inl h) = rw h.1 (Stays-refl net)
-halts_stay Tells old new net now_net fault (inr h) = stays_changed h.1.1.0
+halts_stay Tells old new net now_net fault (inr h) = stays_changed h.1.1
 
 pub Stops-stays : {Own : Type 0} {Tells : Type 0} {app : ℕ} {old new : Seen Own} {net now_net : NetState} {fault : TxnFault} → Stops Tells app old new net now_net fault → Stays net now_net
 Stops-stays {Tells = Tells} {new = new} {net = net} {now_net = now_net} {fault = fault} stops =

@@ -5,7 +5,7 @@ use Rattle.std.specs.Option.{is_some}
 use Rattle.std.proofs.Common.{sym, ap, ◌∙◌, subst, inl, inr, true≢false}
 use Rattle.std.proofs.lemmas.List.{append-nil}
 use Rattle.of_types.specs.declared.journal.Act.{Act}
-use Rattle.of_types.specs.declared.journal.Act.TheVariants.{Stim, Started, Gave, Gone, Took, Ended, Sent, Got}
+use Rattle.of_types.specs.declared.journal.Act.TheVariants.{Stim, Started, Gave, Gone, Took, Ended, Sent, Got, Lost}
 use Rattle.flow_table.specs.View.{TableView}
 use Rattle.lego_model.specs.Journal.{is_of}
 use Rattle.outside.specs.Seen.{Seen, Continues}
@@ -19,7 +19,7 @@ use Rattle.net_txn.specs.Views.{rows_at}
 use Rattle.net_txn.specs.LinkSteps.{MakesNoStrayCall}
 use Rattle.lego_model.specs.UndoFaults.{IsExpectedOnLink, AreExpectedOnLinks}
 use Rattle.net_txn.specs.laws.LinkStrayLaws.{no_strays_by, no_strays_none, no_strays_then}
-use Rattle.net_txn.specs.laws.AgreeLaws.{viewed}
+use Rattle.net_txn.specs.laws.ViewLaws.{viewed}
 use Rattle.net_txn.specs.Abreast.{Abreast}
 use Rattle.net_txn.specs.laws.AbreastLaws.{changes_abreast}
 use Rattle.journal_laws.specs.Readings.{Calls}
@@ -43,6 +43,7 @@ step_place (Took app what) s = tt
 step_place (Ended app) s = tt
 step_place (Sent d bytes) s = tt
 step_place (Got d bytes) s = tt
+step_place (Lost d) s = tt
 
 step_brings : (app : ℕ) (act : Act) → is_of app act ≡ true → brings_message (step_of act) ≡ true
 step_brings app (Stim x) is = refl
@@ -53,6 +54,7 @@ step_brings app (Took from what) is = refl
 step_brings app (Ended of) is = refl
 step_brings app (Sent d bytes) is = refl
 step_brings app (Got d bytes) is = absurd (true≢false (sym is))
+step_brings app (Lost d) is = absurd (true≢false (sym is))
 
 joined_by : (d : ℕ) (s t : State) → t.links ≡ s.links → is_joined d t ≡ is_joined d s
 unfolding switch_of
@@ -163,11 +165,11 @@ halts_abreast : {Own : Type 0} (Tells : Type 0) (old new : Seen Own) (net now_ne
 halts_abreast Tells old new net now_net fault (inl h) tells abreast =
     let is = state-append old new [] h.2.continues.given (h.2.history tells ∙ sym (append-nil old.history)) in
     rw h.1 (abreast_by old new net (ap (λ (s : State). s.links) is) (ap (λ (s : State). s.due) is) abreast)
-halts_abreast Tells old new net now_net fault (inr h) tells abreast = changes_abreast h.1.1.0 tells abreast
+halts_abreast Tells old new net now_net fault (inr h) tells abreast = changes_abreast h.1.1 tells abreast
 
 halts_places : {Own : Type 0} (Tells : Type 0) (old new : Seen Own) (net now_net : NetState) (fault : TxnFault) → Halts Tells old new net now_net fault → Tells → InOrder new → Abreast old net → MakesNoStrayCall old new
 halts_places Tells old new net now_net fault (inl h) tells order abreast = no_strays_by old new [] (h.2.history tells ∙ sym (append-nil old.history)) tt
-halts_places Tells old new net now_net fault (inr h) tells order abreast = h.1.1.0.no_strays tells order (λ there. abreast_joined h.0 abreast there)
+halts_places Tells old new net now_net fault (inr h) tells order abreast = h.1.1.no_strays tells order (λ there. abreast_joined h.0 abreast there)
 
 pub stops_abreast : {Own : Type 0} {Tells : Type 0} {app : ℕ} {old new : Seen Own} {net now_net : NetState} {fault : TxnFault} → Stops Tells app old new net now_net fault → Tells → Abreast old net → Abreast new now_net
 stops_abreast {Tells = Tells} {app = app} {old = old} {new = new} {net = net} {now_net = now_net} {fault = fault} s tells abreast =

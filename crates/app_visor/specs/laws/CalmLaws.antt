@@ -3,11 +3,11 @@ use Rattle.std.specs.Prelude.{◌≡◌, ℕ, Bool, true, false, List, [], ◌�
 use Rattle.std.specs.List.{AllByRecursion}
 use Rattle.std.proofs.Common.{sym, ap, ◌∙◌, append_assoc, true≢false}
 use Rattle.std.proofs.lemmas.List.{append-nil}
-use Rattle.of_types.specs.declared.journal.Act.TheVariants.{Stim, Started, Gave, Gone, Took, Ended, Sent, Got}
+use Rattle.of_types.specs.declared.journal.Act.TheVariants.{Stim, Started, Gave, Gone, Took, Ended, Sent, Got, Lost}
 use Rattle.app_frames.specs.declared.frame.Answer.{Answer}
 use Rattle.lego_model.specs.Controller.{answer_frame}
 use Rattle.outside.specs.declared.step.WorldStep.{WorldStep}
-use Rattle.outside.specs.declared.step.WorldStep.TheVariants.{Acted, TookInto, From, Joined, Left, Moment, Idle, End, Opened, NotOpened, NextFailed, SendFailed, RecvFailed}
+use Rattle.outside.specs.declared.step.WorldStep.TheVariants.{Acted, TookInto, From, Joined, Left, Moment, Idle, End, Opened, NotOpened, NextFailed, SendLost, RecvLost, SendFailed, RecvFailed}
 use Rattle.outside.specs.Seen.{Seen}
 use Rattle.outside.specs.Quiescence.{is_quiescent, NoneQuiescent}
 use Rattle.outside.specs.laws.QuiescenceLaws.{none_since-none, none_since-then, last_quiescent-of, last_quiescent-then}
@@ -64,6 +64,9 @@ later_given app given frame told tells =
 link_for : (app : ℕ) (step : WorldStep) → is_link_step step ≡ true → IsCallFor app step
 link_for app (Acted (Sent d bytes)) is = tt
 link_for app (Acted (Got d bytes)) is = tt
+link_for app (SendLost d) is = tt
+link_for app (RecvLost d) is = tt
+link_for app (Acted (Lost d)) is = tt
 link_for app (SendFailed d) is = tt
 link_for app (RecvFailed d) is = tt
 link_for app (Acted (Stim x)) is = tt
@@ -86,6 +89,9 @@ link_for app NextFailed is = tt
 link_no_quiescence : (step : WorldStep) → is_link_step step ≡ true → is_quiescent step ≡ false
 link_no_quiescence (Acted (Sent d bytes)) is = refl
 link_no_quiescence (Acted (Got d bytes)) is = refl
+link_no_quiescence (SendLost d) is = refl
+link_no_quiescence (RecvLost d) is = refl
+link_no_quiescence (Acted (Lost d)) is = refl
 link_no_quiescence (SendFailed d) is = refl
 link_no_quiescence (RecvFailed d) is = refl
 link_no_quiescence (Acted (Stim x)) is = absurd (true≢false (sym is))

@@ -1,10 +1,11 @@
 -- Laws of dialogues in a world that tells: each beat of a turn goes on with the dialogue, and a change has reached its switch at once where
 -- its answer is given.
 use Rattle.std.specs.Prelude.{◌≡◌, ℕ, Bool, true, false, List, [], ◌∷◌, ◌++◌, Some, None, Ok, refl}
+use Rattle.std.specs.List.{list_any}
 use Rattle.std.proofs.Common.{sym, ap, ap₂, ◌∙◌, subst, append_assoc, inl, inr, true≢false}
 use Rattle.std.proofs.lemmas.List.{append-nil, append_cancel_left}
 use Rattle.of_types.specs.declared.journal.Act.{Act}
-use Rattle.of_types.specs.declared.journal.Act.TheVariants.{Gave, Gone, Took, Ended}
+use Rattle.of_types.specs.declared.journal.Act.TheVariants.{Stim, Started, Gave, Gone, Took, Ended, Sent, Got, Lost}
 use Rattle.of_types.specs.declared.journal.TookWhat.TheVariants as took
 use Rattle.of_wire.specs.declared.bodies.FlowMod.{FlowMod as Change}
 use Rattle.of_wire.specs.declared.message.Message.TheVariants as messages
@@ -13,24 +14,29 @@ use Rattle.of_wire.specs.Grammar.{enveloped}
 use Rattle.app_frames.specs.declared.frame.AppFrame.{AppFrame}
 use Rattle.app_frames.specs.declared.frame.AppFrame.TheVariants as frames
 use Rattle.app_frames.specs.declared.frame.Answer.{Answer}
-use Rattle.lego_model.specs.Journal.{is_of, is_event}
+use Rattle.app_frames.specs.declared.frame.Answer.TheVariants.{Unknown}
+use Rattle.lego_model.specs.Journal.{is_of, is_event, losses}
 use Rattle.lego_model.specs.Controller.{answer_frame, restore_frame}
 use Rattle.outside.specs.declared.step.WorldStep.{WorldStep}
 use Rattle.outside.specs.Seen.{Seen, journal}
 use Rattle.outside.specs.laws.SeenLaws.{journal-append}
-use Rattle.outside.specs.State.{state, is_running}
+use Rattle.outside.specs.State.{state, is_running, is_joined}
 use Rattle.outside.specs.Calls.{Ends, end_steps}
-use Rattle.net_txn.specs.Net.{NetState, awaited_from}
-use Rattle.lego_model.specs.BarrierWaits.{wait_steps, reply_got, barrier_sent}
-use Rattle.net_txn.specs.Changes.{known_rows, answer_of_host, change_sent, ByHost}
-use Rattle.lego_model.specs.AtOnce.{Before, before, nothing_said, besides, is_message, Passes, SendsNone, AnsweredAtOnce, GivesFrame, Says, Dialogue}
-use Rattle.journal_laws.specs.laws.AtOnceLaws.{answer_is_one, restore_is_no_answer, event_is_no_answer, passes_none, Dialogue-append, others_say, host_since, switch_since}
+use Rattle.net_txn.specs.Net.{NetState}
+use Rattle.net_txn.specs.LinkSteps.{LinkSteps}
+use Rattle.net_txn.specs.Losing.{GoesOut, SaysNone, IsLost}
+use Rattle.net_txn.specs.Agreement.{ReachedSince}
+use Rattle.net_txn.specs.Answering.{known_rows, answer_of_host, ByHost}
+use Rattle.net_txn.specs.Changes.{ChangesJoined}
+use Rattle.lego_model.specs.Answers.{as_sent, host_answer}
+use Rattle.lego_model.specs.AtOnce.{Before, before, nothing_said, besides, is_message, Passes, SendsNone, is_loss_of, AnsweredAtOnce, GivesFrame, Says, Dialogue}
+use Rattle.journal_laws.specs.laws.AtOnceLaws.{answer_is_one, restore_is_no_answer, event_is_no_answer, passes_none, Dialogue-append, others_say, host_since, switch_since, loss_since}
 use Rattle.app_visor.specs.Talks.{step_of, Told}
 use Rattle.app_visor.specs.Reads.{takes, TakesAll, IsNext}
 use Rattle.app_visor.specs.Beats.{Exchange, IsExchange, exchange_of, Exchanges, acts_of}
 use Rattle.app_visor.specs.laws.BeatLaws.{same}
-use Rattle.app_visor.specs.laws.AnswerLaws.{decided}
-use Rattle.app_visor.specs.laws.JournalLaws.{journal_told, asked_none}
+use Rattle.app_visor.specs.laws.AnswerLaws.{decided, is_unknown}
+use Rattle.app_visor.specs.laws.JournalLaws.{journal_told, links_none}
 use Rattle.app_visor.specs.Dialogues.{Converses}
 
 -- a frame that is no message is passed over
@@ -127,37 +133,86 @@ host_answered app since x answer is by none = record {
   at_once = inl (host_since x.bytes x.answer since [] none (record { rows = known_rows x.dpid x.net.views; answer_so = is ∙ ap (λ (a : Answer). Some a) (sym by.answers); none_sent = refl }));
 }
 
-switch_answered : {Own : Type 0} (Tells : Type 0) (app : ℕ) (since : List Act) (x : Exchange Own) (xid : ℕ) (m : Change) → answer_of_host x.dpid x.bytes x.net ≡ None → reading_of x.bytes ≡ Ok (enveloped xid (messages.FlowMod m)) → IsExchange Tells x → Tells → SendsNone since
-    → IsAnswered app since x
-switch_answered Tells app since x xid m unanswered read is tells none =
-    let asked = is.changes.by_switch xid m unanswered read in
-    let a = awaited_from x.dpid x.net.xid in
-    let r = is.reached xid m tells unanswered read in
-    let told = (change_sent x.dpid x.net.xid m ∷ barrier_sent a ∷ []) ++ (wait_steps a asked.waits.got ++ reply_got a ∷ []) in
-    let alike : r.steps ≡ told = append_cancel_left x.before.history r.steps told (sym r.since ∙ asked.waits.hears.told tells) in
-    record {
-      steps = r.steps;
-      history = r.since;
-      others = ap (acts_of app) alike ∙ asked_none app x.dpid x.net.xid m a asked.waits.got;
-      at_once = inr (switch_since x.dpid x.bytes x.answer since (journal r.steps) none (record {
-        xid = xid;
-        message = messages.FlowMod m;
-        read = read;
-        change = refl;
-        reached = r.reached;
-        error = r.error;
-        error_so = r.error_so;
-        answer_so = r.answer_so;
-      }));
-    }
+-- the acts of calls of links
+link_others : {Own : Type 0} (app : ℕ) (old new : Seen Own) (steps : List WorldStep) → new.history ≡ old.history ++ steps → LinkSteps old new → acts_of app steps ≡ []
+link_others app old new steps history only =
+    ap (acts_of app) (append_cancel_left old.history steps only.steps (sym history ∙ only.history)) ∙ links_none app only.steps only.all
+
+switch_answered : {Own : Type 0} (Tells : Type 0) (app : ℕ) (since : List Act) (x : Exchange Own) (xid : ℕ) (m : Change) → reading_of x.bytes ≡ Ok (enveloped xid (messages.FlowMod m))
+    → ReachedSince x.dpid (as_sent (messages.FlowMod m)) x.answer x.before.history x.after.history → LinkSteps x.before x.after → SendsNone since → IsAnswered app since x
+switch_answered Tells app since x xid m read r only none = record {
+  steps = r.steps;
+  history = r.since;
+  others = link_others app x.before x.after r.steps r.since only;
+  at_once = inr (inl (switch_since x.dpid x.bytes x.answer since (journal r.steps) none (record {
+    xid = xid;
+    message = messages.FlowMod m;
+    read = read;
+    change = refl;
+    reached = r.reached;
+    error = r.error;
+    error_so = r.error_so;
+    answer_so = r.answer_so;
+  })));
+}
+
+joined_answered : {Own : Type 0} (Tells : Type 0) (app : ℕ) (since : List Act) (x : Exchange Own) → ChangesJoined Tells x.dpid x.bytes x.before x.after x.net x.now_net (Ok x.answer) → LinkSteps x.before x.after → Tells → SendsNone since → IsAnswered app since x
+joined_answered Tells app since x is only tells none = elim (decided (known_rows x.dpid x.net.views) x.bytes) [
+  | inl h ↦ host_answered app since x h.0 h.1.0 (is.by_host h.0 h.1.0) none
+  | inr h ↦ elim h.1.1.0 [
+    | inl unanswered ↦ switch_answered Tells app since x h.0 h.1.0 h.1.1.1 (is.reached h.0 h.1.0 tells unanswered h.1.1.1) only none
+    | inr y ↦ host_answered app since x y.0 y.1.0 (is.by_host y.0 y.1.0) none
+  ]
+]
+
+-- ---- A switch that is lost
+
+-- it is among the losses
+loss_told : (d : ℕ) (acts : List Act) (rest : List ℕ) → losses acts ≡ d ∷ rest → list_any (is_loss_of d) acts ≡ true
+unfolding losses
+loss_told d [] rest is = absurd cc
+loss_told d (Lost e ∷ acts) rest is = rw (head_so e d (losses acts) rest is, same d) refl
+  where
+    head_so : (e d : ℕ) (xs ys : List ℕ) → e ∷ xs ≡ d ∷ ys → e ≡ d
+    head_so e d xs ys is = cc
+loss_told d (Stim x ∷ acts) rest is = loss_told d acts rest is
+loss_told d (Started of stands ∷ acts) rest is = loss_told d acts rest is
+loss_told d (Gave of frame ∷ acts) rest is = loss_told d acts rest is
+loss_told d (Gone of frame ∷ acts) rest is = loss_told d acts rest is
+loss_told d (Took of what ∷ acts) rest is = loss_told d acts rest is
+loss_told d (Ended of ∷ acts) rest is = loss_told d acts rest is
+loss_told d (Sent e bytes ∷ acts) rest is = loss_told d acts rest is
+loss_told d (Got e bytes ∷ acts) rest is = loss_told d acts rest is
+
+loss_answered : {Own : Type 0} (app : ℕ) (since : List Act) (x : Exchange Own) → x.answer ≡ Unknown → GoesOut x.dpid [] x.before x.after → LinkSteps x.before x.after → IsAnswered app since x
+loss_answered app since x unknown out only = record {
+  steps = out.steps;
+  history = out.history;
+  others = link_others app x.before x.after out.steps out.history only;
+  at_once = inr (inr (loss_since x.dpid x.answer since (journal out.steps) (record { answer_so = unknown; lost = loss_told x.dpid (journal out.steps) [] out.lost })));
+}
+
+-- It was out before, and so no change was sent: it is answered as a switch that is not known.
+out_answered : {Own : Type 0} (app : ℕ) (since : List Act) (x : Exchange Own) → x.answer ≡ Unknown → SaysNone x.before x.after → LinkSteps x.before x.after → SendsNone since → IsAnswered app since x
+unfolding host_answer
+out_answered app since x unknown says only none = record {
+  steps = says.steps;
+  history = says.history;
+  others = link_others app x.before x.after says.steps says.history only;
+  at_once = inl (host_since x.bytes x.answer since (journal says.steps) none (record { rows = None; answer_so = ap (λ (a : Answer). Some a) (sym unknown); none_sent = says.none_sent }));
+}
+
+lost_answered : {Own : Type 0} (Tells : Type 0) (app : ℕ) (since : List Act) (x : Exchange Own) → x.answer ≡ Unknown → IsLost Tells x.dpid [] x.before x.after → LinkSteps x.before x.after → Tells → SendsNone since → IsAnswered app since x
+lost_answered Tells app since x unknown lost only tells none = by (is_joined x.dpid (state x.before)) refl
+  where
+    by : (joined : Bool) → is_joined x.dpid (state x.before) ≡ joined → IsAnswered app since x
+    by true joined = loss_answered app since x unknown (lost.out tells joined) only
+    by false out = out_answered app since x unknown (lost.was_out tells out) only none
 
 exchange_answered : {Own : Type 0} (Tells : Type 0) (app : ℕ) (since : List Act) (x : Exchange Own) → IsExchange Tells x → Tells → SendsNone since → IsAnswered app since x
-exchange_answered Tells app since x is tells none = elim (decided (known_rows x.dpid x.net.views) x.bytes) [
-  | inl h ↦ host_answered app since x h.0 h.1.0 (is.changes.by_host h.0 h.1.0) none
-  | inr h ↦ elim h.1.1.0 [
-    | inl unanswered ↦ switch_answered Tells app since x h.0 h.1.0 unanswered h.1.1.1 is tells none
-    | inr y ↦ host_answered app since x y.0 y.1.0 (is.changes.by_host y.0 y.1.0) none
-  ]
+exchange_answered Tells app since x is tells none = elim is.changes.answered [
+  | inl joined ↦ joined_answered Tells app since x joined (is.changes.links tells) tells none
+  | inr lost ↦ lost_answered Tells app since x (is_unknown x.answer lost.1) lost.2.is_lost (is.changes.links tells) tells none
 ]
 
 -- the application was given the answer

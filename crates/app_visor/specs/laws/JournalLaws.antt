@@ -1,26 +1,20 @@
 -- Laws of what the history of a telling world has of a turn: of the acts of the application it has the calls of the beats, in order, and
 -- nothing else, since what is sent to a switch and got from it is no act of an application.
 use Rattle.std.specs.Prelude.{◌≡◌, ℕ, true, List, [], ◌∷◌, ◌++◌, filter, refl}
-use Rattle.std.proofs.Common.{sym, ap, ◌∙◌, append_assoc, inl, inr}
+use Rattle.std.proofs.Common.{sym, ap, ◌∙◌, append_assoc, true≢false}
 use Rattle.std.proofs.lemmas.List.{append-nil}
 use Rattle.std.proofs.lemmas.List.Elements.{filter-append}
 use Rattle.of_types.specs.declared.journal.Act.{Act}
-use Rattle.of_types.specs.declared.journal.Act.TheVariants.{Stim, Started, Gave, Gone, Took, Ended, Sent, Got}
-use Rattle.of_wire.specs.declared.bodies.FlowMod.{FlowMod as Change}
+use Rattle.of_types.specs.declared.journal.Act.TheVariants.{Stim, Started, Gave, Gone, Took, Ended, Sent, Got, Lost}
 use Rattle.lego_model.specs.Journal.{is_of}
 use Rattle.outside.specs.declared.step.WorldStep.{WorldStep}
-use Rattle.outside.specs.declared.step.WorldStep.TheVariants.{Acted}
+use Rattle.outside.specs.declared.step.WorldStep.TheVariants.{Acted, TookInto, From, Joined, Left, Moment, Idle, End, Opened, NotOpened, NextFailed, SendLost, RecvLost, SendFailed, RecvFailed}
 use Rattle.outside.specs.Seen.{Seen, journal}
 use Rattle.outside.specs.laws.SeenLaws.{journal-append}
-use Rattle.lego_model.specs.declared.wait.Awaited.{Awaited}
-use Rattle.lego_model.specs.declared.wait.Heard.{Heard}
-use Rattle.lego_model.specs.declared.wait.Heard.TheVariants.{Reply, Refused, Notice, Echo, Other}
-use Rattle.net_txn.specs.Net.{NetState, awaited_from}
-use Rattle.lego_model.specs.BarrierWaits.{heard, steps_by, wait_steps, reply_got, barrier_sent}
-use Rattle.net_txn.specs.Changes.{known_rows, change_sent}
+use Rattle.net_txn.specs.Net.{NetState}
+use Rattle.net_txn.specs.LinkSteps.{AreLinkSteps}
 use Rattle.app_visor.specs.Talks.{step_of}
 use Rattle.app_visor.specs.Beats.{Exchange, Beat, Talk, Asks, IsExchange, Chain, acts_in, acts_of, ActsTold}
-use Rattle.app_visor.specs.laws.AnswerLaws.{decided}
 
 pub acts_append : (app : ℕ) (xs ys : List WorldStep) → acts_of app (xs ++ ys) ≡ acts_of app xs ++ acts_of app ys
 acts_append app xs ys = ap (λ (acts : List Act). filter (is_of app) acts) (journal-append xs ys) ∙ filter-append (is_of app) (journal xs) (journal ys)
@@ -48,46 +42,45 @@ journal_told (Took app what) = refl
 journal_told (Ended app) = refl
 journal_told (Sent d bytes) = refl
 journal_told (Got d bytes) = refl
+journal_told (Lost d) = refl
 
 call_told : (app : ℕ) (act : Act) → is_of app act ≡ true → acts_of app (step_of act ∷ []) ≡ act ∷ []
 call_told app act is = ap (λ (acts : List Act). filter (is_of app) acts) (journal_told act) ∙ rw is refl
 
 -- ---- A message for a switch
 
-heard_none : (app d : ℕ) (bytes : List ℕ) (what : Heard) → acts_of app (Acted (Got d bytes) ∷ steps_by d what bytes) ≡ []
+-- no call of a link is one for an application
+pub links_none : (app : ℕ) (steps : List WorldStep) → AreLinkSteps steps → acts_of app steps ≡ []
 unfolding journal
-heard_none app d bytes Reply = refl
-heard_none app d bytes (Refused refusal) = refl
-heard_none app d bytes Notice = refl
-heard_none app d bytes Echo = refl
-heard_none app d bytes Other = refl
-
-wait_none : (app : ℕ) (a : Awaited) (got : List (List ℕ)) → acts_of app (wait_steps a got) ≡ []
-unfolding journal
-wait_none app a [] = refl
-wait_none app a (bytes ∷ got) =
-    acts_append app (Acted (Got a.dpid bytes) ∷ steps_by a.dpid (heard a bytes) bytes) (wait_steps a got)
-    ∙ ap (λ (acts : List Act). acts ++ acts_of app (wait_steps a got)) (heard_none app a.dpid bytes (heard a bytes)) ∙ wait_none app a got
-
-pub asked_none : (app d xid : ℕ) (m : Change) (a : Awaited) (got : List (List ℕ)) → acts_of app ((change_sent d xid m ∷ barrier_sent a ∷ []) ++ (wait_steps a got ++ reply_got a ∷ [])) ≡ []
-unfolding journal
-asked_none app d xid m a got =
-    acts_append app (wait_steps a got) (reply_got a ∷ []) ∙ ap (λ (acts : List Act). acts ++ acts_of app (reply_got a ∷ [])) (wait_none app a got)
+links_none app [] all = refl
+links_none app (Acted (Sent d bytes) ∷ steps) all = links_none app steps all.1
+links_none app (Acted (Got d bytes) ∷ steps) all = links_none app steps all.1
+links_none app (SendLost d ∷ steps) all = links_none app steps all.1
+links_none app (RecvLost d ∷ steps) all = links_none app steps all.1
+links_none app (SendFailed d ∷ steps) all = links_none app steps all.1
+links_none app (RecvFailed d ∷ steps) all = links_none app steps all.1
+links_none app (Acted (Stim x) ∷ steps) all = absurd (true≢false (sym all.0))
+links_none app (Acted (Started of stands) ∷ steps) all = absurd (true≢false (sym all.0))
+links_none app (Acted (Gave of frame) ∷ steps) all = absurd (true≢false (sym all.0))
+links_none app (Acted (Gone of frame) ∷ steps) all = absurd (true≢false (sym all.0))
+links_none app (Acted (Took of what) ∷ steps) all = absurd (true≢false (sym all.0))
+links_none app (Acted (Ended of) ∷ steps) all = absurd (true≢false (sym all.0))
+links_none app (Acted (Lost d) ∷ steps) all = absurd (true≢false (sym all.0))
+links_none app (TookInto of what room ∷ steps) all = absurd (true≢false (sym all.0))
+links_none app (From d bytes ∷ steps) all = absurd (true≢false (sym all.0))
+links_none app (Joined d bytes ∷ steps) all = absurd (true≢false (sym all.0))
+links_none app (Left d ∷ steps) all = absurd (true≢false (sym all.0))
+links_none app (Moment at ∷ steps) all = absurd (true≢false (sym all.0))
+links_none app (Idle ∷ steps) all = absurd (true≢false (sym all.0))
+links_none app (End ∷ steps) all = absurd (true≢false (sym all.0))
+links_none app (Opened ∷ steps) all = absurd (true≢false (sym all.0))
+links_none app (NotOpened ∷ steps) all = absurd (true≢false (sym all.0))
+links_none app (NextFailed ∷ steps) all = absurd (true≢false (sym all.0))
 
 exchange_told : {Own : Type 0} (Tells : Type 0) (app : ℕ) (x : Exchange Own) → IsExchange Tells x → Tells → ActsTold app [] x.before x.after
-exchange_told Tells app x is tells = elim (decided (known_rows x.dpid x.net.views) x.bytes) [
-  | inl h ↦ told_none app x.before x.after ((is.changes.by_host h.0 h.1.0).world)
-  | inr h ↦ elim h.1.1.0 [
-    | inl none ↦ let asked = is.changes.by_switch h.0 h.1.0 none h.1.1.1 in
-        let a = awaited_from x.dpid x.net.xid in
-        record {
-          steps = (change_sent x.dpid x.net.xid h.1.0 ∷ barrier_sent a ∷ []) ++ (wait_steps a asked.waits.got ++ reply_got a ∷ []);
-          history = asked.waits.hears.told tells;
-          acts_so = asked_none app x.dpid x.net.xid h.1.0 a asked.waits.got;
-        }
-    | inr y ↦ told_none app x.before x.after ((is.changes.by_host y.0 y.1.0).world)
-  ]
-]
+exchange_told Tells app x is tells =
+    let only = is.changes.links tells in
+    record { steps = only.steps; history = only.history; acts_so = links_none app only.steps only.all }
 
 -- ---- All beats
 

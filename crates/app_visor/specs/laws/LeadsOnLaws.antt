@@ -1,22 +1,20 @@
 -- Laws of what stops early: what happened until then goes on with the dialogue.
-use Rattle.std.specs.Prelude.{◌≡◌, ℕ, Bool, true, false, List, [], ◌∷◌, ◌++◌, filter, refl}
-use Rattle.std.proofs.Common.{sym, ◌∙◌, subst, true≢false}
+use Rattle.std.specs.Prelude.{◌≡◌, ℕ, Bool, true, false, List, [], ◌++◌, refl}
+use Rattle.std.proofs.Common.{sym, ◌∙◌, subst}
 use Rattle.std.proofs.lemmas.List.{append-nil}
 use Rattle.std.proofs.lemmas.Bool.{eq-eqb}
 use Rattle.of_types.specs.declared.journal.Act.{Act}
-use Rattle.of_types.specs.declared.journal.Act.TheVariants.{Stim, Started, Gave, Gone, Took, Ended, Sent, Got}
+use Rattle.of_types.specs.declared.journal.Act.TheVariants.{Started, Gave}
 use Rattle.flow_table.specs.View.{TableView}
 use Rattle.app_frames.specs.declared.frame.AppFrame.{AppFrame}
 use Rattle.app_frames.specs.declared.cause.Tried.{Tried}
-use Rattle.lego_model.specs.Journal.{is_of, is_event}
+use Rattle.lego_model.specs.Journal.{is_event}
 use Rattle.lego_model.specs.Controller.{restore_frame}
 use Rattle.lego_model.specs.AtOnce.{Before, before, nothing_said, Passes}
-use Rattle.outside.specs.declared.step.WorldStep.{WorldStep}
-use Rattle.outside.specs.declared.step.WorldStep.TheVariants.{Acted, TookInto, From, Joined, Left, Moment, Idle, End, Opened, NotOpened, NextFailed, SendFailed, RecvFailed}
 use Rattle.outside.specs.Seen.{Seen, Continues, journal}
 use Rattle.outside.specs.State.{state, is_running}
 use Rattle.outside.specs.Calls.{Ends}
-use Rattle.net_txn.specs.LinkSteps.{AreLinkSteps, OnLinks}
+use Rattle.net_txn.specs.LinkSteps.{OnLinks}
 use Rattle.net_txn.specs.Net.{NetState}
 use Rattle.journal_laws.specs.laws.AtOnceLaws.{others_say}
 use Rattle.app_visor.specs.declared.came.Came.TheVariants.{Frame}
@@ -24,6 +22,7 @@ use Rattle.app_visor.specs.declared.play_end.PlayEnd.{PlayEnd}
 use Rattle.app_visor.specs.Talks.{Told, Wants}
 use Rattle.app_visor.specs.Reads.{takes, Comes, Breaks}
 use Rattle.app_visor.specs.Dialogues.{Converses, LeadsOn, TalksOn, Talks}
+use Rattle.app_visor.specs.laws.JournalLaws.{links_none}
 use Rattle.app_visor.specs.laws.DialogueLaws.{Converses-then, converses_told, converses_takes, converses_event, converses_restored, converses_ended}
 use Rattle.app_visor.specs.laws.RunningLaws.{converses_runs}
 use Rattle.app_visor.specs.Turns.{TurnsFrom, GoesOn}
@@ -41,30 +40,6 @@ pub leads_on_wanting : {Own : Type 0} {Tells : Type 0} {old new : Seen Own} (app
 leads_on_wanting {old = old} {new = new} app s wants tells = leads_on_here app s old new (wants.history tells)
 
 -- the links of switches were asked
-links_none : (app : ℕ) (steps : List WorldStep) → AreLinkSteps steps → filter (is_of app) (journal steps) ≡ []
-unfolding journal
-links_none app [] all = refl
-links_none app (Acted (Sent d bytes) ∷ steps) all = links_none app steps all.1
-links_none app (Acted (Got d bytes) ∷ steps) all = links_none app steps all.1
-links_none app (SendFailed d ∷ steps) all = links_none app steps all.1
-links_none app (RecvFailed d ∷ steps) all = links_none app steps all.1
-links_none app (Acted (Stim x) ∷ steps) all = absurd (true≢false (sym all.0))
-links_none app (Acted (Started of stands) ∷ steps) all = absurd (true≢false (sym all.0))
-links_none app (Acted (Gave of frame) ∷ steps) all = absurd (true≢false (sym all.0))
-links_none app (Acted (Gone of frame) ∷ steps) all = absurd (true≢false (sym all.0))
-links_none app (Acted (Took of what) ∷ steps) all = absurd (true≢false (sym all.0))
-links_none app (Acted (Ended of) ∷ steps) all = absurd (true≢false (sym all.0))
-links_none app (TookInto of what room ∷ steps) all = absurd (true≢false (sym all.0))
-links_none app (From d bytes ∷ steps) all = absurd (true≢false (sym all.0))
-links_none app (Joined d bytes ∷ steps) all = absurd (true≢false (sym all.0))
-links_none app (Left d ∷ steps) all = absurd (true≢false (sym all.0))
-links_none app (Moment at ∷ steps) all = absurd (true≢false (sym all.0))
-links_none app (Idle ∷ steps) all = absurd (true≢false (sym all.0))
-links_none app (End ∷ steps) all = absurd (true≢false (sym all.0))
-links_none app (Opened ∷ steps) all = absurd (true≢false (sym all.0))
-links_none app (NotOpened ∷ steps) all = absurd (true≢false (sym all.0))
-links_none app (NextFailed ∷ steps) all = absurd (true≢false (sym all.0))
-
 pub leads_on_links : {Own : Type 0} {Tells : Type 0} {old new : Seen Own} (app : ℕ) (s : Before) → OnLinks Tells old new → Tells → LeadsOn app s old new
 leads_on_links app s links tells =
     let only = links tells in

@@ -6,7 +6,7 @@ use Rattle.std.proofs.Common.{sym, ap, ◌∙◌, append_assoc, true≢false}
 use Rattle.std.proofs.lemmas.List.{append-nil, map-append}
 use Rattle.std.proofs.lemmas.Bool.{eq-eqb, eqb-true}
 use Rattle.of_types.specs.declared.journal.Act.{Act}
-use Rattle.of_types.specs.declared.journal.Act.TheVariants.{Stim, Started, Gave, Gone, Took, Ended, Sent, Got}
+use Rattle.of_types.specs.declared.journal.Act.TheVariants.{Stim, Started, Gave, Gone, Took, Ended, Sent, Got, Lost}
 use Rattle.of_types.specs.declared.journal.TookWhat.TheVariants as took
 use Rattle.lego_model.specs.Journal.{is_of, is_event}
 use Rattle.lego_model.specs.Controller.{restore_frame}
@@ -107,6 +107,7 @@ call_for app (Ended of) is = eqb-true of app is
 call_for app (Stim x) is = absurd (true≢false (sym is))
 call_for app (Sent d bytes) is = absurd (true≢false (sym is))
 call_for app (Got d bytes) is = absurd (true≢false (sym is))
+call_for app (Lost d) is = absurd (true≢false (sym is))
 
 no_quiescence : (app : ℕ) (act : Act) → is_call app act ≡ true → is_quiescent (step_of act) ≡ false
 no_quiescence app (Started of stands) is = refl
@@ -117,6 +118,7 @@ no_quiescence app (Ended of) is = refl
 no_quiescence app (Stim x) is = absurd (true≢false (sym is))
 no_quiescence app (Sent d bytes) is = refl
 no_quiescence app (Got d bytes) is = refl
+no_quiescence app (Lost d) is = refl
 
 all_for : (app : ℕ) (acts : List Act) → Calls app acts → AllByRecursion (IsCallFor app) (map step_of acts)
 all_for app [] all = tt

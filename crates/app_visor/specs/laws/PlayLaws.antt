@@ -15,7 +15,6 @@ use Rattle.outside.specs.Seen.{Seen}
 use Rattle.lego_model.specs.declared.fault.TxnFault.{TxnFault}
 use Rattle.net_txn.specs.Net.{NetState}
 use Rattle.net_txn.specs.Changes.{Changes}
-use Rattle.net_txn.specs.Agreement.{Steps}
 use Rattle.lego_model.specs.AtOnce.{before, besides, Passes}
 use Rattle.app_visor.specs.declared.came.Came.{Came}
 use Rattle.app_visor.specs.declared.came.Came.TheVariants as comes
@@ -36,10 +35,10 @@ use Rattle.app_visor.specs.laws.TurnLaws.{turn_taken, goes_answered, ends_unansw
 
 -- ---- One message
 
-pub stops_at_change : {Own : Type 0} {Tells : Type 0} {dpid : ℕ} {bytes : List ℕ} {old new : Seen Own} {net now_net : NetState} (app : ℕ) (fault : TxnFault) → Changes Tells dpid bytes old new net now_net (Err fault)
-    → Steps Tells dpid bytes old new net now_net (Err fault) → Stops Tells app old new net now_net fault
-stops_at_change {dpid = dpid} {bytes = bytes} {old = old} {net = net} app fault changes steps =
-    record { then_seen = old; then_net = net; leads = Leads-refl app old net; halts = inr (dpid, (bytes, (changes, steps))) }
+pub stops_at_change : {Own : Type 0} {Tells : Type 0} {dpid : ℕ} {bytes : List ℕ} {old new : Seen Own} {net now_net : NetState} (app : ℕ) (fault : TxnFault)
+    → Changes Tells dpid bytes old new net now_net (Err fault) → Stops Tells app old new net now_net fault
+stops_at_change {dpid = dpid} {bytes = bytes} {old = old} {net = net} app fault changes =
+    record { then_seen = old; then_net = net; leads = Leads-refl app old net; halts = inr (dpid, (bytes, changes)) }
 
 pub leads_asked : {Own : Type 0} {Tells : Type 0} (app dpid : ℕ) (bytes : List ℕ) (answer : Answer) (old after : Seen Own) (net now_net : NetState) → IsExchange Tells (exchange_of dpid bytes answer old after net now_net)
     → Leads Tells app old after net now_net

@@ -1,6 +1,6 @@
 -- Laws of a turn: what a telling world's history tells once it was played.
 use Rattle.std.specs.Prelude.{◌≡◌, ℕ, Bool, true, false, List, [], ◌∷◌, ◌++◌, refl}
-use Rattle.std.proofs.Common.{sym, ap, ◌∙◌, subst, inl, inr}
+use Rattle.std.proofs.Common.{sym, ap, ◌∙◌, subst}
 use Rattle.std.proofs.lemmas.List.{append-nil}
 use Rattle.flow_table.specs.View.{TableView}
 use Rattle.of_types.specs.declared.journal.Act.{Act}
@@ -11,62 +11,20 @@ use Rattle.outside.specs.declared.step.WorldStep.{WorldStep}
 use Rattle.outside.specs.Seen.{Seen, journal}
 use Rattle.outside.specs.State.{State, state, after_act, after_step}
 use Rattle.outside.specs.laws.StateLaws.{state-append}
-use Rattle.lego_model.specs.declared.wait.Awaited.{Awaited}
-use Rattle.lego_model.specs.declared.wait.Heard.{Heard}
-use Rattle.lego_model.specs.declared.wait.Heard.TheVariants as hearing
-use Rattle.net_txn.specs.Net.{NetState, awaited_from}
-use Rattle.lego_model.specs.BarrierWaits.{heard, steps_by, wait_steps, echo_reply, reply_got, barrier_sent}
-use Rattle.net_txn.specs.Changes.{known_rows, change_sent}
+use Rattle.net_txn.specs.Net.{NetState}
+use Rattle.net_txn.specs.LinkSteps.{LinkSteps}
 use Rattle.journal_laws.specs.Readings.{Within, LastStands}
 use Rattle.lego_model.specs.History.{starts_in, replies_in}
 use Rattle.journal_laws.specs.laws.ReadingLaws.{turn_read}
 use Rattle.journal_laws.specs.laws.CallLaws.{inputs_own, call_within}
 use Rattle.app_visor.specs.declared.state.TurnEnd.{TurnEnd}
 use Rattle.app_visor.specs.Talks.{step_of, Told, give_act}
-use Rattle.app_visor.specs.Beats.{Exchange, IsExchange, Beat, Talk, Asks, Chain, acts_in, acts_of, ActsTold}
+use Rattle.app_visor.specs.Beats.{Beat, Talk, Asks, Chain, acts_in, acts_of, ActsTold}
 use Rattle.app_visor.specs.laws.BeatLaws.{Chain-continues}
-use Rattle.app_visor.specs.laws.AnswerLaws.{decided}
 use Rattle.app_visor.specs.laws.JournalLaws.{chain_told, acts_append}
 use Rattle.app_visor.specs.Turns.{Turns, reply_by}
 use Rattle.app_visor.specs.Tellings.{Beside, marks_by, TurnTold}
-use Rattle.app_visor.specs.laws.TellingLaws.{stimuli_longer, inputs_longer, Beside-refl, Beside-trans, marks_one, stimuli_one, beside_one, AreWires, wire_sent, wire_got, wires_both, beside_wires, marks_wires, stimuli_wires}
-
--- ---- One message and its answer
-
-wires_by : (d : ℕ) (h : Heard) (bytes : List ℕ) → AreWires (steps_by d h bytes)
-wires_by d hearing.Reply bytes = tt
-wires_by d (hearing.Refused refusal) bytes = tt
-wires_by d hearing.Notice bytes = tt
-wires_by d hearing.Echo bytes = (wire_sent d (echo_reply bytes), tt)
-wires_by d hearing.Other bytes = tt
-
-wires_wait : (a : Awaited) (got : List (List ℕ)) → AreWires (wait_steps a got)
-wires_wait a [] = tt
-wires_wait a (bytes ∷ got) = (wire_got a.dpid bytes, wires_both (steps_by a.dpid (heard a bytes) bytes) (wait_steps a got) (wires_by a.dpid (heard a bytes) bytes) (wires_wait a got))
-
--- the history goes on by messages for switches and from them
-record WiresTold {Own : Type 0} (old new : Seen Own) : Type 0 where
-  steps : List WorldStep
-  history : new.history ≡ old.history ++ steps
-  wires : AreWires steps
-
-wires_none : {Own : Type 0} (old new : Seen Own) → new ≡ old → WiresTold old new
-wires_none old new is = record { steps = []; history = ap (λ (s : Seen _). s.history) is ∙ sym (append-nil old.history); wires = tt }
-
-exchange_wires : {Own : Type 0} (Tells : Type 0) (x : Exchange Own) → IsExchange Tells x → Tells → WiresTold x.before x.after
-exchange_wires Tells x is tells = elim (decided (known_rows x.dpid x.net.views) x.bytes) [
-  | inl h ↦ wires_none x.before x.after ((is.changes.by_host h.0 h.1.0).world)
-  | inr h ↦ elim h.1.1.0 [
-    | inl none ↦ let asked = is.changes.by_switch h.0 h.1.0 none h.1.1.1 in
-        let a = awaited_from x.dpid x.net.xid in
-        record {
-          steps = (change_sent x.dpid x.net.xid h.1.0 ∷ barrier_sent a ∷ []) ++ (wait_steps a asked.waits.got ++ reply_got a ∷ []);
-          history = asked.waits.hears.told tells;
-          wires = (wire_sent x.dpid _, (wire_sent x.dpid _, wires_both (wait_steps a asked.waits.got) (reply_got a ∷ []) (wires_wait a asked.waits.got) (wire_got x.dpid _, tt)));
-        }
-    | inr y ↦ wires_none x.before x.after ((is.changes.by_host y.0 y.1.0).world)
-  ]
-]
+use Rattle.app_visor.specs.laws.TellingLaws.{stimuli_longer, inputs_longer, Beside-refl, Beside-trans, marks_one, stimuli_one, beside_one, beside_links, marks_links, stimuli_links}
 
 -- ---- All beats
 
@@ -90,13 +48,13 @@ no_stimuli_more : {Own : Type 0} (old new : Seen Own) (steps : List WorldStep) �
 no_stimuli_more old new steps longer none =
     ap (λ (h : List WorldStep). stimuli (journal h)) longer ∙ stimuli_longer old.history steps ∙ ap (λ (xs : List WorldStim). stimuli (journal old.history) ++ xs) none ∙ append-nil (stimuli (journal old.history))
 
-stays_wires : {Own : Type 0} (old new : Seen Own) → new.given ≡ old.given → WiresTold old new → StaysBeside old new
-stays_wires old new given told =
-    let then_so = state-append old new told.steps given told.history in
+stays_links : {Own : Type 0} (old new : Seen Own) → new.given ≡ old.given → LinkSteps old new → StaysBeside old new
+stays_links old new given only =
+    let then_so = state-append old new only.steps given only.history in
     record {
-      stimuli_so = no_stimuli_more old new told.steps told.history (stimuli_wires told.steps told.wires);
-      beside = subst (λ (s : State). Beside (state old) s) (sym then_so) (beside_wires told.steps (state old) told.wires);
-      marks = ap (λ (s : State). s.marks) then_so ∙ marks_wires told.steps (state old) told.wires;
+      stimuli_so = no_stimuli_more old new only.steps only.history (stimuli_links only.steps only.all);
+      beside = subst (λ (s : State). Beside (state old) s) (sym then_so) (beside_links only.steps (state old) only.all);
+      marks = ap (λ (s : State). s.marks) then_so ∙ marks_links only.steps (state old) only.all;
     }
 
 stimuli_told : {Own : Type 0} (Tells : Type 0) (app : ℕ) (act : Act) (old new : Seen Own) → is_of app act ≡ true → Told Tells act old new → Tells → stimuli (journal new.history) ≡ stimuli (journal old.history)
@@ -120,7 +78,7 @@ stays_chain Tells app (Talk act ∷ trace) old new net now_net chain all tells =
       marks = ap (λ (s : State). s.marks) (state_told Tells act old next told tells) ∙ marks_one app act (state old) call;
     }) (stays_chain Tells app trace next new net now_net chain.1.1.1 all.1 tells)
 stays_chain Tells app (Asks x ∷ trace) old new net now_net chain all tells =
-    let one : StaysBeside old x.after = subst (λ (s : Seen _). StaysBeside s x.after) chain.0.0 (stays_wires x.before x.after chain.1.0.changes.continues.given (exchange_wires Tells x chain.1.0 tells)) in
+    let one : StaysBeside old x.after = subst (λ (s : Seen _). StaysBeside s x.after) chain.0.0 (stays_links x.before x.after chain.1.0.changes.continues.given (chain.1.0.changes.links tells)) in
     stays_trans old x.after new one (stays_chain Tells app trace x.after new x.now_net now_net chain.1.1 all tells)
 
 -- ---- The whole turn

@@ -6,12 +6,12 @@ use Rattle.std.proofs.lemmas.Bool.{eqb-true, eq-eqb, ne_eqb}
 use Rattle.std.proofs.lemmas.List.Folds.{list_any-append}
 use Rattle.std.proofs.lemmas.Map.Views.{any-filter_same}
 use Rattle.of_types.specs.declared.journal.Act.{Act}
-use Rattle.of_types.specs.declared.journal.Act.TheVariants.{Stim, Started, Gave, Gone, Took, Ended, Sent, Got}
+use Rattle.of_types.specs.declared.journal.Act.TheVariants.{Stim, Started, Gave, Gone, Took, Ended, Sent, Got, Lost}
 use Rattle.of_types.specs.declared.journal.TookWhat.TheVariants as took
 use Rattle.lego_model.specs.Journal.{is_of}
 use Rattle.lego_model.specs.AtOnce.{Before, attempted, is_answer, GivesFrame, Says, Dialogue}
 use Rattle.outside.specs.declared.step.WorldStep.{WorldStep}
-use Rattle.outside.specs.declared.step.WorldStep.TheVariants.{Acted, TookInto, From, Joined, Left, Moment, Idle, End, Opened, NotOpened, NextFailed, SendFailed, RecvFailed}
+use Rattle.outside.specs.declared.step.WorldStep.TheVariants.{Acted, TookInto, From, Joined, Left, Moment, Idle, End, Opened, NotOpened, NextFailed, SendLost, RecvLost, SendFailed, RecvFailed}
 use Rattle.outside.specs.Seen.{Seen, act_of, journal}
 use Rattle.outside.specs.State.{State, is_running, running_after, after_stim, after_act, after_step, after_steps, state}
 use Rattle.outside.specs.laws.StateLaws.{state-append}
@@ -63,6 +63,7 @@ other_acts app (Took of what) s other = refl
 other_acts app (Ended of) s other = end_of_other app of s.running other
 other_acts app (Sent d bytes) s other = refl
 other_acts app (Got d bytes) s other = refl
+other_acts app (Lost d) s other = refl
 
 given_runs : (answers : Bool) (frame : List ℕ) (s t : Before) → GivesFrame answers frame s t → t.running ≡ true
 given_runs true frame s t gives = ap (λ (x : Before). x.running) gives.then_so
@@ -85,6 +86,7 @@ own_acts app (Took of took.Silent) s t st own says runs = ap (λ (x : Before). x
 own_acts app (Ended of) s t st own says runs = ap (λ (x : Before). x.running) says.1 ∙ sym (end_of_itself app of st.running own)
 own_acts app (Sent d bytes) s t st own says runs = absurd (true≢false (sym own))
 own_acts app (Got d bytes) s t st own says runs = absurd (true≢false (sym own))
+own_acts app (Lost d) s t st own says runs = absurd (true≢false (sym own))
 
 own_ran : (app : ℕ) (act : Act) (s t : Before) → is_of app act ≡ true → Says true act s t → s.running ≡ ran_before act
 own_ran app (Stim x) s t own says = absurd (true≢false (sym own))
@@ -97,6 +99,7 @@ own_ran app (Took of took.Silent) s t own says = says.0
 own_ran app (Ended of) s t own says = says.0
 own_ran app (Sent d bytes) s t own says = absurd (true≢false (sym own))
 own_ran app (Got d bytes) s t own says = absurd (true≢false (sym own))
+own_ran app (Lost d) s t own says = absurd (true≢false (sym own))
 
 act_by : (app : ℕ) (act : Act) (s t : Before) (st : State) (own : Bool) → is_of app act ≡ own → Says own act s t → s.running ≡ is_running app st → t.running ≡ is_running app (after_act act st)
 act_by app act s t st true own says runs = own_acts app act s t st own says runs
@@ -132,6 +135,10 @@ dialogue_tells app (End ∷ steps) s t st d runs = behind app End steps t st tt 
 dialogue_tells app (Opened ∷ steps) s t st d runs = behind app Opened steps t st tt (dialogue_tells app steps s t (after_step Opened st) d runs)
 dialogue_tells app (NotOpened ∷ steps) s t st d runs = behind app NotOpened steps t st tt (dialogue_tells app steps s t (after_step NotOpened st) d runs)
 dialogue_tells app (NextFailed ∷ steps) s t st d runs = behind app NextFailed steps t st tt (dialogue_tells app steps s t (after_step NextFailed st) d runs)
+dialogue_tells app (SendLost dpid ∷ steps) s t st d runs = behind app (SendLost dpid) steps t st (act_in_place app (Lost dpid) s d.0 (is_running app st) d.1.0 runs)
+    (dialogue_tells app steps d.0 t (after_step (SendLost dpid) st) d.1.1 (act_by app (Lost dpid) s d.0 st false refl d.1.0 runs))
+dialogue_tells app (RecvLost dpid ∷ steps) s t st d runs = behind app (RecvLost dpid) steps t st (act_in_place app (Lost dpid) s d.0 (is_running app st) d.1.0 runs)
+    (dialogue_tells app steps d.0 t (after_step (RecvLost dpid) st) d.1.1 (act_by app (Lost dpid) s d.0 st false refl d.1.0 runs))
 dialogue_tells app (SendFailed dpid ∷ steps) s t st d runs = behind app (SendFailed dpid) steps t st tt (dialogue_tells app steps s t (after_step (SendFailed dpid) st) d runs)
 dialogue_tells app (RecvFailed dpid ∷ steps) s t st d runs = behind app (RecvFailed dpid) steps t st tt (dialogue_tells app steps s t (after_step (RecvFailed dpid) st) d runs)
 

@@ -1,18 +1,18 @@
--- Laws of what a history tells: what calls for an application and messages to switches leave.
-use Rattle.std.specs.Prelude.{◌≡◌, ◌==◌, ℕ, true, false, List, [], ◌∷◌, ◌++◌, map, filter, None, ◌⊎◌, slice_index, refl}
-use Rattle.std.specs.List.{AllByRecursion}
-use Rattle.std.proofs.Common.{sym, ap, ◌∙◌, subst, inl, inr, true≢false, arith}
+-- Laws of what a history tells: what calls for an application and of links leave.
+use Rattle.std.specs.Prelude.{◌≡◌, ◌==◌, ℕ, true, false, List, [], ◌∷◌, ◌++◌, map, filter, None, slice_index, refl}
+use Rattle.std.proofs.Common.{sym, ap, ◌∙◌, true≢false, arith}
 use Rattle.of_types.specs.Fields.{number_at}
 use Rattle.of_types.specs.declared.journal.Act.{Act}
-use Rattle.of_types.specs.declared.journal.Act.TheVariants.{Stim, Started, Gave, Gone, Took, Ended, Sent, Got}
+use Rattle.of_types.specs.declared.journal.Act.TheVariants.{Stim, Started, Gave, Gone, Took, Ended, Sent, Got, Lost}
 use Rattle.of_types.specs.declared.journal.WorldStim.{WorldStim}
 use Rattle.lego_model.specs.Journal.{stimuli, inputs, is_of, is_event}
 use Rattle.lego_model.specs.laws.JournalLaws.{stimuli-append, inputs-append}
 use Rattle.outside.specs.declared.step.WorldStep.{WorldStep}
-use Rattle.outside.specs.declared.step.WorldStep.TheVariants.{Acted}
+use Rattle.outside.specs.declared.step.WorldStep.TheVariants.{Acted, TookInto, From, Joined, Left, Moment, Idle, End, Opened, NotOpened, NextFailed, SendLost, RecvLost, SendFailed, RecvFailed}
 use Rattle.outside.specs.Seen.{journal}
 use Rattle.outside.specs.laws.SeenLaws.{journal-append}
 use Rattle.outside.specs.State.{State, event_number, marks_after_gave, after_act, after_step, after_steps}
+use Rattle.net_txn.specs.LinkSteps.{is_link_step, AreLinkSteps}
 use Rattle.journal_laws.specs.Readings.{is_call, Calls}
 use Rattle.journal_laws.specs.laws.CallLaws.{both_second, call_of, calls_of, stimulus_called, no_stimuli}
 use Rattle.app_visor.specs.Talks.{step_of}
@@ -99,6 +99,7 @@ beside_one app (Ended of) s is = record { opened = refl; moment = refl; to_come 
 beside_one app (Stim x) s is = absurd (true≢false (sym is))
 beside_one app (Sent d bytes) s is = absurd (true≢false (sym is))
 beside_one app (Got d bytes) s is = absurd (true≢false (sym is))
+beside_one app (Lost d) s is = absurd (true≢false (sym is))
 
 pub links_one : (app : ℕ) (act : Act) (s : State) → is_of app act ≡ true → (after_step (step_of act) s).links ≡ s.links
 unfolding after_step after_act
@@ -110,6 +111,7 @@ links_one app (Ended of) s is = refl
 links_one app (Stim x) s is = absurd (true≢false (sym is))
 links_one app (Sent d bytes) s is = absurd (true≢false (sym is))
 links_one app (Got d bytes) s is = absurd (true≢false (sym is))
+links_one app (Lost d) s is = absurd (true≢false (sym is))
 
 pub marks_one : (app : ℕ) (act : Act) (s : State) → is_call app act ≡ true → (after_step (step_of act) s).marks ≡ s.marks
 unfolding after_step after_act
@@ -121,6 +123,7 @@ marks_one app (Ended of) s is = refl
 marks_one app (Stim x) s is = absurd (true≢false (sym is))
 marks_one app (Sent d bytes) s is = absurd (true≢false (sym is))
 marks_one app (Got d bytes) s is = absurd (true≢false (sym is))
+marks_one app (Lost d) s is = absurd (true≢false (sym is))
 
 pub apart_called : (app : ℕ) (acts : List Act) (s : State) → Calls app acts → Apart s (after_steps (map step_of acts) s)
 apart_called app [] s all = Apart-refl s
@@ -129,76 +132,86 @@ apart_called app (act ∷ acts) s all =
     let next = after_step (step_of act) s in
     Apart-trans s next (after_steps (map step_of acts) next) (record { beside = beside_one app act s is; links = links_one app act s is; marks = marks_one app act s all.0 }) (apart_called app acts next all.1)
 
--- ---- Messages for switches and from them
+-- ---- Calls of links
 
-pub record IsWire (step : WorldStep) : Type 0 where
-  pub dpid : ℕ
-  pub bytes : List ℕ
-  pub sent_or_got : (step ≡ Acted (Sent dpid bytes)) ⊎ (step ≡ Acted (Got dpid bytes))
-
-abbrev pub AreWires : List WorldStep → Type 0
-AreWires steps = AllByRecursion IsWire steps
-
-pub wire_sent : (d : ℕ) (bytes : List ℕ) → IsWire (Acted (Sent d bytes))
-wire_sent d bytes = record { dpid = d; bytes = bytes; sent_or_got = inl refl }
-
-pub wire_got : (d : ℕ) (bytes : List ℕ) → IsWire (Acted (Got d bytes))
-wire_got d bytes = record { dpid = d; bytes = bytes; sent_or_got = inr refl }
-
-pub wires_both : (xs ys : List WorldStep) → AreWires xs → AreWires ys → AreWires (xs ++ ys)
-wires_both [] ys all rest = rest
-wires_both (x ∷ xs) ys all rest = (all.0, wires_both xs ys all.1 rest)
-
-by_wire : (P : WorldStep → Type 0) (step : WorldStep) → IsWire step → ((d : ℕ) (bytes : List ℕ) → P (Acted (Sent d bytes))) → ((d : ℕ) (bytes : List ℕ) → P (Acted (Got d bytes))) → P step
-by_wire P step w sent got = elim w.sent_or_got [
-  | inl h ↦ subst P (sym h) (sent w.dpid w.bytes)
-  | inr h ↦ subst P (sym h) (got w.dpid w.bytes)
-]
-
--- what stays where a switch is told, or tells
+-- what stays at a call of a link
 record Kept (s t : State) : Type 0 where
   beside : Beside s t
   marks : t.marks ≡ s.marks
 
-kept_sent : (d : ℕ) (bytes : List ℕ) (s : State) → Kept s (after_step (Acted (Sent d bytes)) s)
+kept_same : (s t : State) → t.opened ≡ s.opened → t.moment ≡ s.moment → t.to_come ≡ s.to_come → t.due ≡ s.due → t.begun ≡ s.begun → t.marks ≡ s.marks → Kept s t
+kept_same s t opened moment to_come due begun marks = record { beside = record { opened = opened; moment = moment; to_come = to_come; due = due; begun = begun }; marks = marks }
+
+kept_link : (step : WorldStep) (s : State) → is_link_step step ≡ true → Kept s (after_step step s)
 unfolding after_step after_act
-kept_sent d bytes s = record { beside = record { opened = refl; moment = refl; to_come = refl; due = refl; begun = refl }; marks = refl }
+kept_link (Acted (Sent d bytes)) s is = kept_same s _ refl refl refl refl refl refl
+kept_link (Acted (Got d bytes)) s is = kept_same s _ refl refl refl refl refl refl
+kept_link (SendLost d) s is = kept_same s _ refl refl refl refl refl refl
+kept_link (RecvLost d) s is = kept_same s _ refl refl refl refl refl refl
+kept_link (SendFailed d) s is = kept_same s _ refl refl refl refl refl refl
+kept_link (RecvFailed d) s is = kept_same s _ refl refl refl refl refl refl
+kept_link (Acted (Lost d)) s is = absurd (true≢false (sym is))
+kept_link (Acted (Stim x)) s is = absurd (true≢false (sym is))
+kept_link (Acted (Started of stands)) s is = absurd (true≢false (sym is))
+kept_link (Acted (Gave of frame)) s is = absurd (true≢false (sym is))
+kept_link (Acted (Gone of frame)) s is = absurd (true≢false (sym is))
+kept_link (Acted (Took of what)) s is = absurd (true≢false (sym is))
+kept_link (Acted (Ended of)) s is = absurd (true≢false (sym is))
+kept_link (TookInto of what room) s is = absurd (true≢false (sym is))
+kept_link (From d bytes) s is = absurd (true≢false (sym is))
+kept_link (Joined d bytes) s is = absurd (true≢false (sym is))
+kept_link (Left d) s is = absurd (true≢false (sym is))
+kept_link (Moment at) s is = absurd (true≢false (sym is))
+kept_link Idle s is = absurd (true≢false (sym is))
+kept_link End s is = absurd (true≢false (sym is))
+kept_link Opened s is = absurd (true≢false (sym is))
+kept_link NotOpened s is = absurd (true≢false (sym is))
+kept_link NextFailed s is = absurd (true≢false (sym is))
 
-kept_got : (d : ℕ) (bytes : List ℕ) (s : State) → Kept s (after_step (Acted (Got d bytes)) s)
-unfolding after_step after_act
-kept_got d bytes s = record { beside = record { opened = refl; moment = refl; to_come = refl; due = refl; begun = refl }; marks = refl }
-
-kept_wire : (step : WorldStep) (s : State) → IsWire step → Kept s (after_step step s)
-kept_wire step s w = by_wire (λ x. Kept s (after_step x s)) step w (λ d bytes. kept_sent d bytes s) (λ d bytes. kept_got d bytes s)
-
-kept_wires : (steps : List WorldStep) (s : State) → AreWires steps → Kept s (after_steps steps s)
-kept_wires [] s all = record { beside = Beside-refl s; marks = refl }
-kept_wires (step ∷ steps) s all =
-    let first = kept_wire step s all.0 in
-    let later = kept_wires steps (after_step step s) all.1 in
+kept_links : (steps : List WorldStep) (s : State) → AreLinkSteps steps → Kept s (after_steps steps s)
+kept_links [] s all = record { beside = Beside-refl s; marks = refl }
+kept_links (step ∷ steps) s all =
+    let first = kept_link step s all.0 in
+    let later = kept_links steps (after_step step s) all.1 in
     record { beside = Beside-trans s (after_step step s) (after_steps steps (after_step step s)) first.beside later.beside; marks = later.marks ∙ first.marks }
 
-pub beside_wires : (steps : List WorldStep) (s : State) → AreWires steps → Beside s (after_steps steps s)
-beside_wires steps s all = (kept_wires steps s all).beside
+pub beside_links : (steps : List WorldStep) (s : State) → AreLinkSteps steps → Beside s (after_steps steps s)
+beside_links steps s all = (kept_links steps s all).beside
 
-pub marks_wires : (steps : List WorldStep) (s : State) → AreWires steps → (after_steps steps s).marks ≡ s.marks
-marks_wires steps s all = (kept_wires steps s all).marks
-
-stimuli_sent : (d : ℕ) (bytes : List ℕ) → stimuli (journal (Acted (Sent d bytes) ∷ [])) ≡ []
-unfolding stimuli journal
-stimuli_sent d bytes = refl
-
-stimuli_got : (d : ℕ) (bytes : List ℕ) → stimuli (journal (Acted (Got d bytes) ∷ [])) ≡ []
-unfolding stimuli journal
-stimuli_got d bytes = refl
+pub marks_links : (steps : List WorldStep) (s : State) → AreLinkSteps steps → (after_steps steps s).marks ≡ s.marks
+marks_links steps s all = (kept_links steps s all).marks
 
 stimuli_none : stimuli (journal []) ≡ []
 unfolding stimuli journal
 stimuli_none = refl
 
-pub stimuli_wires : (steps : List WorldStep) → AreWires steps → stimuli (journal steps) ≡ []
-stimuli_wires [] all = stimuli_none
-stimuli_wires (step ∷ steps) all =
-    stimuli_longer (step ∷ []) steps
-    ∙ ap (λ (xs : List WorldStim). xs ++ stimuli (journal steps)) (by_wire (λ x. stimuli (journal (x ∷ [])) ≡ []) step all.0 stimuli_sent stimuli_got)
-    ∙ stimuli_wires steps all.1
+stimuli_link : (step : WorldStep) → is_link_step step ≡ true → stimuli (journal (step ∷ [])) ≡ []
+unfolding stimuli journal
+stimuli_link (Acted (Stim x)) is = absurd (true≢false (sym is))
+stimuli_link (Acted (Sent d bytes)) is = refl
+stimuli_link (Acted (Got d bytes)) is = refl
+stimuli_link (Acted (Lost d)) is = refl
+stimuli_link (Acted (Started of stands)) is = refl
+stimuli_link (Acted (Gave of frame)) is = refl
+stimuli_link (Acted (Gone of frame)) is = refl
+stimuli_link (Acted (Took of what)) is = refl
+stimuli_link (Acted (Ended of)) is = refl
+stimuli_link (SendLost d) is = refl
+stimuli_link (RecvLost d) is = refl
+stimuli_link (SendFailed d) is = refl
+stimuli_link (RecvFailed d) is = refl
+stimuli_link (TookInto of what room) is = refl
+stimuli_link (From d bytes) is = refl
+stimuli_link (Joined d bytes) is = refl
+stimuli_link (Left d) is = refl
+stimuli_link (Moment at) is = refl
+stimuli_link Idle is = refl
+stimuli_link End is = refl
+stimuli_link Opened is = refl
+stimuli_link NotOpened is = refl
+stimuli_link NextFailed is = refl
+
+pub stimuli_links : (steps : List WorldStep) → AreLinkSteps steps → stimuli (journal steps) ≡ []
+stimuli_links [] all = stimuli_none
+stimuli_links (step ∷ steps) all =
+    stimuli_longer (step ∷ []) steps ∙ ap (λ (xs : List WorldStim). xs ++ stimuli (journal steps)) (stimuli_link step all.0) ∙ stimuli_links steps all.1

@@ -13,7 +13,8 @@ use Rattle.flow_table.specs.Step.{after_stimulus, sent_by_stimulus}
 use Rattle.undo_laws.specs.Owned.{owned_switch}
 use Rattle.app_frames.specs.declared.frame.Event.{Event}
 use Rattle.lego_model.specs.Answers.{rows_of_view}
-use Rattle.lego_model.specs.Controller.{ports_of, at_place, stimulated, events_at, sent_events, places_after, events_after}
+use Rattle.lego_model.specs.Events.{ports_of}
+use Rattle.lego_model.specs.Controller.{at_place, stimulated, events_at, sent_events, places_after, events_after}
 use Rattle.outside.specs.declared.step.WorldStep.{WorldStep}
 use Rattle.outside.specs.declared.step.WorldStep.TheVariants.{From, Moment}
 use Rattle.outside.specs.Seen.{is_declared}
@@ -220,7 +221,7 @@ module _ (d : ℕ) (x : Stimulus) (s : State) (k : Knowledge) (facts : Facts s k
     sound = one-sound;
   }
 
-items-of-one : (d : ℕ) (x : Stimulus) (s : State) → NoneWait s.links → s.due ≡ [] → upcoming (after_stim (Of d x) s) ≡ map (From d) (stimulus_sends x (switch_of d s))
+pub items-of-one : (d : ℕ) (x : Stimulus) (s : State) → NoneWait s.links → s.due ≡ [] → upcoming (after_stim (Of d x) s) ≡ map (From d) (stimulus_sends x (switch_of d s))
 unfolding upcoming after_stim switch_of
 items-of-one d x s waits due = ap₂ (λ (first : List WorldStep) rest. (first ++ []) ++ rest) due (waiting-one d x s.links waits)
 

@@ -3,11 +3,12 @@
 use Rattle.std.proofs.Common.{◌≡◌, ◌==◌, ◌⊎◌, ℕ, List, [], ◌∷◌, ◌++◌, length, map, nat_lt, Option, Some, None, Result, Ok, Err, refl, sym, ap, ◌∙◌, subst, inl, inr}
 use Rattle.std.proofs.lemmas.Bool.{cases_Bool}
 use Rattle.std.specs.Prelude.{IsTrue}
-use Rattle.std.specs.List.{flat_map}
+use Rattle.std.specs.List.{AllByRecursion, flat_map}
 use Rattle.of_types.specs.Fields.{number_at, number_bytes}
 use Rattle.of_types.specs.declared.port_desc.PortDesc.{PortDesc}
 use Rattle.of_types.specs.declared.journal.Stimulus.{Stimulus}
 use Rattle.of_types.specs.declared.journal.Stimulus.TheVariants.{Frame, Counts, Raw}
+use Rattle.of_wire.specs.declared.kind.MessageKind.{MessageKind}
 use Rattle.of_wire.specs.declared.kind.MessageKind.TheVariants as wire
 use Rattle.of_wire.specs.declared.bodies.PacketIn.{PacketIn as PacketInBody}
 use Rattle.of_wire.specs.declared.message.Message.{Message}
@@ -28,7 +29,7 @@ use Rattle.flow_table.specs.Step.{after_stimulus, sent_by_stimulus}
 use Rattle.undo_laws.specs.Owned.{IsNoMoment}
 use Rattle.undo_laws.specs.laws.OwnedLaws.{stimulus-owned, sent-owned}
 use Rattle.lego_model.specs.Answers.{rows_of_table}
-use Rattle.lego_model.specs.Controller.{events_of}
+use Rattle.lego_model.specs.Events.{events_of}
 use Rattle.outside.specs.Conforming.{may_be_raw}
 use Rattle.outside.specs.declared.step.WorldStep.TheVariants.{From}
 use Rattle.switch_laws.specs.Shown.{flags_in}
@@ -40,32 +41,32 @@ use Rattle.batch_laws.specs.Tells.{FitsRead, IsPlainRead, PlainBytes, AllPlain, 
 
 -- ---- A PACKET_IN is plain
 
-front-packet : (bytes : List ℕ) → number_at 1 1 bytes ≡ 10 → (front_of bytes ≡ Ok wire.PacketIn) ⊎ ((fault : WireFault) × (front_of bytes ≡ Err fault))
-unfolding front_of kind_of_number
-front-packet bytes type =
+pub front-kind : (bytes : List ℕ) (n : ℕ) (kind : MessageKind) → number_at 1 1 bytes ≡ n → kind_of_number n ≡ Some kind → (front_of bytes ≡ Ok kind) ⊎ ((fault : WireFault) × (front_of bytes ≡ Err fault))
+unfolding front_of
+front-kind bytes n kind type named =
     elim (cases_Bool (nat_lt (length bytes) 8)) [
       | inl short ↦ inr (BadLength, rw short refl)
       | inr enough ↦ elim (cases_Bool (number_at 1 0 bytes == 1)) [
         | inr other ↦ inr (BadVersion, rw (enough, other) refl)
         | inl version ↦ elim (cases_Bool (number_at 2 2 bytes == length bytes)) [
-          | inr unlike ↦ inr (BadLength, rw (enough, version, type, unlike) refl)
-          | inl size ↦ elim (cases_Bool (has_length wire.PacketIn (length bytes))) [
-            | inl sized ↦ inl (rw (enough, version, type, size, sized) refl)
-            | inr unsized ↦ inr (BadLength, rw (enough, version, type, size, unsized) refl)
+          | inr unlike ↦ inr (BadLength, rw (enough, version, type, named, unlike) refl)
+          | inl size ↦ elim (cases_Bool (has_length kind (length bytes))) [
+            | inl sized ↦ inl (rw (enough, version, type, named, size, sized) refl)
+            | inr unsized ↦ inr (BadLength, rw (enough, version, type, named, size, unsized) refl)
           ]
         ]
       ]
     ]
 
 plain-type : (bytes : List ℕ) → number_at 1 1 bytes ≡ 10 → PlainBytes bytes
-unfolding reading_of body_of
+unfolding reading_of body_of kind_of_number
 plain-type bytes type =
-    elim (front-packet bytes type) [
+    elim (front-kind bytes 10 wire.PacketIn type refl) [
       | inl is ↦ record { plain = rw is tt; fits = rw is tt }
       | inr (fault, is) ↦ record { plain = rw is tt; fits = rw is tt }
     ]
 
-packet-type : (m : PacketInBody) → number_at 1 1 (message_bytes 0 (PacketIn m)) ≡ 10
+pub packet-type : (m : PacketInBody) → number_at 1 1 (message_bytes 0 (PacketIn m)) ≡ 10
 unfolding message_bytes number_at number_bytes
 packet-type m = refl
 
@@ -73,39 +74,45 @@ packet-plain : (reason in_port : ℕ) (frame : List ℕ) → PlainBytes (packet_
 unfolding packet_in
 packet-plain reason in_port frame = plain-type _ (packet-type _)
 
-plain-append : (xs ys : List (List ℕ)) → AllPlain xs → AllPlain ys → AllPlain (xs ++ ys)
-plain-append [] ys all rest = rest
-plain-append (x ∷ xs) ys all rest = (all.0, plain-append xs ys all.1 rest)
+-- ---- A switch sends PACKET_INs alone for a frame
 
-output-plain : (in_port : ℕ) (out : ℕ × List ℕ) → AllPlain (sent_by_output in_port out)
-unfolding sent_by_output
-output-plain in_port out =
-    elim (cases_Bool (out.0 == controller_number)) [
-      | inl controller ↦ rw controller (packet-plain 1 in_port out.1, tt)
-      | inr other ↦ rw other tt
-    ]
+module _ (P : List ℕ → Type 0) (packet : (reason in_port : ℕ) (frame : List ℕ) → P (packet_in reason in_port frame)) where
+  sent-append : (xs ys : List (List ℕ)) → AllByRecursion P xs → AllByRecursion P ys → AllByRecursion P (xs ++ ys)
+  sent-append [] ys all rest = rest
+  sent-append (x ∷ xs) ys all rest = (all.0, sent-append xs ys all.1 rest)
 
-outputs-plain : (in_port : ℕ) (outs : List (ℕ × List ℕ)) → AllPlain (sent_by_outputs in_port outs)
-unfolding sent_by_outputs
-outputs-plain in_port [] = tt
-outputs-plain in_port (out ∷ outs) = plain-append (sent_by_output in_port out) (flat_map (sent_by_output in_port) outs) (output-plain in_port out) (outputs-plain in_port outs)
+  output-sent : (in_port : ℕ) (out : ℕ × List ℕ) → AllByRecursion P (sent_by_output in_port out)
+  unfolding sent_by_output
+  output-sent in_port out =
+      elim (cases_Bool (out.0 == controller_number)) [
+        | inl controller ↦ rw controller (packet 1 in_port out.1, tt)
+        | inr other ↦ rw other tt
+      ]
 
-hit-plain : (in_port : ℕ) (frame : List ℕ) (ports : List PortState) (o : Option Entry) → AllPlain (sent_by_hit in_port frame ports o)
-unfolding sent_by_miss
-hit-plain in_port frame ports None =
-    elim (cases_Bool (is_silent (port_at in_port ports))) [
-      | inl silent ↦ rw silent tt
-      | inr told ↦ rw told (packet-plain 0 in_port frame, tt)
-    ]
-hit-plain in_port frame ports (Some e) = outputs-plain in_port _
+  outputs-sent : (in_port : ℕ) (outs : List (ℕ × List ℕ)) → AllByRecursion P (sent_by_outputs in_port outs)
+  unfolding sent_by_outputs
+  outputs-sent in_port [] = tt
+  outputs-sent in_port (out ∷ outs) = sent-append (sent_by_output in_port out) (flat_map (sent_by_output in_port) outs) (output-sent in_port out) (outputs-sent in_port outs)
+
+  hit-sent : (in_port : ℕ) (frame : List ℕ) (ports : List PortState) (o : Option Entry) → AllByRecursion P (sent_by_hit in_port frame ports o)
+  unfolding sent_by_miss
+  hit-sent in_port frame ports None =
+      elim (cases_Bool (is_silent (port_at in_port ports))) [
+        | inl silent ↦ rw silent tt
+        | inr told ↦ rw told (packet 0 in_port frame, tt)
+      ]
+  hit-sent in_port frame ports (Some e) = outputs-sent in_port _
+
+  pub frame-sent : (port : ℕ) (bytes : List ℕ) (s : SwitchState) → AllByRecursion P (sent_by_frame port bytes s)
+  unfolding sent_by_frame sent_by_lookup
+  frame-sent port bytes s =
+      elim (cases_Bool (takes (port_at port s.ports))) [
+        | inl taken ↦ rw taken (hit-sent port bytes s.ports (entry_hit port bytes s))
+        | inr dropped ↦ rw dropped tt
+      ]
 
 frame-plain : (port : ℕ) (bytes : List ℕ) (s : SwitchState) → AllPlain (sent_by_frame port bytes s)
-unfolding sent_by_frame sent_by_lookup
-frame-plain port bytes s =
-    elim (cases_Bool (takes (port_at port s.ports))) [
-      | inl taken ↦ rw taken (hit-plain port bytes s.ports (entry_hit port bytes s))
-      | inr dropped ↦ rw dropped tt
-    ]
+frame-plain port bytes s = frame-sent PlainBytes packet-plain port bytes s
 
 -- ---- Bytes of its own are plain
 

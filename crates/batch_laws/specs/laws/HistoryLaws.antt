@@ -9,7 +9,7 @@ use Rattle.std.specs.List.{AllByRecursion}
 use Rattle.std.specs.Option.{option_map}
 use Rattle.of_types.specs.declared.errors.OfError.{OfError}
 use Rattle.of_types.specs.declared.journal.Act.{Act}
-use Rattle.of_types.specs.declared.journal.Act.TheVariants.{Stim, Started, Gave, Gone, Took, Ended, Sent, Got}
+use Rattle.of_types.specs.declared.journal.Act.TheVariants.{Stim, Started, Gave, Gone, Took, Ended, Sent, Got, Lost}
 use Rattle.of_types.specs.declared.journal.PortChange.{PortChange}
 use Rattle.of_types.specs.declared.journal.PortChange.TheVariants as changes
 use Rattle.of_types.specs.declared.journal.Stimulus.{Stimulus}
@@ -28,10 +28,10 @@ use Rattle.flow_table.specs.Refusals.{message_refusal}
 use Rattle.flow_table.specs.Frames.{goes_out_by, after_frame_out, ports_after_output, after_output, after_outputs, after_counts, after_lookup, hit_outputs, entry_hit, after_packet_output, after_packet_outputs, takes, after_frame_in, after_arrival, after_frame}
 use Rattle.flow_table.specs.Step.{kept_bits, with_bits, with_config, set_link, can_add, after_taken, after_message, after_port_change, after_stimulus}
 use Rattle.outside.specs.declared.step.WorldStep.{WorldStep}
-use Rattle.outside.specs.declared.step.WorldStep.TheVariants.{Acted, TookInto, From, Joined, Left, Moment, Idle, End, Opened, NotOpened, NextFailed, SendFailed, RecvFailed}
+use Rattle.outside.specs.declared.step.WorldStep.TheVariants.{Acted, TookInto, From, Joined, Left, Moment, Idle, End, Opened, NotOpened, NextFailed, SendLost, RecvLost, SendFailed, RecvFailed}
 use Rattle.outside.specs.declared.call.FailCall.{FailCall}
 use Rattle.outside.specs.Seen.{Seen}
-use Rattle.outside.specs.State.{Link, State, link_at_first, at_first, link_of, switch_in, switch_of, with_link, switch_joined, link_joined, link_left, link_stimulated, switch_told, link_sent, link_got, link_told, link_failed, links_after, after_stim, after_act, after_step, after_steps, state}
+use Rattle.outside.specs.State.{Link, State, link_at_first, at_first, link_of, switch_in, switch_of, with_link, switch_joined, link_joined, link_left, link_stimulated, switch_told, link_sent, link_got, link_told, link_lost, link_failed, links_after, after_stim, after_act, after_step, after_steps, state}
 use Rattle.outside.specs.Conforming.{ArePortsFrom, MayDeclare, IsStimulus, IsWorldStim, MayAct, MayStep, MaySteps, Conforming}
 use Rattle.switch_laws.specs.laws.StandLaws.{state-links}
 use Rattle.batch_laws.specs.Lasting.{AscendPorts, Lasts, PortWithin, LastsIn, LinkLasts, AllLast}
@@ -295,6 +295,10 @@ keeps-told : Keeps link_told
 unfolding link_told
 keeps-told = record { keeps = λ l is. record { may = is.may; switch = is.switch } }
 
+keeps-lost : Keeps link_lost
+unfolding link_lost
+keeps-lost = record { keeps = λ l is. record { may = is.may; switch = tt } }
+
 keeps-failed : Keeps link_failed
 unfolding link_failed
 keeps-failed = record { keeps = λ l is. record { may = is.may; switch = is.switch } }
@@ -313,7 +317,7 @@ all change keeps (l ∷ ls) h = (keeps.keeps l h.0, all change keeps ls h.1)
 
 -- ---- Steps
 
-stim-lasts : (declared : List Declared) (x : WorldStim) (moment : ℕ) (ls : List Link) → IsWorldStim declared moment x → AllLast ls → AllLast (links_after x moment ls)
+pub stim-lasts : (declared : List Declared) (x : WorldStim) (moment : ℕ) (ls : List Link) → IsWorldStim declared moment x → AllLast ls → AllLast (links_after x moment ls)
 unfolding IsWorldStim
 stim-lasts declared (Join d) moment ls may h = one d (link_joined moment) (keeps-joined moment) ls h
 stim-lasts declared (Leave d) moment ls may h = one d link_left keeps-left ls h
@@ -330,6 +334,7 @@ act-lasts declared (Took app what) s may h = h
 act-lasts declared (Ended app) s may h = h
 act-lasts declared (Sent d bytes) s may h = one d (link_sent bytes) (keeps-sent bytes) s.links h
 act-lasts declared (Got d bytes) s may h = one d link_got keeps-got s.links h
+act-lasts declared (Lost d) s may h = one d link_lost keeps-lost s.links h
 
 step-lasts : (declared : List Declared) (step : WorldStep) (s : State) → MayStep declared step s → AllLast s.links → AllLast (after_step step s).links
 unfolding after_step MayStep
@@ -344,6 +349,8 @@ step-lasts declared End s may h = h
 step-lasts declared Opened s may h = h
 step-lasts declared NotOpened s may h = h
 step-lasts declared NextFailed s may h = h
+step-lasts declared (SendLost d) s may h = one d link_lost keeps-lost s.links h
+step-lasts declared (RecvLost d) s may h = one d link_lost keeps-lost s.links h
 step-lasts declared (SendFailed d) s may h = one d link_failed keeps-failed s.links h
 step-lasts declared (RecvFailed d) s may h = one d link_failed keeps-failed s.links h
 
@@ -366,7 +373,7 @@ links-declared seen = (state-links seen).declared_so
 
 -- ---- A switch by its number
 
-lasts_in : (d : ℕ) (ls : List Link) (x : SwitchState) → AllLast ls → switch_in (link_of d ls) ≡ Some x → Lasts x.declared x × (x.declared.dpid ≡ d)
+pub lasts_in : (d : ℕ) (ls : List Link) (x : SwitchState) → AllLast ls → switch_in (link_of d ls) ≡ Some x → Lasts x.declared x × (x.declared.dpid ≡ d)
 lasts_in d [] x h is = absurd cc
 lasts_in d (l ∷ ls) x h is =
     elim (cases_Bool (l.declared.dpid == d)) [

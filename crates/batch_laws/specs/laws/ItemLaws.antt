@@ -24,10 +24,10 @@ use Rattle.flow_table.specs.Switch.{Declared, SwitchState}
 use Rattle.flow_table.specs.Refusals.{message_refusal}
 use Rattle.flow_table.specs.Step.{after_taken, after_message, sent_by_taken, sent_by_message}
 use Rattle.app_frames.specs.declared.frame.Event.{Event}
-use Rattle.lego_model.specs.Journal.{is_of, stimuli}
-use Rattle.lego_model.specs.laws.JournalLaws.{stimuli-append}
+use Rattle.lego_model.specs.Journal.{is_of, stimuli, losses}
+use Rattle.lego_model.specs.laws.JournalLaws.{stimuli-append, losses-append}
 use Rattle.outside.specs.declared.step.WorldStep.{WorldStep}
-use Rattle.outside.specs.declared.step.WorldStep.TheVariants.{Acted, TookInto, From, Joined, Left, Moment, Idle, End, Opened, NotOpened, NextFailed, SendFailed, RecvFailed}
+use Rattle.outside.specs.declared.step.WorldStep.TheVariants.{Acted, TookInto, From, Joined, Left, Moment, Idle, End, Opened, NotOpened, NextFailed, SendLost, RecvLost, SendFailed, RecvFailed}
 use Rattle.outside.specs.Seen.{Seen, journal}
 use Rattle.outside.specs.laws.SeenLaws.{journal-append}
 use Rattle.outside.specs.State.{Link, State, link_of, waits_in, switch_in, waits_of, switch_of, upcoming, with_link, switch_told, message_sends, link_sent, link_told, after_act, after_step, after_steps, state}
@@ -46,8 +46,7 @@ use Rattle.switch_laws.specs.laws.StandLaws.{state-links}
 use Rattle.lego_model.specs.OrderlySteps.{IsOrderly}
 use Rattle.switch_laws.specs.Released.{ReleasesNone}
 use Rattle.switch_laws.specs.laws.OrderlyLaws.{echo-none, join-steps-none, released-still, orderly-none, join-steps-orderly}
-use Rattle.batch_laws.specs.Items.{answers, Untouched, Rests, TakesMessage, TakesIn, TakesInBy, TakesInAs, DoesFrom, DoesJoined, DoesLeft, Handles, waiting, Ascend, Leaves, IsSentOrGot, ItemDone, Fresh, IsFresh, Done, IsItem}
-use Rattle.batch_laws.specs.InBatch.{SameBesides}
+use Rattle.batch_laws.specs.Items.{answers, Untouched, Rests, TakesMessage, TakesIn, TakesInBy, TakesInAs, DoesFrom, DoesJoined, DoesLeft, HandlesStill, waiting, Ascend, Leaves, SameRest, IsSentOrGot, ItemDone, Fresh, IsFresh, Done, IsItem}
 
 -- ---- What waits, of the switches with lower numbers first
 
@@ -180,12 +179,7 @@ sent_is d bytes = (d, bytes, inl refl)
 got_is : (d : ℕ) (bytes : List ℕ) → IsSentOrGot (Acted (Got d bytes))
 got_is d bytes = (d, bytes, inr refl)
 
-record SameRest (s t : State) : Type 0 where
-  besides : SameBesides t s
-  begun : t.begun ≡ s.begun
-  due : t.due ≡ s.due
-
-rest_all : (s : State) → SameRest s s
+pub rest_all : (s : State) → SameRest s s
 rest_all s = record { besides = record { opened = refl; running = refl; moment = refl; to_come = refl; marks = refl }; begun = refl; due = refl }
 
 rest_sent : (d : ℕ) (bytes : List ℕ) (s : State) → SameRest s (after_step (Acted (Sent d bytes)) s)
@@ -200,7 +194,7 @@ rest_by : (step : WorldStep) (d : ℕ) (bytes : List ℕ) (s : State) → (step 
 rest_by step d bytes s (inl is) = subst (λ (x : WorldStep). SameRest s (after_step x s)) (sym is) (rest_sent d bytes s)
 rest_by step d bytes s (inr is) = subst (λ (x : WorldStep). SameRest s (after_step x s)) (sym is) (rest_got d bytes s)
 
-rest_then : (r s t : State) → SameRest r s → SameRest s t → SameRest r t
+pub rest_then : (r s t : State) → SameRest r s → SameRest s t → SameRest r t
 rest_then r s t first later = record {
   besides = record {
     opened = later.besides.opened ∙ first.besides.opened;
@@ -218,17 +212,18 @@ rest_steps [] s all = rest_all s
 rest_steps (step ∷ steps) s all =
     rest_then s (after_step step s) (after_steps steps (after_step step s)) (rest_by step all.0.0 all.0.1 s all.0.2) (rest_steps steps (after_step step s) all.1)
 
--- they are no stimuli, and none is of an application
+-- they are no stimuli and no losses, and none is of an application
 abbrev TellsNothing : WorldStep → Type 0
-TellsNothing step = (steps : List WorldStep) (app : ℕ) → (stimuli (journal (step ∷ steps)) ≡ stimuli (journal steps)) × (filter (is_of app) (journal (step ∷ steps)) ≡ filter (is_of app) (journal steps))
+TellsNothing step = (steps : List WorldStep) (app : ℕ)
+    → (stimuli (journal (step ∷ steps)) ≡ stimuli (journal steps)) × (filter (is_of app) (journal (step ∷ steps)) ≡ filter (is_of app) (journal steps)) × (losses (journal (step ∷ steps)) ≡ losses (journal steps))
 
 sent_tells : (d : ℕ) (bytes : List ℕ) → TellsNothing (Acted (Sent d bytes))
-unfolding stimuli journal
-sent_tells d bytes steps app = (refl, refl)
+unfolding stimuli journal losses
+sent_tells d bytes steps app = (refl, refl, refl)
 
 got_tells : (d : ℕ) (bytes : List ℕ) → TellsNothing (Acted (Got d bytes))
-unfolding stimuli journal
-got_tells d bytes steps app = (refl, refl)
+unfolding stimuli journal losses
+got_tells d bytes steps app = (refl, refl, refl)
 
 tells_by : (step : WorldStep) (d : ℕ) (bytes : List ℕ) → (step ≡ Acted (Sent d bytes)) ⊎ (step ≡ Acted (Got d bytes)) → TellsNothing step
 tells_by step d bytes (inl is) = subst (λ (x : WorldStep). TellsNothing x) (sym is) (sent_tells d bytes)
@@ -250,10 +245,18 @@ acts_none : (app : ℕ) (steps : List WorldStep) → AllByRecursion IsSentOrGot 
 acts_none app [] all = no_acts app
 acts_none app (step ∷ steps) all = (tells_by step all.0.0 all.0.1 all.0.2 steps app).1 ∙ acts_none app steps all.1
 
+no_losses : losses (journal []) ≡ []
+unfolding losses journal
+no_losses = refl
+
+losses_none : (steps : List WorldStep) → AllByRecursion IsSentOrGot steps → losses (journal steps) ≡ []
+losses_none [] all = no_losses
+losses_none (step ∷ steps) all = (tells_by step all.0.0 all.0.1 all.0.2 steps 0).2 ∙ losses_none steps all.1
+
 -- ---- What an item leaves, from where it was told
 
 none_done : {Own : Type 0} (mid : Seen Own) → ItemDone mid mid
-none_done mid = record { given = refl; leaves = leaves_all (state mid); stimuli_so = refl; acts = λ app. refl; released = refl; orderly = λ app. orderly-none app mid }
+none_done mid = record { given = refl; lost = refl; leaves = leaves_all (state mid); stimuli_so = refl; acts = λ app. refl; released = refl; orderly = λ app. orderly-none app mid }
 
 untouched_done : {Own : Type 0} (mid new : Seen Own) → new ≡ mid → ItemDone mid new
 untouched_done mid new is = subst (λ (x : Seen _). ItemDone mid x) (sym is) (none_done mid)
@@ -261,6 +264,8 @@ untouched_done mid new is = subst (λ (x : Seen _). ItemDone mid x) (sym is) (no
 links_done : {Own : Type 0} (mid new : Seen Own) (steps : List WorldStep) → new.given ≡ mid.given → new.history ≡ mid.history ++ steps → AllByRecursion IsSentOrGot steps → ReleasesNone steps → ((app : ℕ) → AllByRecursion (IsOrderly app) steps) → Leaves (state mid) (state new) → ItemDone mid new
 links_done mid new steps given longer all none orderly leaves = record {
   given = given;
+  lost = ap (λ (h : List WorldStep). losses (journal h)) longer ∙ ap losses (journal-append mid.history steps) ∙ losses-append (journal mid.history) (journal steps)
+      ∙ ap (λ (xs : List ℕ). losses (journal mid.history) ++ xs) (losses_none steps all) ∙ append-nil (losses (journal mid.history));
   leaves = leaves;
   stimuli_so = ap (λ (h : List WorldStep). stimuli (journal h)) longer ∙ ap stimuli (journal-append mid.history steps) ∙ stimuli-append (journal mid.history) (journal steps)
       ∙ ap (λ (xs : List WorldStim). stimuli (journal mid.history) ++ xs) (stimuli_none steps all) ∙ append-nil (stimuli (journal mid.history));
@@ -460,18 +465,20 @@ joined_done : {Own Tells : Type 0} {mid new : Seen Own} (net now_net : NetState)
 joined_done net now_net d bytes true told kept keeps given none fresh does = untouched none does
 joined_done net now_net d bytes false told kept keeps given none fresh does = joined_as net now_net d (reading_of bytes) told kept keeps given none fresh does
 
-pub item_done : {Own Tells : Type 0} {mid new : Seen Own} {net now_net : NetState} {queue now_queue : List Event} (item : WorldStep) → IsItem item → Tells → Conforming mid → Conforming new → net.kept ≡ [] → IsFresh item (state mid)
-    → Handles Tells item mid new net now_net queue now_queue → Done mid new now_net
-item_done {net = net} {now_net = now_net} (From d bytes) is told kept keeps none fresh handles = from_done net now_net d bytes (is_some (rows_at d net.views)) told handles.continues.given none handles.does
-item_done {net = net} {now_net = now_net} (Joined d bytes) is told kept keeps none fresh handles = joined_done net now_net d bytes (is_some (rows_at d net.views)) told kept keeps handles.continues.given none fresh handles.does
-item_done {mid = mid} {new = new} {net = net} {now_net = now_net} (Left d) is told kept keeps none fresh handles = left_done mid new net now_net d (is_some (rows_at d net.views)) none handles.does
-item_done (Moment t) is told kept keeps none fresh handles = untouched none handles.does
-item_done {mid = mid} {new = new} Idle is told kept keeps none fresh handles = rested none handles.does
-item_done {mid = mid} {new = new} End is told kept keeps none fresh handles = rested none handles.does
-item_done (Acted act) is told kept keeps none fresh handles = absurd is
-item_done (TookInto app what room) is told kept keeps none fresh handles = absurd is
-item_done Opened is told kept keeps none fresh handles = absurd is
-item_done NotOpened is told kept keeps none fresh handles = absurd is
-item_done NextFailed is told kept keeps none fresh handles = absurd is
-item_done (SendFailed d) is told kept keeps none fresh handles = absurd is
-item_done (RecvFailed d) is told kept keeps none fresh handles = absurd is
+pub item_done : {Own Tells : Type 0} {mid new : Seen Own} {net now_net : NetState} {queue now_queue : List Event} {text : List ℕ} (item : WorldStep) → IsItem item → Tells → Conforming mid → Conforming new → net.kept ≡ [] → IsFresh item (state mid) → new.given ≡ mid.given
+    → HandlesStill Tells item text mid new net now_net queue now_queue → Done mid new now_net
+item_done {net = net} {now_net = now_net} (From d bytes) is told kept keeps none fresh given handles = from_done net now_net d bytes (is_some (rows_at d net.views)) told given none handles.does
+item_done {net = net} {now_net = now_net} (Joined d bytes) is told kept keeps none fresh given handles = joined_done net now_net d bytes (is_some (rows_at d net.views)) told kept keeps given none fresh handles.does
+item_done {mid = mid} {new = new} {net = net} {now_net = now_net} (Left d) is told kept keeps none fresh given handles = left_done mid new net now_net d (is_some (rows_at d net.views)) none handles.does
+item_done (Moment t) is told kept keeps none fresh given handles = untouched none handles.does
+item_done {mid = mid} {new = new} Idle is told kept keeps none fresh given handles = rested none handles.does
+item_done {mid = mid} {new = new} End is told kept keeps none fresh given handles = rested none handles.does
+item_done (Acted act) is told kept keeps none fresh given handles = absurd is
+item_done (TookInto app what room) is told kept keeps none fresh given handles = absurd is
+item_done Opened is told kept keeps none fresh given handles = absurd is
+item_done NotOpened is told kept keeps none fresh given handles = absurd is
+item_done NextFailed is told kept keeps none fresh given handles = absurd is
+item_done (SendLost d) is told kept keeps none fresh given handles = absurd is
+item_done (RecvLost d) is told kept keeps none fresh given handles = absurd is
+item_done (SendFailed d) is told kept keeps none fresh given handles = absurd is
+item_done (RecvFailed d) is told kept keeps none fresh given handles = absurd is

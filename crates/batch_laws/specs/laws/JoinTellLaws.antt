@@ -21,7 +21,8 @@ use Rattle.app_frames.specs.declared.frame.Event.{Event}
 use Rattle.app_frames.specs.declared.frame.EventKind.TheVariants as kinds
 use Rattle.lego_model.specs.Answers.{rows_of_view}
 use Rattle.lego_model.specs.Places.{Place}
-use Rattle.lego_model.specs.Controller.{or_joined, join_event, joined, at_place, events_at_join, places_after, events_after}
+use Rattle.lego_model.specs.Events.{join_event}
+use Rattle.lego_model.specs.Controller.{or_joined, joined, at_place, events_at_join, places_after, events_after}
 use Rattle.outside.specs.declared.step.WorldStep.{WorldStep}
 use Rattle.outside.specs.declared.step.WorldStep.TheVariants.{Joined}
 use Rattle.outside.specs.Seen.{is_declared}
@@ -70,7 +71,7 @@ keeps-joined : (moment : ℕ) (l : Link) → (link_joined moment l).declared ≡
 unfolding link_joined
 keeps-joined moment l = refl
 
-joined-silent : (moment : ℕ) (l : Link) → l.waits ≡ [] → (link_joined moment l).waits ≡ []
+pub joined-silent : (moment : ℕ) (l : Link) → l.waits ≡ [] → (link_joined moment l).waits ≡ []
 unfolding link_joined
 joined-silent moment l h = h
 

@@ -15,7 +15,8 @@ use Rattle.app_frames.specs.declared.frame.Event.{Event}
 use Rattle.app_frames.specs.declared.frame.EventKind.TheVariants as kinds
 use Rattle.lego_model.specs.Answers.{rows_of_view}
 use Rattle.lego_model.specs.Places.{Place}
-use Rattle.lego_model.specs.Controller.{ports_of, leave_event, left_of, out, at_place, places_after, events_after}
+use Rattle.lego_model.specs.Events.{ports_of, leave_event}
+use Rattle.lego_model.specs.Controller.{left_of, out, at_place, places_after, events_after}
 use Rattle.outside.specs.declared.step.WorldStep.{WorldStep}
 use Rattle.outside.specs.declared.step.WorldStep.TheVariants.{Left}
 use Rattle.outside.specs.Seen.{is_declared}
@@ -25,6 +26,7 @@ use Rattle.net_txn.specs.declared.ports.KnownPorts.{KnownPorts}
 use Rattle.net_txn.specs.Views.{rows_at, ViewsAscend}
 use Rattle.net_txn.specs.Leaving.{ports_at, port_text, ports_text}
 use Rattle.switch_laws.specs.Shown.{flags_in, rows_or_none, flags_at, shown_switch, shown_places}
+use Rattle.switch_laws.specs.laws.LossLaws.{rows-gone, rows-stay}
 use Rattle.batch_laws.specs.Knowledge.{Knowledge, is_known, handled, handled_all, left_by}
 use Rattle.batch_laws.specs.Calm.{known_ports}
 use Rattle.batch_laws.specs.LinkTells.{KnownIn, table_rows, StandsWell, StandsIn}
@@ -75,7 +77,7 @@ keeps-left : (l : Link) → (link_left l).declared ≡ l.declared
 unfolding link_left
 keeps-left l = refl
 
-left-silent : (l : Link) → l.waits ≡ [] → (link_left l).waits ≡ []
+pub left-silent : (l : Link) → l.waits ≡ [] → (link_left l).waits ≡ []
 unfolding link_left
 left-silent l h = refl
 
@@ -98,29 +100,11 @@ left-items d s k facts =
     ap₂ (λ (due : List WorldStep) rest. (due ++ (if is_some (switch_of d s) then Left d ∷ [] else [])) ++ rest) facts.due (none-waiting (with_link d link_left s.links) (waiting-silent d link_left left-silent s.links facts.waits))
     ∙ append-nil (if is_some (switch_of d s) then Left d ∷ [] else [])
 
-filtered-here : (d : ℕ) (views : List TableView) → rows_at d (filter (λ v. not (v.dpid == d)) views) ≡ None
-filtered-here d [] = refl
-filtered-here d (v ∷ vs) =
-    elim (cases_Bool (v.dpid == d)) [
-      | inl here ↦ rw here (filtered-here d vs)
-      | inr other ↦ rw other (rw other (filtered-here d vs))
-    ]
-
-filtered-other : (d e : ℕ) (views : List TableView) → e ≢ d → rows_at e (filter (λ v. not (v.dpid == d)) views) ≡ rows_at e views
-filtered-other d e [] other = refl
-filtered-other d e (v ∷ vs) other =
-    elim (cases_Bool (v.dpid == d)) [
-      | inl here ↦
-          let apart : (v.dpid == e) ≡ false = ne_eqb v.dpid e (λ same. other (sym same ∙ eqb-true v.dpid d here)) in
-          rw (here, apart) (filtered-other d e vs other)
-      | inr there ↦ rw there (ap (λ (o : Option (List ViewRow)). if v.dpid == e then Some v.rows else o) (filtered-other d e vs other))
-    ]
-
 views-less : (least most : ℕ) → least ≤ most → (views : List TableView) → ViewsAscend most views → ViewsAscend least views
 views-less least most le [] h = tt
 views-less least most le (v ∷ vs) h = (omega (arith, le, h.0), h.1)
 
-filtered-order : (d least : ℕ) (views : List TableView) → ViewsAscend least views → ViewsAscend least (filter (λ v. not (v.dpid == d)) views)
+pub filtered-order : (d least : ℕ) (views : List TableView) → ViewsAscend least views → ViewsAscend least (filter (λ v. not (v.dpid == d)) views)
 filtered-order d least [] h = tt
 filtered-order d least (v ∷ vs) h =
     elim (cases_Bool (v.dpid == d)) [
@@ -201,7 +185,7 @@ leave-by d s k facts declared (Some y) is =
     let stands : StandsWell d y = subst (StandsIn d) is (facts.stands d) in
     let only : OnlyOne d s now k after = record {
       switches = left-other d s;
-      rows = λ e other. filtered-other d e k.views other;
+      rows = λ e other. rows-stay d e other k.views;
       described = λ e other. gone-other d e k.ports other;
     } in
     let body : ports_text (ports_at d k.ports) ≡ ports_bytes (ports_of y) = ap ports_text (ports-found d k.ports (ports_of y) known.ports) ∙ text-bytes (ports_of y) in
@@ -213,7 +197,7 @@ leave-by d s k facts declared (Some y) is =
           ∙ ap (λ (es : List Event). k.queue ++ es) (sym (leave-events d s k facts declared ∙ ap (λ (o : Option SwitchState). left_of (option_map (owned_switch (flags_at d k.views)) o)) is));
       places = leave-places d s k after facts only;
       known = all-known d s now k after facts only (subst (λ (o : Option SwitchState). KnownIn o (rows_at d after.views) (known_ports d after.ports)) (sym (left-here d s)) (record {
-        agrees = ap (option_map rows_of_view) (filtered-here d k.views);
+        agrees = ap (option_map rows_of_view) (rows-gone d k.views);
         ports = gone-here d k.ports;
       }));
       order = filtered-order d 0 k.views facts.order;

@@ -14,7 +14,8 @@ use Rattle.flow_table.specs.Step.{after_stimulus, sent_by_stimulus}
 use Rattle.undo_laws.specs.Owned.{owned_switch}
 use Rattle.app_frames.specs.declared.frame.Event.{Event}
 use Rattle.lego_model.specs.Answers.{rows_of_view}
-use Rattle.lego_model.specs.Controller.{events_of, sent_events}
+use Rattle.lego_model.specs.Events.{events_of}
+use Rattle.lego_model.specs.Controller.{sent_events}
 use Rattle.outside.specs.declared.step.WorldStep.{WorldStep}
 use Rattle.outside.specs.declared.step.WorldStep.TheVariants.{From}
 use Rattle.outside.specs.State.{Link, link_of, stimulus_sends, declared_in}

@@ -29,7 +29,7 @@ use Rattle.undo_laws.specs.Owned.{owned, is_asked_for, AskAll}
 use Rattle.undo_laws.specs.laws.OwnedLaws.{stimulus-owned, expiry-owned}
 use Rattle.app_frames.specs.declared.frame.Event.{Event}
 use Rattle.lego_model.specs.Answers.{rows_of_table, rows_of_view}
-use Rattle.lego_model.specs.Controller.{event_of_read, events_of}
+use Rattle.lego_model.specs.Events.{event_of_read, events_of}
 use Rattle.outside.specs.declared.step.WorldStep.TheVariants.{From}
 use Rattle.net_txn.specs.Views.{rows_at, with_rows, ViewsAscend}
 use Rattle.net_txn.specs.laws.ViewLaws.{rows_at-same, rows_at-other}

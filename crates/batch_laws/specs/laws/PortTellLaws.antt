@@ -25,7 +25,7 @@ use Rattle.flow_table.specs.Step.{port_status, set_link, same_bool, ports_after_
 use Rattle.undo_laws.specs.Owned.{owned_switch}
 use Rattle.undo_laws.specs.laws.OwnedLaws.{stimulus-owned, sent-owned}
 use Rattle.lego_model.specs.Answers.{rows_of_table}
-use Rattle.lego_model.specs.Controller.{ports_of, events_of}
+use Rattle.lego_model.specs.Events.{ports_of, events_of}
 use Rattle.outside.specs.declared.step.WorldStep.TheVariants.{From}
 use Rattle.net_txn.specs.declared.ports.KnownPorts.{KnownPorts}
 use Rattle.net_txn.specs.Arriving.{ports_after, known_after, with_port as put_port}

@@ -32,6 +32,7 @@ use Rattle.batch_laws.specs.laws.ReferenceLaws.{all-each, links-found}
 use Rattle.batch_laws.specs.Waiting.{NoneWait}
 use Rattle.batch_laws.specs.laws.AfterLaws.{after-moment, after-happened}
 use Rattle.batch_laws.specs.After.{Facts, SoundIn, After}
+use Rattle.batch_laws.specs.laws.KnownPortsLaws.{KnowsOnce, known-first, known-once, ready-once, handled_all-once}
 use Rattle.batch_laws.specs.laws.LeaveTellLaws.{after-leave}
 use Rattle.batch_laws.specs.laws.JoinTellLaws.{after-join}
 
@@ -76,7 +77,7 @@ stands-by seen net keeps calm d (Some y) is =
     let lasts = switch-lasts seen keeps d y is in
     record { number = lasts.1; lasts = lasts.0; table = (all-stand seen).table d y is; sound = calm.sound.entries d y is }
 
-none-wait : (s : State) → AreDeclaredFrom 1 (declared_in s.links) → ((d : ℕ) → waits_of d s ≡ []) → NoneWait s.links
+pub none-wait : (s : State) → AreDeclaredFrom 1 (declared_in s.links) → ((d : ℕ) → waits_of d s ≡ []) → NoneWait s.links
 unfolding waits_of
 none-wait s ascend waits =
     all-each (λ (l : Link). link_of l.declared.dpid s.links ≡ Some l) (λ l. l.waits ≡ []) (λ l is. sym (ap waits_in is) ∙ waits l.declared.dpid) s.links (links-found 1 s.links ascend)
@@ -88,7 +89,7 @@ facts-before seen net queue keeps calm =
       ascend = ascend;
       waits = none-wait (state seen) ascend calm.ready.waits;
       due = calm.none_due;
-      known = λ d. record { agrees = calm.ready.agrees d; ports = calm.ports d };
+      known = λ d. record { agrees = calm.ready.agrees d; ports = known-first d net.ports (switch_of d (state seen)) (calm.ready.known d) };
       order = calm.order;
       moment = calm.moment;
       stands = λ d. stands-by seen net keeps calm d (switch_of d (state seen)) refl;
@@ -111,15 +112,15 @@ sound-by (Some z) y sound is = subst (λ (w : SwitchState). AllSound w.table.ent
     one_switch : (a b : SwitchState) → Some a ≡ Some b → a ≡ b
     one_switch a b e = cc
 
-handled-by : {Own : Type 0} (x : WorldStim) (seen : Seen Own) (net : NetState) (queue : List Event) (k : Knowledge) → After x (state seen) (knowledge_of net queue) k → StimulusHandled x seen net queue k
-handled-by x seen net queue k after =
+handled-by : {Own : Type 0} (x : WorldStim) (seen : Seen Own) (net : NetState) (queue : List Event) (k : Knowledge) → KnowsOnce k → After x (state seen) (knowledge_of net queue) k → StimulusHandled x seen net queue k
+handled-by x seen net queue k once after =
     let s : State = state seen in
     let same = links-declared seen in
     record {
       queue_so = subst (λ (ds : List Declared). k.queue ≡ queue ++ events_after x s.moment (shown_places ds net.views s)) same after.queue;
       places = subst (λ (ds : List Declared). shown_places ds k.views (after_stim x s) ≡ places_after x s.moment (shown_places ds net.views s)) same after.places;
       agrees = λ d. (after.known d).agrees;
-      ports = λ d. (after.known d).ports;
+      known = λ d. known-once d k (switch_of d (after_stim x s)) once (after.known d).ports;
       order = after.order;
       moment = after.moment;
       sound = record { entries = λ d y is. sound-by (switch_of d (after_stim x s)) y (after.sound d) is };
@@ -132,4 +133,4 @@ pub stimulus-handled : {Own : Type 0} (x : WorldStim) (seen : Seen Own) (net : N
 stimulus-handled x seen net queue keeps calm may fits =
     let s : State = state seen in
     let here : IsWorldStim (declared_in s.links) s.moment x = subst (λ (ds : List Declared). IsWorldStim ds s.moment x) (sym (links-declared seen)) may in
-    handled-by x seen net queue (handled_all (upcoming (after_stim x s)) (knowledge_of net queue)) (after-each x s (knowledge_of net queue) (facts-before seen net queue keeps calm) here fits)
+    handled-by x seen net queue (handled_all (upcoming (after_stim x s)) (knowledge_of net queue)) (handled_all-once (upcoming (after_stim x s)) (knowledge_of net queue) (ready-once seen net queue calm.ready)) (after-each x s (knowledge_of net queue) (facts-before seen net queue keeps calm) here fits)

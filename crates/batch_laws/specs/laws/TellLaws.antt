@@ -12,7 +12,7 @@ use Rattle.of_wire.specs.Reading.{reading_of}
 use Rattle.flow_table.specs.declared.view.ViewRow.{ViewRow}
 use Rattle.flow_table.specs.View.{TableView}
 use Rattle.app_frames.specs.declared.frame.Event.{Event}
-use Rattle.lego_model.specs.Controller.{two_bytes, event_of_message, event_of_read, events_of}
+use Rattle.lego_model.specs.Events.{two_bytes, event_of_message, event_of_read, events_of}
 use Rattle.outside.specs.declared.step.WorldStep.TheVariants.{From}
 use Rattle.net_txn.specs.Views.{rows_at}
 use Rattle.batch_laws.specs.Knowledge.{Knowledge, is_known, with_event, told_message, told_read, handled, handled_all}

@@ -1,7 +1,8 @@
 -- A batch in a world that keeps its word is what the reference controller makes of its stimulus.
-use Rattle.std.proofs.Common.{◌≡◌, ℕ, List, [], ◌∷◌, ◌++◌, filter, Option, None, refl, sym, ap, ap₂, ◌∙◌, subst}
+use Rattle.std.proofs.Common.{◌≡◌, ℕ, List, [], ◌∷◌, ◌++◌, filter, Bool, true, false, Option, Some, None, refl, sym, ap, ap₂, ◌∙◌, subst, inl, inr}
 use Rattle.std.specs.Option.{option_map}
 use Rattle.std.proofs.lemmas.List.{append-nil, append_cancel_left}
+use Rattle.std.proofs.lemmas.List.Concat.{flat_map-append}
 use Rattle.std.proofs.lemmas.List.Elements.{filter-append}
 use Rattle.of_types.specs.declared.journal.Act.{Act}
 use Rattle.of_types.specs.declared.journal.WorldStim.{WorldStim}
@@ -9,9 +10,11 @@ use Rattle.of_types.specs.declared.journal.WorldStim.TheVariants.{Join, Leave, A
 use Rattle.flow_table.specs.Switch.{Declared, SwitchState}
 use Rattle.app_frames.specs.declared.frame.Event.{Event}
 use Rattle.lego_model.specs.Answers.{rows_of_table}
-use Rattle.lego_model.specs.Journal.{Reply, Start, is_of, inputs, stimuli, released}
-use Rattle.lego_model.specs.Places.{Place}
-use Rattle.lego_model.specs.Controller.{Run, reference_mark, places_after, events_after, ports_of, happen}
+use Rattle.lego_model.specs.Journal.{Reply, Start, is_of, inputs, stimuli, released, losses}
+use Rattle.lego_model.specs.Places.{Place, with_place}
+use Rattle.lego_model.specs.Losses.{Losses, next_flag, batch_fewer}
+use Rattle.lego_model.specs.Controller.{Run, Lost, reference_mark, places_after, events_after, lost_at, left_at, happen_to, happen}
+use Rattle.lego_model.specs.RunReport.{lost_line, line_text}
 use Rattle.lego_model.specs.Agreement.{AgreeMark, AgreeMarks}
 use Rattle.outside.specs.declared.step.WorldStep.{WorldStep}
 use Rattle.outside.specs.Seen.{Given, Seen, Continues, journal}
@@ -20,20 +23,24 @@ use Rattle.outside.specs.State.{Mark, State, mark_of, after_stim, state, switch_
 use Rattle.outside.specs.Conforming.{Conforming}
 use Rattle.net_txn.specs.Net.{NetState}
 use Rattle.switch_laws.specs.Shown.{shown_places}
+use Rattle.switch_laws.specs.Orderly.{OrderlySince}
+use Rattle.switch_laws.specs.Since.{ports_known}
 use Rattle.switch_laws.specs.Sound.{Sound}
 use Rattle.switch_laws.specs.laws.OrderlyLaws.{orderly-whole}
 use Rattle.journal_laws.specs.Readings.{LastStands}
-use Rattle.lego_model.specs.History.{starts_in, replies_in, own_acts, given_in, stimuli_in}
+use Rattle.lego_model.specs.History.{starts_in, replies_in, own_acts, given_in, stimuli_in, points_in}
 use Rattle.journal_laws.specs.laws.CallLaws.{inputs_own}
 use Rattle.lego_model.specs.AtOnce.{at_first, Dialogue}
 use Rattle.batch_laws.specs.Knowledge.{knowledge_of}
 use Rattle.batch_laws.specs.Calm.{Calm}
-use Rattle.batch_laws.specs.InBatch.{BatchDone, BatchOver}
+use Rattle.batch_laws.specs.Batches.{Standing}
+use Rattle.batch_laws.specs.InBatch.{SameBesides, BatchDone, BatchLost, BatchEnds, BatchOver}
 use Rattle.batch_laws.specs.laws.HistoryLaws.{links-declared}
 use Rattle.batch_laws.specs.laws.StimulusLaws.{stimulus-handled}
-use Rattle.batch_laws.specs.Tells.{StimulusHandled}
-use Rattle.run_laws.specs.Engine.{Engine, Stands, app_at, engine_then}
-use Rattle.lego_model.specs.Application.{index}
+use Rattle.batch_laws.specs.laws.LossLaws.{loss-handled}
+use Rattle.batch_laws.specs.Tells.{StimulusHandled, StimulusLost}
+use Rattle.run_laws.specs.Engine.{Engine, Stands, app_at, ahead, engine_then}
+use Rattle.lego_model.specs.Application.{index, names}
 use Rattle.lego_model.specs.ReferenceRun.{text_of}
 use Rattle.run_laws.specs.Moves.{AtRest, Moved, OneHappens}
 use Rattle.run_laws.specs.laws.DialogueLaws.{others_at_once}
@@ -54,21 +61,35 @@ moment-then (At t) s = refl
 moment-then (Of d y) s = refl
 
 -- what is known then
-pub calm-then : {Own : Type 0} (x : WorldStim) (old new : Seen Own) (net now_net : NetState) (queue now_queue : List Event) → net.held ≡ [] → BatchDone x (record { seen = old; net = net; queue = queue }) (record { seen = new; net = now_net; queue = now_queue })
-    → StimulusHandled x old net queue (knowledge_of now_net now_queue) → Calm new now_net
-calm-then x old new net now_net queue now_queue none done h = record {
+pub calm-then : {Own : Type 0} (x : WorldStim) (first now : Standing Own) → first.net.held ≡ [] → BatchDone x first now → StimulusHandled x first.seen first.net first.queue (knowledge_of now.net now.queue) → Calm now.seen now.net
+calm-then x first now none done h = record {
   ready = record {
     waits = done.waits;
     agrees = λ d. h.agrees d ∙ ap (λ (o : Option SwitchState). option_map (λ y. rows_of_table y.table.entries) o) (sym (done.switches d));
+    known = λ d. h.known d ∙ ap (ports_known d) (sym (done.switches d));
   };
   sound = record { entries = λ d y is. h.sound.entries d y (sym (done.switches d) ∙ is) };
   order = h.order;
-  ports = λ d. h.ports d ∙ ap (λ (o : Option SwitchState). option_map ports_of o) (sym (done.switches d));
   kept = done.kept;
   moment = h.moment ∙ sym done.stays.moment;
   none_begun = done.begun;
   none_due = done.due;
   held = done.held ∙ none;
+  left = done.left;
+}
+
+-- or where a switch was lost
+calm-lost : {Own : Type 0} (x : WorldStim) (first now : Standing Own) → first.net.held ≡ [] → (l : BatchLost x false first now) → StimulusLost x l.dpid first.seen now.seen first.net first.queue (knowledge_of now.net now.queue) → Calm now.seen now.net
+calm-lost x first now none l h = record {
+  ready = record { waits = l.waits; agrees = h.agrees; known = h.known };
+  sound = h.sound;
+  order = h.order;
+  kept = l.kept;
+  moment = h.moment ∙ sym l.stays.moment;
+  none_begun = l.begun_so;
+  none_due = l.due;
+  held = l.held ∙ none;
+  left = l.left;
 }
 
 -- where the state is the same
@@ -77,48 +98,111 @@ calm-still old new net same calm = record {
   ready = record {
     waits = λ d. ap (λ (t : State). waits_of d t) same ∙ calm.ready.waits d;
     agrees = λ d. calm.ready.agrees d ∙ ap (λ (t : State). option_map (λ y. rows_of_table y.table.entries) (switch_of d t)) (sym same);
+    known = λ d. calm.ready.known d ∙ ap (λ (t : State). ports_known d (switch_of d t)) (sym same);
   };
   sound = subst Sound (sym same) calm.sound;
   order = calm.order;
-  ports = λ d. calm.ports d ∙ ap (λ (t : State). option_map ports_of (switch_of d t)) (sym same);
   kept = calm.kept;
   moment = calm.moment ∙ ap (λ (t : State). t.moment) (sym same);
   none_begun = ap (λ (t : State). t.begun) same ∙ calm.none_begun;
   none_due = ap (λ (t : State). t.due) same ∙ calm.none_due;
   held = calm.held;
+  left = calm.left;
 }
 
 -- ---- The reference controller
 
-happens-stands : {Own : Type 0} (x : WorldStim) (old new : Seen Own) (net now_net : NetState) (queue now_queue : List Event) (e : Engine) (ss : List Start) (rs : List Reply) (r : Run) → Conforming new → e.net ≡ net → e.queue ≡ queue
-    → BatchDone x (record { seen = old; net = net; queue = queue }) (record { seen = new; net = now_net; queue = now_queue }) → Conforming old
-    → StimulusHandled x old net queue (knowledge_of now_net now_queue) → Stands old e ss rs r → Stands new (engine_then e now_net now_queue) ss rs (happen x r)
+marks-stand : {Own : Type 0} (x : WorldStim) (first now : Standing Own) (e : Engine) (ss : List Start) (rs : List Reply) (later : Losses) (r : Run) → Conforming first.seen → e.net ≡ first.net → SameBesides (state now.seen) (after_stim x (state first.seen)) → Stands first.seen e ss rs later r
+    → AgreeMarks (points_in now.seen) (r.marks ++ reference_mark None r.places ∷ [])
+marks-stand x first now e ss rs later r keeps same_net stays s =
+    let old = first.seen in
+    let before : r.places ≡ shown_places old.given.declared first.net.views (state old) = s.places ∙ ap (λ (n : NetState). shown_places old.given.declared n.views (state old)) same_net in
+    subst (λ (ms : List Mark). AgreeMarks ms (r.marks ++ reference_mark None r.places ∷ [])) (sym (stays.marks ∙ marks-then x (state old)))
+    (marks_more (state old).marks r.marks (mark_of None (state old)) (reference_mark None r.places) s.marks
+    (subst (λ (ps : List Place). AgreeMark (mark_of None (state old)) (reference_mark None ps)) (sym before) (mark_alike None old.given.declared first.net.views (state old) (links-declared old) keeps.declared)))
+
+-- what the application was given is the same
+inputs-same : {Own : Type 0} (old new : Seen Own) → own_acts new ≡ own_acts old → given_in new ≡ given_in old
+inputs-same old new own = sym (inputs_own index (journal new.history)) ∙ ap (λ (acts : List Act). inputs index acts) own ∙ inputs_own index (journal old.history)
+
+-- of the losses that are to come the first is that of a batch
+flag-so : (flag : Bool) (later : Losses) (r : Run) (x : WorldStim) → r.losses ≡ ahead (flag ∷ []) [] later → lost_at (next_flag r.losses.batches) x ≡ lost_at flag x
+flag-so flag later r x is = ap (λ (l : Losses). lost_at (next_flag l.batches) x) is
+
+no_flag : (x : WorldStim) → lost_at false x ≡ None
+no_flag (Join d) = refl
+no_flag (Leave d) = refl
+no_flag (At t) = refl
+no_flag (Of d y) = refl
+
+abbrev happened : WorldStim → Run → Run → Run
+happened x r done = record done {
+  moment = moment_after x r.moment;
+  losses = batch_fewer r.losses;
+  marks = r.marks ++ reference_mark None r.places ∷ [];
+}
+
+happen-by : (x : WorldStim) (r : Run) (o : Option ℕ) → lost_at (next_flag r.losses.batches) x ≡ o → happen x r ≡ happened x r (happen_to o x (places_after x r.moment r.places) r)
 unfolding happen
-happens-stands {Own} x old new net now_net queue now_queue e ss rs r keeps same_net same_queue done keeps_old h s =
+happen-by x r o is = ap (λ (l : Option ℕ). happened x r (happen_to l x (places_after x r.moment r.places) r)) is
+
+happens-stands : {Own : Type 0} (x : WorldStim) (first now : Standing Own) (e : Engine) (ss : List Start) (rs : List Reply) (later : Losses) (r : Run) → e.net ≡ first.net → e.queue ≡ first.queue
+    → BatchDone x first now → Conforming first.seen → StimulusHandled x first.seen first.net first.queue (knowledge_of now.net now.queue) → Stands first.seen e ss rs (ahead (false ∷ []) [] later) r
+    → Stands now.seen (engine_then e now.net now.queue) ss rs later (happen x r)
+happens-stands {Own} x first now e ss rs later r same_net same_queue done keeps_old h s =
+    let old = first.seen in
+    let new = now.seen in
     let declared : new.given.declared ≡ old.given.declared = ap (λ (g : Given Own). g.declared) done.given in
-    let before : r.places ≡ shown_places old.given.declared net.views (state old) = s.places ∙ ap (λ (n : NetState). shown_places old.given.declared n.views (state old)) same_net in
+    let before : r.places ≡ shown_places old.given.declared first.net.views (state old) = s.places ∙ ap (λ (n : NetState). shown_places old.given.declared n.views (state old)) same_net in
     let own : own_acts new ≡ own_acts old = done.acts index in
-    let inputs_same : given_in new ≡ given_in old =
-    sym (inputs_own index (journal new.history)) ∙ ap (λ (acts : List Act). inputs index acts) own ∙ inputs_own index (journal old.history) in
-    record {
-      calm = calm-then x old new net now_net queue now_queue (subst (λ (n : NetState). n.held ≡ []) same_net s.calm.held) done h;
+    subst (Stands new (engine_then e now.net now.queue) ss rs later) (sym (happen-by x r None (flag-so false later r x s.losses_so ∙ no_flag x))) (record {
+      calm = calm-then x first now (subst (λ (n : NetState). n.held ≡ []) same_net s.calm.held) done h;
       moment = ap (moment_after x) s.moment ∙ sym (moment-then x (state old)) ∙ sym done.stays.moment;
       places = ap₂ (λ (m : ℕ) (ps : List Place). places_after x m ps) s.moment before ∙ sym h.places
-          ∙ sym (shown-still old.given.declared now_net.views (after_stim x (state old)) (state new) done.switches)
-          ∙ ap (λ (ds : List Declared). shown_places ds now_net.views (state new)) (sym declared);
+          ∙ sym (shown-still old.given.declared now.net.views (after_stim x (state old)) (state new) done.switches)
+          ∙ ap (λ (ds : List Declared). shown_places ds now.net.views (state new)) (sym declared);
       queue = ap₂ (λ (q : List Event) (more : List Event). q ++ more) (s.queue ∙ same_queue) (ap₂ (λ (m : ℕ) (ps : List Place). events_after x m ps) s.moment before) ∙ sym h.queue_so;
       events = s.events;
-      apps = s.apps ∙ ap (λ (given : List (List ℕ)). app_at (engine_then e now_net now_queue) given ss rs ∷ []) (sym inputs_same);
+      apps = s.apps ∙ ap (λ (given : List (List ℕ)). app_at (engine_then e now.net now.queue) given ss rs ∷ []) (sym (inputs-same old new own));
       released = s.released ∙ sym done.released;
-      marks = subst (λ (ms : List Mark). AgreeMarks ms (r.marks ++ reference_mark None r.places ∷ [])) (sym (done.stays.marks ∙ marks-then x (state old)))
-          (marks_more (state old).marks r.marks (mark_of None (state old)) (reference_mark None r.places) s.marks
-          (subst (λ (ps : List Place). AgreeMark (mark_of None (state old)) (reference_mark None ps)) (sym before) (mark_alike None old.given.declared net.views (state old) (links-declared old) keeps_old.declared)));
+      lost = s.lost ∙ sym done.lost;
+      losses_so = ap batch_fewer s.losses_so;
+      marks = marks-stand x first now e ss rs (ahead (false ∷ []) [] later) r keeps_old same_net done.stays s;
       life = λ alive. subst LastStands (sym own) (s.life alive);
-    }
+    })
 
-happen-text : (x : WorldStim) (r : Run) → text_of (happen x r) ≡ text_of r ++ []
-unfolding happen
-happen-text x r = sym (append-nil (text_of r))
+lost-stands : {Own : Type 0} (x : WorldStim) (first now : Standing Own) (e : Engine) (ss : List Start) (rs : List Reply) (later : Losses) (r : Run) → e.net ≡ first.net → e.queue ≡ first.queue
+    → (l : BatchLost x false first now) → Conforming first.seen → StimulusLost x l.dpid first.seen now.seen first.net first.queue (knowledge_of now.net now.queue) → Stands first.seen e ss rs (ahead (true ∷ []) [] later) r
+    → Stands now.seen (engine_then e now.net now.queue) ss rs later (happen x r)
+lost-stands {Own} x first now e ss rs later r same_net same_queue l keeps_old h s =
+    let old = first.seen in
+    let new = now.seen in
+    let d = l.dpid in
+    let declared : new.given.declared ≡ old.given.declared = ap (λ (g : Given Own). g.declared) l.given in
+    let before : r.places ≡ shown_places old.given.declared first.net.views (state old) = s.places ∙ ap (λ (n : NetState). shown_places old.given.declared n.views (state old)) same_net in
+    let after_so : places_after x r.moment r.places ≡ h.after = ap₂ (λ (m : ℕ) (ps : List Place). places_after x m ps) s.moment before ∙ sym h.after_so in
+    let own : own_acts new ≡ own_acts old = l.acts index in
+    subst (Stands new (engine_then e now.net now.queue) ss rs later) (sym (happen-by x r (Some d) (flag-so true later r x s.losses_so ∙ l.of_stimulus))) (record {
+      calm = calm-lost x first now (subst (λ (n : NetState). n.held ≡ []) same_net s.calm.held) l h;
+      moment = ap (moment_after x) s.moment ∙ sym (moment-then x (state old)) ∙ sym l.stays.moment;
+      places = ap (with_place d (λ o. None)) after_so ∙ sym h.places ∙ ap (λ (ds : List Declared). shown_places ds now.net.views (state new)) (sym declared);
+      queue = ap₂ (λ (q : List Event) (ps : List Place). q ++ left_at x d ps) (s.queue ∙ same_queue) after_so ∙ sym h.queue_so;
+      events = s.events;
+      apps = s.apps ∙ ap (λ (given : List (List ℕ)). app_at (engine_then e now.net now.queue) given ss rs ∷ []) (sym (inputs-same old new own));
+      released = s.released ∙ sym l.released;
+      lost = ap (λ (ds : List ℕ). ds ++ d ∷ []) s.lost ∙ sym l.lost;
+      losses_so = ap batch_fewer s.losses_so;
+      marks = marks-stand x first now e ss rs (ahead (true ∷ []) [] later) r keeps_old same_net l.stays s;
+      life = λ alive. subst LastStands (sym own) (s.life alive);
+    })
+
+happen-text : (x : WorldStim) (later : Losses) (r : Run) → r.losses ≡ ahead (false ∷ []) [] later → text_of (happen x r) ≡ text_of r ++ []
+happen-text x later r is = ap text_of (happen-by x r None (flag-so false later r x is ∙ no_flag x)) ∙ sym (append-nil (text_of r))
+
+lost-text : (x : WorldStim) (d : ℕ) (later : Losses) (r : Run) → lost_at true x ≡ Some d → r.losses ≡ ahead (true ∷ []) [] later → text_of (happen x r) ≡ text_of r ++ lost_line d
+lost-text x d later r of is =
+    ap text_of (happen-by x r (Some d) (flag-so true later r x is ∙ of)) ∙ flat_map-append (line_text names) r.lines (Lost d ∷ [])
+    ∙ ap (λ (more : List ℕ). text_of r ++ more) (append-nil (lost_line d))
 
 -- ---- The batch
 
@@ -129,50 +213,90 @@ none-own old new steps longer own =
     ap (λ (h : List WorldStep). filter (is_of index) (journal h)) longer ∙ ap (λ (acts : List Act). filter (is_of index) acts) (journal-append old.history steps) ∙ filter-append (is_of index) (journal old.history) (journal steps) in
     append_cancel_left (own_acts old) (filter (is_of index) (journal steps)) [] (sym more ∙ own ∙ sym (append-nil (own_acts old)))
 
--- with a stimulus
-pub batch-happens : {Own : Type 0} (Tells : Type 0) (x : WorldStim) (old new : Seen Own) (net now_net : NetState) (queue now_queue : List Event) (e : Engine) → Tells → Continues Tells old new → Conforming old → Conforming new → AtRest old e → e.net ≡ net → e.queue ≡ queue
-    → BatchDone x (record { seen = old; net = net; queue = queue }) (record { seen = new; net = now_net; queue = now_queue })
-    → OneHappens old new e (engine_then e now_net now_queue)
-batch-happens Tells x old new net now_net queue now_queue e told later keeps_old keeps settled same_net same_queue done =
-    let calm : Calm old net = subst (λ (n : NetState). Calm old n) same_net settled.calm in
-    let h = subst (StimulusHandled x old net queue) (sym done.knowledge) (stimulus-handled x old net queue keeps_old calm done.began.stimulus done.fits) in
-    let own : own_acts new ≡ own_acts old = done.acts index in
+-- what is so of the application then
+talks-still : {Own : Type 0} (Tells : Type 0) (old new : Seen Own) (e : Engine) (net : NetState) (queue : List Event) → Tells → Continues Tells old new → AtRest old e → own_acts new ≡ own_acts old → Calm new net → OrderlySince index old new → AtRest new (engine_then e net queue)
+talks-still Tells old new e net queue told later settled own calm orderly =
     let steps = (later.told told).0 in
     record {
+      calm = calm;
+      life = λ alive. subst LastStands (sym own) (settled.life alive);
+      speaks = record {
+        at_once = others_at_once old new steps (later.told told).1 (none-own old new steps (later.told told).1 own) settled.speaks.at_once;
+        rest_so = settled.speaks.rest_so;
+      };
+      orderly = orderly-whole index old new settled.orderly orderly;
+    }
+
+-- with a stimulus
+pub batch-happens : {Own : Type 0} (Tells : Type 0) (x : WorldStim) (text : List ℕ) (first now : Standing Own) (e : Engine) → Tells → Continues Tells first.seen now.seen → Conforming first.seen → AtRest first.seen e → e.net ≡ first.net → e.queue ≡ first.queue
+    → BatchEnds x first now → now.text ≡ first.text ++ text → OneHappens text first.seen now.seen e (engine_then e now.net now.queue)
+batch-happens Tells x text first now e told later keeps_old settled same_net same_queue (inl done) noted =
+    let old = first.seen in
+    let new = now.seen in
+    let calm : Calm old first.net = subst (λ (n : NetState). Calm old n) same_net settled.calm in
+    let h = subst (StimulusHandled x old first.net first.queue) (sym done.knowledge) (stimulus-handled x old first.net first.queue keeps_old calm done.began.stimulus done.fits) in
+    let own : own_acts new ≡ own_acts old = done.acts index in
+    let none : [] ≡ text = append_cancel_left first.text [] text (append-nil first.text ∙ sym done.text ∙ noted) in
+    subst (λ (t : List ℕ). OneHappens t old new e (engine_then e now.net now.queue)) none (record {
       stimulus = x;
       moved = record {
-        settled = record {
-          calm = calm-then x old new net now_net queue now_queue calm.held done h;
-          life = λ alive. subst LastStands (sym own) (settled.life alive);
-          speaks = record {
-            at_once = others_at_once old new steps (later.told told).1 (none-own old new steps (later.told told).1 own) settled.speaks.at_once;
-            rest_so = settled.speaks.rest_so;
-          };
-          orderly = orderly-whole index old new settled.orderly (done.orderly index);
-        };
+        settled = talks-still Tells old new e now.net now.queue told later settled own (calm-then x first now calm.held done h) (done.orderly index);
         moves = record {
           starts = [];
           replies = [];
+          batches = false ∷ [];
+          turns = [];
           given = done.given;
           read_starts = ap (λ (acts : List Act). starts_in acts) own ∙ sym (append-nil (starts_in (own_acts old)));
           read_replies = ap (λ (acts : List Act). replies_in acts) own ∙ sym (append-nil (replies_in (own_acts old)));
           read_stimuli = done.stimuli_so;
-          stands = λ ss rs r starts_so replies_so s. happens-stands x old new net now_net queue now_queue e ss rs r keeps same_net same_queue done keeps_old h s;
-          says = λ ss rs r starts_so replies_so s. happen-text x r;
+          stands = λ ss rs more r starts_so replies_so s. happens-stands x first now e ss rs more r same_net same_queue done keeps_old h s;
+          says = λ ss rs more r starts_so replies_so s. happen-text x more r s.losses_so;
         };
       };
-    }
+    })
+batch-happens Tells x text first now e told later keeps_old settled same_net same_queue (inr l) noted =
+    let old = first.seen in
+    let new = now.seen in
+    let calm : Calm old first.net = subst (λ (n : NetState). Calm old n) same_net settled.calm in
+    let h = loss-handled x false first now keeps_old calm l in
+    let own : own_acts new ≡ own_acts old = l.acts index in
+    let line : lost_line l.dpid ≡ text = append_cancel_left first.text (lost_line l.dpid) text (sym l.text ∙ noted) in
+    subst (λ (t : List ℕ). OneHappens t old new e (engine_then e now.net now.queue)) line (record {
+      stimulus = x;
+      moved = record {
+        settled = talks-still Tells old new e now.net now.queue told later settled own (calm-lost x first now calm.held l h) (l.orderly index);
+        moves = record {
+          starts = [];
+          replies = [];
+          batches = true ∷ [];
+          turns = [];
+          given = l.given;
+          read_starts = ap (λ (acts : List Act). starts_in acts) own ∙ sym (append-nil (starts_in (own_acts old)));
+          read_replies = ap (λ (acts : List Act). replies_in acts) own ∙ sym (append-nil (replies_in (own_acts old)));
+          read_stimuli = l.stimuli_so;
+          stands = λ ss rs more r starts_so replies_so s. lost-stands x first now e ss rs more r same_net same_queue l keeps_old h s;
+          says = λ ss rs more r starts_so replies_so s. lost-text x l.dpid more r l.of_stimulus s.losses_so;
+        };
+      };
+    })
 
 -- the last one, without a stimulus: nothing is done
-pub batch-over : {Own : Type 0} (old new : Seen Own) (net now_net : NetState) (queue now_queue : List Event) (e : Engine) → AtRest old e → e.net ≡ net → e.queue ≡ queue
-    → BatchOver (record { seen = old; net = net; queue = queue }) (record { seen = new; net = now_net; queue = now_queue }) → Moved [] (λ r. r) [] old new e (engine_then e now_net now_queue)
-batch-over {Own} old new net now_net queue now_queue e settled same_net same_queue over =
+pub batch-over : {Own : Type 0} (text : List ℕ) (first now : Standing Own) (e : Engine) → AtRest first.seen e → e.net ≡ first.net → e.queue ≡ first.queue
+    → BatchOver first now → now.text ≡ first.text ++ text → Moved [] (λ r. r) text first.seen now.seen e (engine_then e now.net now.queue)
+batch-over {Own} text first now e settled same_net same_queue over noted =
+    let old = first.seen in
+    let new = now.seen in
+    let net = first.net in
+    let now_net = now.net in
+    let now_queue = now.queue in
+    let none : [] ≡ text = append_cancel_left first.text [] text (append-nil first.text ∙ sym over.text ∙ noted) in
     let calm : Calm old net = subst (λ (n : NetState). Calm old n) same_net settled.calm in
     let journal_same : journal new.history ≡ journal old.history = over.acts in
     let own : own_acts new ≡ own_acts old = ap (λ (js : List Act). filter (is_of index) js) journal_same in
     let said = settled.speaks.at_once in
     let calm_now : Calm new now_net = subst (λ (n : NetState). Calm new n) (sym over.net) (calm-still old new net over.state_so calm) in
-    record {
+    subst (λ (t : List ℕ). Moved [] (λ r. r) t old new e (engine_then e now_net now_queue)) none (record {
       settled = record {
         calm = calm_now;
         life = λ alive. subst LastStands (sym own) (settled.life alive);
@@ -185,11 +309,13 @@ batch-over {Own} old new net now_net queue now_queue e settled same_net same_que
       moves = record {
         starts = [];
         replies = [];
+        batches = [];
+        turns = [];
         given = over.given;
         read_starts = ap (λ (acts : List Act). starts_in acts) own ∙ sym (append-nil (starts_in (own_acts old)));
         read_replies = ap (λ (acts : List Act). replies_in acts) own ∙ sym (append-nil (replies_in (own_acts old)));
         read_stimuli = ap (λ (js : List Act). stimuli js) journal_same ∙ sym (append-nil (stimuli_in old));
-        stands = λ ss rs r starts_so replies_so s. record {
+        stands = λ ss rs more r starts_so replies_so s. record {
           calm = calm_now;
           moment = s.moment ∙ sym (ap (λ (t : State). t.moment) over.state_so);
           places = s.places
@@ -199,9 +325,11 @@ batch-over {Own} old new net now_net queue now_queue e settled same_net same_que
           events = s.events;
           apps = s.apps ∙ ap (λ (js : List Act). app_at (engine_then e now_net now_queue) (inputs index js) ss rs ∷ []) (sym journal_same);
           released = s.released ∙ sym (ap (λ (js : List Act). released js) journal_same);
+          lost = s.lost ∙ sym (ap (λ (js : List Act). losses js) journal_same);
+          losses_so = s.losses_so;
           marks = subst (λ (t : State). AgreeMarks t.marks r.marks) (sym over.state_so) s.marks;
           life = λ alive. subst LastStands (sym own) (s.life alive);
         };
-        says = λ ss rs r starts_so replies_so s. sym (append-nil (text_of r));
+        says = λ ss rs more r starts_so replies_so s. sym (append-nil (text_of r));
       };
-    }
+    })

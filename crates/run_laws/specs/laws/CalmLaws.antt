@@ -1,31 +1,32 @@
--- Laws of a calm run: it stays calm where nothing but calls for an application came, behind the messages of a turn whose packets were
--- released, and where these were undone.
-use Rattle.std.proofs.Common.{◌≡◌, ◌==◌, ℕ, ◌+◌, ◌≤◌, true, List, [], ◌∷◌, map, Option, Some, None, Ok, refl, sym, ap, ◌∙◌, subst, inl, inr}
+-- Laws of a calm run: it stays calm where nothing but calls for an application came; behind a turn whose packets were released, and behind one
+-- that was undone, where the switches that were lost are told.
+use Rattle.std.proofs.Common.{◌≡◌, ◌==◌, ℕ, ◌+◌, ◌≤◌, true, false, not, List, [], ◌∷◌, map, filter, drop, Option, Some, None, Ok, refl, sym, ap, ◌∙◌, subst, inl, inr}
 use Rattle.std.proofs.lemmas.Bool.{cases_Bool}
 use Rattle.std.specs.Option.{option_map}
-use Rattle.of_types.specs.declared.port_desc.PortDesc.{PortDesc}
 use Rattle.of_match.specs.declared.key.Key.{Key}
 use Rattle.flow_table.specs.declared.view.ViewRow.{ViewRow}
 use Rattle.flow_table.specs.View.{TableView}
 use Rattle.flow_table.specs.Switch.{SwitchState}
 use Rattle.lego_model.specs.Answers.{rows_of_table}
-use Rattle.lego_model.specs.Controller.{ports_of}
+use Rattle.lego_model.specs.Controller.{leavers}
 use Rattle.outside.specs.Seen.{Seen}
 use Rattle.outside.specs.State.{State, state, switch_of}
 use Rattle.outside.specs.Conforming.{Conforming}
 use Rattle.net_txn.specs.Net.{NetState}
 use Rattle.net_txn.specs.Views.{rows_at, with_rows, is_viewed, ViewsAscend}
 use Rattle.net_txn.specs.Arriving.{without_key}
-use Rattle.net_txn.specs.Undos.{without_keys, StandsReady, Undoes}
+use Rattle.net_txn.specs.Undos.{key_logged, without_keys, next_free, lost_parts, is_lost_in, undone_net, StandsReady, Undoes}
+use Rattle.net_txn.specs.Losing.{lost_net, lose_all}
 use Rattle.net_txn.specs.Releases.{committed}
 use Rattle.lego_model.specs.Packets.{Held}
 use Rattle.app_frames.specs.declared.frame.Event.{Event}
 use Rattle.switch_laws.specs.Released.{ReleaseShown}
-use Rattle.switch_laws.specs.Since.{Ready, logged_since, Since, Goes}
+use Rattle.switch_laws.specs.Since.{ports_known, Ready, logged_since, Goes}
 use Rattle.switch_laws.specs.Sound.{Sound}
 use Rattle.switch_laws.specs.laws.SoundStepLaws.{undo-sound}
-use Rattle.switch_laws.specs.laws.ShownUndoLaws.{again, out-again, undo-ready}
-use Rattle.batch_laws.specs.Calm.{known_ports, Calm}
+use Rattle.switch_laws.specs.laws.ShownUndoLaws.{undo-ready}
+use Rattle.batch_laws.specs.Calm.{Calm}
+use Rattle.batch_laws.specs.laws.LeaveTellLaws.{filtered-order}
 use Rattle.run_laws.specs.LinkSteps.{Rests}
 use Rattle.batch_laws.specs.laws.InBatchLaws.{links_switch, links_waits}
 use Rattle.batch_laws.specs.laws.JoinTellLaws.{no-rows}
@@ -43,15 +44,16 @@ calm_talk old new net same rests calm = record {
   ready = record {
     waits = λ d. links_waits d (state old) (state new) same ∙ calm.ready.waits d;
     agrees = λ d. calm.ready.agrees d ∙ ap (option_map (λ x. rows_of_table x.table.entries)) (sym (links_switch d (state old) (state new) same));
+    known = λ d. calm.ready.known d ∙ ap (ports_known d) (sym (links_switch d (state old) (state new) same));
   };
   sound = record { entries = λ d x is. calm.sound.entries d x (sym (links_switch d (state old) (state new) same) ∙ is) };
   order = calm.order;
-  ports = λ d. calm.ports d ∙ ap (option_map ports_of) (sym (links_switch d (state old) (state new) same));
   kept = calm.kept;
   moment = calm.moment ∙ sym rests.moment;
   none_begun = rests.begun ∙ calm.none_begun;
   none_due = rests.due ∙ calm.none_due;
   held = calm.held;
+  left = calm.left;
 }
 
 -- ---- The order of views
@@ -85,47 +87,71 @@ ascend_same least (v ∷ vs) (w ∷ ws) same all =
     let more = rest_of v.dpid w.dpid (dpids vs) (dpids ws) same in
     (subst (λ (n : ℕ). least ≤ n) (sym one) all.0, subst (λ (n : ℕ). ViewsAscend (n + 1) vs) (sym one) (ascend_same (w.dpid + 1) vs ws more all.1))
 
--- ---- Ports
+-- ---- What stays where switches are lost
 
-abbrev ports_in : Option SwitchState → Option (List PortDesc)
-ports_in o = option_map ports_of o
+-- views without some of them stand in order
+order_without : (d least : ℕ) (views : List TableView) → ViewsAscend least views → ViewsAscend least (filter (λ v. not (v.dpid == d)) views)
+order_without d least views up = filtered-order d least views up
 
-ports_since : {Own : Type 0} (start : ℕ) (first now : Seen Own) (net0 net : NetState) → Since start first now net0 net → (d : ℕ) (o : Option SwitchState) → switch_of d (state first) ≡ o
-    → ports_in (switch_of d (state now)) ≡ ports_in o
-ports_since start first now net0 net since d None is = ap ports_in (since.out d is)
-ports_since start first now net0 net since d (Some s) is =
-    let j = since.joined d s is in
-    ap ports_in j.stands ∙ ap (λ (x : SwitchState). Some (ports_of x)) j.since.rest
+-- what is kept of a network that lost these switches
+pub record StaysBut (net lost_so : NetState) : Type 0 where
+  pub moment : lost_so.moment ≡ net.moment
+  pub held : lost_so.held ≡ net.held
+  pub kept : net.kept ≡ [] → lost_so.kept ≡ []
+  pub order : ViewsAscend 0 net.views → ViewsAscend 0 lost_so.views
 
--- ---- Behind the messages of a turn, where what they held is taken over
+pub lost-stays : (lost : List ℕ) (net : NetState) → StaysBut net (lose_all lost net)
+lost-stays [] net = record { moment = refl; held = refl; kept = λ none. none; order = λ up. up }
+lost-stays (d ∷ lost) net =
+    let rest = lost-stays lost (lost_net d net) in
+    record {
+      moment = rest.moment;
+      held = rest.held;
+      kept = λ none. rest.kept (ap (filter (λ m. not (m.0 == d))) none);
+      order = λ up. rest.order (order_without d 0 net.views up);
+    }
 
-pub calm_since : {Own : Type 0} (start : ℕ) (first now : Seen Own) (net0 net : NetState) → Goes start first now net0 net → Sound (state now) → net.ports ≡ net0.ports → Rests (state first) (state now) → Calm first net0 → Calm now (committed start net)
-calm_since start first now net0 net goes sound ports rests calm = record {
-  ready = record { waits = goes.ready.waits; agrees = goes.ready.agrees };
-  sound = sound;
-  order = ascend_same 0 net.views net0.views (sym (dpids_without (logged_since start net) net.views) ∙ ap dpids goes.since.views) calm.order;
-  ports = λ d. ap (known_ports d) ports ∙ calm.ports d ∙ sym (ports_since start first now net0 net goes.since d (switch_of d (state first)) refl);
-  kept = goes.since.kept ∙ calm.kept;
-  moment = goes.since.moment ∙ calm.moment ∙ sym rests.moment;
-  none_begun = rests.begun ∙ calm.none_begun;
-  none_due = rests.due ∙ calm.none_due;
-  held = refl;
-}
+-- ---- Behind a turn, where the switches that were lost in it are told
 
--- ---- Behind the release of packets
+-- behind the messages of a turn
+pub record TurnStays {Own : Type 0} (first now : Seen Own) (net : NetState) : Type 0 where
+  pub order : ViewsAscend 0 net.views
+  pub kept : net.kept ≡ []
+  pub moment : net.moment ≡ (state now).moment
+  pub begun : (state now).begun ≡ false
+  pub due : (state now).due ≡ []
 
-pub calm_released : {Own : Type 0} (held : List Held) (old new : Seen Own) (net now_net : NetState) (queue now_queue : List Event) → ReleaseShown held old new net now_net queue now_queue → Rests (state old) (state new) → Calm old net → Calm new now_net
-calm_released held old new net now_net queue now_queue shown rests calm = record {
-  ready = shown.ready;
-  sound = shown.sound;
-  order = subst (ViewsAscend 0) (sym (ap (λ (n : NetState). n.views) shown.net_so)) calm.order;
-  ports = λ d. ap (λ (n : NetState). known_ports d n.ports) shown.net_so ∙ calm.ports d ∙ sym (shown.ports d);
-  kept = ap (λ (n : NetState). n.kept) shown.net_so ∙ calm.kept;
-  moment = ap (λ (n : NetState). n.moment) shown.net_so ∙ calm.moment ∙ sym rests.moment;
-  none_begun = rests.begun ∙ calm.none_begun;
-  none_due = rests.due ∙ calm.none_due;
-  held = ap (λ (n : NetState). n.held) shown.net_so ∙ calm.held;
-}
+pub turn_stays : {Own : Type 0} (start : ℕ) (lost : List ℕ) (first now : Seen Own) (net0 net : NetState) → Goes start lost first now net0 net → Rests (state first) (state now) → Calm first net0 → TurnStays first now net
+turn_stays start lost first now net0 net goes rests calm =
+    let stays = lost-stays lost net0 in
+    record {
+      order = ascend_same 0 net.views (lose_all lost net0).views (sym (dpids_without (logged_since start net) net.views) ∙ ap dpids goes.since.views) (stays.order calm.order);
+      kept = goes.since.kept ∙ stays.kept calm.kept;
+      moment = goes.since.moment ∙ calm.moment ∙ sym rests.moment;
+      begun = rests.begun ∙ calm.none_begun;
+      due = rests.due ∙ calm.none_due;
+    }
+
+-- nothing is left of those that were told
+abbrev pub none_left : NetState → NetState
+none_left net = record net { left = [] }
+
+-- Behind the release of its packets all is calm.
+pub calm_released : {Own : Type 0} (start : ℕ) (held sent : List Held) (first old new : Seen Own) (net now_net : NetState) (queue now_queue : List Event) → TurnStays first old net
+    → ReleaseShown held sent old new (committed start net) now_net queue now_queue → Rests (state old) (state new) → Calm new (none_left now_net)
+calm_released start held sent first old new net now_net queue now_queue there shown rests =
+    let stays = lost-stays (leavers shown.release_so.left) (committed start net) in
+    record {
+      ready = record { waits = shown.ready.waits; agrees = shown.ready.agrees; known = shown.ready.known };
+      sound = shown.sound;
+      order = subst (ViewsAscend 0) (sym (ap (λ (n : NetState). n.views) shown.net_so)) (stays.order there.order);
+      kept = ap (λ (n : NetState). n.kept) shown.net_so ∙ stays.kept there.kept;
+      moment = ap (λ (n : NetState). n.moment) shown.net_so ∙ stays.moment ∙ there.moment ∙ sym rests.moment;
+      none_begun = rests.begun ∙ there.begun;
+      none_due = rests.due ∙ there.due;
+      held = ap (λ (n : NetState). n.held) shown.net_so ∙ stays.held;
+      left = refl;
+    }
 
 -- ---- Where they were undone
 
@@ -145,23 +171,22 @@ stands_ready d seen net ready viewed (Some s) is = record { switch = s; stands =
 stands_ready d seen net ready viewed None is =
     absurd (some_rows d net.views viewed (no-rows (rows_at d net.views) (ready.agrees d ∙ ap (option_map (λ x. rows_of_table x.table.entries)) is)))
 
-module _ {Own : Type 0} (Tells : Type 0) (start : ℕ) (first old new : Seen Own) (net0 net now_net : NetState) where
-  ports_again : Tells → Conforming new → Since start first old net0 net → Ready old net → Undoes Tells start old new net now_net (Ok tt) → (d : ℕ) (o : Option SwitchState) → switch_of d (state first) ≡ o
-      → ports_in (switch_of d (state new)) ≡ ports_in o
-  ports_again told keeps since ready undoes d None is = ap ports_in (out-again Tells start first old new net0 net now_net told since ready undoes d is)
-  ports_again told keeps since ready undoes d (Some s) is =
-      let j = since.joined d s is in
-      ap ports_in (again Tells start first old new net0 net now_net told keeps since ready undoes d s is j)
-
-  pub calm_undone : Tells → Conforming new → Since start first old net0 net → Ready old net → Undoes Tells start old new net now_net (Ok tt) → net.ports ≡ net0.ports → Rests (state first) (state new) → Calm first net0 → Calm new now_net
-  calm_undone told keeps since ready undoes ports rests calm = record {
-    ready = undo-ready Tells start first old new net0 net now_net told keeps ready undoes;
-    sound = undo-sound Tells start first old new net0 net now_net told keeps since ready undoes calm.sound;
-    order = subst (ViewsAscend 0) (sym (undoes.views ∙ since.views)) calm.order;
-    ports = λ d. ap (known_ports d) (undoes.ports ∙ ports) ∙ calm.ports d ∙ sym (ports_again told keeps since ready undoes d (switch_of d (state first)) refl);
-    kept = undoes.none_kept told keeps refl (λ d viewed. stands_ready d old net ready viewed (switch_of d (state old)) refl) ∙ since.kept ∙ calm.kept;
-    moment = undoes.moment ∙ since.moment ∙ calm.moment ∙ sym rests.moment;
-    none_begun = rests.begun ∙ calm.none_begun;
-    none_due = rests.due ∙ calm.none_due;
-    held = undoes.held;
-  }
+-- Behind its undo all is calm.
+pub calm_undone : {Own : Type 0} (Tells : Type 0) (start : ℕ) (lost : List ℕ) (first old new : Seen Own) (net0 net now_net : NetState) → Tells → Conforming new → Goes start lost first old net0 net → (u : Undoes Tells start old new net now_net (Ok tt))
+    → TurnStays first old net → Sound (state first) → Rests (state old) (state new) → Calm new (none_left now_net)
+calm_undone Tells start lost first old new net0 net now_net told keeps goes u there sound rests =
+    let ready = undo-ready Tells start lost first old new net0 net now_net told keeps goes.since goes.ready u in
+    let undone : NetState = record (undone_net start net) { xid = next_free net.xid u.parts; kept = u.kept; room = now_net.room } in
+    let stays = lost-stays (lost_parts u.parts) undone in
+    let kept : now_net.kept ≡ [] = u.none_kept told keeps refl (λ d viewed. stands_ready d old net goes.ready viewed (switch_of d (state old)) refl) ∙ ap (filter (λ m. not (is_lost_in m.0 u.parts))) there.kept in
+    record {
+      ready = record { waits = ready.waits; agrees = ready.agrees; known = ready.known };
+      sound = undo-sound Tells start lost first old new net0 net now_net told keeps goes.since goes.ready u sound;
+      order = subst (ViewsAscend 0) (sym (ap (λ (n : NetState). n.views) u.net_so)) (stays.order (ascend_same 0 undone.views net.views (dpids_without (map key_logged (drop start net.log)) net.views) there.order));
+      kept = kept;
+      moment = ap (λ (n : NetState). n.moment) u.net_so ∙ stays.moment ∙ there.moment ∙ sym rests.moment;
+      none_begun = rests.begun ∙ there.begun;
+      none_due = rests.due ∙ there.due;
+      held = ap (λ (n : NetState). n.held) u.net_so ∙ stays.held;
+      left = refl;
+    }

@@ -15,19 +15,12 @@ use Rattle.lego_model.specs.Controller.{answer_frame, restore_frame}
 use Rattle.outside.specs.Seen.{Seen, Continues, journal}
 use Rattle.outside.specs.laws.SeenLaws.{journal-append, Continues-refl, Continues-trans}
 use Rattle.outside.specs.State.{State, state, event_number, marks_at_event, is_running, after_step, after_steps}
-use Rattle.outside.specs.laws.StateLaws.{state-append, Conforming-before}
-use Rattle.outside.specs.Conforming.{Conforming}
+use Rattle.outside.specs.laws.StateLaws.{state-append}
 use Rattle.net_txn.specs.Net.{NetState}
 use Rattle.app_visor.specs.Talks.{step_of, Told, give_act}
 use Rattle.app_visor.specs.Beats.{Beat, Talk, Asks, Chain, acts_in}
-use Rattle.app_visor.specs.laws.BeatLaws.{Chain-continues}
 use Rattle.app_visor.specs.Attempts.{IsTry, OneTry, AreTries}
 use Rattle.journal_laws.specs.Readings.{end_acts}
-use Rattle.switch_laws.specs.Sound.{Sound}
-use Rattle.switch_laws.specs.laws.SoundStepLaws.{exchange-sound}
-use Rattle.switch_laws.specs.Since.{Goes}
-use Rattle.switch_laws.specs.laws.SinceLaws.{goes-on}
-use Rattle.turn_laws.specs.laws.ChainLaws.{goes-same}
 use Rattle.lego_model.specs.Application.{index}
 use Rattle.lego_model.specs.History.{own_acts, given_in, stimuli_in}
 use Rattle.run_laws.specs.laws.FrameLaws.{answer_number, restore_number}
@@ -35,7 +28,6 @@ use Rattle.run_laws.specs.laws.LinkStepLaws.{link_steps, link_steps-tell, talk_s
 use Rattle.net_txn.specs.LinkSteps.{LinkSteps}
 use Rattle.run_laws.specs.LinkSteps.{OnlyLinks, OnlyTalk, NoEvents, Rests, TellsSame, TriesKeep}
 use Rattle.run_laws.specs.laws.CalmLaws.{Rests-refl, Rests-trans}
-use Rattle.batch_laws.specs.laws.InBatchLaws.{links_switch}
 
 -- ---- What steps of links leave
 
@@ -64,7 +56,7 @@ links_tell old new only =
 talk_rests : (s t : State) → OnlyTalk s t → Rests s t
 talk_rests s t only = record { begun = only.begun; due = only.due; moment = only.moment }
 
-told_state : {Own : Type 0} (Tells : Type 0) (act : Act) (old new : Seen Own) → Tells → Told Tells act old new → state new ≡ after_step (step_of act) (state old)
+pub told_state : {Own : Type 0} (Tells : Type 0) (act : Act) (old new : Seen Own) → Tells → Told Tells act old new → state new ≡ after_step (step_of act) (state old)
 told_state Tells act old new told t = state-append old new (step_of act ∷ []) t.continues.given (t.history told)
 
 pub chain_rests : {Own : Type 0} (Tells : Type 0) (app : ℕ) (trace : List (Beat Own)) (old new : Seen Own) (net now_net : NetState) → Tells → Chain Tells app trace old new net now_net → Rests (state old) (state new)
@@ -90,24 +82,6 @@ chain_marks Tells app (Asks x ∷ trace) old new net now_net told chain none =
     let is = chain.1.0 in
     let only = links_state x.before x.after is.changes.continues.given (is.changes.links told) in
     chain_marks Tells app trace x.after new x.now_net now_net told chain.1.1 none ∙ only.marks ∙ ap (λ (s : Seen _). (state s).marks) chain.0.0
-
--- what is sound stays so
-pub chain_sound : {Own : Type 0} (Tells : Type 0) (app start : ℕ) (first : Seen Own) (net0 : NetState) (trace : List (Beat Own)) (old new : Seen Own) (net now_net : NetState) → Tells → Conforming new → Chain Tells app trace old new net now_net
-    → Goes start first old net0 net → Sound (state old) → Sound (state new)
-chain_sound Tells app start first net0 [] old new net now_net told keeps chain goes sound = subst (λ (s : Seen _). Sound (state s)) (sym chain.0) sound
-chain_sound Tells app start first net0 (Talk act ∷ trace) old new net now_net told keeps chain goes sound =
-    let next = chain.1.0 in
-    let t = chain.1.1.0 in
-    let same : (state next).links ≡ (state old).links = ap (λ (s : State). s.links) (told_state Tells act old next told t) ∙ (talk_step app act (state old) chain.0).links in
-    chain_sound Tells app start first net0 trace next new net now_net told keeps chain.1.1.1 (goes-same start first old next net0 net t.continues.given same goes)
-    (record { entries = λ d x is. sound.entries d x (sym (links_switch d (state old) (state next) same) ∙ is) })
-chain_sound Tells app start first net0 (Asks x ∷ trace) old new net now_net told keeps chain goes sound =
-    let is = chain.1.0 in
-    let kept = Conforming-before told (Chain-continues Tells app trace x.after new x.now_net now_net chain.1.1) keeps in
-    let here = subst (λ (n : NetState). Goes start first x.before net0 n) (sym chain.0.1) (subst (λ (s : Seen _). Goes start first s net0 net) (sym chain.0.0) goes) in
-    let there = goes-on Tells x.dpid x.bytes start first x.before x.after net0 x.net x.now_net x.answer told kept is.changes is.in_step here in
-    let sound_there = exchange-sound Tells x.dpid x.bytes x.before x.after x.net x.now_net x.answer told kept is.changes is.in_step here.ready (subst (λ (s : Seen _). Sound (state s)) (sym chain.0.0) sound) in
-    chain_sound Tells app start first net0 trace x.after new x.now_net now_net told keeps chain.1.1 there sound_there
 
 -- ---- The event
 

@@ -9,27 +9,28 @@ use Rattle.lego_io.specs.laws.ToldLaws.{append_known-nil}
 use Rattle.lego_model.specs.Journal.{Reply, Start}
 use Rattle.lego_model.specs.Places.{Place}
 use Rattle.lego_model.specs.laws.ScriptedLaws.{fronts-parts, start_fronts-parts}
+use Rattle.lego_model.specs.Losses.{Losses}
 use Rattle.lego_model.specs.Controller.{App, Run, happen}
 use Rattle.outside.specs.Seen.{Given, Seen}
 use Rattle.outside.specs.Conforming.{Conforming}
 use Rattle.outside.specs.Quiescence.{NoneQuiescentSince}
-use Rattle.lego_model.specs.History.{starts_in, replies_in, own_acts, stimuli_in}
+use Rattle.lego_model.specs.History.{starts_in, replies_in, own_acts, stimuli_in, lost_of}
 use Rattle.switch_laws.specs.laws.OrderlyLaws.{orderly-none}
-use Rattle.run_laws.specs.Engine.{Engine, Stands}
+use Rattle.run_laws.specs.Engine.{Engine, Stands, ahead}
 use Rattle.lego_model.specs.Application.{index}
 use Rattle.lego_model.specs.ReferenceRun.{text_of, dispatch_next, times, rounds, AreSaid, fresh, before_start, all_started, RunsAlike}
 use Rattle.run_laws.specs.Moves.{AtRest, Moves, Moved, Rounds, OneHappens}
-use Rattle.run_laws.specs.laws.MoveLaws.{moved-none, moved-then, moved-as}
+use Rattle.run_laws.specs.laws.MoveLaws.{moved-so, moved-then-losses, moved-as-losses, moved-so-losses, ahead-then, moved-none, moved-then, moved-as}
 use Rattle.run_laws.specs.laws.DispatchWaitingLaws.{settle-times, times-more}
 use Rattle.run_laws.specs.LastReport.{last_text}
 use Rattle.run_laws.specs.laws.LastReportLaws.{report-ends, last-shown}
 use Rattle.run_laws.specs.laws.StimuliLaws.{none-happened}
 use Rattle.run_laws.specs.laws.WholeLaws.{no-own, no-stimuli, said-of, told-said}
-use Rattle.run_laws.specs.Whole.{whole, RanAs}
+use Rattle.run_laws.specs.Whole.{at_last, whole, RanAs}
 use Rattle.run_laws.specs.laws.FirstLaws.{stands-first}
 use Rattle.run_laws.specs.First.{IsOpened, engine_at_first}
 use Rattle.run_laws.specs.Endings.{WholeMoves, Leaves}
-use Rattle.run_laws.specs.laws.FinishLaws.{said-before, runs-alike, all-in-order}
+use Rattle.run_laws.specs.laws.FinishLaws.{said-before, runs-alike, ends-so, all-in-order}
 use Rattle.run_laws.specs.Cut.{GoneSoFar, RanTo}
 use Rattle.lego_model.specs.AllLines.{NoneAhead, AllDone, NoneBetween, CutBehindLines, CutInLines, CutForMemory}
 use Rattle.lego_model.specs.CutRun.{start_said, start_of, reference_so_far, reference_to, Progress, WroteSoFar, WasWriting, AlikeUpTo, CutBetweenLines}
@@ -51,15 +52,14 @@ gone-rounds allows number first second a b c e1 e2 e3 m rs = record {
 }
 
 -- one stimulus more is begun
-pub gone-happens : {Own : Type 0} (allows : List Place → Bool) (number : ℕ) (first second : List ℕ) (a b c d : Seen Own) (e1 e2 e3 e4 : Engine) → Moved [] all_started first a b e1 e2 → Rounds allows number second b c e2 e3 → OneHappens c d e3 e4
-    → GoneSoFar allows true 0 (first ++ second) a d e1 e4
-gone-happens allows number first second a b c d e1 e2 e3 e4 m rs one = record {
+pub gone-happens : {Own : Type 0} (allows : List Place → Bool) (number : ℕ) (first second noted : List ℕ) (a b c d : Seen Own) (e1 e2 e3 e4 : Engine) → Moved [] all_started first a b e1 e2 → Rounds allows number second b c e2 e3 → OneHappens noted c d e3 e4
+    → GoneSoFar allows true 0 ((first ++ second) ++ noted) a d e1 e4
+gone-happens allows number first second noted a b c d e1 e2 e3 e4 m rs one = record {
   stimuli = rs.stimuli;
   begun = one.stimulus ∷ [];
   begun_one = omega arith;
-  moved = subst (λ (text : List ℕ). Moved (rs.stimuli ++ one.stimulus ∷ []) (reference_so_far allows true rs.stimuli (one.stimulus ∷ []) 0) text a d e1 e4) (append-nil (first ++ second))
-      (moved-then rs.stimuli (one.stimulus ∷ []) (λ r. rounds allows rs.stimuli (all_started r)) (happen one.stimulus) (first ++ second) [] a c d e1 e3 e4
-      (moved-then [] rs.stimuli all_started (rounds allows rs.stimuli) first second a b c e1 e2 e3 m rs.moved) one.moved);
+  moved = moved-then rs.stimuli (one.stimulus ∷ []) (λ r. rounds allows rs.stimuli (all_started r)) (happen one.stimulus) (first ++ second) noted a c d e1 e3 e4
+      (moved-then [] rs.stimuli all_started (rounds allows rs.stimuli) first second a b c e1 e2 e3 m rs.moved) one.moved;
 }
 
 -- a part does nothing
@@ -91,9 +91,22 @@ pub gone-next : {Own : Type 0} (allows : List Place → Bool) (n : ℕ) (first s
 gone-next allows n first second a b c e1 e2 e3 g more =
     let f = reference_so_far allows true g.stimuli g.begun n in
     moved-as (g.stimuli ++ g.begun) (λ r. dispatch_next allows (f r)) (reference_so_far allows true g.stimuli g.begun (n + 1)) (first ++ second) a c e1 e3
-    (λ ss rs r s. sym (times-more n 1 (dispatch_next allows) (reference_so_far allows true g.stimuli g.begun 0 r)))
-    (subst (λ (xs : List WorldStim). Moved xs (λ r. dispatch_next allows (f r)) (first ++ second) a c e1 e3) (append-nil (g.stimuli ++ g.begun))
+    (λ ss rs l r s. sym (times-more n 1 (dispatch_next allows) (reference_so_far allows true g.stimuli g.begun 0 r)))
+    (moved-so ((g.stimuli ++ g.begun) ++ []) (g.stimuli ++ g.begun) (λ r. dispatch_next allows (f r)) (first ++ second) a c e1 e3 (append-nil (g.stimuli ++ g.begun))
     (moved-then (g.stimuli ++ g.begun) [] f (dispatch_next allows) first second a b c e1 e2 e3 g.moved more))
+
+-- the losses that are to come before it
+gone-next-losses : {Own : Type 0} (allows : List Place → Bool) (n : ℕ) (first second : List ℕ) (a b c : Seen Own) (e1 e2 e3 : Engine) (g : GoneSoFar allows true n first a b e1 e2) (more : Moved [] (dispatch_next allows) second b c e2 e3) (later : Losses)
+    → ahead (gone-next allows n first second a b c e1 e2 e3 g more).moves.batches (gone-next allows n first second a b c e1 e2 e3 g more).moves.turns later ≡ ahead (g.moved.moves.batches ++ more.moves.batches) (g.moved.moves.turns ++ more.moves.turns) later
+unfolding gone-next
+gone-next-losses allows n first second a b c e1 e2 e3 g more later =
+    let f = reference_so_far allows true g.stimuli g.begun n in
+    let xs = g.stimuli ++ g.begun in
+    let then = moved-then xs [] f (dispatch_next allows) first second a b c e1 e2 e3 g.moved more in
+    let so = moved-so (xs ++ []) xs (λ r. dispatch_next allows (f r)) (first ++ second) a c e1 e3 (append-nil xs) then in
+    moved-as-losses xs (λ r. dispatch_next allows (f r)) (reference_so_far allows true g.stimuli g.begun (n + 1)) (first ++ second) a c e1 e3 (λ ss rs l r s. sym (times-more n 1 (dispatch_next allows) (reference_so_far allows true g.stimuli g.begun 0 r))) so later
+    ∙ moved-so-losses (xs ++ []) xs (λ r. dispatch_next allows (f r)) (first ++ second) a c e1 e3 (append-nil xs) then later
+    ∙ moved-then-losses xs [] f (dispatch_next allows) first second a b c e1 e2 e3 g.moved more later
 
 -- up to the last batch, with the events behind it
 pub gone-whole : {Own : Type 0} (allows : List Place → Bool) (text : List ℕ) (a b : Seen Own) (e1 e2 : Engine) → WholeMoves allows text a b e1 e2 → GoneSoFar allows true 1000 text a b e1 e2
@@ -102,57 +115,68 @@ gone-whole allows text a b e1 e2 w = record {
   begun = [];
   begun_one = omega arith;
   moved = subst (λ (xs : List WorldStim). Moved xs (reference_so_far allows true w.stimuli [] 1000) text a b e1 e2) (sym (append-nil w.stimuli))
-      (moved-as w.stimuli (whole allows w.stimuli) (reference_so_far allows true w.stimuli [] 1000) text a b e1 e2 (λ ss rs r s. sym (settle-times allows (rounds allows w.stimuli (all_started r)))) w.moved);
+      (moved-as w.stimuli (whole allows w.stimuli) (reference_so_far allows true w.stimuli [] 1000) text a b e1 e2 (λ ss rs l r s. sym (settle-times allows (rounds allows w.stimuli (all_started r)))) w.moved);
 }
 
 -- ---- From a world that was just opened
 
-begun-same : {Own : Type 0} (first last : Seen Own) (starts : List Start) (replies : List Reply) → last.given ≡ first.given → before_start first.given.declared (fresh starts replies) ≡ start_said last starts replies
-begun-same {Own} first last starts replies given = ap (λ (g : Given Own). before_start g.declared (fresh starts replies)) (sym given)
+begun-same : {Own : Type 0} (losses : Losses) (first last : Seen Own) (starts : List Start) (replies : List Reply) → last.given ≡ first.given → before_start first.given.declared losses (fresh starts replies) ≡ start_said losses last starts replies
+begun-same {Own} losses first last starts replies given = ap (λ (g : Given Own). before_start g.declared losses (fresh starts replies)) (sym given)
 
-ran-so : {Own : Type 0} (f : Run → Run) (xs : List WorldStim) (text : List ℕ) (first last : Seen Own) (e : Engine) (starts : List Start) (replies : List Reply) → IsOpened first → Moves xs f text first last engine_at_first e → AreSaid last starts replies
-    → RanAs text last e (f (start_said last starts replies))
-ran-so f xs text first last e starts replies is m said =
+ran-so : {Own : Type 0} (f : Run → Run) (later : Losses) (xs : List WorldStim) (text : List ℕ) (first last : Seen Own) (e : Engine) (starts : List Start) (replies : List Reply) → IsOpened first → (m : Moves xs f text first last engine_at_first e) → AreSaid last starts replies
+    → RanAs later text last e (f (start_said (ahead m.batches m.turns later) last starts replies))
+ran-so f later xs text first last e starts replies is m said =
+    let losses = ahead m.batches m.turns later in
     let fronts = said-of first last starts m.starts replies m.replies is m.read_starts m.read_replies said in
-    let r0 : Run = before_start first.given.declared (fresh starts replies) in
-    let at_first : Stands first engine_at_first starts replies r0 = stands-first first starts replies is in
-    let same : r0 ≡ start_said last starts replies = begun-same first last starts replies m.given in
+    let r0 : Run = before_start first.given.declared losses (fresh starts replies) in
+    let at_first : Stands first engine_at_first starts replies losses r0 = stands-first first starts replies losses is in
+    let same : r0 ≡ start_said losses last starts replies = begun-same losses first last starts replies m.given in
     record {
       starts = drop (length m.starts) starts;
       replies = drop (length m.replies) replies;
-      stands = subst (λ (r : Run). Stands last e (drop (length m.starts) starts) (drop (length m.replies) replies) (f r)) same (m.stands starts replies r0 fronts.0 fronts.1 at_first);
-      text_so = subst (λ (r : Run). text_of (f r) ≡ text) same (m.says starts replies r0 fronts.0 fronts.1 at_first);
+      stands = subst (λ (r : Run). Stands last e (drop (length m.starts) starts) (drop (length m.replies) replies) later (f r)) same (m.stands starts replies later r0 fronts.0 fronts.1 at_first);
+      text_so = subst (λ (r : Run). text_of (f r) ≡ text) same (m.says starts replies later r0 fronts.0 fronts.1 at_first);
     }
 
-pub ran-to : {Own : Type 0} (f : Run → Run) (xs : List WorldStim) (text : List ℕ) (first last : Seen Own) (e : Engine) → IsOpened first → Moves xs f text first last engine_at_first e → RanTo f text last e
-ran-to f xs text first last e is m = record { as_said = λ starts replies said. ran-so f xs text first last e starts replies is m said }
+pub ran-to : {Own : Type 0} (f : Run → Run) (later : Losses) (xs : List WorldStim) (text : List ℕ) (first last : Seen Own) (e : Engine) → IsOpened first → (m : Moves xs f text first last engine_at_first e) → RanTo f (ahead m.batches m.turns later) later text last e
+ran-to f later xs text first last e is m = record { as_said = λ starts replies said. ran-so f later xs text first last e starts replies is m said }
 
 longer : {A : Type 0} (p q r x y : List A) → q ≡ p ++ x → r ≡ q ++ y → r ≡ p ++ (x ++ y)
 longer {A} p q r x y h k = k ∙ ap (λ (l : List A). l ++ y) h ∙ append_assoc p x y
 
 -- what was said before the last part
-pub ran-before : {Own : Type 0} (f g : Run → Run) (xs ys : List WorldStim) (text more : List ℕ) (first mid last : Seen Own) (e1 e2 : Engine) (starts : List Start) (replies : List Reply) → IsOpened first → Moves xs f text first mid engine_at_first e1 → Moves ys g more mid last e1 e2
-    → AreSaid last starts replies → text_of (f (start_said last starts replies)) ≡ text
-ran-before f g xs ys text more first mid last e1 e2 starts replies is m n said =
-    let r0 : Run = before_start first.given.declared (fresh starts replies) in
-    let same : r0 ≡ start_said last starts replies = begun-same first last starts replies (n.given ∙ m.given) in
+pub ran-before : {Own : Type 0} (f g : Run → Run) (later : Losses) (xs ys : List WorldStim) (text more : List ℕ) (first mid last : Seen Own) (e1 e2 : Engine) (starts : List Start) (replies : List Reply) → IsOpened first → (m : Moves xs f text first mid engine_at_first e1) → (n : Moves ys g more mid last e1 e2)
+    → AreSaid last starts replies → text_of (f (start_said (ahead (m.batches ++ n.batches) (m.turns ++ n.turns) later) last starts replies)) ≡ text
+ran-before f g later xs ys text more first mid last e1 e2 starts replies is m n said =
+    let behind = ahead n.batches n.turns later in
+    let losses = ahead m.batches m.turns behind in
+    let r0 : Run = before_start first.given.declared losses (fresh starts replies) in
+    let same : r0 ≡ start_said (ahead (m.batches ++ n.batches) (m.turns ++ n.turns) later) last starts replies =
+    begun-same losses first last starts replies (n.given ∙ m.given) ∙ ap (λ (l : Losses). start_said l last starts replies) (sym (ahead-then m.batches n.batches m.turns n.turns later)) in
     let fronts = said-of first last starts (m.starts ++ n.starts) replies (m.replies ++ n.replies) is
     (longer (starts_in (own_acts first)) (starts_in (own_acts mid)) (starts_in (own_acts last)) m.starts n.starts m.read_starts n.read_starts)
     (longer (replies_in (own_acts first)) (replies_in (own_acts mid)) (replies_in (own_acts last)) m.replies n.replies m.read_replies n.read_replies) said in
     let firsts = start_fronts-parts m.starts n.starts starts fronts.0 in
     let given = fronts-parts m.replies n.replies replies fronts.1 in
-    subst (λ (r : Run). text_of (f r) ≡ text) same (m.says starts replies r0 firsts.0 given.0 (stands-first first starts replies is))
+    subst (λ (r : Run). text_of (f r) ≡ text) same (m.says starts replies behind r0 firsts.0 given.0 (stands-first first starts replies losses is))
 
 -- ---- The point up to which all is alike
 
-leaves-nothing : {Own : Type 0} (seen : Seen Own) → Leaves seen seen
-leaves-nothing seen = record { given = refl; starts = refl; replies = refl; inputs = refl; stimuli = refl; released = refl; marks = refl; switches = λ d. refl; at_once = λ said. said; orderly = orderly-none index seen }
+leaves-nothing : {Own : Type 0} (seen : Seen Own) → Leaves [] seen seen
+leaves-nothing seen = record { given = refl; starts = refl; replies = refl; inputs = refl; stimuli = refl; released = refl; lost_so = sym (append-nil (lost_of seen)); marks = refl; switches = λ d. refl; at_once = λ said. said; orderly = orderly-none index seen }
 
 stimuli-so : {Own : Type 0} (first last : Seen Own) (xs : List WorldStim) → IsOpened first → stimuli_in last ≡ stimuli_in first ++ xs → stimuli_in last ≡ xs
 stimuli-so first last xs is read = read ∙ ap (λ (ys : List WorldStim). ys ++ xs) (no-stimuli first is)
 
-runs-so : {Own : Type 0} {text : List ℕ} (last : Seen Own) (e : Engine) (r : Run) → Conforming last → RanAs text last e r → RunsAlike last r
-runs-so last e r keeps so = runs-alike last last e so.starts so.replies r keeps (leaves-nothing last) so.stands
+runs-so : {Own : Type 0} {later : Losses} {text : List ℕ} (last : Seen Own) (e : Engine) (r : Run) → Conforming last → RanAs later text last e r → RunsAlike last r
+runs-so {later = later} last e r keeps so = runs-alike last last e so.starts so.replies later r keeps (leaves-nothing last) so.stands
+
+-- the losses of these parts, and none behind them
+abbrev none_later : Losses
+none_later = at_last []
+
+abbrev losses_of : {Own : Type 0} {xs : List WorldStim} {f : Run → Run} {text : List ℕ} {first last : Seen Own} {e0 e : Engine} → Moved xs f text first last e0 e → Losses
+losses_of m = ahead m.moves.batches m.moves.turns none_later
 
 abbrev far-of : {Own : Type 0} {allows : List Place → Bool} {started : Bool} {n : ℕ} {text : List ℕ} {first last : Seen Own} {e : Engine} → IsOpened first → GoneSoFar allows started n text first last engine_at_first e → n ≤ 1000 → Progress last
 far-of {started = started} {n = n} {first = first} {last = last} is g few = record {
@@ -163,11 +187,12 @@ far-of {started = started} {n = n} {first = first} {last = last} is g few = reco
   begun_one = g.begun_one;
   at_most = few;
   stimuli_so = stimuli-so first last (g.stimuli ++ g.begun) is g.moved.moves.read_stimuli;
+  losses = losses_of g.moved;
 }
 
 -- what holds over all that is said holds over what is told
 abbrev up-to : {Own : Type 0} {xs : List WorldStim} {f : Run → Run} {text : List ℕ} {first last : Seen Own} {e0 e : Engine} (Claim : Progress last → Run → Type 0) (far : Progress last) → Moved xs f text first last e0 e
-    → ((starts : List Start) (replies : List Reply) → AreSaid last starts replies → Claim far (start_said last starts replies)) → AlikeUpTo last Claim
+    → ((starts : List Start) (replies : List Reply) → AreSaid last starts replies → Claim far (start_said far.losses last starts replies)) → AlikeUpTo last Claim
 up-to {last = last} Claim far m so = record {
   far = far;
   as_told = so (starts_in (own_acts last)) (replies_in (own_acts last)) (told-said last);
@@ -182,11 +207,11 @@ abbrev run-up-to : {Own : Type 0} (allows : List Place → Bool) (started : Bool
     → Conforming last → now_contents ≡ append_known contents text → CutBetweenLines allows last contents now_contents
 run-up-to allows started n text contents now_contents first last e is g few keeps written =
     let f = reference_so_far allows started g.stimuli g.begun n in
-    let ran = ran-to f (g.stimuli ++ g.begun) text first last e is g.moved.moves in
+    let ran = ran-to f none_later (g.stimuli ++ g.begun) text first last e is g.moved.moves in
     up-to (WroteSoFar allows last contents now_contents) (far-of is g few) g.moved (λ starts replies said.
     let so = ran.as_said starts replies said in
     record {
-      alike = runs-so last e (f (start_said last starts replies)) keeps so;
+      alike = runs-so last e (f (start_said (losses_of g.moved) last starts replies)) keeps so;
       written = written ∙ ap (append_known contents) (sym so.text_so);
     })
 
@@ -204,29 +229,31 @@ used-up : {X : Type 0} (told before more : List X) → told ≡ before ++ more �
 used-up told before more is none = ap (drop (length more)) (is ∙ ap (λ (xs : List _). xs ++ more) none) ∙ nothing-behind more
 
 -- how the reference controller stands over what is told
-stands-told : {Own : Type 0} (f : Run → Run) (xs : List WorldStim) (text : List ℕ) (first last : Seen Own) (e : Engine) → IsOpened first → Moves xs f text first last engine_at_first e → Stands last e [] [] (f (start_of last))
-stands-told f xs text first last e is m =
+stands-told : {Own : Type 0} (f : Run → Run) (later : Losses) (xs : List WorldStim) (text : List ℕ) (first last : Seen Own) (e : Engine) → IsOpened first → (m : Moves xs f text first last engine_at_first e)
+    → Stands last e [] [] later (f (start_of (ahead m.batches m.turns later) last))
+stands-told f later xs text first last e is m =
+    let losses = ahead m.batches m.turns later in
     let starts = starts_in (own_acts last) in
     let replies = replies_in (own_acts last) in
     let fronts = said-of first last starts m.starts replies m.replies is m.read_starts m.read_replies (told-said last) in
-    let r0 : Run = before_start first.given.declared (fresh starts replies) in
-    subst (λ (r : Run). Stands last e [] [] (f r)) (begun-same first last starts replies m.given)
-    (subst (λ (said : List Start). Stands last e said [] (f r0)) (used-up starts (starts_in (own_acts first)) m.starts m.read_starts (ap starts_in (no-own first is)))
-    (subst (λ (said : List Reply). Stands last e (drop (length m.starts) starts) said (f r0)) (used-up replies (replies_in (own_acts first)) m.replies m.read_replies (ap replies_in (no-own first is)))
-    (m.stands starts replies r0 fronts.0 fronts.1 (stands-first first starts replies is))))
+    let r0 : Run = before_start first.given.declared losses (fresh starts replies) in
+    subst (λ (r : Run). Stands last e [] [] later (f r)) (begun-same losses first last starts replies m.given)
+    (subst (λ (said : List Start). Stands last e said [] later (f r0)) (used-up starts (starts_in (own_acts first)) m.starts m.read_starts (ap starts_in (no-own first is)))
+    (subst (λ (said : List Reply). Stands last e (drop (length m.starts) starts) said later (f r0)) (used-up replies (replies_in (own_acts first)) m.replies m.read_replies (ap replies_in (no-own first is)))
+    (m.stands starts replies later r0 fronts.0 fronts.1 (stands-first first starts replies losses is))))
 
 -- all that is told was done
-none-ahead : {Own : Type 0} (last : Seen Own) (e : Engine) (r : Run) → Stands last e [] [] r → NoneAhead r
+none-ahead : {Own : Type 0} {later : Losses} (last : Seen Own) (e : Engine) (r : Run) → Stands last e [] [] later r → NoneAhead r
 none-ahead last e r stands = subst (λ (apps : List App). AllByRecursion (λ a. (a.starts ≡ []) × (a.replies ≡ [])) apps) (sym stands.apps) ((refl, refl), tt)
 
 module _ {Own : Type 0} (allows : List Place → Bool) where
   all-done : {n : ℕ} {text : List ℕ} {first last : Seen Own} {e : Engine} (is : IsOpened first) (g : GoneSoFar allows true n text first last engine_at_first e) (few : n ≤ 1000) → AllDone allows (far-of is g few)
   all-done {n = n} {text = text} {first = first} {last = last} {e = e} is g few =
       let f = reference_so_far allows true g.stimuli g.begun n in
-      record { started = refl; none_ahead = none-ahead last e (f (start_of last)) (stands-told f (g.stimuli ++ g.begun) text first last e is g.moved.moves) }
+      record { started = refl; none_ahead = none-ahead last e (f (start_of (losses_of g.moved) last)) (stands-told f none_later (g.stimuli ++ g.begun) text first last e is g.moved.moves) }
 
   -- nothing was done since the last stimulus was settled; or no event is left; or the application is alive
-  none-between : {last : Seen Own} (far : Progress last) (e : Engine) → Stands last e [] [] (reference_to allows far (start_of last)) → ((far.begun ≡ []) × (far.number ≡ 0)) ⊎ (e.queue ≡ []) ⊎ (e.alive ≡ true) → NoneBetween allows far
+  none-between : {last : Seen Own} {later : Losses} (far : Progress last) (e : Engine) → Stands last e [] [] later (reference_to allows far (start_of far.losses last)) → ((far.begun ≡ []) × (far.number ≡ 0)) ⊎ (e.queue ≡ []) ⊎ (e.alive ≡ true) → NoneBetween allows far
   none-between far e stands (inl settled) = inl (record { none_begun = settled.0; none_dispatched = settled.1 })
   none-between far e stands (inr (inl none)) = inr (inl (stands.queue ∙ none))
   none-between far e stands (inr (inr alive)) = inr (inr (ap (λ (apps : List App). list_any (λ a. a.alive) apps) stands.apps ∙ ap (λ (b : Bool). b || false) alive))
@@ -238,7 +265,7 @@ module _ {Own : Type 0} (allows : List Place → Bool) where
       record {
         run = run-up-to allows true n text contents now_contents first last e is g few keeps written;
         done = all-done is g few;
-        none_between = none-between (far-of is g few) e (stands-told f (g.stimuli ++ g.begun) text first last e is g.moved.moves) next;
+        none_between = none-between (far-of is g few) e (stands-told f none_later (g.stimuli ++ g.begun) text first last e is g.moved.moves) next;
       }
 
   -- behind whole rounds
@@ -269,8 +296,8 @@ pub start-so : {Own : Type 0} (allows : List Place → Bool) (more : List ℕ) (
     → CutInLines allows last contents now_contents
 start-so allows more contents now_contents first last e is m keeps part =
     let none = stimuli-so first last [] is m.moves.read_stimuli in
-    let far : Progress last = record { started = true; stimuli = []; begun = []; number = 0; begun_one = omega arith; at_most = omega arith; stimuli_so = none } in
-    let ran = ran-to all_started [] more first last e is m.moves in
+    let far : Progress last = record { started = true; stimuli = []; begun = []; number = 0; begun_one = omega arith; at_most = omega arith; stimuli_so = none; losses = losses_of m } in
+    let ran = ran-to all_started none_later [] more first last e is m.moves in
     record {
       run = record {
         text = [];
@@ -278,12 +305,61 @@ start-so allows more contents now_contents first last e is m keeps part =
         up_to = up-to (WasWriting allows last [] more) far m (λ starts replies said.
             let so = ran.as_said starts replies said in
             record {
-              alike = runs-so last e (all_started (start_said last starts replies)) keeps so;
-              lines = inl (record { is_started = refl; none_happened = none; none_dispatched = refl; text_so = refl; more_so = so.text_so });
+              lines = inl (record {
+                alike = runs-so last e (all_started (start_said (losses_of m) last starts replies)) keeps so;
+                is_started = refl;
+                none_happened = none;
+                none_dispatched = refl;
+                text_so = refl;
+                more_so = so.text_so;
+              });
             });
         part = subst (λ (held : Option (List ℕ)). TookPart held now_contents more) (sym (append_known-nil contents)) part;
       };
-      done = record { started = refl; none_ahead = none-ahead last e (all_started (start_of last)) (stands-told all_started [] more first last e is m.moves) };
+      done = record { started = refl; none_ahead = none-ahead last e (all_started (start_of (losses_of m) last)) (stands-told all_started none_later [] more first last e is m.moves) };
+    }
+
+-- at that of a switch that was lost
+pub loss-so : {Own : Type 0} (allows : List Place → Bool) (text more : List ℕ) (contents now_contents : Option (List ℕ)) (first mid last : Seen Own) (e1 e2 : Engine) → IsOpened first → (g : GoneSoFar allows true 0 text first mid engine_at_first e1) → g.begun ≡ []
+    → OneHappens more mid last e1 e2 → Conforming last → TookPart (append_known contents text) now_contents more → CutInLines allows last contents now_contents
+loss-so allows text more contents now_contents first mid last e1 e2 is g none one keeps part =
+    let x = one.stimulus in
+    let before = reference_so_far allows true g.stimuli [] 0 in
+    let first_part : Moved g.stimuli before text first mid engine_at_first e1 =
+    subst (λ (xs : List WorldStim). Moved xs before text first mid engine_at_first e1) (append-nil g.stimuli)
+    (subst (λ (b : List WorldStim). Moved (g.stimuli ++ b) (reference_so_far allows true g.stimuli b 0) text first mid engine_at_first e1) none g.moved) in
+    let next = moved-then g.stimuli (x ∷ []) before (happen x) text more first mid last engine_at_first e1 e2 first_part one.moved in
+    let f = reference_so_far allows true g.stimuli (x ∷ []) 0 in
+    let far : Progress last = record {
+      started = true;
+      stimuli = g.stimuli;
+      begun = x ∷ [];
+      number = 0;
+      begun_one = omega arith;
+      at_most = omega arith;
+      stimuli_so = stimuli-so first last (g.stimuli ++ x ∷ []) is next.moves.read_stimuli;
+      losses = losses_of next;
+    } in
+    let ran = ran-to f none_later (g.stimuli ++ x ∷ []) (text ++ more) first last e2 is next.moves in
+    record {
+      run = record {
+        text = text;
+        more = more;
+        up_to = up-to (WasWriting allows last text more) far next (λ starts replies said.
+            let so = ran.as_said starts replies said in
+            record {
+              lines = inr (inl (record {
+                alike = runs-so last e2 (f (start_said (losses_of next) last starts replies)) keeps so;
+                is_begun = refl;
+                none_dispatched = refl;
+                text_so = ap (λ (l : Losses). text_of (before (start_said l last starts replies))) (moved-then-losses g.stimuli (x ∷ []) before (happen x) text more first mid last engine_at_first e1 e2 first_part one.moved none_later)
+                    ∙ ran-before before (happen x) none_later g.stimuli (x ∷ []) text more first mid last e1 e2 starts replies is first_part.moves one.moved.moves said;
+                more_so = so.text_so;
+              }));
+            });
+        part = part;
+      };
+      done = record { started = refl; none_ahead = none-ahead last e2 (f (start_of (losses_of next) last)) (stands-told f none_later (g.stimuli ++ x ∷ []) (text ++ more) first last e2 is next.moves) };
     }
 
 -- at those of an event
@@ -300,8 +376,9 @@ event-so allows n text more contents now_contents first mid last e1 e2 is g m fe
       begun_one = g.begun_one;
       at_most = omega (arith, few);
       stimuli_so = stimuli-so first last (g.stimuli ++ g.begun) is next.moves.read_stimuli;
+      losses = losses_of next;
     } in
-    let ran = ran-to f (g.stimuli ++ g.begun) (text ++ more) first last e2 is next.moves in
+    let ran = ran-to f none_later (g.stimuli ++ g.begun) (text ++ more) first last e2 is next.moves in
     record {
       run = record {
         text = text;
@@ -309,31 +386,34 @@ event-so allows n text more contents now_contents first mid last e1 e2 is g m fe
         up_to = up-to (WasWriting allows last text more) far next (λ starts replies said.
             let so = ran.as_said starts replies said in
             record {
-              alike = runs-so last e2 (f (start_said last starts replies)) keeps so;
-              lines = inr (inl (record {
+              lines = inr (inr (inl (record {
+                alike = runs-so last e2 (f (start_said (losses_of next) last starts replies)) keeps so;
                 before = n;
                 one_more = refl;
-                text_so = ran-before (reference_so_far allows true g.stimuli g.begun n) (dispatch_next allows) (g.stimuli ++ g.begun) [] text more first mid last e1 e2 starts replies is g.moved.moves m.moves said;
+                text_so = ap (λ (l : Losses). text_of (reference_so_far allows true g.stimuli g.begun n (start_said l last starts replies))) (gone-next-losses allows n text more first mid last engine_at_first e1 e2 g m none_later)
+                    ∙ ran-before (reference_so_far allows true g.stimuli g.begun n) (dispatch_next allows) none_later (g.stimuli ++ g.begun) [] text more first mid last e1 e2 starts replies is g.moved.moves m.moves said;
                 more_so = so.text_so;
-              }));
+              })));
             });
         part = part;
       };
-      done = record { started = refl; none_ahead = none-ahead last e2 (f (start_of last)) (stands-told f (g.stimuli ++ g.begun) (text ++ more) first last e2 is next.moves) };
+      done = record { started = refl; none_ahead = none-ahead last e2 (f (start_of (losses_of next) last)) (stands-told f none_later (g.stimuli ++ g.begun) (text ++ more) first last e2 is next.moves) };
     }
 
 -- the end leaves what is told
-start-left : {Own : Type 0} (last stop : Seen Own) → Leaves last stop → start_of last ≡ start_of stop
-start-left {Own} last stop leaves =
-    ap (λ (g : Given Own). before_start g.declared (fresh (starts_in (own_acts last)) (replies_in (own_acts last)))) (sym leaves.given)
-    ∙ ap₂ (λ (starts : List Start) (replies : List Reply). start_said stop starts replies) (sym leaves.starts) (sym leaves.replies)
+start-left : {Own : Type 0} (losses : Losses) (lost : List ℕ) (last stop : Seen Own) → Leaves lost last stop → start_of losses last ≡ start_of losses stop
+start-left {Own} losses lost last stop leaves =
+    ap (λ (g : Given Own). before_start g.declared losses (fresh (starts_in (own_acts last)) (replies_in (own_acts last)))) (sym leaves.given)
+    ∙ ap₂ (λ (starts : List Start) (replies : List Reply). start_said losses stop starts replies) (sym leaves.starts) (sym leaves.replies)
 
 -- at those of the end, before which switches were asked
-pub end-so : {Own : Type 0} (allows : List Place → Bool) (text more : List ℕ) (contents now_contents : Option (List ℕ)) (first last stop : Seen Own) (e : Engine) → IsOpened first → GoneSoFar allows true 1000 text first last engine_at_first e → e.queue ≡ []
-    → more ≡ last_text last e → Leaves last stop → Conforming stop → TookPart (append_known contents text) now_contents more → CutInLines allows stop contents now_contents
-end-so {Own} allows text more contents now_contents first last stop e is g none ends leaves keeps part =
+pub end-so : {Own : Type 0} (allows : List Place → Bool) (lost : List ℕ) (text more : List ℕ) (contents now_contents : Option (List ℕ)) (first last stop : Seen Own) (e : Engine) → IsOpened first → GoneSoFar allows true 1000 text first last engine_at_first e → e.queue ≡ []
+    → more ≡ last_text lost last e → Leaves lost last stop → Conforming stop → TookPart (append_known contents text) now_contents more → CutInLines allows stop contents now_contents
+end-so {Own} allows lost text more contents now_contents first last stop e is g none ends leaves keeps part =
     let f = reference_so_far allows true g.stimuli g.begun 1000 in
-    let ran = ran-to f (g.stimuli ++ g.begun) text first last e is g.moved.moves in
+    let m = g.moved.moves in
+    let losses = ahead m.batches m.turns (at_last lost) in
+    let ran = ran-to f (at_last lost) (g.stimuli ++ g.begun) text first last e is m in
     let far : Progress stop = record {
       started = true;
       stimuli = g.stimuli;
@@ -341,18 +421,19 @@ end-so {Own} allows text more contents now_contents first last stop e is g none 
       number = 1000;
       begun_one = g.begun_one;
       at_most = omega arith;
-      stimuli_so = leaves.stimuli ∙ stimuli-so first last (g.stimuli ++ g.begun) is g.moved.moves.read_stimuli;
+      stimuli_so = leaves.stimuli ∙ stimuli-so first last (g.stimuli ++ g.begun) is m.read_stimuli;
+      losses = losses;
     } in
-    let so : (starts : List Start) (replies : List Reply) → AreSaid stop starts replies → WasWriting allows stop text more far (start_said stop starts replies) = λ starts replies said.
-    let were = ran.as_said starts replies (said-before last stop starts replies leaves said) in
-    let r = f (start_said last starts replies) in
-    subst (λ (s : Run). WasWriting allows stop text more far s) (sym (ap (λ (g : Given Own). before_start g.declared (fresh starts replies)) leaves.given)) (record {
-      alike = runs-alike last stop e were.starts were.replies r keeps leaves were.stands;
-      lines = inr (inr (record {
+    let so : (starts : List Start) (replies : List Reply) → AreSaid stop starts replies → WasWriting allows stop text more far (start_said losses stop starts replies) = λ starts replies said.
+    let were = ran.as_said starts replies (said-before lost last stop starts replies leaves said) in
+    let r = f (start_said losses last starts replies) in
+    subst (λ (s : Run). WasWriting allows stop text more far s) (sym (ap (λ (g : Given Own). before_start g.declared losses (fresh starts replies)) leaves.given)) (record {
+      lines = inr (inr (inr (record {
+        alike = ends-so lost last stop e were.starts were.replies r keeps leaves were.stands;
         none_left = were.stands.queue ∙ none;
         text_so = were.text_so;
-        more_so = report-ends r ∙ ap₂ (λ (a b : List ℕ). a ++ b) were.text_so (last-shown last e were.starts were.replies r were.stands ∙ sym ends);
-      }));
+        more_so = report-ends r ∙ ap₂ (λ (a b : List ℕ). a ++ b) were.text_so (last-shown lost last e were.starts were.replies r were.stands ∙ sym ends);
+      })));
     }) in
     record {
       run = record {
@@ -363,12 +444,12 @@ end-so {Own} allows text more contents now_contents first last stop e is g none 
           as_told = so (starts_in (own_acts stop)) (replies_in (own_acts stop)) (told-said stop);
           as_said = so;
           at_once = leaves.at_once g.moved.settled.speaks.at_once;
-          in_order = all-in-order last stop g.moved.settled leaves;
+          in_order = all-in-order lost last stop g.moved.settled leaves;
         };
         part = part;
       };
       done = record {
         started = refl;
-        none_ahead = subst (λ (r : Run). NoneAhead (f r)) (start-left last stop leaves) (none-ahead last e (f (start_of last)) (stands-told f (g.stimuli ++ g.begun) text first last e is g.moved.moves));
+        none_ahead = subst (λ (r : Run). NoneAhead (f r)) (start-left losses lost last stop leaves) (none-ahead last e (f (start_of losses last)) (stands-told f (at_last lost) (g.stimuli ++ g.begun) text first last e is m));
       };
     }

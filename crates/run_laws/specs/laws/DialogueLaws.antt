@@ -23,7 +23,7 @@ use Rattle.app_visor.specs.Attempts.{ready_rest}
 use Rattle.app_visor.specs.laws.TryLaws.{tries_speak}
 use Rattle.run_laws.specs.Engine.{Engine}
 use Rattle.lego_model.specs.Application.{index}
-use Rattle.run_laws.specs.Facts.{StartsAgain, IsClosed, TakesTurn, IsTurn}
+use Rattle.run_laws.specs.Facts.{StartsAgain, all_told, IsClosed, TakesTurn, IsTurn}
 use Rattle.run_laws.specs.laws.LinkStepLaws.{link_steps-tell}
 use Rattle.run_laws.specs.Moves.{Conversing}
 
@@ -90,7 +90,7 @@ closed_converses Tells (ends.Failed cause) checkpoint unread text start old mid 
     let undone = closed.undone in
     let only = closed.undoes.links told in
     let there = others_at_once mid undone only.steps only.history (link_steps-tell index only.steps only.all).acts (at_once_then says.after old mid a says.converses) in
-    starts_converse Tells closed.later_text undone new (record e { net = closed.undone_net; rest = []; failed = e.failed + 1 }) now_e told there closed.starts
+    starts_converse Tells closed.later_text undone new (all_told closed.undone_net e.queue (record e { rest = []; failed = e.failed + 1 })) now_e told there closed.starts
 
 turn_converses : {Own : Type 0} (Tells : Type 0) (accepts : List TableView → Bool) (event : Event) (text : List ℕ) (old new : Seen Own) (e now_e : Engine) → Tells → e.alive ≡ true → Conversing old e → TakesTurn Tells accepts event text old new e now_e
     → Conversing new now_e

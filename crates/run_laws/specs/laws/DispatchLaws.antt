@@ -5,9 +5,10 @@ use Rattle.flow_table.specs.View.{TableView}
 use Rattle.app_frames.specs.declared.frame.Event.{Event}
 use Rattle.lego_model.specs.Journal.{Reply, Start}
 use Rattle.lego_model.specs.Places.{Place}
+use Rattle.lego_model.specs.Losses.{TurnLosses, Losses, next_turn, turn_fewer}
 use Rattle.lego_model.specs.Packets.{Held}
 use Rattle.lego_model.specs.Scripted.{IsFront, AreFronts, AreStartFronts}
-use Rattle.lego_model.specs.Controller.{Dispatched, Ended, Run, Turned, next_dispatched, dispatch_next, out_lines, restart_lines, turn, marked, dispatch}
+use Rattle.lego_model.specs.Controller.{Line, Dispatched, Ended, Run, Turned, next_dispatched, dispatch_next, out_lines, lost_lines, leavers, restart_lines, turn, marked, dispatch}
 use Rattle.lego_model.specs.Agreement.{AgreeMarks}
 use Rattle.lego_model.specs.RunReport.{event_line}
 use Rattle.outside.specs.Seen.{Given, Seen, Continues}
@@ -26,9 +27,11 @@ use Rattle.app_visor.specs.Turns.{handed}
 use Rattle.app_visor.specs.declared.state.TurnEnd.TheVariants as ends
 use Rattle.switch_laws.specs.Shown.{shown_places}
 use Rattle.switch_laws.specs.laws.StandLaws.{state-links}
+use Rattle.batch_laws.specs.Calm.{Calm}
+use Rattle.batch_laws.specs.Knowledge.{left_events}
 use Rattle.journal_laws.specs.Readings.{LastStands}
 use Rattle.lego_model.specs.History.{starts_in, replies_in, own_acts, given_in, stimuli_in, points_in}
-use Rattle.run_laws.specs.Engine.{Engine, app_at, Stands, with_number}
+use Rattle.run_laws.specs.Engine.{Engine, app_at, Stands, ahead, with_number}
 use Rattle.lego_model.specs.ReferenceRun.{text_of}
 use Rattle.run_laws.specs.Facts.{IsClosed, IsTurn, Dispatches}
 use Rattle.run_laws.specs.Moves.{Moves}
@@ -43,26 +46,28 @@ use Rattle.run_laws.specs.EventMoves.{Joins, TurnAlike, TurnMoves}
 
 -- ---- The application is alive
 
-abbrev turned_of : {Own : Type 0} {allows : List Place → Bool} {event : Event} {text : List ℕ} {old new : Seen Own} {e now_e : Engine} {starts : List Start} {reply : Reply} → TurnAlike allows event text old new e now_e starts reply → List Start → List Reply → Turned
+abbrev turned_of : {Own : Type 0} {allows : List Place → Bool} {event : Event} {text : List ℕ} {old new : Seen Own} {e now_e : Engine} {starts : List Start} {reply : Reply} {losses : TurnLosses} → TurnAlike allows event text old new e now_e starts reply losses → List Start → List Reply → Turned
 turned_of {old = old} {new = new} {now_e = now_e} alike later_starts later_replies = record {
-  release = record { places = shown_places old.given.declared now_e.net.views (state new); events = alike.joining; packets = alike.packets };
+  release = alike.release;
+  left = alike.left;
   app = (app_at now_e (given_in new) later_starts later_replies, alike.tries);
   outcome = alike.outcome;
   given = alike.given;
 }
 
-module _ {Own : Type 0} (allows : List Place → Bool) (event : Event) (text : List ℕ) (old new : Seen Own) (e now_e : Engine) (starts : List Start) (reply : Reply) where
-  dispatched_so : e.alive ≡ true → (alike : TurnAlike allows event text old new (with_number e) now_e starts reply) → (said_starts : List Start) (said : Reply) (later_replies : List Reply) (r : Run) → AreStartFronts starts said_starts → IsFront reply said → Stands old e said_starts (said ∷ later_replies) r
+module _ {Own : Type 0} (allows : List Place → Bool) (event : Event) (text : List ℕ) (old new : Seen Own) (e now_e : Engine) (starts : List Start) (reply : Reply) (losses : TurnLosses) where
+  dispatched_so : e.alive ≡ true → (alike : TurnAlike allows event text old new (with_number e) now_e starts reply losses) → (said_starts : List Start) (said : Reply) (later_replies : List Reply) (later : Losses) (r : Run) → AreStartFronts starts said_starts → IsFront reply said → Stands old e said_starts (said ∷ later_replies) (ahead [] (losses ∷ []) later) r
       → dispatch allows event r ≡ after_turn (turned_of alike (drop (length starts) said_starts) later_replies) (numbered event r)
-  dispatched_so alive alike said_starts said later_replies r starts_so front s =
+  dispatched_so alive alike said_starts said later_replies later r starts_so front s =
       let a = app_at e (given_in old) said_starts (said ∷ later_replies) in
       dispatch_alive allows event a r (turned_of alike (drop (length starts) said_starts) later_replies) s.apps alive
-      (ap (λ (n : ℕ). turn allows (n + 1) r.moment event r.places a) s.events
-      ∙ ap (λ (m : ℕ). turn allows (e.events + 1) m event r.places a) (s.moment ∙ sym s.calm.moment)
-      ∙ ap (λ (ps : List Place). turn allows (e.events + 1) e.net.moment event ps a) s.places
+      (ap (λ (l : Losses). turn allows (r.events + 1) r.moment event (next_turn l.turns) r.places a) s.losses_so
+      ∙ ap (λ (n : ℕ). turn allows (n + 1) r.moment event losses r.places a) s.events
+      ∙ ap (λ (m : ℕ). turn allows (e.events + 1) m event losses r.places a) (s.moment ∙ sym s.calm.moment)
+      ∙ ap (λ (ps : List Place). turn allows (e.events + 1) e.net.moment event losses ps a) s.places
       ∙ alike.turned said_starts said later_replies starts_so front)
 
-  marks_so : Conforming old → (alike : TurnAlike allows event text old new (with_number e) now_e starts reply) → (r : Run) → r.events ≡ e.events → r.places ≡ shown_places old.given.declared e.net.views (state old) → AgreeMarks (points_in old) r.marks
+  marks_so : Conforming old → (alike : TurnAlike allows event text old new (with_number e) now_e starts reply losses) → (r : Run) → r.events ≡ e.events → r.places ≡ shown_places old.given.declared e.net.views (state old) → AgreeMarks (points_in old) r.marks
       → AgreeMarks (points_in new) (marked alike.given (r.events + 1) r.places r.marks)
   marks_so keeps alike r events places marks =
       subst (λ (ms : List Mark). AgreeMarks ms (marked alike.given (r.events + 1) r.places r.marks)) (sym alike.marks)
@@ -70,30 +75,37 @@ module _ {Own : Type 0} (allows : List Place → Bool) (event : Event) (text : L
       (subst (λ (ps : List Place). AgreeMarks ((if alike.given then marks_at_event (Some (e.events + 1)) (state old) else (state old).marks)) (marked alike.given (e.events + 1) ps r.marks)) (sym places)
       (marks_at_events alike.given (e.events + 1) old.given.declared e.net.views (state old) r.marks (state-links old).declared_so keeps.declared marks)))
 
-  stands_alive : Conforming old → e.alive ≡ true → new.given ≡ old.given → (now_e.alive ≡ true → LastStands (own_acts new)) → (alike : TurnAlike allows event text old new (with_number e) now_e starts reply)
-      → (said_starts : List Start) (said_replies : List Reply) (r : Run) → AreStartFronts starts said_starts → AreFronts (reply ∷ []) said_replies → Stands old e said_starts said_replies r → Stands new now_e (drop (length starts) said_starts) (drop 1 said_replies) (dispatch allows event r)
-  stands_alive keeps alive given life alike said_starts [] r starts_so fronts s = absurd fronts
-  stands_alive keeps alive given life alike said_starts (said ∷ later_replies) r starts_so fronts s =
-      subst (λ (x : Run). Stands new now_e (drop (length starts) said_starts) later_replies x) (sym (dispatched_so alive alike said_starts said later_replies r starts_so fronts.0 s)) (record {
+  stands_alive : Conforming old → e.alive ≡ true → new.given ≡ old.given → (now_e.alive ≡ true → LastStands (own_acts new)) → (alike : TurnAlike allows event text old new (with_number e) now_e starts reply losses)
+      → (said_starts : List Start) (said_replies : List Reply) (later : Losses) (r : Run) → AreStartFronts starts said_starts → AreFronts (reply ∷ []) said_replies → Stands old e said_starts said_replies (ahead [] (losses ∷ []) later) r
+      → Stands new now_e (drop (length starts) said_starts) (drop 1 said_replies) later (dispatch allows event r)
+  stands_alive keeps alive given life alike said_starts [] later r starts_so fronts s = absurd fronts
+  stands_alive keeps alive given life alike said_starts (said ∷ later_replies) later r starts_so fronts s =
+      subst (λ (x : Run). Stands new now_e (drop (length starts) said_starts) later_replies later x) (sym (dispatched_so alive alike said_starts said later_replies later r starts_so fronts.0 s)) (record {
         calm = alike.calm;
         moment = s.moment ∙ sym alike.moment;
-        places = ap (λ (g : Given _). shown_places g.declared now_e.net.views (state new)) (sym given);
-        queue = ap (λ (waiting : List Event). waiting ++ alike.joining) s.queue ∙ sym alike.queue;
+        places = alike.places ∙ ap (λ (g : Given _). shown_places g.declared now_e.net.views (state new)) (sym given);
+        queue = ap (λ (waiting : List Event). waiting ++ (alike.release.events ++ alike.left)) s.queue ∙ sym alike.queue;
         events = ap (λ (n : ℕ). n + 1) s.events ∙ sym alike.events;
         apps = refl;
-        released = ap (λ (packets : List Held). packets ++ alike.packets) s.released ∙ sym alike.released;
+        released = ap (λ (packets : List Held). packets ++ alike.release.packets) s.released ∙ sym alike.released;
+        lost = ap (λ (ds : List ℕ). ds ++ leavers alike.left) s.lost ∙ sym alike.lost;
+        losses_so = ap turn_fewer s.losses_so;
         marks = marks_so keeps alike r s.events s.places s.marks;
         life = life;
       })
 
-  says_alive : e.alive ≡ true → (alike : TurnAlike allows event text old new (with_number e) now_e starts reply) → (said_starts : List Start) (said_replies : List Reply) (r : Run) → AreStartFronts starts said_starts → AreFronts (reply ∷ []) said_replies → Stands old e said_starts said_replies r
+  says_alive : e.alive ≡ true → (alike : TurnAlike allows event text old new (with_number e) now_e starts reply losses) → (said_starts : List Start) (said_replies : List Reply) (later : Losses) (r : Run) → AreStartFronts starts said_starts → AreFronts (reply ∷ []) said_replies → Stands old e said_starts said_replies (ahead [] (losses ∷ []) later) r
       → text_of (dispatch allows event r) ≡ text_of r ++ (event_line (e.events + 1) event.kind event.dpid ++ text)
-  says_alive alive alike said_starts [] r starts_so fronts s = absurd fronts
-  says_alive alive alike said_starts (said ∷ later_replies) r starts_so fronts s =
+  says_alive alive alike said_starts [] later r starts_so fronts s = absurd fronts
+  says_alive alive alike said_starts (said ∷ later_replies) later r starts_so fronts s =
       let later_starts = drop (length starts) said_starts in
-      ap text_of (dispatched_so alive alike said_starts said later_replies r starts_so fronts.0 s)
-      ∙ ap lines_text (append_assoc (r.lines ++ Dispatched (r.events + 1) event ∷ []) (Ended 0 alike.outcome ∷ out_lines alike.packets) (restart_lines 0 alike.outcome (app_at now_e (given_in new) later_starts later_replies, alike.tries)))
-      ∙ event_lines r.lines (Ended 0 alike.outcome ∷ out_lines alike.packets ++ restart_lines 0 alike.outcome (app_at now_e (given_in new) later_starts later_replies, alike.tries)) (r.events + 1) event
+      let ended : List Line = Ended 0 alike.outcome ∷ out_lines alike.release.packets in
+      let lost : List Line = lost_lines (leavers alike.left) in
+      let again : List Line = restart_lines 0 alike.outcome (app_at now_e (given_in new) later_starts later_replies, alike.tries) in
+      let before : List Line = r.lines ++ Dispatched (r.events + 1) event ∷ [] in
+      ap text_of (dispatched_so alive alike said_starts said later_replies later r starts_so fronts.0 s)
+      ∙ ap lines_text (ap (λ (lines : List Line). lines ++ again) (append_assoc before ended lost) ∙ append_assoc before (ended ++ lost) again)
+      ∙ event_lines r.lines ((ended ++ lost) ++ again) (r.events + 1) event
       ∙ ap₂ (λ (n : ℕ) (more : List ℕ). text_of r ++ (event_line (n + 1) event.kind event.dpid ++ more)) s.events (sym (alike.text_so later_starts later_replies))
 
 alive_moves : {Own : Type 0} (allows : List Place → Bool) (event : Event) (turn_text text : List ℕ) (old new : Seen Own) (e now_e : Engine) → Conforming old → e.alive ≡ true → text ≡ event_line (e.events + 1) event.kind event.dpid ++ turn_text
@@ -101,13 +113,16 @@ alive_moves : {Own : Type 0} (allows : List Place → Bool) (event : Event) (tur
 alive_moves allows event turn_text text old new e now_e keeps alive text_is turn = record {
   starts = turn.starts;
   replies = turn.reply ∷ [];
+  batches = [];
+  turns = turn.losses ∷ [];
   given = turn.tells.given;
   read_starts = turn.tells.read_starts;
   read_replies = turn.tells.read_replies;
   read_stimuli = turn.tells.read_stimuli ∙ sym (append-nil (stimuli_in old));
-  stands = λ said_starts said_replies r starts_so replies_so s. stands_alive allows event turn_text old new e now_e turn.starts turn.reply keeps alive turn.tells.given turn.tells.life (turn.alike s.calm) said_starts said_replies r starts_so replies_so s;
-  says = λ said_starts said_replies r starts_so replies_so s.
-      says_alive allows event turn_text old new e now_e turn.starts turn.reply alive (turn.alike s.calm) said_starts said_replies r starts_so replies_so s ∙ ap (λ (more : List ℕ). text_of r ++ more) (sym text_is);
+  stands = λ said_starts said_replies later r starts_so replies_so s.
+      stands_alive allows event turn_text old new e now_e turn.starts turn.reply turn.losses keeps alive turn.tells.given turn.tells.life turn.alike said_starts said_replies later r starts_so replies_so s;
+  says = λ said_starts said_replies later r starts_so replies_so s.
+      says_alive allows event turn_text old new e now_e turn.starts turn.reply turn.losses alive turn.alike said_starts said_replies later r starts_so replies_so s ∙ ap (λ (more : List ℕ). text_of r ++ more) (sym text_is);
 }
 
 -- ---- It is gone
@@ -117,12 +132,14 @@ dead_moves : {Own : Type 0} (allows : List Place → Bool) (event : Event) (text
 dead_moves allows event text seen e dead text_is = record {
   starts = [];
   replies = [];
+  batches = [];
+  turns = [];
   given = refl;
   read_starts = sym (append-nil (starts_in (own_acts seen)));
   read_replies = sym (append-nil (replies_in (own_acts seen)));
   read_stimuli = sym (append-nil (stimuli_in seen));
-  stands = λ later_starts later_replies r starts_so replies_so s.
-      subst (λ (x : Run). Stands seen (with_number e) later_starts later_replies x) (sym (dispatch_dead allows event (app_at e (given_in seen) later_starts later_replies) r s.apps dead)) (record {
+  stands = λ later_starts later_replies later r starts_so replies_so s.
+      subst (λ (x : Run). Stands seen (with_number e) later_starts later_replies later x) (sym (dispatch_dead allows event (app_at e (given_in seen) later_starts later_replies) r s.apps dead)) (record {
         calm = s.calm;
         moment = s.moment;
         places = s.places;
@@ -130,10 +147,12 @@ dead_moves allows event text seen e dead text_is = record {
         events = ap (λ (n : ℕ). n + 1) s.events;
         apps = refl;
         released = s.released;
+        lost = s.lost;
+        losses_so = s.losses_so;
         marks = s.marks;
         life = s.life;
       });
-  says = λ later_starts later_replies r starts_so replies_so s.
+  says = λ later_starts later_replies later r starts_so replies_so s.
       ap text_of (dispatch_dead allows event (app_at e (given_in seen) later_starts later_replies) r s.apps dead)
       ∙ sym (append-nil (text_of (without_turn (app_at e (given_in seen) later_starts later_replies) (numbered event r))))
       ∙ event_lines_alone r s.events
@@ -150,37 +169,37 @@ dead_moves allows event text seen e dead text_is = record {
 -- ---- The whole
 
 by_alive : {Own : Type 0} (Tells : Type 0) (accepts : List TableView → Bool) (allows : List Place → Bool) (event : Event) (turn_text text : List ℕ) (old new : Seen Own) (e now_e : Engine) (alive : Bool) → e.alive ≡ alive
-    → Tells → Conforming new → Continues Tells old new → JudgesAlike Own allows accepts → AreRead Own Tells accepts → e.events + 1 < 2 ^ 64 → (e.alive ≡ true → LastStands (own_acts old))
+    → Tells → Conforming new → Continues Tells old new → JudgesAlike Own allows accepts → AreRead Own Tells accepts → e.events + 1 < 2 ^ 64 → (e.alive ≡ true → LastStands (own_acts old)) → Calm old e.net
     → IsTurn Tells accepts event alive turn_text old new (with_number e) now_e → text ≡ event_line (e.events + 1) event.kind event.dpid ++ turn_text → Moves [] (dispatch allows event) text old new e now_e
-by_alive Tells accepts allows event turn_text text old new e now_e true alive told keeps continues judges reads few life turn text_is =
+by_alive Tells accepts allows event turn_text text old new e now_e true alive told keeps continues judges reads few life calm turn text_is =
     alive_moves allows event turn_text text old new e now_e (Conforming-before told continues keeps) alive text_is
-    (turn_moves Tells accepts allows event turn_text old new (with_number e) now_e told keeps judges reads few (life alive) turn)
-by_alive Tells accepts allows event turn_text text old new e now_e false dead told keeps continues judges reads few life turn text_is =
+    (turn_moves Tells accepts allows event turn_text old new (with_number e) now_e told keeps judges reads few (life alive) calm turn)
+by_alive Tells accepts allows event turn_text text old new e now_e false dead told keeps continues judges reads few life calm turn text_is =
     subst (λ (s : Seen _). Moves [] (dispatch allows event) text old s e now_e) (sym turn.0) (subst (λ (x : Engine). Moves [] (dispatch allows event) text old old e x) (sym turn.1)
     (dead_moves allows event text old e dead (text_is ∙ ap (λ (more : List ℕ). event_line (e.events + 1) event.kind event.dpid ++ more) turn.2)))
 
 pub dispatch-moves : {Own : Type 0} (Tells : Type 0) (accepts : List TableView → Bool) (allows : List Place → Bool) (event : Event) (text : List ℕ) (old new : Seen Own) (e now_e : Engine)
-    → Tells → Conforming new → Continues Tells old new → JudgesAlike Own allows accepts → AreRead Own Tells accepts → e.events + 1 < 2 ^ 64 → (e.alive ≡ true → LastStands (own_acts old))
+    → Tells → Conforming new → Continues Tells old new → JudgesAlike Own allows accepts → AreRead Own Tells accepts → e.events + 1 < 2 ^ 64 → (e.alive ≡ true → LastStands (own_acts old)) → Calm old e.net
     → Dispatches Tells accepts event text old new e now_e → Moves [] (dispatch allows event) text old new e now_e
-dispatch-moves Tells accepts allows event text old new e now_e told keeps continues judges reads few life d =
-    by_alive Tells accepts allows event d.turn_text text old new e now_e e.alive refl told keeps continues judges reads few life d.turn d.text_so
+dispatch-moves Tells accepts allows event text old new e now_e told keeps continues judges reads few life calm d =
+    by_alive Tells accepts allows event d.turn_text text old new e now_e e.alive refl told keeps continues judges reads few life calm d.turn d.text_so
 
 -- ---- What the next event needs
 
 -- where it is alive then, its last start stands
 life_by : {Own : Type 0} (Tells : Type 0) (accepts : List TableView → Bool) (allows : List Place → Bool) (event : Event) (turn_text : List ℕ) (old new : Seen Own) (e now_e : Engine) (alive : Bool) → e.alive ≡ alive
-    → Tells → Conforming new → JudgesAlike Own allows accepts → AreRead Own Tells accepts → e.events + 1 < 2 ^ 64 → (e.alive ≡ true → LastStands (own_acts old))
+    → Tells → Conforming new → JudgesAlike Own allows accepts → AreRead Own Tells accepts → e.events + 1 < 2 ^ 64 → (e.alive ≡ true → LastStands (own_acts old)) → Calm old e.net
     → IsTurn Tells accepts event alive turn_text old new (with_number e) now_e → now_e.alive ≡ true → LastStands (own_acts new)
-life_by Tells accepts allows event turn_text old new e now_e true alive told keeps judges reads few life turn =
-    (turn_moves Tells accepts allows event turn_text old new (with_number e) now_e told keeps judges reads few (life alive) turn).tells.life
-life_by Tells accepts allows event turn_text old new e now_e false dead told keeps judges reads few life turn =
+life_by Tells accepts allows event turn_text old new e now_e true alive told keeps judges reads few life calm turn =
+    (turn_moves Tells accepts allows event turn_text old new (with_number e) now_e told keeps judges reads few (life alive) calm turn).tells.life
+life_by Tells accepts allows event turn_text old new e now_e false dead told keeps judges reads few life calm turn =
     λ up. subst (λ (s : Seen _). LastStands (own_acts s)) (sym turn.0) (life (sym (ap (λ (x : Engine). x.alive) turn.1) ∙ up))
 
 pub dispatch-life : {Own : Type 0} (Tells : Type 0) (accepts : List TableView → Bool) (allows : List Place → Bool) (event : Event) (text : List ℕ) (old new : Seen Own) (e now_e : Engine)
-    → Tells → Conforming new → JudgesAlike Own allows accepts → AreRead Own Tells accepts → e.events + 1 < 2 ^ 64 → (e.alive ≡ true → LastStands (own_acts old))
+    → Tells → Conforming new → JudgesAlike Own allows accepts → AreRead Own Tells accepts → e.events + 1 < 2 ^ 64 → (e.alive ≡ true → LastStands (own_acts old)) → Calm old e.net
     → Dispatches Tells accepts event text old new e now_e → now_e.alive ≡ true → LastStands (own_acts new)
-dispatch-life Tells accepts allows event text old new e now_e told keeps judges reads few life d =
-    life_by Tells accepts allows event d.turn_text old new e now_e e.alive refl told keeps judges reads few life d.turn
+dispatch-life Tells accepts allows event text old new e now_e told keeps judges reads few life calm d =
+    life_by Tells accepts allows event d.turn_text old new e now_e e.alive refl told keeps judges reads few life calm d.turn
 
 -- what comes joins the events that wait
 takes_read-joins : (d : ℕ) (read : Result Envelope WireFault) (k : Knows) → Joins k.1 (takes_read d read k).1
@@ -196,16 +215,17 @@ takes_all-joins (m ∷ more) k =
     let next = takes_read m.0 (reading_of m.1) k in
     joins-then k.1 next.1 (takes_all more next).1 (takes_read-joins m.0 (reading_of m.1) k) (takes_all-joins more next)
 
-one-joins : {Own : Type 0} {Tells : Type 0} {held : Held} {old new : Seen Own} {net now_net : NetState} {queue now_queue : List Event} → ReleasesOne Tells held old new net now_net queue now_queue → Joins queue now_queue
-one-joins {net = net} {queue = queue} (inl sends) =
-    subst (λ (k : Knows). Joins queue k.1) (sym sends.1.taken) (takes_all-joins sends.1.came (record net { xid = next_xid (next_xid net.xid) }, queue))
-one-joins {queue = queue} (inr over) = ([], over.queue_so ∙ sym (append-nil queue))
+one-joins : {Own : Type 0} {Tells : Type 0} {held : Held} {sent : List Held} {old new : Seen Own} {net now_net : NetState} {queue now_queue : List Event} → ReleasesOne Tells held sent old new net now_net queue now_queue → Joins queue now_queue
+one-joins {net = net} {queue = queue} (inl (is, viewed, sends)) =
+    subst (λ (k : Knows). Joins queue k.1) (sym sends.taken) (takes_all-joins sends.came (record net { xid = next_xid (next_xid net.xid) }, queue))
+one-joins {queue = queue} (inr (inl (is, over))) = ([], over.queue_so ∙ sym (append-nil queue))
+one-joins {queue = queue} (inr (inr (inl (is, lost)))) = ([], lost.queue_so ∙ sym (append-nil queue))
+one-joins {queue = queue} (inr (inr (inr (is, lost)))) = ([], lost.queue_so ∙ sym (append-nil queue))
 
-release-joins : {Own : Type 0} (Tells : Type 0) (held : List Held) (old new : Seen Own) (net now_net : NetState) (queue now_queue : List Event) → ReleasesAll Tells held old new net now_net queue now_queue → Joins queue now_queue
-release-joins Tells [] old new net now_net queue now_queue all = ([], all.2 ∙ sym (append-nil queue))
-release-joins Tells (held ∷ more) old new net now_net queue now_queue all =
-    let mid_queue = all.1.1.0 in
-    joins-then queue mid_queue now_queue (one-joins all.1.1.1.0) (release-joins Tells more all.0 new all.1.0 now_net mid_queue now_queue all.1.1.1.1)
+release-joins : {Own : Type 0} (Tells : Type 0) (held sent : List Held) (old new : Seen Own) (net now_net : NetState) (queue now_queue : List Event) → ReleasesAll Tells held sent old new net now_net queue now_queue → Joins queue now_queue
+release-joins Tells [] sent old new net now_net queue now_queue all = ([], all.3 ∙ sym (append-nil queue))
+release-joins Tells (held ∷ more) sent old new net now_net queue now_queue (first, (later, (sent_so, (mid, (mid_net, (mid_queue, (one, rest))))))) =
+    joins-then queue mid_queue now_queue (one-joins one) (release-joins Tells more later mid new mid_net now_net mid_queue now_queue rest)
 
 -- where none joined
 joins-none : (xs ys : List Event) → ys ≡ xs → Joins xs ys
@@ -215,10 +235,11 @@ closed_count : {Own : Type 0} (Tells : Type 0) (end : TurnEnd) (checkpoint : Opt
     → (now_e.events ≡ e.events) × Joins e.queue now_e.queue
 closed_count Tells (ends.Done stop) checkpoint unread text start mid new mid_net e now_e closed = (
   ap (λ (x : Engine). x.events) closed.engine,
-  subst (λ (x : Engine). Joins e.queue x.queue) (sym closed.engine) (release-joins Tells mid_net.held mid new (committed start mid_net) closed.net e.queue closed.queue closed.commits.ended.all),
+  subst (λ (x : Engine). Joins e.queue x.queue) (sym closed.engine) (joins-then e.queue closed.queue (closed.queue ++ left_events closed.net.left)
+      (release-joins Tells mid_net.held closed.commits.ended.sent mid new (committed start mid_net) closed.net e.queue closed.queue closed.commits.ended.all) (left_events closed.net.left, refl)),
 )
 closed_count Tells (ends.Failed cause) checkpoint unread text start mid new mid_net e now_e closed =
-    (ap (λ (x : Engine). x.events) closed.starts.engine, joins-none e.queue now_e.queue (ap (λ (x : Engine). x.queue) closed.starts.engine))
+    (ap (λ (x : Engine). x.events) closed.starts.engine, (left_events closed.undone_net.left, ap (λ (x : Engine). x.queue) closed.starts.engine))
 
 count_by : {Own : Type 0} (Tells : Type 0) (accepts : List TableView → Bool) (event : Event) (text : List ℕ) (old new : Seen Own) (e now_e : Engine) (alive : Bool) → IsTurn Tells accepts event alive text old new e now_e
     → (now_e.events ≡ e.events) × Joins e.queue now_e.queue
@@ -232,8 +253,8 @@ dispatch-count Tells accepts event text old new e now_e d = count_by Tells accep
 
 -- ---- The oldest event that waits
 
-queue_taken : {Own : Type 0} (seen : Seen Own) (e : Engine) (queue : List Event) (starts : List Start) (replies : List Reply) (r : Run) → Stands seen e starts replies r → Stands seen (record e { queue = queue }) starts replies (record r { queue = queue })
-queue_taken seen e queue starts replies r s = record {
+queue_taken : {Own : Type 0} (seen : Seen Own) (e : Engine) (queue : List Event) (starts : List Start) (replies : List Reply) (later : Losses) (r : Run) → Stands seen e starts replies later r → Stands seen (record e { queue = queue }) starts replies later (record r { queue = queue })
+queue_taken seen e queue starts replies later r s = record {
   calm = s.calm;
   moment = s.moment;
   places = s.places;
@@ -241,13 +262,15 @@ queue_taken seen e queue starts replies r s = record {
   events = s.events;
   apps = s.apps;
   released = s.released;
+  lost = s.lost;
+  losses_so = s.losses_so;
   marks = s.marks;
   life = s.life;
 }
 
-next_so : {Own : Type 0} (allows : List Place → Bool) (event : Event) (queue : List Event) (seen : Seen Own) (e : Engine) (starts : List Start) (replies : List Reply) (r : Run) → e.queue ≡ event ∷ queue → Stands seen e starts replies r
+next_so : {Own : Type 0} (allows : List Place → Bool) (event : Event) (queue : List Event) (seen : Seen Own) (e : Engine) (starts : List Start) (replies : List Reply) (later : Losses) (r : Run) → e.queue ≡ event ∷ queue → Stands seen e starts replies later r
     → dispatch_next allows r ≡ dispatch allows event (record r { queue = queue })
-next_so allows event queue seen e starts replies r waits s = ap (λ (events : List Event). next_dispatched allows events r) (s.queue ∙ waits)
+next_so allows event queue seen e starts replies later r waits s = ap (λ (events : List Event). next_dispatched allows events r) (s.queue ∙ waits)
 
 -- it is taken out of the queue and dispatched
 pub next-moves : {Own : Type 0} (allows : List Place → Bool) (event : Event) (queue : List Event) (text : List ℕ) (old new : Seen Own) (e now_e : Engine) → e.queue ≡ event ∷ queue
@@ -255,16 +278,20 @@ pub next-moves : {Own : Type 0} (allows : List Place → Bool) (event : Event) (
 next-moves allows event queue text old new e now_e waits moves = record {
   starts = moves.starts;
   replies = moves.replies;
+  batches = moves.batches;
+  turns = moves.turns;
   given = moves.given;
   read_starts = moves.read_starts;
   read_replies = moves.read_replies;
   read_stimuli = moves.read_stimuli;
-  stands = λ said_starts said_replies r starts_so replies_so s.
-      subst (λ (x : Run). Stands new now_e (drop (length moves.starts) said_starts) (drop (length moves.replies) said_replies) x) (sym (next_so allows event queue old e said_starts said_replies r waits s))
-      (moves.stands said_starts said_replies (record r { queue = queue }) starts_so replies_so (queue_taken old e queue said_starts said_replies r s));
-  says = λ said_starts said_replies r starts_so replies_so s.
-      ap text_of (next_so allows event queue old e said_starts said_replies r waits s)
-      ∙ moves.says said_starts said_replies (record r { queue = queue }) starts_so replies_so (queue_taken old e queue said_starts said_replies r s);
+  stands = λ said_starts said_replies later r starts_so replies_so s.
+      let all = ahead moves.batches moves.turns later in
+      subst (λ (x : Run). Stands new now_e (drop (length moves.starts) said_starts) (drop (length moves.replies) said_replies) later x) (sym (next_so allows event queue old e said_starts said_replies all r waits s))
+      (moves.stands said_starts said_replies later (record r { queue = queue }) starts_so replies_so (queue_taken old e queue said_starts said_replies all r s));
+  says = λ said_starts said_replies later r starts_so replies_so s.
+      let all = ahead moves.batches moves.turns later in
+      ap text_of (next_so allows event queue old e said_starts said_replies all r waits s)
+      ∙ moves.says said_starts said_replies later (record r { queue = queue }) starts_so replies_so (queue_taken old e queue said_starts said_replies all r s);
 }
 
 -- none waits
@@ -272,11 +299,13 @@ pub none-moves : {Own : Type 0} (allows : List Place → Bool) (seen : Seen Own)
 none-moves allows seen e none = record {
   starts = [];
   replies = [];
+  batches = [];
+  turns = [];
   given = refl;
   read_starts = sym (append-nil (starts_in (own_acts seen)));
   read_replies = sym (append-nil (replies_in (own_acts seen)));
   read_stimuli = sym (append-nil (stimuli_in seen));
-  stands = λ later_starts later_replies r starts_so replies_so s.
-      subst (λ (x : Run). Stands seen e later_starts later_replies x) (sym (ap (λ (events : List Event). next_dispatched allows events r) (s.queue ∙ none))) s;
-  says = λ later_starts later_replies r starts_so replies_so s. ap text_of (ap (λ (events : List Event). next_dispatched allows events r) (s.queue ∙ none)) ∙ sym (append-nil (text_of r));
+  stands = λ later_starts later_replies later r starts_so replies_so s.
+      subst (λ (x : Run). Stands seen e later_starts later_replies later x) (sym (ap (λ (events : List Event). next_dispatched allows events r) (s.queue ∙ none))) s;
+  says = λ later_starts later_replies later r starts_so replies_so s. ap text_of (ap (λ (events : List Event). next_dispatched allows events r) (s.queue ∙ none)) ∙ sym (append-nil (text_of r));
 }

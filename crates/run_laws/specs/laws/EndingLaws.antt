@@ -1,7 +1,7 @@
 -- Laws of endings: what a whole run promises follows of its parts.
 use Rattle.std.proofs.Common.{◌≡◌, ℕ, ◌<◌, Bool, List, [], ◌++◌, length, Option, Some, None, refl, sym, ap, ◌∙◌, subst}
 use Rattle.std.specs.Io.KnownBytes.{append_known}
-use Rattle.std.proofs.lemmas.List.{append_assoc}
+use Rattle.std.proofs.lemmas.List.{append-nil, append_assoc}
 use Rattle.flow_table.specs.View.{TableView}
 use Rattle.lego_model.specs.Places.{Place}
 use Rattle.lego_model.specs.Controller.{settle}
@@ -11,7 +11,7 @@ use Rattle.outside.specs.laws.StateLaws.{Conforming-before}
 use Rattle.switch_laws.specs.laws.OrderlyLaws.{orderly-then}
 use Rattle.run_laws.specs.Engine.{Engine}
 use Rattle.lego_model.specs.Application.{index}
-use Rattle.lego_model.specs.History.{stimuli_in}
+use Rattle.lego_model.specs.History.{stimuli_in, lost_of}
 use Rattle.run_laws.specs.laws.StimuliLaws.{fewer-before}
 use Rattle.run_laws.specs.Readings.{JudgesAlike}
 use Rattle.run_laws.specs.Moves.{ShownToEnd}
@@ -42,14 +42,16 @@ whole-of Tells accepts most first second a b c e1 e2 e3 later begins ends = reco
       };
 }
 
-pub leaves-then : {Own : Type 0} (a b c : Seen Own) → Leaves a b → Leaves b c → Leaves a c
-leaves-then a b c m n = record {
+-- where none is lost any more
+pub leaves-then : {Own : Type 0} (lost : List ℕ) (a b c : Seen Own) → Leaves lost a b → Leaves [] b c → Leaves lost a c
+leaves-then lost a b c m n = record {
   given = n.given ∙ m.given;
   starts = n.starts ∙ m.starts;
   replies = n.replies ∙ m.replies;
   inputs = n.inputs ∙ m.inputs;
   stimuli = n.stimuli ∙ m.stimuli;
   released = n.released ∙ m.released;
+  lost_so = n.lost_so ∙ append-nil (lost_of b) ∙ m.lost_so;
   marks = n.marks ∙ m.marks;
   switches = λ d. n.switches d ∙ m.switches d;
   at_once = λ said. n.at_once (m.at_once said);
@@ -64,8 +66,8 @@ ran-out Tells accepts allows most contents now_contents old new e told keeps jud
     let few_last = fewer-before Tells out.last new told out.later few in
     let moved = out.whole_so.whole_so allows told (Conforming-before told out.later keeps) judges (settled-first old opened) few_last in
     let done = out.finish.shown told keeps moved.moved.settled.calm in
-    ends-alike allows out.text out.last new e contents now_contents keeps done.leaves moved.moved.settled (ran allows moved.stimuli out.text old out.last e opened moved.moved.moves) (done.leaves.at_once moved.moved.settled.speaks.at_once) out.none_left
-    (done.written ∙ known-append contents out.text (last_text out.last e))
+    ends-alike allows done.lost out.text out.last new e contents now_contents keeps done.leaves moved.moved.settled (ran allows done.lost moved.stimuli out.text old out.last e opened moved.moved.moves) (done.leaves.at_once moved.moved.settled.speaks.at_once) out.none_left
+    (done.written ∙ known-append contents out.text (last_text done.lost out.last e))
 
 pub ran-full : {Own : Type 0} (Tells : Type 0) (accepts : List TableView → Bool) (allows : List Place → Bool) (most left : ℕ) (contents now_contents : Option (List ℕ)) (old new : Seen Own) → Tells → Conforming new → JudgesAlike Own allows accepts → IsOpened old
     → length (stimuli_in new) < most → RanFull Tells accepts most left contents now_contents old new engine_at_first → LeavesAlike allows new contents now_contents left
@@ -73,4 +75,4 @@ ran-full Tells accepts allows most left contents now_contents old new told keeps
     let few_last = fewer-before Tells full.last new told full.later few in
     let moved = full.whole_so.whole_so allows told (Conforming-before told full.later keeps) judges (settled-first old opened) few_last in
     subst (λ (n : ℕ). LeavesAlike allows new contents now_contents n) (sym full.left_so)
-    (leaves-alike allows full.text full.last new full.now_engine contents now_contents keeps (full.leaves.shown told keeps) moved.moved.settled (ran allows moved.stimuli full.text old full.last full.now_engine opened moved.moved.moves) ((full.leaves.shown told keeps).at_once moved.moved.settled.speaks.at_once) full.contents_so)
+    (leaves-alike allows full.text full.last new full.now_engine contents now_contents keeps (full.leaves.shown told keeps) moved.moved.settled (ran allows [] moved.stimuli full.text old full.last full.now_engine opened moved.moved.moves) ((full.leaves.shown told keeps).at_once moved.moved.settled.speaks.at_once) full.contents_so)

@@ -56,19 +56,19 @@ are-read Tells accepts = record {
 calm-by : {Own : Type 0} (Tells : Type 0) (accepts : List TableView → Bool) (allows : List Place → Bool) (event : Event) (text : List ℕ) (old new : Seen Own) (e now_e : Engine) (alive : Bool) → e.alive ≡ alive → Tells → Conforming new → JudgesAlike Own allows accepts
     → e.events + 1 < 2 ^ 64 → AtRest old e → IsTurn Tells accepts event alive text old new (with_number e) now_e → Calm new now_e.net
 calm-by Tells accepts allows event text old new e now_e true is told keeps judges few settled turn =
-    ((turn_moves Tells accepts allows event text old new (with_number e) now_e told keeps judges (are-read Tells accepts) few (settled.life is) turn).alike settled.calm).calm
+    (turn_moves Tells accepts allows event text old new (with_number e) now_e told keeps judges (are-read Tells accepts) few (settled.life is) settled.calm turn).alike.calm
 calm-by Tells accepts allows event text old new e now_e false is told keeps judges few settled turn =
     subst (λ (s : Seen _). Calm s now_e.net) (sym turn.0) (subst (λ (x : Engine). Calm old x.net) (sym turn.1) settled.calm)
 
 pub dispatch-moved : {Own : Type 0} (Tells : Type 0) (accepts : List TableView → Bool) (allows : List Place → Bool) (event : Event) (text : List ℕ) (old new : Seen Own) (e now_e : Engine) → Tells → Conforming new → Continues Tells old new → JudgesAlike Own allows accepts
     → e.events + 1 < 2 ^ 64 → AtRest old e → Dispatches Tells accepts event text old new e now_e → Moved [] (dispatch allows event) text old new e now_e
 dispatch-moved Tells accepts allows event text old new e now_e told keeps continues judges few settled d = record {
-  moves = dispatch-moves Tells accepts allows event text old new e now_e told keeps continues judges (are-read Tells accepts) few settled.life d;
+  moves = dispatch-moves Tells accepts allows event text old new e now_e told keeps continues judges (are-read Tells accepts) few settled.life settled.calm d;
   settled = record {
     calm = calm-by Tells accepts allows event d.turn_text old new e now_e e.alive refl told keeps judges few settled d.turn;
-    life = dispatch-life Tells accepts allows event text old new e now_e told keeps judges (are-read Tells accepts) few settled.life d;
+    life = dispatch-life Tells accepts allows event text old new e now_e told keeps judges (are-read Tells accepts) few settled.life settled.calm d;
     speaks = turn_goes_on Tells accepts event e.alive d.turn_text old new (with_number e) now_e told refl (record { at_once = settled.speaks.at_once; rest_so = settled.speaks.rest_so }) d.turn;
-    orderly = orderly-whole index old new settled.orderly (turn-orderly Tells accepts event e.alive d.turn_text old new (with_number e) now_e told (are-read Tells accepts) d.turn);
+    orderly = orderly-whole index old new settled.orderly (turn-orderly Tells accepts event e.alive d.turn_text old new (with_number e) now_e told keeps settled.calm (are-read Tells accepts) d.turn);
   };
 }
 

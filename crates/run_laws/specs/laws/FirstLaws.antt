@@ -6,12 +6,12 @@ use Rattle.std.specs.Option.{option_map}
 use Rattle.std.specs.List.{AllByRecursion}
 use Rattle.flow_table.specs.Switch.{Declared, SwitchState}
 use Rattle.of_types.specs.declared.journal.Act.{Act}
-use Rattle.lego_model.specs.Journal.{Reply, Start, inputs, released}
+use Rattle.lego_model.specs.Journal.{Reply, Start, inputs, released, losses}
 use Rattle.lego_model.specs.Agreement.{AgreeMarks}
 use Rattle.undo_laws.specs.Owned.{owned_switch}
 use Rattle.lego_model.specs.Answers.{rows_of_table}
 use Rattle.lego_model.specs.Places.{Place}
-use Rattle.lego_model.specs.Controller.{ports_of}
+use Rattle.lego_model.specs.Losses.{Losses}
 use Rattle.outside.specs.declared.call.FailCall.{FailCall}
 use Rattle.outside.specs.declared.step.WorldStep.{WorldStep}
 use Rattle.outside.specs.Seen.{Seen, journal}
@@ -19,10 +19,11 @@ use Rattle.outside.specs.State.{State, link_at_first, at_first, link_of, waits_i
 use Rattle.lego_model.specs.OrderlySteps.{IsOrderly}
 use Rattle.switch_laws.specs.Shown.{flags_at, places, shown_switch, shown_places}
 use Rattle.lego_model.specs.AtOnce.{at_first as nobody_yet, Dialogue}
+use Rattle.switch_laws.specs.Since.{ports_known}
 use Rattle.batch_laws.specs.Calm.{Calm}
 use Rattle.run_laws.specs.Engine.{Stands, app_at}
 use Rattle.lego_model.specs.Application.{index}
-use Rattle.lego_model.specs.History.{given_in, released_of}
+use Rattle.lego_model.specs.History.{given_in, released_of, lost_of}
 use Rattle.run_laws.specs.Moves.{AtRest}
 use Rattle.lego_model.specs.ReferenceRun.{fresh, before_start}
 use Rattle.run_laws.specs.First.{IsOpened, net_at_first, engine_at_first}
@@ -68,15 +69,16 @@ calm-first seen is = record {
   ready = record {
     waits = none-waits seen is;
     agrees = λ d. sym (ap (λ (o : Option SwitchState). option_map (λ x. rows_of_table x.table.entries) o) (none-joined seen is d));
+    known = λ d. sym (ap (ports_known d) (none-joined seen is d));
   };
   sound = record { entries = λ d x here. absurd (no_some x (sym (none-joined seen is d) ∙ here)) };
   order = tt;
-  ports = λ d. sym (ap (λ (o : Option SwitchState). option_map ports_of o) (none-joined seen is d));
   kept = refl;
   moment = sym (ap (λ (s : State). s.moment) (state-opened seen is));
   none_begun = ap (λ (s : State). s.begun) (state-opened seen is);
   none_due = ap (λ (s : State). s.due) (state-opened seen is);
   held = refl;
+  left = refl;
 }
 
 pub no-acts : {Own : Type 0} (seen : Seen Own) → IsOpened seen → journal seen.history ≡ []
@@ -108,10 +110,15 @@ released-first : {Own : Type 0} (seen : Seen Own) → IsOpened seen → released
 unfolding released
 released-first seen is = ap (λ (js : List Act). released js) (no-acts seen is)
 
+lost-first : {Own : Type 0} (seen : Seen Own) → IsOpened seen → lost_of seen ≡ []
+unfolding losses
+lost-first seen is = ap (λ (js : List Act). losses js) (no-acts seen is)
+
 -- The two stand alike before anything is started.
-pub stands-first : {Own : Type 0} (seen : Seen Own) (starts : List Start) (replies : List Reply) → IsOpened seen → Stands seen engine_at_first starts replies (before_start seen.given.declared (fresh starts replies))
+pub stands-first : {Own : Type 0} (seen : Seen Own) (starts : List Start) (replies : List Reply) (losses : Losses) → IsOpened seen
+    → Stands seen engine_at_first starts replies losses (before_start seen.given.declared losses (fresh starts replies))
 unfolding shown_places at_first
-stands-first seen starts replies is = record {
+stands-first seen starts replies losses is = record {
   calm = calm-first seen is;
   moment = sym (ap (λ (s : State). s.moment) (state-opened seen is));
   places = sym (places-out (shown_switch [] (state seen)) seen.given.declared (λ d. ap (λ (o : Option SwitchState). option_map (owned_switch (flags_at d [])) o) (none-joined seen is d)));
@@ -119,6 +126,8 @@ stands-first seen starts replies is = record {
   events = refl;
   apps = sym (ap (λ (given : List (List ℕ)). app_at engine_at_first given starts replies ∷ []) (given-first seen is));
   released = sym (released-first seen is);
+  lost = sym (lost-first seen is);
+  losses_so = refl;
   marks = subst (λ (s : State). AgreeMarks s.marks []) (sym (state-opened seen is)) tt;
   life = λ alive. absurd (true≢false (sym alive));
 }

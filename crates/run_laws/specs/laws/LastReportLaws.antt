@@ -8,7 +8,7 @@ use Rattle.std.specs.List.{flat_map, AllByRecursion}
 use Rattle.std.specs.Option.{option_map}
 use Rattle.std.proofs.lemmas.List.Elements.{filter-append}
 use Rattle.of_types.specs.declared.journal.Act.{Act}
-use Rattle.of_types.specs.declared.journal.Act.TheVariants.{Stim, Started, Gave, Gone, Took, Ended, Sent, Got}
+use Rattle.of_types.specs.declared.journal.Act.TheVariants.{Stim, Started, Gave, Gone, Took, Ended, Sent, Got, Lost}
 use Rattle.of_types.specs.declared.journal.WorldStim.{WorldStim}
 use Rattle.of_match.specs.declared.key.Key.{Key}
 use Rattle.of_match.specs.Key.{key_number}
@@ -23,19 +23,20 @@ use Rattle.flow_table.specs.Statistics.{flow_row}
 use Rattle.undo_laws.specs.Owned.{owned, owned_switch}
 use Rattle.lego_model.specs.Answers.{Rows, rows_of_table, rows_of_view}
 use Rattle.lego_model.specs.Controller.{Run}
-use Rattle.lego_model.specs.RunReport.{switch_line, flow_line, app_line, end_line, entry_text, switch_text, apps_text, run_report}
-use Rattle.outside.specs.Seen.{Seen, is_declared, journal}
-use Rattle.outside.specs.State.{State, state, switch_of, after_act, after_step, after_steps}
-use Rattle.outside.specs.Conforming.{AreDeclaredFrom}
+use Rattle.lego_model.specs.RunReport.{lost_line, switch_line, flow_line, app_line, end_line, entry_text, switch_text, apps_text, run_report}
+use Rattle.outside.specs.Seen.{Seen, Continues, is_declared, journal}
+use Rattle.outside.specs.State.{State, state, switch_of, is_joined, after_act, after_step, after_steps}
+use Rattle.outside.specs.Conforming.{AreDeclaredFrom, Conforming}
 use Rattle.net_txn.specs.Views.{rows_at, ViewsAscend}
 use Rattle.net_txn.specs.Agreement.{Agrees}
 use Rattle.net_txn.specs.AskSteps.{own_rows}
 use Rattle.switch_laws.specs.Shown.{rows_or_none, flags_in, flags_at, shown_switch, places, shown_places, Stand}
 use Rattle.switch_laws.specs.laws.FlagLaws.{flags_in-here, flags_in-there}
-use Rattle.lego_model.specs.Journal.{Reply, Start, is_of, inputs, stimuli, released}
+use Rattle.lego_model.specs.Losses.{Losses}
+use Rattle.lego_model.specs.Journal.{Reply, Start, is_of, inputs, stimuli, released, losses}
 use Rattle.lego_model.specs.laws.JournalLaws.{inputs-append, stimuli-append}
 use Rattle.outside.specs.declared.step.WorldStep.{WorldStep}
-use Rattle.outside.specs.declared.step.WorldStep.TheVariants.{Acted, TookInto, From, Joined, Left, Moment, Idle, End, Opened, NotOpened, NextFailed, SendFailed, RecvFailed}
+use Rattle.outside.specs.declared.step.WorldStep.TheVariants.{Acted, TookInto, From, Joined, Left, Moment, Idle, End, Opened, NotOpened, NextFailed, SendLost, RecvLost, SendFailed, RecvFailed}
 use Rattle.outside.specs.laws.SeenLaws.{journal-append}
 use Rattle.outside.specs.laws.StateLaws.{state-append}
 use Rattle.lego_model.specs.declared.wait.Awaited.{Awaited}
@@ -44,17 +45,24 @@ use Rattle.lego_model.specs.declared.wait.Heard.TheVariants as kinds
 use Rattle.lego_model.specs.declared.wait.Refusal.{Refusal}
 use Rattle.net_txn.specs.Waits.{Waits}
 use Rattle.lego_model.specs.BarrierWaits.{heard, steps_by, wait_steps, barrier_sent, reply_got}
-use Rattle.net_txn.specs.Asks.{GivesRows}
+use Rattle.net_txn.specs.Net.{NetState}
+use Rattle.net_txn.specs.LinkSteps.{OnLinks, AsksWithoutStrays}
+use Rattle.net_txn.specs.Losing.{is_among}
+use Rattle.net_txn.specs.Asks.{GivesRows, AsksLost}
 use Rattle.lego_model.specs.FlowQueries.{asked_from, request_sent}
 use Rattle.lego_model.specs.OrderlySteps.{IsOrderly}
 use Rattle.switch_laws.specs.laws.OrderlyLaws.{orderly-none, orderly-then, rows-orderly, rows-release-none}
 use Rattle.run_laws.specs.Engine.{Engine, Stands}
 use Rattle.lego_model.specs.Application.{index, names, name}
-use Rattle.lego_model.specs.History.{own_acts, given_in, stimuli_in}
+use Rattle.lego_model.specs.History.{own_acts, given_in, stimuli_in, lost_of}
 use Rattle.lego_model.specs.ReferenceRun.{text_of}
 use Rattle.run_laws.specs.laws.DialogueLaws.{others_at_once}
-use Rattle.run_laws.specs.laws.TellLaws.{released_same}
-use Rattle.run_laws.specs.LastReport.{SameKeys, flow_lines, table_lines, shown_text, last_text, last_lines, OnlyAsked, JoinedWith}
+use Rattle.run_laws.specs.laws.TellLaws.{released_same, lost_more}
+use Rattle.run_laws.specs.laws.ChainLaws.{links_state, links_tell}
+use Rattle.run_laws.specs.laws.LinkStepLaws.{link_steps-tell}
+use Rattle.batch_laws.specs.laws.KeepingLaws.{Conforming-in_order, calls-orderly}
+use Rattle.run_laws.specs.Whole.{at_last}
+use Rattle.run_laws.specs.LastReport.{SameKeys, flow_lines, table_lines, place_lines, shown_text, last_text, last_lines, OnlyAsked, JoinedWith}
 use Rattle.batch_laws.specs.laws.PortTellLaws.{some_is_none}
 
 -- ---- A switch
@@ -189,18 +197,25 @@ over-views g first least (v ∷ vs) (x ∷ xs) up are known quiet =
           absurd (some_is_none v.rows (rw (eq-eqb v.dpid v.dpid refl) at none))
     ]
 
-places-text : (f : ℕ → Option SwitchState) (ds : List Declared) → flat_map (λ p. switch_text p.switch) (places f ds) ≡ declared_text (λ d. switch_text (f d)) ds
-places-text f [] = refl
-places-text f (x ∷ xs) = ap (λ (text : List ℕ). switch_text (f x.dpid) ++ text) (places-text f xs)
+abbrev place_text : List ℕ → (ℕ → Option SwitchState) → ℕ → List ℕ
+place_text lost f d = if is_among d lost then lost_line d else switch_text (f d)
+
+places-text : (lost : List ℕ) (f : ℕ → Option SwitchState) (ds : List Declared) → flat_map (place_lines lost) (places f ds) ≡ declared_text (place_text lost f) ds
+places-text lost f [] = refl
+places-text lost f (x ∷ xs) = ap (λ (text : List ℕ). place_text lost f x.dpid ++ text) (places-text lost f xs)
+
+-- what is lost is joined
+quiet_out : (lost : List ℕ) (views : List TableView) (s : State) (d : ℕ) → is_among d lost ≡ false → switch_of d s ≡ None → shown_text lost views s d ≡ []
+quiet_out lost views s d here none = rw here (ap (λ (o : Option SwitchState). switch_text (option_map (owned_switch (flags_at d views)) o)) none)
 
 -- Over the views is over the places of the declared switches.
-pub places-shown : (declared : List Declared) (views : List TableView) (s : State) → ViewsAscend 0 views → AreDeclaredFrom 1 declared → Stand declared s → ((d : ℕ) → Agrees d views s)
-    → flat_map (λ v. shown_text views s v.dpid) views ≡ flat_map (λ p. switch_text p.switch) (shown_places declared views s)
+pub places-shown : (lost : List ℕ) (declared : List Declared) (views : List TableView) (s : State) → ViewsAscend 0 views → AreDeclaredFrom 1 declared → Stand declared s → ((d : ℕ) → Agrees d views s)
+    → ((d : ℕ) → rows_at d views ≡ None → is_among d lost ≡ false) → flat_map (λ v. shown_text lost views s v.dpid) views ≡ flat_map (place_lines lost) (shown_places declared views s)
 unfolding shown_places
-places-shown declared views s up are stand agrees =
-    over-views (shown_text views s) 0 1 views declared up are (λ d other. none-viewed d views s (agrees d) (stand.undeclared d other))
-    (λ d le none. ap (λ (o : Option SwitchState). switch_text (option_map (owned_switch (flags_at d views)) o)) (out-with d views s (agrees d) none))
-    ∙ sym (places-text (shown_switch views s) declared)
+places-shown lost declared views s up are stand agrees joined =
+    over-views (shown_text lost views s) 0 1 views declared up are (λ d other. none-viewed d views s (agrees d) (stand.undeclared d other))
+    (λ d le none. quiet_out lost views s d (joined d none) (out-with d views s (agrees d) none))
+    ∙ sym (places-text lost (shown_switch views s) declared)
 
 -- ---- The whole
 
@@ -212,14 +227,15 @@ report-ends r =
     ∙ append_assoc (text_of r) (places_lines r ++ apps_text names r.apps) (end_line r.moment r.events)
   where
     places_lines : Run → List ℕ
-    places_lines q = flat_map (λ p. switch_text p.switch) q.places
+    places_lines q = flat_map (place_lines q.losses.last) q.places
 
 -- Where engine and reference controller stand alike, they say the same at the end.
-pub last-shown : {Own : Type 0} (seen : Seen Own) (e : Engine) (starts : List Start) (replies : List Reply) (r : Run) → Stands seen e starts replies r → last_lines r ≡ last_text seen e
-last-shown seen e starts replies r stands =
+pub last-shown : {Own : Type 0} (lost : List ℕ) (seen : Seen Own) (e : Engine) (starts : List Start) (replies : List Reply) (r : Run) → Stands seen e starts replies (at_last lost) r → last_lines r ≡ last_text lost seen e
+last-shown lost seen e starts replies r stands =
+    let last_so : r.losses.last ≡ lost = ap (λ (l : Losses). l.last) stands.losses_so in
     let moment : r.moment ≡ e.net.moment = stands.moment ∙ sym stands.calm.moment in
-    let first_text : List ℕ = flat_map (λ p. switch_text p.switch) (shown_places seen.given.declared e.net.views (state seen)) in
-    rw (stands.places, stands.apps, moment, stands.events)
+    let first_text : List ℕ = flat_map (place_lines lost) (shown_places seen.given.declared e.net.views (state seen)) in
+    rw (last_so, stands.places, stands.apps, moment, stands.events)
     (ap (λ (text : List ℕ). (first_text ++ text) ++ end_line e.net.moment e.events) (append-nil (app_line name e.alive e.done e.failed))
     ∙ append_assoc first_text (app_line name e.alive e.done e.failed) (end_line e.net.moment e.events))
 
@@ -251,18 +267,20 @@ record TellsNothing (steps : List WorldStep) : Type 0 where
   acts : filter (is_of index) (journal steps) ≡ []
   given : inputs index (journal steps) ≡ []
   stims : stimuli (journal steps) ≡ []
+  lost : losses (journal steps) ≡ []
 
 talk-tells : (steps : List WorldStep) → AllByRecursion IsTalk steps → TellsNothing steps
-unfolding journal inputs stimuli
-talk-tells [] are = record { acts = refl; given = refl; stims = refl }
-talk-tells (Acted (Sent d bytes) ∷ steps) are = let rest = talk-tells steps are.1 in record { acts = rest.acts; given = rest.given; stims = rest.stims }
-talk-tells (Acted (Got d bytes) ∷ steps) are = let rest = talk-tells steps are.1 in record { acts = rest.acts; given = rest.given; stims = rest.stims }
+unfolding journal inputs stimuli losses
+talk-tells [] are = record { acts = refl; given = refl; stims = refl; lost = refl }
+talk-tells (Acted (Sent d bytes) ∷ steps) are = let rest = talk-tells steps are.1 in record { acts = rest.acts; given = rest.given; stims = rest.stims; lost = rest.lost }
+talk-tells (Acted (Got d bytes) ∷ steps) are = let rest = talk-tells steps are.1 in record { acts = rest.acts; given = rest.given; stims = rest.stims; lost = rest.lost }
 talk-tells (Acted (Stim x) ∷ steps) are = absurd are.0
 talk-tells (Acted (Started of ok) ∷ steps) are = absurd are.0
 talk-tells (Acted (Gave of bytes) ∷ steps) are = absurd are.0
 talk-tells (Acted (Gone of bytes) ∷ steps) are = absurd are.0
 talk-tells (Acted (Took of what) ∷ steps) are = absurd are.0
 talk-tells (Acted (Ended of) ∷ steps) are = absurd are.0
+talk-tells (Acted (Lost d) ∷ steps) are = absurd are.0
 talk-tells (TookInto of what room ∷ steps) are = absurd are.0
 talk-tells (From d bytes ∷ steps) are = absurd are.0
 talk-tells (Joined d bytes ∷ steps) are = absurd are.0
@@ -273,6 +291,8 @@ talk-tells (End ∷ steps) are = absurd are.0
 talk-tells (Opened ∷ steps) are = absurd are.0
 talk-tells (NotOpened ∷ steps) are = absurd are.0
 talk-tells (NextFailed ∷ steps) are = absurd are.0
+talk-tells (SendLost d ∷ steps) are = absurd are.0
+talk-tells (RecvLost d ∷ steps) are = absurd are.0
 talk-tells (SendFailed d ∷ steps) are = absurd are.0
 talk-tells (RecvFailed d ∷ steps) are = absurd are.0
 
@@ -287,6 +307,7 @@ talk-marks (Acted (Gave of bytes) ∷ steps) s are = absurd are.0
 talk-marks (Acted (Gone of bytes) ∷ steps) s are = absurd are.0
 talk-marks (Acted (Took of what) ∷ steps) s are = absurd are.0
 talk-marks (Acted (Ended of) ∷ steps) s are = absurd are.0
+talk-marks (Acted (Lost d) ∷ steps) s are = absurd are.0
 talk-marks (TookInto of what room ∷ steps) s are = absurd are.0
 talk-marks (From d bytes ∷ steps) s are = absurd are.0
 talk-marks (Joined d bytes ∷ steps) s are = absurd are.0
@@ -297,10 +318,12 @@ talk-marks (End ∷ steps) s are = absurd are.0
 talk-marks (Opened ∷ steps) s are = absurd are.0
 talk-marks (NotOpened ∷ steps) s are = absurd are.0
 talk-marks (NextFailed ∷ steps) s are = absurd are.0
+talk-marks (SendLost d ∷ steps) s are = absurd are.0
+talk-marks (RecvLost d ∷ steps) s are = absurd are.0
 talk-marks (SendFailed d ∷ steps) s are = absurd are.0
 talk-marks (RecvFailed d ∷ steps) s are = absurd are.0
 
-only-asked : {Own : Type 0} (old new : Seen Own) (steps : List WorldStep) → new.given ≡ old.given → new.history ≡ old.history ++ steps → AllByRecursion IsTalk steps → AllByRecursion (IsOrderly index) steps → released (journal steps) ≡ [] → OnlyAsked old new
+only-asked : {Own : Type 0} (old new : Seen Own) (steps : List WorldStep) → new.given ≡ old.given → new.history ≡ old.history ++ steps → AllByRecursion IsTalk steps → AllByRecursion (IsOrderly index) steps → released (journal steps) ≡ [] → OnlyAsked [] old new
 only-asked old new steps given more are orderly none =
     let tells = talk-tells steps are in
     let longer : journal new.history ≡ journal old.history ++ journal steps = ap journal more ∙ journal-append old.history steps in
@@ -310,32 +333,54 @@ only-asked old new steps given more are orderly none =
       inputs = ap (inputs index) longer ∙ inputs-append index (journal old.history) (journal steps) ∙ ap (λ (xs : List (List ℕ)). given_in old ++ xs) tells.given ∙ append-nil (given_in old);
       stimuli = ap stimuli longer ∙ stimuli-append (journal old.history) (journal steps) ∙ ap (λ (xs : List WorldStim). stimuli_in old ++ xs) tells.stims ∙ append-nil (stimuli_in old);
       released = released_same old new (journal steps) longer none;
+      lost_so = lost_more old new (journal steps) longer ∙ ap (λ (ds : List ℕ). lost_of old ++ ds) tells.lost;
       marks = ap (λ (s : State). s.marks) (state-append old new steps given more) ∙ talk-marks steps (state old) are;
       at_once = others_at_once old new steps more tells.acts;
       orderly = record { steps = steps; history = more; orderly = orderly };
     }
 
 waits-asked : {Own : Type 0} (Tells : Type 0) (d xid : ℕ) (old new : Seen Own) (came : List (ℕ × List ℕ)) (refusal : Option Refusal) → Tells → Waits Tells (asked_from d xid) (request_sent d xid ∷ barrier_sent (asked_from d xid) ∷ []) old new [] came refusal
-    → OnlyAsked old new
+    → OnlyAsked [] old new
 waits-asked Tells d xid old new came refusal told waits =
     let a : Awaited = asked_from d xid in
     only-asked old new (request_sent d xid ∷ barrier_sent a ∷ (wait_steps a waits.got ++ reply_got a ∷ [])) waits.hears.continues.given (waits.hears.told told)
     (tt, (tt, all_talk (wait_steps a waits.got) (reply_got a ∷ []) (wait-talk a waits.got) (tt, tt))) (rows-orderly index d xid waits.got) (rows-release-none d xid waits.got)
 
 -- To ask a switch for its rows leaves all that is told of the application.
-pub rows-asked : {Own : Type 0} (Tells : Type 0) (d xid : ℕ) (old new : Seen Own) (kept now_kept : List (ℕ × List ℕ)) (rows : List FlowRow) → Tells → GivesRows Tells d xid old new kept now_kept rows → OnlyAsked old new
+pub rows-asked : {Own : Type 0} (Tells : Type 0) (d xid : ℕ) (old new : Seen Own) (kept now_kept : List (ℕ × List ℕ)) (rows : List FlowRow) → Tells → GivesRows Tells d xid old new kept now_kept rows → OnlyAsked [] old new
 rows-asked Tells d xid old new kept now_kept rows told gives = waits-asked Tells d xid old new gives.came gives.answered.refusal told gives.answered.waits
 
-pub asked-nothing : {Own : Type 0} (seen : Seen Own) → OnlyAsked seen seen
-asked-nothing seen = record { given = refl; acts = refl; inputs = refl; stimuli = refl; released = refl; marks = refl; at_once = λ said. said; orderly = orderly-none index seen }
+-- Where it was lost meanwhile, that leaves it too.
+pub lost-asked : {Own : Type 0} (Tells : Type 0) (d : ℕ) (old new : Seen Own) (net now_net : NetState) → Tells → Conforming new → is_joined d (state old) ≡ true → Continues Tells old new → OnLinks Tells old new → AsksWithoutStrays Tells d old new → AsksLost Tells d old new net now_net
+    → OnlyAsked (d ∷ []) old new
+lost-asked Tells d old new net now_net told keeps joined continues links places lost =
+    let only = links told in
+    let out = lost.is_lost.out told joined in
+    let longer : journal new.history ≡ journal old.history ++ journal out.steps = ap journal out.history ∙ journal-append old.history out.steps in
+    let tells = links_tell old new only in
+    record {
+      given = continues.given;
+      acts = tells.acts;
+      inputs = tells.given;
+      stimuli = tells.stims;
+      released = released_same old new (journal out.steps) longer out.released_so;
+      lost_so = lost_more old new (journal out.steps) longer ∙ ap (λ (ds : List ℕ). lost_of old ++ ds) out.lost;
+      marks = (links_state old new continues.given only).marks;
+      at_once = others_at_once old new only.steps only.history (link_steps-tell index only.steps only.all).acts;
+      orderly = calls-orderly index old new only (places told (Conforming-in_order new keeps) joined);
+    }
 
-pub asked-then : {Own : Type 0} (old mid new : Seen Own) → OnlyAsked old mid → OnlyAsked mid new → OnlyAsked old new
-asked-then old mid new first rest = record {
+pub asked-nothing : {Own : Type 0} (seen : Seen Own) → OnlyAsked [] seen seen
+asked-nothing seen = record { given = refl; acts = refl; inputs = refl; stimuli = refl; released = refl; lost_so = sym (append-nil (lost_of seen)); marks = refl; at_once = λ said. said; orderly = orderly-none index seen }
+
+pub asked-then : {Own : Type 0} (lost more : List ℕ) (old mid new : Seen Own) → OnlyAsked lost old mid → OnlyAsked more mid new → OnlyAsked (lost ++ more) old new
+asked-then lost more old mid new first rest = record {
   given = rest.given ∙ first.given;
   acts = rest.acts ∙ first.acts;
   inputs = rest.inputs ∙ first.inputs;
   stimuli = rest.stimuli ∙ first.stimuli;
   released = rest.released ∙ first.released;
+  lost_so = rest.lost_so ∙ ap (λ (ds : List ℕ). ds ++ more) first.lost_so ∙ append_assoc (lost_of old) lost more;
   marks = rest.marks ∙ first.marks;
   at_once = λ said. rest.at_once (first.at_once said);
   orderly = orderly-then index old mid new first.orderly rest.orderly;

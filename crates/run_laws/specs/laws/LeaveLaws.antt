@@ -4,7 +4,7 @@ use Rattle.std.proofs.lemmas.List.{append-nil}
 use Rattle.std.proofs.lemmas.List.Elements.{filter-append}
 use Rattle.of_types.specs.declared.journal.Act.{Act}
 use Rattle.of_types.specs.declared.journal.WorldStim.{WorldStim}
-use Rattle.lego_model.specs.Journal.{is_of, inputs, stimuli, released}
+use Rattle.lego_model.specs.Journal.{is_of, inputs, stimuli, released, losses}
 use Rattle.lego_model.specs.laws.JournalLaws.{inputs-append, stimuli-append}
 use Rattle.outside.specs.declared.step.WorldStep.{WorldStep}
 use Rattle.outside.specs.Seen.{Seen, journal}
@@ -15,24 +15,25 @@ use Rattle.outside.specs.laws.CallLaws.{Ends-state}
 use Rattle.std.specs.List.{AllByRecursion}
 use Rattle.lego_model.specs.OrderlySteps.{IsOrderly}
 use Rattle.journal_laws.specs.Readings.{ReadsSame, end_acts}
-use Rattle.lego_model.specs.History.{starts_in, replies_in, own_acts, given_in, stimuli_in}
+use Rattle.lego_model.specs.History.{starts_in, replies_in, own_acts, given_in, stimuli_in, lost_of}
 use Rattle.journal_laws.specs.laws.ReadingLaws.{part_read}
 use Rattle.app_visor.specs.laws.DialogueLaws.{converses_ended}
 use Rattle.run_laws.specs.laws.DialogueLaws.{at_once_then, runs_now}
-use Rattle.run_laws.specs.laws.TellLaws.{released_same}
+use Rattle.run_laws.specs.laws.TellLaws.{released_same, lost_same}
 use Rattle.lego_model.specs.Application.{index}
-use Rattle.run_laws.specs.LastReport.{OnlyAsked}
+use Rattle.run_laws.specs.LastReport.{OnlyAsked, switch_left}
 use Rattle.run_laws.specs.Endings.{Leaves}
 
--- Switches were asked, and none moved.
-pub asked-leaves : {Own : Type 0} (old new : Seen Own) → OnlyAsked old new → ((d : ℕ) → switch_of d (state new) ≡ switch_of d (state old)) → Leaves old new
-asked-leaves old new asked switches = record {
+-- Switches were asked, and none moved but those that were lost.
+pub asked-leaves : {Own : Type 0} (lost : List ℕ) (old new : Seen Own) → OnlyAsked lost old new → ((d : ℕ) → switch_of d (state new) ≡ switch_left lost (state old) d) → Leaves lost old new
+asked-leaves lost old new asked switches = record {
   given = asked.given;
   starts = ap starts_in asked.acts;
   replies = ap replies_in asked.acts;
   inputs = asked.inputs;
   stimuli = asked.stimuli;
   released = asked.released;
+  lost_so = asked.lost_so;
   marks = asked.marks;
   switches = switches;
   at_once = asked.at_once;
@@ -47,17 +48,18 @@ record IsEnd (running : Bool) : Type 0 where
   inputs_so : inputs index (journal (end_steps index running)) ≡ []
   stimuli_so : stimuli (journal (end_steps index running)) ≡ []
   released_so : released (journal (end_steps index running)) ≡ []
+  lost_so : losses (journal (end_steps index running)) ≡ []
   marks : (s : State) → (after_steps (end_steps index running) s).marks ≡ s.marks
   switches : (d : ℕ) (s : State) → switch_of d (after_steps (end_steps index running) s) ≡ switch_of d s
   orderly : AllByRecursion (IsOrderly index) (end_steps index running)
 
 is-end : (running : Bool) → IsEnd running
-unfolding end_steps journal inputs stimuli released switch_of after_act after_step
-is-end true = record { own = refl; inputs_so = refl; stimuli_so = refl; released_so = refl; marks = λ s. refl; switches = λ d s. refl; orderly = (refl, tt) }
-is-end false = record { own = refl; inputs_so = refl; stimuli_so = refl; released_so = refl; marks = λ s. refl; switches = λ d s. refl; orderly = tt }
+unfolding end_steps journal inputs stimuli released losses switch_of after_act after_step
+is-end true = record { own = refl; inputs_so = refl; stimuli_so = refl; released_so = refl; lost_so = refl; marks = λ s. refl; switches = λ d s. refl; orderly = (refl, tt) }
+is-end false = record { own = refl; inputs_so = refl; stimuli_so = refl; released_so = refl; lost_so = refl; marks = λ s. refl; switches = λ d s. refl; orderly = tt }
 
 -- The application is ended, if it runs.
-pub end-leaves : {Own : Type 0} (Tells : Type 0) (old new : Seen Own) → Tells → Ends Tells index old new → Leaves old new
+pub end-leaves : {Own : Type 0} (Tells : Type 0) (old new : Seen Own) → Tells → Ends Tells index old new → Leaves [] old new
 end-leaves Tells old new told ends =
     let running : Bool = is_running index (state old) in
     let steps : List WorldStep = end_steps index running in
@@ -74,6 +76,7 @@ end-leaves Tells old new told ends =
       inputs = ap (λ (acts : List Act). inputs index acts) longer ∙ inputs-append index (journal old.history) (journal steps) ∙ ap (λ (xs : List (List ℕ)). given_in old ++ xs) is.inputs_so ∙ append-nil (given_in old);
       stimuli = ap (λ (acts : List Act). stimuli acts) longer ∙ stimuli-append (journal old.history) (journal steps) ∙ ap (λ (xs : List WorldStim). stimuli_in old ++ xs) is.stimuli_so ∙ append-nil (stimuli_in old);
       released = released_same old new (journal steps) longer is.released_so;
+      lost_so = lost_same old new (journal steps) longer is.lost_so ∙ sym (append-nil (lost_of old));
       marks = ap (λ (s : State). s.marks) after ∙ is.marks (state old);
       switches = λ d. ap (λ (s : State). switch_of d s) after ∙ is.switches d (state old);
       at_once = λ said. let ended = converses_ended Tells index said.last old new ends told (runs_now old said) in at_once_then ended.0 old new said ended.1.0;

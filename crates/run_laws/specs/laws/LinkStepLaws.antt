@@ -2,10 +2,10 @@
 use Rattle.std.proofs.Common.{◌≡◌, ◌==◌, ℕ, true, List, [], ◌∷◌, map, Some, None, refl, sym, ◌∙◌, subst, true≢false}
 use Rattle.std.specs.List.{AllByRecursion}
 use Rattle.of_types.specs.declared.journal.Act.{Act}
-use Rattle.of_types.specs.declared.journal.Act.TheVariants.{Stim, Started, Gave, Gone, Took, Ended, Sent, Got}
+use Rattle.of_types.specs.declared.journal.Act.TheVariants.{Stim, Started, Gave, Gone, Took, Ended, Sent, Got, Lost}
 use Rattle.lego_model.specs.Journal.{is_of, inputs, stimuli}
 use Rattle.outside.specs.declared.step.WorldStep.{WorldStep}
-use Rattle.outside.specs.declared.step.WorldStep.TheVariants.{Acted, TookInto, From, Joined, Left, Moment, Idle, End, Opened, NotOpened, NextFailed, SendFailed, RecvFailed}
+use Rattle.outside.specs.declared.step.WorldStep.TheVariants.{Acted, TookInto, From, Joined, Left, Moment, Idle, End, Opened, NotOpened, NextFailed, SendLost, RecvLost, SendFailed, RecvFailed}
 use Rattle.outside.specs.Seen.{journal}
 use Rattle.outside.specs.State.{State, event_number, marks_at_event, marks_after_gave, after_act, after_step, after_steps}
 use Rattle.app_visor.specs.Talks.{step_of}
@@ -31,6 +31,8 @@ pub link_step : (step : WorldStep) (s : State) → is_link_step step ≡ true �
 unfolding after_step after_act
 link_step (Acted (Sent d bytes)) s is = record { begun = refl; due = refl; moment = refl; to_come = refl; running = refl; marks = refl }
 link_step (Acted (Got d bytes)) s is = record { begun = refl; due = refl; moment = refl; to_come = refl; running = refl; marks = refl }
+link_step (SendLost d) s is = record { begun = refl; due = refl; moment = refl; to_come = refl; running = refl; marks = refl }
+link_step (RecvLost d) s is = record { begun = refl; due = refl; moment = refl; to_come = refl; running = refl; marks = refl }
 link_step (SendFailed d) s is = record { begun = refl; due = refl; moment = refl; to_come = refl; running = refl; marks = refl }
 link_step (RecvFailed d) s is = record { begun = refl; due = refl; moment = refl; to_come = refl; running = refl; marks = refl }
 link_step (Acted (Stim x)) s is = absurd (true≢false (sym is))
@@ -39,6 +41,7 @@ link_step (Acted (Gave app bytes)) s is = absurd (true≢false (sym is))
 link_step (Acted (Gone app bytes)) s is = absurd (true≢false (sym is))
 link_step (Acted (Took app what)) s is = absurd (true≢false (sym is))
 link_step (Acted (Ended app)) s is = absurd (true≢false (sym is))
+link_step (Acted (Lost d)) s is = absurd (true≢false (sym is))
 link_step (TookInto app what room) s is = absurd (true≢false (sym is))
 link_step (From d bytes) s is = absurd (true≢false (sym is))
 link_step (Joined d bytes) s is = absurd (true≢false (sym is))
@@ -59,6 +62,8 @@ unfolding journal inputs stimuli
 link_steps-tell app [] are = record { acts = refl; given = refl; stims = refl }
 link_steps-tell app (Acted (Sent d bytes) ∷ steps) are = let rest = link_steps-tell app steps are.1 in record { acts = rest.acts; given = rest.given; stims = rest.stims }
 link_steps-tell app (Acted (Got d bytes) ∷ steps) are = let rest = link_steps-tell app steps are.1 in record { acts = rest.acts; given = rest.given; stims = rest.stims }
+link_steps-tell app (SendLost d ∷ steps) are = let rest = link_steps-tell app steps are.1 in record { acts = rest.acts; given = rest.given; stims = rest.stims }
+link_steps-tell app (RecvLost d ∷ steps) are = let rest = link_steps-tell app steps are.1 in record { acts = rest.acts; given = rest.given; stims = rest.stims }
 link_steps-tell app (SendFailed d ∷ steps) are = let rest = link_steps-tell app steps are.1 in record { acts = rest.acts; given = rest.given; stims = rest.stims }
 link_steps-tell app (RecvFailed d ∷ steps) are = let rest = link_steps-tell app steps are.1 in record { acts = rest.acts; given = rest.given; stims = rest.stims }
 link_steps-tell app (Acted (Stim x) ∷ steps) are = absurd (true≢false (sym are.0))
@@ -67,6 +72,7 @@ link_steps-tell app (Acted (Gave of bytes) ∷ steps) are = absurd (true≢false
 link_steps-tell app (Acted (Gone of bytes) ∷ steps) are = absurd (true≢false (sym are.0))
 link_steps-tell app (Acted (Took of what) ∷ steps) are = absurd (true≢false (sym are.0))
 link_steps-tell app (Acted (Ended of) ∷ steps) are = absurd (true≢false (sym are.0))
+link_steps-tell app (Acted (Lost d) ∷ steps) are = absurd (true≢false (sym are.0))
 link_steps-tell app (TookInto of what room ∷ steps) are = absurd (true≢false (sym are.0))
 link_steps-tell app (From d bytes ∷ steps) are = absurd (true≢false (sym are.0))
 link_steps-tell app (Joined d bytes ∷ steps) are = absurd (true≢false (sym are.0))
@@ -102,6 +108,7 @@ talk_step app (Took of what) s is = record { links = refl; begun = refl; due = r
 talk_step app (Ended of) s is = record { links = refl; begun = refl; due = refl; moment = refl; to_come = refl }
 talk_step app (Sent d bytes) s is = absurd (true≢false (sym is))
 talk_step app (Got d bytes) s is = absurd (true≢false (sym is))
+talk_step app (Lost d) s is = absurd (true≢false (sym is))
 
 pub talk_steps : (app : ℕ) (acts : List Act) (s : State) → AllByRecursion (λ act. is_of app act ≡ true) acts → OnlyTalk s (after_steps (map step_of acts) s)
 talk_steps app [] s are = OnlyTalk-refl s
@@ -139,6 +146,7 @@ talk_marks app (Ended of) acts is none = record { marks = λ s. refl; rest = non
 talk_marks app (Stim x) acts is none = absurd (true≢false (sym is))
 talk_marks app (Sent d bytes) acts is none = absurd (true≢false (sym is))
 talk_marks app (Got d bytes) acts is none = absurd (true≢false (sym is))
+talk_marks app (Lost d) acts is none = absurd (true≢false (sym is))
 
 pub talks_mark : (app : ℕ) (acts : List Act) (s : State) → AllByRecursion (λ act. is_of app act ≡ true) acts → NoEvents (inputs app acts) → (after_steps (map step_of acts) s).marks ≡ s.marks
 talks_mark app [] s are none = refl

@@ -1,18 +1,21 @@
--- Laws of steps in order in a run: no call of a link failed where calls for an application, turns with the release of their packets, starts
+-- Laws of steps in order in a run: no call of a link failed but by the loss of its switch where calls for an application, turns with the release of their packets, starts
 -- and the end of the report succeed.
-use Rattle.std.proofs.Common.{◌≡◌, ℕ, suc, zero, ◌+◌, Bool, true, false, List, [], ◌∷◌, ◌++◌, length, map, Option, refl, sym, subst, true≢false, inl, inr}
+use Rattle.std.proofs.Common.{◌≡◌, ℕ, suc, zero, ◌+◌, Bool, true, false, List, [], ◌∷◌, ◌++◌, length, map, Option, Ok, ap, ◌∙◌, refl, sym, subst, true≢false, inl, inr}
 use Rattle.std.specs.List.{AllByRecursion}
 use Rattle.std.proofs.lemmas.Bool.{eq-eqb, eqb-true}
 use Rattle.of_types.specs.declared.journal.Act.{Act}
-use Rattle.of_types.specs.declared.journal.Act.TheVariants.{Stim, Started, Gave, Gone, Took, Ended, Sent, Got}
+use Rattle.of_types.specs.declared.journal.Act.TheVariants.{Stim, Started, Gave, Gone, Took, Ended, Sent, Got, Lost}
 use Rattle.flow_table.specs.View.{TableView}
 use Rattle.app_frames.specs.declared.frame.Event.{Event}
 use Rattle.lego_model.specs.Journal.{is_of}
 use Rattle.lego_model.specs.Controller.{attempts, event_frame}
-use Rattle.outside.specs.Seen.{Seen}
-use Rattle.outside.specs.State.{is_running, state}
+use Rattle.outside.specs.Seen.{Seen, Continues}
+use Rattle.outside.specs.Conforming.{Conforming}
+use Rattle.outside.specs.laws.SeenLaws.{Continues-trans}
+use Rattle.outside.specs.laws.StateLaws.{Conforming-before}
+use Rattle.batch_laws.specs.laws.KeepingLaws.{Conforming-in_order}
+use Rattle.outside.specs.State.{State, is_running, state}
 use Rattle.net_txn.specs.Net.{NetState}
-use Rattle.net_txn.specs.Releases.{committed}
 use Rattle.app_visor.specs.declared.state.TurnEnd.{TurnEnd}
 use Rattle.app_visor.specs.Turns.{handed}
 use Rattle.app_visor.specs.declared.state.TurnEnd.TheVariants as ends
@@ -20,14 +23,22 @@ use Rattle.app_visor.specs.Talks.{step_of, give_act}
 use Rattle.app_visor.specs.Beats.{Beat, Talk, Asks, Chain}
 use Rattle.app_visor.specs.Attempts.{IsTry, OneTry, AreTries}
 use Rattle.journal_laws.specs.Readings.{end_acts}
+use Rattle.app_visor.specs.laws.BeatLaws.{Chain-continues}
 use Rattle.switch_laws.specs.Orderly.{OrderlySince}
+use Rattle.switch_laws.specs.Since.{Ready, Goes}
+use Rattle.switch_laws.specs.laws.SinceLaws.{begun, goes-on}
+use Rattle.switch_laws.specs.laws.LossLaws.{ready-joined}
+use Rattle.turn_laws.specs.laws.ChainLaws.{goes-same}
+use Rattle.batch_laws.specs.Calm.{Calm}
 use Rattle.lego_model.specs.OrderlySteps.{IsOrderly}
 use Rattle.switch_laws.specs.laws.OrderlyLaws.{orderly-same, orderly-then, exchange-orderly, undo-orderly, release-orderly}
 use Rattle.run_laws.specs.Engine.{Engine}
 use Rattle.lego_model.specs.Application.{index}
-use Rattle.run_laws.specs.Facts.{StartsAgain, IsClosed, TakesTurn, IsTurn}
+use Rattle.run_laws.specs.Facts.{StartsAgain, all_told, IsClosed, TakesTurn, IsTurn}
 use Rattle.run_laws.specs.Readings.{AreRead}
-use Rattle.run_laws.specs.laws.ChainLaws.{try_own}
+use Rattle.run_laws.specs.laws.ChainLaws.{try_own, told_state, tries_continue}
+use Rattle.run_laws.specs.laws.LinkStepLaws.{talk_step}
+use Rattle.run_laws.specs.laws.TellLaws.{talk_loses, chain_ready}
 
 -- ---- Calls for an application
 
@@ -40,6 +51,7 @@ talk-orderly app (Took of what) is = (eqb-true of app is, refl)
 talk-orderly app (Ended of) is = eqb-true of app is
 talk-orderly app (Sent d bytes) is = absurd (true≢false (sym is))
 talk-orderly app (Got d bytes) is = absurd (true≢false (sym is))
+talk-orderly app (Lost d) is = absurd (true≢false (sym is))
 
 talks-orderly : (app : ℕ) (acts : List Act) → AllByRecursion (λ act. is_of app act ≡ true) acts → AllByRecursion (IsOrderly app) (map step_of acts)
 talks-orderly app [] all = tt
@@ -47,15 +59,23 @@ talks-orderly app (act ∷ acts) all = (talk-orderly app act all.0, talks-orderl
 
 -- ---- Beats
 
-chain-orderly : {Own : Type 0} (Tells : Type 0) (app : ℕ) (trace : List (Beat Own)) (old new : Seen Own) (net now_net : NetState) → Tells → Chain Tells app trace old new net now_net → OrderlySince app old new
-chain-orderly Tells app [] old new net now_net told chain = orderly-same app old new chain.0
-chain-orderly Tells app (Talk act ∷ trace) old new net now_net told chain =
+-- of a turn that stands so in a world that keeps its word
+chain-orderly : {Own : Type 0} (Tells : Type 0) (start : ℕ) (lost : List ℕ) (first : Seen Own) (net0 : NetState) (trace : List (Beat Own)) (old new : Seen Own) (net now_net : NetState) → Tells → Conforming new → Chain Tells index trace old new net now_net
+    → Goes start lost first old net0 net → OrderlySince index old new
+chain-orderly Tells start lost first net0 [] old new net now_net told keeps chain goes = orderly-same index old new chain.0
+chain-orderly Tells start lost first net0 (Talk act ∷ trace) old new net now_net told keeps chain goes =
     let next = chain.1.0 in
-    orderly-then app old next new (record { steps = step_of act ∷ []; history = chain.1.1.0.history told; orderly = (talk-orderly app act chain.0, tt) })
-    (chain-orderly Tells app trace next new net now_net told chain.1.1.1)
-chain-orderly Tells app (Asks x ∷ trace) old new net now_net told chain =
-    let one = exchange-orderly app Tells x.dpid x.bytes x.before x.after x.net x.now_net x.answer told chain.1.0.changes in
-    orderly-then app old x.after new (subst (λ (s : Seen _). OrderlySince app s x.after) chain.0.0 one) (chain-orderly Tells app trace x.after new x.now_net now_net told chain.1.1)
+    let t = chain.1.1.0 in
+    let same : (state next).links ≡ (state old).links = ap (λ (s : State). s.links) (told_state Tells act old next told t) ∙ (talk_step index act (state old) chain.0).links in
+    orderly-then index old next new (record { steps = step_of act ∷ []; history = t.history told; orderly = (talk-orderly index act chain.0, tt) })
+    (chain-orderly Tells start lost first net0 trace next new net now_net told keeps chain.1.1.1 (goes-same start lost first old next net0 net t.continues.given same (talk_loses old next (act ∷ []) (t.history told) (chain.0, tt)).lost goes))
+chain-orderly Tells start lost first net0 (Asks x ∷ trace) old new net now_net told keeps chain goes =
+    let is = chain.1.0 in
+    let kept = Conforming-before told (Chain-continues Tells index trace x.after new x.now_net now_net chain.1.1) keeps in
+    let here = subst (λ (n : NetState). Goes start lost first x.before net0 n) (sym chain.0.1) (subst (λ (s : Seen _). Goes start lost first s net0 net) (sym chain.0.0) goes) in
+    let on = goes-on Tells x.dpid x.bytes start lost first x.before x.after net0 x.net x.now_net x.answer told kept is.changes here in
+    let one = exchange-orderly index Tells x.dpid x.bytes x.before x.after x.net x.now_net (Ok x.answer) told (Conforming-in_order x.after kept) (ready-joined x.before x.net here.ready) is.changes in
+    orderly-then index old x.after new (subst (λ (s : Seen _). OrderlySince index s x.after) chain.0.0 one) (chain-orderly Tells start (lost ++ on.more) first net0 trace x.after new x.now_net now_net told keeps chain.1.1 on.goes)
 
 -- ---- Attempts to start
 
@@ -82,21 +102,33 @@ starts-orderly Tells accepts text old new e now_e told reads s =
 
 -- ---- A turn
 
-closed-orderly : {Own : Type 0} (Tells : Type 0) (accepts : List TableView → Bool) (end : TurnEnd) (checkpoint : Option (List ℕ)) (unread text : List ℕ) (start : ℕ) (mid new : Seen Own) (mid_net : NetState) (e now_e : Engine) → Tells → AreRead Own Tells accepts
+closed-orderly : {Own : Type 0} (Tells : Type 0) (accepts : List TableView → Bool) (end : TurnEnd) (checkpoint : Option (List ℕ)) (unread text : List ℕ) (start : ℕ) (mid new : Seen Own) (mid_net : NetState) (e now_e : Engine) → Tells → Conforming new → Ready mid mid_net → AreRead Own Tells accepts
     → IsClosed Tells end checkpoint unread text start mid new mid_net e now_e → OrderlySince index mid new
-closed-orderly Tells accepts (ends.Done stop) checkpoint unread text start mid new mid_net e now_e told reads closed =
-    release-orderly index Tells mid_net.held mid new (committed start mid_net) closed.net e.queue closed.queue told closed.commits.ended.all
-closed-orderly Tells accepts (ends.Failed cause) checkpoint unread text start mid new mid_net e now_e told reads closed =
-    orderly-then index mid closed.undone new (undo-orderly index Tells start mid closed.undone mid_net closed.undone_net told closed.undoes)
-    (starts-orderly Tells accepts closed.later_text closed.undone new (record e { net = closed.undone_net; rest = []; failed = e.failed + 1 }) now_e told reads closed.starts)
+closed-orderly Tells accepts (ends.Done stop) checkpoint unread text start mid new mid_net e now_e told keeps ready reads closed =
+    release-orderly index Tells start mid new mid_net closed.net e.queue closed.queue (Ok closed.sent) told (Conforming-in_order new keeps) (ready-joined mid mid_net ready) closed.commits
+closed-orderly Tells accepts (ends.Failed cause) checkpoint unread text start mid new mid_net e now_e told keeps ready reads closed =
+    let starts = closed.starts.restarts in
+    let kept = Conforming-before told (tries_continue Tells index e.kept attempts starts.all closed.undone new starts.are) keeps in
+    orderly-then index mid closed.undone new (undo-orderly index Tells start mid closed.undone mid_net closed.undone_net (Ok tt) told (Conforming-in_order closed.undone kept) (ready-joined mid mid_net ready) closed.undoes)
+    (starts-orderly Tells accepts closed.later_text closed.undone new (all_told closed.undone_net e.queue (record e { rest = []; failed = e.failed + 1 })) now_e told reads closed.starts)
 
-taken-orderly : {Own : Type 0} (Tells : Type 0) (accepts : List TableView → Bool) (event : Event) (text : List ℕ) (old new : Seen Own) (e now_e : Engine) → Tells → AreRead Own Tells accepts → TakesTurn Tells accepts event text old new e now_e → OrderlySince index old new
-taken-orderly Tells accepts event text old new e now_e told reads turn =
+closed-continues : {Own : Type 0} (Tells : Type 0) (end : TurnEnd) (checkpoint : Option (List ℕ)) (unread text : List ℕ) (start : ℕ) (mid new : Seen Own) (mid_net : NetState) (e now_e : Engine) → IsClosed Tells end checkpoint unread text start mid new mid_net e now_e → Continues Tells mid new
+closed-continues Tells (ends.Done stop) checkpoint unread text start mid new mid_net e now_e closed = closed.commits.continues
+closed-continues Tells (ends.Failed cause) checkpoint unread text start mid new mid_net e now_e closed =
+    let starts = closed.starts.restarts in
+    Continues-trans Tells mid closed.undone new closed.undoes.continues (tries_continue Tells index e.kept attempts starts.all closed.undone new starts.are)
+
+taken-orderly : {Own : Type 0} (Tells : Type 0) (accepts : List TableView → Bool) (event : Event) (text : List ℕ) (old new : Seen Own) (e now_e : Engine) → Tells → Conforming new → Calm old e.net → AreRead Own Tells accepts → TakesTurn Tells accepts event text old new e now_e → OrderlySince index old new
+taken-orderly Tells accepts event text old new e now_e told keeps calm reads turn =
+    let trace = Talk (give_act turn.turns.given index (event_frame e.events e.net.moment event)) ∷ turn.turns.trace in
+    let kept = Conforming-before told (closed-continues Tells turn.end (handed turn.turns.outcome) turn.unread text (length e.net.log) turn.mid new turn.mid_net e now_e turn.closed) keeps in
+    let first : Goes (length e.net.log) [] old old e.net e.net = record { since = begun old e.net; ready = calm.ready } in
     orderly-then index old turn.mid new
-    (chain-orderly Tells index (Talk (give_act turn.turns.given index (event_frame e.events e.net.moment event)) ∷ turn.turns.trace) old turn.mid e.net turn.mid_net told turn.turns.chain)
-    (closed-orderly Tells accepts turn.end (handed turn.turns.outcome) turn.unread text (length e.net.log) turn.mid new turn.mid_net e now_e told reads turn.closed)
+    (chain-orderly Tells (length e.net.log) [] old e.net trace old turn.mid e.net turn.mid_net told kept turn.turns.chain first)
+    (closed-orderly Tells accepts turn.end (handed turn.turns.outcome) turn.unread text (length e.net.log) turn.mid new turn.mid_net e now_e told keeps
+    (chain_ready Tells (length e.net.log) [] old e.net trace old turn.mid e.net turn.mid_net told kept turn.turns.chain first) reads turn.closed)
 
-pub turn-orderly : {Own : Type 0} (Tells : Type 0) (accepts : List TableView → Bool) (event : Event) (alive : Bool) (text : List ℕ) (old new : Seen Own) (e now_e : Engine) → Tells → AreRead Own Tells accepts → IsTurn Tells accepts event alive text old new e now_e
+pub turn-orderly : {Own : Type 0} (Tells : Type 0) (accepts : List TableView → Bool) (event : Event) (alive : Bool) (text : List ℕ) (old new : Seen Own) (e now_e : Engine) → Tells → Conforming new → Calm old e.net → AreRead Own Tells accepts → IsTurn Tells accepts event alive text old new e now_e
     → OrderlySince index old new
-turn-orderly Tells accepts event true text old new e now_e told reads turn = taken-orderly Tells accepts event text old new e now_e told reads turn
-turn-orderly Tells accepts event false text old new e now_e told reads turn = orderly-same index old new turn.0
+turn-orderly Tells accepts event true text old new e now_e told keeps calm reads turn = taken-orderly Tells accepts event text old new e now_e told keeps calm reads turn
+turn-orderly Tells accepts event false text old new e now_e told keeps calm reads turn = orderly-same index old new turn.0

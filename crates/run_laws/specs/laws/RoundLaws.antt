@@ -19,44 +19,42 @@ rounds-none Tells accepts seen e = record {
 }
 
 -- one round more: a batch with its stimulus, and the events that wait then
-pub rounds-more : {Own : Type 0} (Tells : Type 0) (accepts : List TableView → Bool) (number : ℕ) (first second : List ℕ) (a b c d : Seen Own) (e1 e2 e3 e4 : Engine)
-    → Continues Tells b c → Continues Tells c d → ShownRounds Tells accepts number first a b e1 e2 → ShownIdle Tells b c e2 e3 → Shown Tells accepts [] settle second c d e3 e4
-    → ShownRounds Tells accepts (number + 1) (first ++ second) a d e1 e4
-rounds-more Tells accepts number first second a b c d e1 e2 e3 e4 later last rs idle settles = record {
+pub rounds-more : {Own : Type 0} (Tells : Type 0) (accepts : List TableView → Bool) (number : ℕ) (first noted second : List ℕ) (a b c d : Seen Own) (e1 e2 e3 e4 : Engine)
+    → Continues Tells b c → Continues Tells c d → ShownRounds Tells accepts number first a b e1 e2 → ShownIdle Tells noted b c e2 e3 → Shown Tells accepts [] settle second c d e3 e4
+    → ShownRounds Tells accepts (number + 1) ((first ++ noted) ++ second) a d e1 e4
+rounds-more Tells accepts number first noted second a b c d e1 e2 e3 e4 later last rs idle settles = record {
   rounds_so = λ allows told keeps judges settled.
       let keeps_c = Conforming-before told last keeps in
       let one = rs.rounds_so allows told (Conforming-before told later keeps_c) judges settled in
       let two = idle.happens told keeps_c one.moved.settled in
       let x = two.stimulus in
       let three = settles.moved allows told keeps judges two.moved.settled in
-      let all = moved-then (one.stimuli ++ x ∷ []) [] (λ r. happen x (rounds allows one.stimuli r)) (settle allows) (first ++ []) second a c d e1 e3 e4
-      (moved-then one.stimuli (x ∷ []) (rounds allows one.stimuli) (happen x) first [] a b c e1 e2 e3 one.moved two.moved) three in
+      let all = moved-then (one.stimuli ++ x ∷ []) [] (λ r. happen x (rounds allows one.stimuli r)) (settle allows) (first ++ noted) second a c d e1 e3 e4
+      (moved-then one.stimuli (x ∷ []) (rounds allows one.stimuli) (happen x) first noted a b c e1 e2 e3 one.moved two.moved) three in
       record {
         stimuli = one.stimuli ++ x ∷ [];
         number_so = length-append one.stimuli (x ∷ []) ∙ ap (λ (n : ℕ). n + 1) one.number_so;
-        moved = subst (λ (t : List ℕ). Moved (one.stimuli ++ x ∷ []) (rounds allows (one.stimuli ++ x ∷ [])) (t ++ second) a d e1 e4) (append-nil first)
-            (subst (λ (xs : List WorldStim). Moved xs (rounds allows (one.stimuli ++ x ∷ [])) ((first ++ []) ++ second) a d e1 e4) (append-nil (one.stimuli ++ x ∷ []))
-            (moved-as ((one.stimuli ++ x ∷ []) ++ []) (λ r. settle allows (happen x (rounds allows one.stimuli r))) (rounds allows (one.stimuli ++ x ∷ [])) ((first ++ []) ++ second) a d e1 e4
-            (λ ss rs r s. sym (fold-append (round allows) r one.stimuli (x ∷ []))) all));
+        moved = subst (λ (xs : List WorldStim). Moved xs (rounds allows (one.stimuli ++ x ∷ [])) ((first ++ noted) ++ second) a d e1 e4) (append-nil (one.stimuli ++ x ∷ []))
+            (moved-as ((one.stimuli ++ x ∷ []) ++ []) (λ r. settle allows (happen x (rounds allows one.stimuli r))) (rounds allows (one.stimuli ++ x ∷ [])) ((first ++ noted) ++ second) a d e1 e4
+            (λ ss rs l r s. sym (fold-append (round allows) r one.stimuli (x ∷ []))) all);
       };
 }
 
 -- the last batch
-pub rounds-end : {Own : Type 0} (Tells : Type 0) (accepts : List TableView → Bool) (number most : ℕ) (first second : List ℕ) (a b c d : Seen Own) (e1 e2 e3 e4 : Engine)
-    → Continues Tells b c → Continues Tells c d → ShownRounds Tells accepts number first a b e1 e2 → ShownOver Tells b c e2 e3 → Shown Tells accepts [] settle second c d e3 e4
-    → ShownToEnd Tells accepts most (first ++ second) a d e1 e4
-rounds-end Tells accepts number most first second a b c d e1 e2 e3 e4 later last rs over settles = record {
+pub rounds-end : {Own : Type 0} (Tells : Type 0) (accepts : List TableView → Bool) (number most : ℕ) (first noted second : List ℕ) (a b c d : Seen Own) (e1 e2 e3 e4 : Engine)
+    → Continues Tells b c → Continues Tells c d → ShownRounds Tells accepts number first a b e1 e2 → ShownOver Tells noted b c e2 e3 → Shown Tells accepts [] settle second c d e3 e4
+    → ShownToEnd Tells accepts most ((first ++ noted) ++ second) a d e1 e4
+rounds-end Tells accepts number most first noted second a b c d e1 e2 e3 e4 later last rs over settles = record {
   to_end = λ allows told keeps judges settled few.
       let keeps_c = Conforming-before told last keeps in
       let one = rs.rounds_so allows told (Conforming-before told later keeps_c) judges settled in
       let two = over.moved told keeps_c one.moved.settled in
       let three = settles.moved allows told keeps judges two.settled in
-      let all = moved-then (one.stimuli ++ []) [] (rounds allows one.stimuli) (settle allows) (first ++ []) second a c d e1 e3 e4
-      (moved-then one.stimuli [] (rounds allows one.stimuli) (λ r. r) first [] a b c e1 e2 e3 one.moved two) three in
+      let all = moved-then (one.stimuli ++ []) [] (rounds allows one.stimuli) (settle allows) (first ++ noted) second a c d e1 e3 e4
+      (moved-then one.stimuli [] (rounds allows one.stimuli) (λ r. r) first noted a b c e1 e2 e3 one.moved two) three in
       record {
         stimuli = one.stimuli;
-        moved = subst (λ (t : List ℕ). Moved one.stimuli (λ r. settle allows (rounds allows one.stimuli r)) (t ++ second) a d e1 e4) (append-nil first)
-            (subst (λ (xs : List WorldStim). Moved xs (λ r. settle allows (rounds allows one.stimuli r)) ((first ++ []) ++ second) a d e1 e4) (append-nil one.stimuli ∙ refl)
-            (subst (λ (xs : List WorldStim). Moved xs (λ r. settle allows (rounds allows one.stimuli r)) ((first ++ []) ++ second) a d e1 e4) (append-nil (one.stimuli ++ [])) all));
+        moved = subst (λ (xs : List WorldStim). Moved xs (λ r. settle allows (rounds allows one.stimuli r)) ((first ++ noted) ++ second) a d e1 e4) (append-nil one.stimuli)
+            (subst (λ (xs : List WorldStim). Moved xs (λ r. settle allows (rounds allows one.stimuli r)) ((first ++ noted) ++ second) a d e1 e4) (append-nil (one.stimuli ++ [])) all);
       };
 }

@@ -22,7 +22,7 @@ use Rattle.run_laws.specs.Facts.{StartsAgain}
 use Rattle.run_laws.specs.Readings.{AreRead}
 use Rattle.run_laws.specs.laws.CalmLaws.{calm_talk}
 use Rattle.run_laws.specs.laws.ChainLaws.{tries_keep, tries_continue}
-use Rattle.run_laws.specs.laws.TellLaws.{tries_tell}
+use Rattle.run_laws.specs.laws.TellLaws.{tries_tell, tries_lose}
 use Rattle.run_laws.specs.laws.LineLaws.{starts_lines}
 use Rattle.run_laws.specs.EventMoves.{StartsAlike}
 
@@ -90,6 +90,7 @@ starts_alike Tells accepts text old new e now_e told reads s =
     let read = reads.tries e.kept old new found s.tries told s.restarts in
     let keeps = tries_keep Tells index e.kept attempts all old new told s.restarts.are read.own in
     let tells = tries_tell Tells e.kept attempts all old new told s.restarts.are read.own in
+    let none = tries_lose Tells e.kept attempts all old new told s.restarts.are read.own in
     subst (λ (x : Engine). StartsAlike Tells text old new e x) (sym s.engine) (record {
       starts = starts_of all;
       tries = s.tries;
@@ -110,6 +111,7 @@ starts_alike Tells accepts text old new e now_e told reads s =
       read_starts = read.starts;
       read_replies = read.replies;
       read_stimuli = tells.stims;
-      released = tells.released;
+      released = none.released;
+      lost = none.lost;
       life = read.life;
     })

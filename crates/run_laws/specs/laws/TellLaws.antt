@@ -1,28 +1,39 @@
--- Laws of what the journal tells of a turn and of attempts to start: what the application was given, and that no stimulus came and no packet
--- was released.
+-- Laws of what the journal tells of a turn and of attempts to start: what the application was given, and that no stimulus came, and no packet
+-- was released nor, by attempts, a switch lost.
 use Rattle.std.proofs.Common.{◌≡◌, ℕ, zero, suc, true, List, [], ◌∷◌, ◌++◌, map, refl, sym, ap, ◌∙◌, subst, inl, inr, append_assoc, true≢false}
 use Rattle.std.proofs.lemmas.Bool.{eq-eqb}
 use Rattle.std.proofs.lemmas.List.{append-nil}
 use Rattle.std.proofs.lemmas.List.Elements.{filter_map-append}
 use Rattle.std.specs.List.{AllByRecursion}
 use Rattle.of_types.specs.declared.journal.Act.{Act}
-use Rattle.of_types.specs.declared.journal.Act.TheVariants.{Stim, Started, Gave, Gone, Took, Ended, Sent, Got}
+use Rattle.of_types.specs.declared.journal.Act.TheVariants.{Stim, Started, Gave, Gone, Took, Ended, Sent, Got, Lost}
 use Rattle.of_types.specs.declared.journal.WorldStim.{WorldStim}
-use Rattle.lego_model.specs.Journal.{is_of, inputs, stimuli, released_in, released, start_of}
+use Rattle.lego_model.specs.Journal.{is_of, inputs, stimuli, released_in, released, lost_in, losses, start_of}
 use Rattle.lego_model.specs.laws.JournalLaws.{inputs-append, stimuli-append}
 use Rattle.lego_model.specs.Packets.{Held}
 use Rattle.outside.specs.Seen.{Seen, journal}
 use Rattle.outside.specs.laws.SeenLaws.{journal-append}
-use Rattle.outside.specs.State.{state, is_running}
+use Rattle.outside.specs.State.{State, state, is_running}
+use Rattle.outside.specs.Conforming.{Conforming}
+use Rattle.outside.specs.laws.StateLaws.{Conforming-before}
 use Rattle.net_txn.specs.Net.{NetState}
 use Rattle.app_visor.specs.Talks.{step_of}
 use Rattle.app_visor.specs.Beats.{Beat, Talk, Asks, Chain, acts_in}
 use Rattle.app_visor.specs.Attempts.{restored, IsTry, OneTry, AreTries, given_by}
 use Rattle.journal_laws.specs.Readings.{end_acts}
 use Rattle.lego_model.specs.Application.{index}
-use Rattle.lego_model.specs.History.{given_in, stimuli_in, released_of}
-use Rattle.run_laws.specs.laws.ChainLaws.{links_tell, try_own, try_given}
-use Rattle.run_laws.specs.LinkSteps.{TellsGiven}
+use Rattle.lego_model.specs.History.{given_in, stimuli_in, released_of, lost_of}
+use Rattle.run_laws.specs.laws.ChainLaws.{links_tell, told_state, try_own, try_given}
+use Rattle.run_laws.specs.laws.LinkStepLaws.{talk_step}
+use Rattle.run_laws.specs.LinkSteps.{TellsGiven, TellsNoLoss, ChainKeeps}
+use Rattle.app_visor.specs.laws.BeatLaws.{Chain-continues}
+use Rattle.batch_laws.specs.laws.InBatchLaws.{links_switch}
+use Rattle.switch_laws.specs.Since.{Ready, Goes}
+use Rattle.switch_laws.specs.Sound.{Sound}
+use Rattle.switch_laws.specs.laws.SinceLaws.{goes-on}
+use Rattle.switch_laws.specs.laws.LossLaws.{ready-joined}
+use Rattle.switch_laws.specs.laws.SoundStepLaws.{exchange-sound}
+use Rattle.turn_laws.specs.laws.ChainLaws.{goes-same}
 use Rattle.app_visor.specs.laws.TellingLaws.{journal_steps}
 use Rattle.switch_laws.specs.laws.OrderlyLaws.{exchange-releases-none}
 
@@ -42,6 +53,7 @@ no_stimuli (Took app what ∷ acts) own = no_stimuli acts own.1
 no_stimuli (Ended app ∷ acts) own = no_stimuli acts own.1
 no_stimuli (Sent d bytes ∷ acts) own = no_stimuli acts own.1
 no_stimuli (Got d bytes ∷ acts) own = no_stimuli acts own.1
+no_stimuli (Lost d ∷ acts) own = absurd (true≢false (sym own.0))
 
 released-append : (first next : List Act) → released (first ++ next) ≡ released first ++ released next
 unfolding released
@@ -58,20 +70,44 @@ no_release (Took app what ∷ acts) own = no_release acts own.1
 no_release (Ended app ∷ acts) own = no_release acts own.1
 no_release (Sent d bytes ∷ acts) own = absurd (true≢false (sym own.0))
 no_release (Got d bytes ∷ acts) own = absurd (true≢false (sym own.0))
+no_release (Lost d ∷ acts) own = absurd (true≢false (sym own.0))
 
 -- a journal that goes on by acts that release nothing
 pub released_same : {Own : Type 0} (old new : Seen Own) (acts : List Act) → journal new.history ≡ journal old.history ++ acts → released acts ≡ [] → released_of new ≡ released_of old
 released_same old new acts longer none =
     ap released longer ∙ released-append (journal old.history) acts ∙ ap (λ (ps : List Held). released_of old ++ ps) none ∙ append-nil (released_of old)
 
+losses_append : (first next : List Act) → losses (first ++ next) ≡ losses first ++ losses next
+unfolding losses
+losses_append first next = filter_map-append lost_in first next
+
+no_loss : (acts : List Act) → AreOwn acts → losses acts ≡ []
+unfolding losses
+no_loss [] own = refl
+no_loss (Stim x ∷ acts) own = absurd (true≢false (sym own.0))
+no_loss (Started app stands ∷ acts) own = no_loss acts own.1
+no_loss (Gave app bytes ∷ acts) own = no_loss acts own.1
+no_loss (Gone app bytes ∷ acts) own = no_loss acts own.1
+no_loss (Took app what ∷ acts) own = no_loss acts own.1
+no_loss (Ended app ∷ acts) own = no_loss acts own.1
+no_loss (Sent d bytes ∷ acts) own = absurd (true≢false (sym own.0))
+no_loss (Got d bytes ∷ acts) own = absurd (true≢false (sym own.0))
+no_loss (Lost d ∷ acts) own = absurd (true≢false (sym own.0))
+
+-- a journal that goes on by acts that lose these switches
+pub lost_more : {Own : Type 0} (old new : Seen Own) (acts : List Act) → journal new.history ≡ journal old.history ++ acts → lost_of new ≡ lost_of old ++ losses acts
+lost_more old new acts longer = ap losses longer ∙ losses_append (journal old.history) acts
+
+pub lost_same : {Own : Type 0} (old new : Seen Own) (acts : List Act) → journal new.history ≡ journal old.history ++ acts → losses acts ≡ [] → lost_of new ≡ lost_of old
+lost_same old new acts longer none = lost_more old new acts longer ∙ ap (λ (ds : List ℕ). lost_of old ++ ds) none ∙ append-nil (lost_of old)
+
 tells_none : {Own : Type 0} (seen : Seen Own) → TellsGiven seen seen []
-tells_none seen = record { given = sym (append-nil (given_in seen)); stims = refl; released = refl }
+tells_none seen = record { given = sym (append-nil (given_in seen)); stims = refl }
 
 tells_then : {Own : Type 0} (a b c : Seen Own) (xs ys : List (List ℕ)) → TellsGiven a b xs → TellsGiven b c ys → TellsGiven a c (xs ++ ys)
 tells_then a b c xs ys first second = record {
   given = second.given ∙ ap (λ (frames : List (List ℕ)). frames ++ ys) first.given ∙ append_assoc (given_in a) xs ys;
   stims = second.stims ∙ first.stims;
-  released = second.released ∙ first.released;
 }
 
 tells_talk : {Own : Type 0} (old new : Seen Own) (acts : List Act) → new.history ≡ old.history ++ map step_of acts → AreOwn acts → TellsGiven old new (inputs index acts)
@@ -81,8 +117,14 @@ tells_talk old new acts history own =
     record {
       given = ap (inputs index) longer ∙ inputs-append index (journal old.history) acts;
       stims = ap stimuli longer ∙ stimuli-append (journal old.history) acts ∙ ap (λ (xs : List WorldStim). stimuli_in old ++ xs) (no_stimuli acts own) ∙ append-nil (stimuli_in old);
-      released = released_same old new acts longer (no_release acts own);
     }
+
+-- calls for the application release nothing and lose nothing
+pub talk_loses : {Own : Type 0} (old new : Seen Own) (acts : List Act) → new.history ≡ old.history ++ map step_of acts → AreOwn acts → TellsNoLoss old new
+talk_loses old new acts history own =
+    let longer : journal new.history ≡ journal old.history ++ acts =
+    ap journal history ∙ journal-append old.history (map step_of acts) ∙ ap (λ (more : List Act). journal old.history ++ more) (journal_steps acts) in
+    record { released = released_same old new acts longer (no_release acts own); lost = lost_same old new acts longer (no_loss acts own) }
 
 -- ---- Beats
 
@@ -99,9 +141,49 @@ chain_tells Tells (Talk act ∷ trace) old new net now_net told chain =
     (tells_then old next new (inputs index (act ∷ [])) (inputs index (acts_in trace)) (tells_talk old next (act ∷ []) (chain.1.1.0.history told) (chain.0, tt)) (chain_tells Tells trace next new net now_net told chain.1.1.1))
 chain_tells Tells (Asks x ∷ trace) old new net now_net told chain =
     let same = links_tell x.before x.after (chain.1.0.changes.links told) in
-    let none = exchange-releases-none Tells x.dpid x.bytes x.before x.after x.net x.now_net x.answer told chain.1.0.changes in
-    let one : TellsGiven old x.after [] = subst (λ (s : Seen _). TellsGiven s x.after []) chain.0.0 (record { given = same.given ∙ sym (append-nil (given_in x.before)); stims = same.stims; released = none }) in
+    let one : TellsGiven old x.after [] = subst (λ (s : Seen _). TellsGiven s x.after []) chain.0.0 (record { given = same.given ∙ sym (append-nil (given_in x.before)); stims = same.stims }) in
     tells_then old x.after new [] (inputs index (acts_in trace)) one (chain_tells Tells trace x.after new x.now_net now_net told chain.1.1)
+
+-- what is sound stays so, and no packet is released
+pub chain_keeps : {Own : Type 0} (Tells : Type 0) (start : ℕ) (lost : List ℕ) (first : Seen Own) (net0 : NetState) (trace : List (Beat Own)) (old new : Seen Own) (net now_net : NetState) → Tells → Conforming new → Chain Tells index trace old new net now_net
+    → Goes start lost first old net0 net → Sound (state old) → ChainKeeps old new
+chain_keeps Tells start lost first net0 [] old new net now_net told keeps chain goes sound = subst (λ (s : Seen _). ChainKeeps old s) (sym chain.0) (record { sound = sound; released = refl })
+chain_keeps Tells start lost first net0 (Talk act ∷ trace) old new net now_net told keeps chain goes sound =
+    let next = chain.1.0 in
+    let t = chain.1.1.0 in
+    let none = talk_loses old next (act ∷ []) (t.history told) (chain.0, tt) in
+    let same : (state next).links ≡ (state old).links = ap (λ (s : State). s.links) (told_state Tells act old next told t) ∙ (talk_step index act (state old) chain.0).links in
+    let rest = chain_keeps Tells start lost first net0 trace next new net now_net told keeps chain.1.1.1 (goes-same start lost first old next net0 net t.continues.given same none.lost goes)
+    (record { entries = λ d x is. sound.entries d x (sym (links_switch d (state old) (state next) same) ∙ is) }) in
+    record { sound = rest.sound; released = rest.released ∙ none.released }
+chain_keeps Tells start lost first net0 (Asks x ∷ trace) old new net now_net told keeps chain goes sound =
+    let is = chain.1.0 in
+    let kept = Conforming-before told (Chain-continues Tells index trace x.after new x.now_net now_net chain.1.1) keeps in
+    let here = subst (λ (n : NetState). Goes start lost first x.before net0 n) (sym chain.0.1) (subst (λ (s : Seen _). Goes start lost first s net0 net) (sym chain.0.0) goes) in
+    let on = goes-on Tells x.dpid x.bytes start lost first x.before x.after net0 x.net x.now_net x.answer told kept is.changes here in
+    let sound_there = exchange-sound Tells x.dpid x.bytes x.before x.after x.net x.now_net x.answer told kept is.changes here.ready (subst (λ (s : Seen _). Sound (state s)) (sym chain.0.0) sound) in
+    let rest = chain_keeps Tells start (lost ++ on.more) first net0 trace x.after new x.now_net now_net told keeps chain.1.1 on.goes sound_there in
+    record {
+      sound = rest.sound;
+      released = rest.released ∙ exchange-releases-none Tells x.dpid x.bytes x.before x.after x.net x.now_net x.answer told (ready-joined x.before x.net here.ready) is.changes ∙ ap released_of chain.0.0;
+    }
+
+-- all is ready behind them
+pub chain_ready : {Own : Type 0} (Tells : Type 0) (start : ℕ) (lost : List ℕ) (first : Seen Own) (net0 : NetState) (trace : List (Beat Own)) (old new : Seen Own) (net now_net : NetState) → Tells → Conforming new → Chain Tells index trace old new net now_net
+    → Goes start lost first old net0 net → Ready new now_net
+chain_ready Tells start lost first net0 [] old new net now_net told keeps chain goes = subst (λ (n : NetState). Ready new n) (sym chain.1) (subst (λ (s : Seen _). Ready s net) (sym chain.0) goes.ready)
+chain_ready Tells start lost first net0 (Talk act ∷ trace) old new net now_net told keeps chain goes =
+    let next = chain.1.0 in
+    let t = chain.1.1.0 in
+    let none = talk_loses old next (act ∷ []) (t.history told) (chain.0, tt) in
+    let same : (state next).links ≡ (state old).links = ap (λ (s : State). s.links) (told_state Tells act old next told t) ∙ (talk_step index act (state old) chain.0).links in
+    chain_ready Tells start lost first net0 trace next new net now_net told keeps chain.1.1.1 (goes-same start lost first old next net0 net t.continues.given same none.lost goes)
+chain_ready Tells start lost first net0 (Asks x ∷ trace) old new net now_net told keeps chain goes =
+    let is = chain.1.0 in
+    let kept = Conforming-before told (Chain-continues Tells index trace x.after new x.now_net now_net chain.1.1) keeps in
+    let here = subst (λ (n : NetState). Goes start lost first x.before net0 n) (sym chain.0.1) (subst (λ (s : Seen _). Goes start lost first s net0 net) (sym chain.0.0) goes) in
+    let on = goes-on Tells x.dpid x.bytes start lost first x.before x.after net0 x.net x.now_net x.answer told kept is.changes here in
+    chain_ready Tells start (lost ++ on.more) first net0 trace x.after new x.now_net now_net told keeps chain.1.1 on.goes
 
 -- ---- Attempts to start
 
@@ -111,6 +193,26 @@ try_tells Tells kept t old told is own =
     let acts = end_acts running index ++ Started index t.attempt.stands ∷ t.attempt.acts in
     subst (TellsGiven old t.after) (try_given index running t.attempt.stands t.attempt.acts ∙ is.given)
     (tells_talk old t.after acts (is.history told) (try_own index running t.attempt.stands t.attempt.acts (eq-eqb index index refl) own))
+
+try_loses : {Own : Type 0} (Tells : Type 0) (kept : List ℕ) (t : OneTry Own) (old : Seen Own) → Tells → IsTry Tells index kept t.attempt t.tried t.rest old t.after → AreOwn t.attempt.acts → TellsNoLoss old t.after
+try_loses Tells kept t old told is own =
+    let running = is_running index (state old) in
+    talk_loses old t.after (end_acts running index ++ Started index t.attempt.stands ∷ t.attempt.acts) (is.history told) (try_own index running t.attempt.stands t.attempt.acts (eq-eqb index index refl) own)
+
+loses_then : {Own : Type 0} (a b c : Seen Own) → TellsNoLoss a b → TellsNoLoss b c → TellsNoLoss a c
+loses_then a b c first second = record { released = second.released ∙ first.released; lost = second.lost ∙ first.lost }
+
+-- attempts release nothing and lose nothing
+pub tries_lose : {Own : Type 0} (Tells : Type 0) (kept : List ℕ) (n : ℕ) (ts : List (OneTry Own)) (old new : Seen Own) → Tells → AreTries Tells index kept n ts old new → AllByRecursion (λ t. AreOwn t.attempt.acts) ts → TellsNoLoss old new
+tries_lose Tells kept zero [] old new told are own = subst (TellsNoLoss old) (sym are) (record { released = refl; lost = refl })
+tries_lose Tells kept zero (t ∷ ts) old new told are own = absurd are
+tries_lose Tells kept (suc n) [] old new told are own = absurd are
+tries_lose Tells kept (suc n) (t ∷ ts) old new told are own =
+    let one = try_loses Tells kept t old told are.0 own.0 in
+    elim are.1 [
+      | inl last ↦ subst (TellsNoLoss old) (sym last.2) one
+      | inr more ↦ loses_then old t.after new one (tries_lose Tells kept n ts t.after new told more.1 own.1)
+    ]
 
 pub tries_tell : {Own : Type 0} (Tells : Type 0) (kept : List ℕ) (n : ℕ) (ts : List (OneTry Own)) (old new : Seen Own) → Tells → AreTries Tells index kept n ts old new → AllByRecursion (λ t. AreOwn t.attempt.acts) ts → TellsGiven old new (given_by kept ts)
 tries_tell Tells kept zero [] old new told are own = subst (λ (s : Seen _). TellsGiven old s []) (sym are) (tells_none old)

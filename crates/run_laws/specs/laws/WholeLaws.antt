@@ -7,24 +7,25 @@ use Rattle.lego_model.specs.Journal.{Reply, Start, is_of, stimuli}
 use Rattle.lego_model.specs.Places.{Place}
 use Rattle.lego_model.specs.Scripted.{AreFronts, AreStartFronts}
 use Rattle.lego_model.specs.laws.ScriptedLaws.{fronts-refl, start_fronts-refl}
+use Rattle.lego_model.specs.Losses.{Losses}
 use Rattle.lego_model.specs.Controller.{App, Run, reference}
 use Rattle.outside.specs.Seen.{Given, Seen}
 use Rattle.lego_model.specs.History.{starts_in, replies_in, own_acts, stimuli_in}
-use Rattle.run_laws.specs.Engine.{Engine, Stands}
+use Rattle.run_laws.specs.Engine.{Engine, Stands, ahead}
 use Rattle.lego_model.specs.Application.{index}
 use Rattle.lego_model.specs.ReferenceRun.{text_of, fresh, before_start, reference_said, AreSaid}
 use Rattle.run_laws.specs.Moves.{Moves}
 use Rattle.run_laws.specs.laws.FirstLaws.{no-acts, stands-first}
 use Rattle.run_laws.specs.First.{IsOpened, engine_at_first}
-use Rattle.run_laws.specs.Whole.{whole, RanAs, Ran}
+use Rattle.run_laws.specs.Whole.{at_last, whole, RanAs, Ran}
 
 -- what is told is said
 pub told-said : {Own : Type 0} (seen : Seen Own) → AreSaid seen (starts_in (own_acts seen)) (replies_in (own_acts seen))
 told-said seen = (start_fronts-refl (starts_in (own_acts seen)), fronts-refl (replies_in (own_acts seen)))
 
-reference-whole : (allows : List Place → Bool) (declared : List Declared) (a : App) (xs : List WorldStim) → reference allows declared (a ∷ []) xs ≡ whole allows xs (before_start declared a)
+reference-whole : (allows : List Place → Bool) (declared : List Declared) (a : App) (losses : Losses) (xs : List WorldStim) → reference allows declared (a ∷ []) losses xs ≡ whole allows xs (before_start declared losses a)
 unfolding reference
-reference-whole allows declared a xs = refl
+reference-whole allows declared a losses xs = refl
 
 pub no-own : {Own : Type 0} (seen : Seen Own) → IsOpened seen → own_acts seen ≡ []
 no-own seen is = ap (λ (acts : List Act). filter (is_of index) acts) (no-acts seen is)
@@ -41,24 +42,28 @@ said-of first last starts told_starts replies told_replies is read_starts read_r
   subst (λ (l : List Reply). AreFronts l replies) (read_replies ∙ ap (λ (acts : List Act). replies_in acts ++ told_replies) (no-own first is)) said.1,
 )
 
-ran-said : {Own : Type 0} (allows : List Place → Bool) (xs : List WorldStim) (text : List ℕ) (first last : Seen Own) (e : Engine) (starts : List Start) (replies : List Reply) → IsOpened first → Moves xs (whole allows xs) text first last engine_at_first e
-    → AreSaid last starts replies → RanAs text last e (reference_said allows last starts replies)
-ran-said {Own} allows xs text first last e starts replies is m said =
+ran-said : {Own : Type 0} (allows : List Place → Bool) (lost : List ℕ) (xs : List WorldStim) (text : List ℕ) (first last : Seen Own) (e : Engine) (starts : List Start) (replies : List Reply) → IsOpened first
+    → (m : Moves xs (whole allows xs) text first last engine_at_first e) → AreSaid last starts replies → RanAs (at_last lost) text last e (reference_said allows (ahead m.batches m.turns (at_last lost)) last starts replies)
+ran-said {Own} allows lost xs text first last e starts replies is m said =
+    let losses = ahead m.batches m.turns (at_last lost) in
     let fronts = said-of first last starts m.starts replies m.replies is m.read_starts m.read_replies said in
     let stims : stimuli_in last ≡ xs = m.read_stimuli ∙ ap (λ (ys : List WorldStim). ys ++ xs) (no-stimuli first is) in
-    let r0 : Run = before_start first.given.declared (fresh starts replies) in
-    let at_first : Stands first engine_at_first starts replies r0 = stands-first first starts replies is in
-    let same : whole allows xs r0 ≡ reference_said allows last starts replies =
-    sym (ap (λ (g : Given Own). reference allows g.declared (fresh starts replies ∷ []) (stimuli_in last)) m.given
-    ∙ ap (λ (ys : List WorldStim). reference allows first.given.declared (fresh starts replies ∷ []) ys) stims
-    ∙ reference-whole allows first.given.declared (fresh starts replies) xs) in
+    let r0 : Run = before_start first.given.declared losses (fresh starts replies) in
+    let at_first : Stands first engine_at_first starts replies losses r0 = stands-first first starts replies losses is in
+    let same : whole allows xs r0 ≡ reference_said allows losses last starts replies =
+    sym (ap (λ (g : Given Own). reference allows g.declared (fresh starts replies ∷ []) losses (stimuli_in last)) m.given
+    ∙ ap (λ (ys : List WorldStim). reference allows first.given.declared (fresh starts replies ∷ []) losses ys) stims
+    ∙ reference-whole allows first.given.declared (fresh starts replies) losses xs) in
     record {
       starts = drop (length m.starts) starts;
       replies = drop (length m.replies) replies;
-      stands = subst (Stands last e (drop (length m.starts) starts) (drop (length m.replies) replies)) same (m.stands starts replies r0 fronts.0 fronts.1 at_first);
-      text_so = subst (λ (r : Run). text_of r ≡ text) same (m.says starts replies r0 fronts.0 fronts.1 at_first);
+      stands = subst (Stands last e (drop (length m.starts) starts) (drop (length m.replies) replies) (at_last lost)) same (m.stands starts replies (at_last lost) r0 fronts.0 fronts.1 at_first);
+      text_so = subst (λ (r : Run). text_of r ≡ text) same (m.says starts replies (at_last lost) r0 fronts.0 fronts.1 at_first);
     }
 
-pub ran : {Own : Type 0} (allows : List Place → Bool) (xs : List WorldStim) (text : List ℕ) (first last : Seen Own) (e : Engine) → IsOpened first → Moves xs (whole allows xs) text first last engine_at_first e
-    → Ran allows text last e
-ran allows xs text first last e is m = record { as_said = λ starts replies said. ran-said allows xs text first last e starts replies is m said }
+pub ran : {Own : Type 0} (allows : List Place → Bool) (lost : List ℕ) (xs : List WorldStim) (text : List ℕ) (first last : Seen Own) (e : Engine) → IsOpened first → Moves xs (whole allows xs) text first last engine_at_first e
+    → Ran allows lost text last e
+ran allows lost xs text first last e is m = record {
+  losses = ahead m.batches m.turns (at_last lost);
+  as_said = λ starts replies said. ran-said allows lost xs text first last e starts replies is m said;
+}

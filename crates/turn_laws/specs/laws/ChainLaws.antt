@@ -1,35 +1,40 @@
 -- What follows of the beats of a turn in a world that keeps its word: its messages were answered as the reference controller answers them,
--- and its switches stand then as the world's do.
-use Rattle.std.proofs.Common.{◌≡◌, ℕ, Bool, true, List, [], ◌∷◌, ◌++◌, length, Option, refl, sym, ap, ap₂, ◌∙◌, subst, true≢false}
+-- which loses the same switches at them, and its switches stand then as the world's do.
+use Rattle.std.proofs.Common.{◌≡◌, ℕ, Bool, true, List, [], ◌∷◌, ◌++◌, length, Option, refl, sym, ap, ap₂, ◌∙◌, subst, append_assoc, true≢false}
+use Rattle.std.proofs.lemmas.List.{append-nil, append_cancel_left}
 use Rattle.std.specs.Option.{option_map}
 use Rattle.of_types.specs.declared.journal.Act.{Act}
-use Rattle.of_types.specs.declared.journal.Act.TheVariants.{Stim, Started, Gave, Gone, Took, Ended, Sent, Got}
+use Rattle.of_types.specs.declared.journal.Act.TheVariants.{Stim, Started, Gave, Gone, Took, Ended, Sent, Got, Lost}
 use Rattle.flow_table.specs.View.{TableView}
 use Rattle.flow_table.specs.Switch.{Declared, SwitchState}
 use Rattle.undo_laws.specs.Owned.{owned_switch}
 use Rattle.app_frames.specs.declared.frame.Answer.{Answer}
+use Rattle.app_frames.specs.declared.frame.Event.{Event}
+use Rattle.lego_model.specs.History.{lost_of}
 use Rattle.lego_model.specs.Answers.{rows_of_table}
 use Rattle.lego_model.specs.Journal.{is_of}
-use Rattle.lego_model.specs.Places.{Place, answer}
-use Rattle.lego_model.specs.Packets.{Held, Play, holds, play}
-use Rattle.lego_model.specs.Controller.{table_of}
+use Rattle.lego_model.specs.Places.{Place}
+use Rattle.lego_model.specs.Packets.{Play, play}
+use Rattle.lego_model.specs.Controller.{leavers, table_of}
 use Rattle.outside.specs.Seen.{Given, Seen}
 use Rattle.outside.specs.State.{Link, State, link_of, switch_in, waits_in, state, switch_of, waits_of, after_act, after_step}
 use Rattle.outside.specs.laws.StateLaws.{state-append, Conforming-before}
 use Rattle.outside.specs.Conforming.{Conforming}
 use Rattle.net_txn.specs.Net.{NetState}
-use Rattle.net_txn.specs.Changes.{known_rows}
+use Rattle.net_txn.specs.Answering.{known_rows}
 use Rattle.net_txn.specs.Agreement.{Agrees}
 use Rattle.app_visor.specs.declared.state.TurnEnd.{TurnEnd}
 use Rattle.app_visor.specs.Talks.{step_of, Told, give_act}
-use Rattle.app_visor.specs.Beats.{Beat, Talk, Asks, Chain, exchanges_in}
+use Rattle.app_visor.specs.Beats.{Exchange, IsExchange, Beat, Talk, Asks, Chain, exchanges_in}
 use Rattle.app_visor.specs.laws.BeatLaws.{Chain-continues}
 use Rattle.app_visor.specs.Turns.{reply_by, Turns, Agrees as AnswersSo}
 use Rattle.app_visor.specs.laws.TableLaws.{turn_alike}
 use Rattle.switch_laws.specs.Shown.{flags_at, shown_switch, shown_places}
-use Rattle.switch_laws.specs.laws.StandLaws.{all-stand}
 use Rattle.switch_laws.specs.laws.ShownExchangeLaws.{exchange-shown}
-use Rattle.switch_laws.specs.Since.{Ready, Goes}
+use Rattle.switch_laws.specs.Lost.{LeavesBy, shown_play}
+use Rattle.switch_laws.specs.Released.{LosesNone}
+use Rattle.switch_laws.specs.Since.{ports_known, Ready, Goes}
+use Rattle.switch_laws.specs.laws.LossLaws.{losses-still, leaves-none, leaves-then, leavers-append}
 use Rattle.switch_laws.specs.laws.SinceLaws.{begun, goes-on}
 use Rattle.turn_laws.specs.Chain.{play_at, Leads, PlayedAlike}
 use Rattle.switch_laws.specs.laws.ShownUndoLaws.{places-same}
@@ -46,8 +51,24 @@ talk-links app (Took of what) is s = refl
 talk-links app (Ended of) is s = refl
 talk-links app (Sent d bytes) is s = absurd (true≢false (sym is))
 talk-links app (Got d bytes) is s = absurd (true≢false (sym is))
+talk-links app (Lost d) is s = absurd (true≢false (sym is))
 
-links-then : {Own : Type 0} (Tells : Type 0) (app : ℕ) (act : Act) (old new : Seen Own) → Tells → is_of app act ≡ true → Told Tells act old new → (state new).links ≡ (state old).links
+talk-loses-none : (app : ℕ) (act : Act) → is_of app act ≡ true → LosesNone (step_of act ∷ [])
+talk-loses-none app (Stim x) is = absurd (true≢false (sym is))
+talk-loses-none app (Started of ok) is = (refl, tt)
+talk-loses-none app (Gave of bytes) is = (refl, tt)
+talk-loses-none app (Gone of bytes) is = (refl, tt)
+talk-loses-none app (Took of what) is = (refl, tt)
+talk-loses-none app (Ended of) is = (refl, tt)
+talk-loses-none app (Sent d bytes) is = absurd (true≢false (sym is))
+talk-loses-none app (Got d bytes) is = absurd (true≢false (sym is))
+talk-loses-none app (Lost d) is = absurd (true≢false (sym is))
+
+-- nor do they lose one
+pub losses-then : {Own : Type 0} (Tells : Type 0) (app : ℕ) (act : Act) (old new : Seen Own) → Tells → is_of app act ≡ true → Told Tells act old new → lost_of new ≡ lost_of old
+losses-then Tells app act old new told is t = losses-still old new (step_of act ∷ []) (t.history told) (talk-loses-none app act is)
+
+pub links-then : {Own : Type 0} (Tells : Type 0) (app : ℕ) (act : Act) (old new : Seen Own) → Tells → is_of app act ≡ true → Told Tells act old new → (state new).links ≡ (state old).links
 links-then Tells app act old new told is t =
     ap (λ (s : State). s.links) (state-append old new (step_of act ∷ []) t.continues.given (t.history told)) ∙ talk-links app act is (state old)
 
@@ -73,72 +94,99 @@ agrees-same : (d : ℕ) (views : List TableView) (s t : State) → t.links ≡ s
 agrees-same d views s t same agrees = subst (λ (o : Option SwitchState). known_rows d views ≡ option_map (λ x. rows_of_table x.table.entries) o) (sym (switch-same d s t same)) agrees
 
 -- all stays ready, and the transaction stands
-pub goes-same : {Own : Type 0} (start : ℕ) (first old new : Seen Own) (net0 net : NetState) → new.given ≡ old.given → (state new).links ≡ (state old).links → Goes start first old net0 net → Goes start first new net0 net
-goes-same start first old new net0 net given same goes = record {
+pub goes-same : {Own : Type 0} (start : ℕ) (lost : List ℕ) (first old new : Seen Own) (net0 net : NetState) → new.given ≡ old.given → (state new).links ≡ (state old).links → lost_of new ≡ lost_of old → Goes start lost first old net0 net
+    → Goes start lost first new net0 net
+goes-same start lost first old new net0 net given same none_lost goes = record {
   since = record {
     started = goes.since.started;
     given = given ∙ goes.since.given;
     moment = goes.since.moment;
     kept = goes.since.kept;
     views = goes.since.views;
-    joined = λ d s is. let j = goes.since.joined d s is in record { switch = j.switch; stands = switch-same d (state old) (state new) same ∙ j.stands; since = j.since };
+    losses = none_lost ∙ goes.since.losses;
+    joined = λ d s stays is. let j = goes.since.joined d s stays is in record { switch = j.switch; stands = switch-same d (state old) (state new) same ∙ j.stands; since = j.since };
+    lost_out = λ d is. switch-same d (state old) (state new) same ∙ goes.since.lost_out d is;
     out = λ d is. switch-same d (state old) (state new) same ∙ goes.since.out d is;
   };
   ready = record {
     waits = λ d. waits-same d (state old) (state new) same ∙ goes.ready.waits d;
     agrees = λ d. agrees-same d net.views (state old) (state new) same (goes.ready.agrees d);
+    known = λ d. goes.ready.known d ∙ sym (ap (ports_known d) (switch-same d (state old) (state new) same));
   };
 }
 
 -- ---- One message
 
-abbrev played_so : List Held → ℕ → List ℕ → Answer × List Place → Answer × Play
-played_so held dpid bytes p = (p.0, record { places = p.1; held = held ++ holds dpid bytes p.0 })
+-- what one message leads to
+record LeadsOne {Own : Type 0} (start : ℕ) (lost : List ℕ) (first : Seen Own) (net0 : NetState) (old : Seen Own) (net : NetState) (x : Exchange Own) : Type 0 where
+  flag : Bool
+  left : List Event
+  leaves : LeavesBy old x.after net x.now_net left
+  goes : Goes start (lost ++ leavers left) first x.after net0 x.now_net
+  played : (losing : List Bool) (before : List Event) → play (play_at first old net (flag ∷ losing) before) x.dpid x.bytes ≡ (x.answer, play_at first x.after x.now_net losing (before ++ left))
 
-play-so : (places now_places : List Place) (held now_held : List Held) (dpid : ℕ) (bytes : List ℕ) (given : Answer) → answer places dpid bytes ≡ (given, now_places) → now_held ≡ held ++ holds dpid bytes given
-    → play (record { places = places; held = held }) dpid bytes ≡ (given, record { places = now_places; held = now_held })
-unfolding play
-play-so places now_places held now_held dpid bytes given is held_is =
-    ap (played_so held dpid bytes) is ∙ ap (λ (all : List Held). (given, record { places = now_places; held = all })) (sym held_is)
+leads-one : {Own : Type 0} (Tells : Type 0) (start : ℕ) (lost : List ℕ) (first : Seen Own) (net0 : NetState) (x : Exchange Own) → Tells → Conforming x.after → IsExchange Tells x → Goes start lost first x.before net0 x.net
+    → LeadsOne start lost first net0 x.before x.net x
+leads-one {Own} Tells start lost first net0 x told keeps is goes =
+    let shown = exchange-shown Tells x.dpid x.bytes x.before x.after x.net x.now_net x.answer told keeps is.changes goes.ready in
+    let on = goes-on Tells x.dpid x.bytes start lost first x.before x.after net0 x.net x.now_net x.answer told keeps is.changes goes in
+    let same : on.more ≡ leavers shown.left = append_cancel_left (lost_of x.before) on.more (leavers shown.left) (sym on.losses ∙ shown.leaves.lost_so) in
+    let declared : x.before.given.declared ≡ first.given.declared = ap (λ (g : Given _). g.declared) goes.since.given in
+    record {
+      flag = shown.lost;
+      left = shown.left;
+      leaves = shown.leaves;
+      goes = subst (λ (ds : List ℕ). Goes start (lost ++ ds) first x.after net0 x.now_net) same on.goes;
+      played = λ losing before.
+          subst (λ (ds : List Declared). play (shown_play ds x.before x.net (shown.lost ∷ losing) before) x.dpid x.bytes ≡ (x.answer, shown_play ds x.after x.now_net losing (before ++ shown.left))) declared (shown.played losing before);
+    }
 
 -- ---- The beats
 
-pub chain-shown : {Own : Type 0} (Tells : Type 0) (app : ℕ) (allows : List Place → Bool) (start : ℕ) (first : Seen Own) (net0 : NetState) (trace : List (Beat Own)) (old new : Seen Own) (net now_net : NetState) → Tells → Conforming new → Chain Tells app trace old new net now_net
-    → Goes start first old net0 net → Leads allows start first old new net0 net now_net (exchanges_in trace)
-chain-shown Tells app allows start first net0 [] old new net now_net told keeps chain goes = record {
-  answers = ap₂ (λ (n : NetState) (s : Seen _). play_at first s n) chain.1 chain.0;
-  goes = subst (λ (n : NetState). Goes start first new net0 n) (sym chain.1) (subst (λ (s : Seen _). Goes start first s net0 net) (sym chain.0) goes);
+pub chain-shown : {Own : Type 0} (Tells : Type 0) (app : ℕ) (allows : List Place → Bool) (start : ℕ) (lost : List ℕ) (first : Seen Own) (net0 : NetState) (trace : List (Beat Own)) (old new : Seen Own) (net now_net : NetState) → Tells → Conforming new
+    → Chain Tells app trace old new net now_net → Goes start lost first old net0 net → Leads allows start lost first old new net0 net now_net (exchanges_in trace)
+chain-shown Tells app allows start lost first net0 [] old new net now_net told keeps chain goes = record {
+  messages = [];
+  left = [];
+  leaves = leaves-none old new net now_net (ap (λ (n : NetState). n.left) chain.1) (ap (λ (s : Seen _). lost_of s) chain.0);
+  answers = λ before. ap (λ (left : List Event). play_at first new now_net [] left) (append-nil before) ∙ ap₂ (λ (n : NetState) (s : Seen _). play_at first s n [] before) chain.1 chain.0;
+  goes = subst (λ (ds : List ℕ). Goes start ds first new net0 now_net) (sym (append-nil lost))
+      (subst (λ (n : NetState). Goes start lost first new net0 n) (sym chain.1) (subst (λ (s : Seen _). Goes start lost first s net0 net) (sym chain.0) goes));
 }
-chain-shown Tells app allows start first net0 (Talk act ∷ trace) old new net now_net told keeps chain goes =
+chain-shown Tells app allows start lost first net0 (Talk act ∷ trace) old new net now_net told keeps chain goes =
     let next = chain.1.0 in
     let t = chain.1.1.0 in
     let same = links-then Tells app act old next told chain.0 t in
-    let rest = chain-shown Tells app allows start first net0 trace next new net now_net told keeps chain.1.1.1 (goes-same start first old next net0 net t.continues.given same goes) in
+    let none_lost = losses-then Tells app act old next told chain.0 t in
+    let rest = chain-shown Tells app allows start lost first net0 trace next new net now_net told keeps chain.1.1.1 (goes-same start lost first old next net0 net t.continues.given same none_lost goes) in
     record {
-      answers = subst (λ (ps : List Place). AnswersSo (table_of allows) (exchanges_in trace) (record { places = ps; held = net.held }) (play_at first new now_net)) (shown-same first.given.declared net.views (state old) (state next) same) rest.answers;
+      messages = rest.messages;
+      left = rest.left;
+      leaves = leaves-then old next new net net now_net [] rest.left (leaves-none old next net net refl none_lost) rest.leaves;
+      answers = λ before.
+          subst (λ (ps : List Place). AnswersSo (table_of allows) (exchanges_in trace) (record { places = ps; held = net.held; losing = rest.messages; left = before }) (play_at first new now_net [] (before ++ rest.left)))
+          (shown-same first.given.declared net.views (state old) (state next) same) (rest.answers before);
       goes = rest.goes;
     }
-chain-shown Tells app allows start first net0 (Asks x ∷ trace) old new net now_net told keeps chain goes =
-    let is = chain.1.0 in
+chain-shown {Own} Tells app allows start lost first net0 (Asks x ∷ trace) old new net now_net told keeps chain goes =
     let later = Chain-continues Tells app trace x.after new x.now_net now_net chain.1.1 in
-    let kept = Conforming-before told later keeps in
-    let here = subst (λ (n : NetState). Goes start first x.before net0 n) (sym chain.0.1) (subst (λ (s : Seen _). Goes start first s net0 net) (sym chain.0.0) goes) in
-    let goes_there = goes-on Tells x.dpid x.bytes start first x.before x.after net0 x.net x.now_net x.answer told kept is.changes is.in_step here in
-    let rest = chain-shown Tells app allows start first net0 trace x.after new x.now_net now_net told keeps chain.1.1 goes_there in
-    let declared : first.given.declared ≡ x.before.given.declared = ap (λ (g : Given _). g.declared) (sym here.since.given) in
-    let shown = exchange-shown x.dpid x.bytes x.before x.after x.net x.now_net x.answer told kept is.changes is.in_step (here.ready.waits x.dpid) (here.ready.agrees x.dpid) (all-stand x.before) in
-    let answered : answer (shown_places first.given.declared net.views (state old)) x.dpid x.bytes ≡ (x.answer, shown_places first.given.declared x.now_net.views (state x.after)) =
-    ap₂ (λ (n : NetState) (s : Seen _). answer (shown_places first.given.declared n.views (state s)) x.dpid x.bytes) (sym chain.0.1) (sym chain.0.0)
-    ∙ subst (λ (ds : List Declared). answer (shown_places ds x.net.views (state x.before)) x.dpid x.bytes ≡ (x.answer, shown_places ds x.now_net.views (state x.after))) (sym declared) shown in
-    let held : x.now_net.held ≡ net.held ++ holds x.dpid x.bytes x.answer = is.changes.held ∙ ap (λ (n : NetState). n.held ++ holds x.dpid x.bytes x.answer) chain.0.1 in
-    let played : play (play_at first old net) x.dpid x.bytes ≡ (x.answer, play_at first x.after x.now_net) =
-    play-so (shown_places first.given.declared net.views (state old)) (shown_places first.given.declared x.now_net.views (state x.after)) net.held x.now_net.held x.dpid x.bytes x.answer answered held in
+    let here = subst (λ (n : NetState). Goes start lost first x.before net0 n) (sym chain.0.1) (subst (λ (s : Seen _). Goes start lost first s net0 net) (sym chain.0.0) goes) in
+    let one : LeadsOne start lost first net0 old net x =
+    subst (λ (n : NetState). LeadsOne start lost first net0 old n x) chain.0.1
+    (subst (λ (s : Seen _). LeadsOne start lost first net0 s x.net x) chain.0.0 (leads-one Tells start lost first net0 x told (Conforming-before told later keeps) chain.1.0 here)) in
+    let rest = chain-shown Tells app allows start (lost ++ leavers one.left) first net0 trace x.after new x.now_net now_net told keeps chain.1.1 one.goes in
     record {
-      answers = (
-        ap (λ (p : Answer × Play). p.0) played,
-        subst (λ (p : Play). AnswersSo (table_of allows) (exchanges_in trace) p (play_at first new now_net)) (sym (ap (λ (p : Answer × Play). p.1) played)) rest.answers,
+      messages = one.flag ∷ rest.messages;
+      left = one.left ++ rest.left;
+      leaves = leaves-then old x.after new net x.now_net now_net one.left rest.left one.leaves rest.leaves;
+      answers = λ before. (
+        ap (λ (p : Answer × Play). p.0) (one.played rest.messages before),
+        subst (λ (p : Play). AnswersSo (table_of allows) (exchanges_in trace) p (play_at first new now_net [] (before ++ (one.left ++ rest.left)))) (sym (ap (λ (p : Answer × Play). p.1) (one.played rest.messages before)))
+            (subst (λ (left : List Event). AnswersSo (table_of allows) (exchanges_in trace) (play_at first x.after x.now_net rest.messages (before ++ one.left)) (play_at first new now_net [] left)) (append_assoc before one.left rest.left)
+            (rest.answers (before ++ one.left))),
       );
-      goes = rest.goes;
+      goes = subst (λ (ds : List ℕ). Goes start ds first new net0 now_net)
+          (append_assoc lost (leavers one.left) (leavers rest.left) ∙ ap (λ (ds : List ℕ). lost ++ ds) (sym (leavers-append one.left rest.left))) rest.goes;
     }
 
 -- ---- A turn
@@ -147,9 +195,12 @@ pub turn-shown : {Own : Type 0} (Tells : Type 0) (accepts : List TableView → B
     → (t : Turns Tells accepts app budget rest frame old new net now_net end unread) → allows (shown_places old.given.declared now_net.views (state new)) ≡ accepts now_net.views
     → PlayedAlike allows budget rest (reply_by t.given t.trace) old new net now_net t.answers t.outcome
 turn-shown Tells accepts allows app budget rest frame old new net now_net end unread told keeps ready t judges =
-    let first : Goes (length net.log) old old net net = record { since = begun old net; ready = ready } in
-    let leads = chain-shown Tells app allows (length net.log) old net (Talk (give_act t.given app frame) ∷ t.trace) old new net now_net told keeps t.chain first in
+    let first : Goes (length net.log) [] old old net net = record { since = begun old net; ready = ready } in
+    let leads = chain-shown Tells app allows (length net.log) [] old net (Talk (give_act t.given app frame) ∷ t.trace) old new net now_net told keeps t.chain first in
     record {
+      messages = leads.messages;
+      left = leads.left;
+      leaves = leads.leaves;
       goes = leads.goes;
-      played = turn_alike (table_of allows) (play_at old old net) (play_at old new now_net) t leads.answers judges;
+      played = turn_alike (table_of allows) (play_at old old net leads.messages []) (play_at old new now_net [] leads.left) t (leads.answers []) judges;
     }

@@ -1,12 +1,12 @@
 -- What follows of a turn that ends in a fault, or whose undo or commit does, in a world that tells in order: each switch has its entries
--- again, unless it failed in the undo; or the turn was whole, and its changes stay.
+-- again, unless it failed in the undo, or was lost; or the turn was whole, and its changes stay.
 use Rattle.std.proofs.Common.{◌≡◌, ◌⊎◌, ℕ, Bool, true, List, [], ◌∷◌, ◌++◌, length, Result, Err, sym, ap, ◌∙◌, subst, inl, inr}
 use Rattle.std.proofs.lemmas.List.{append-nil, append_assoc, append_cancel_left}
 use Rattle.std.specs.Option.{option_map}
 use Rattle.flow_table.specs.View.{TableView}
 use Rattle.app_frames.specs.declared.frame.Event.{Event}
 use Rattle.outside.specs.declared.step.WorldStep.{WorldStep}
-use Rattle.outside.specs.Seen.{Seen, journal}
+use Rattle.outside.specs.Seen.{Seen, Continues, Longer, journal}
 use Rattle.outside.specs.State.{State, state, switch_of}
 use Rattle.outside.specs.laws.StateLaws.{state-append}
 use Rattle.outside.specs.Conforming.{Conforming}
@@ -17,8 +17,8 @@ use Rattle.lego_model.specs.declared.fault.TxnFault.TheVariants.{NoMemory}
 use Rattle.lego_model.specs.Journal.{released}
 use Rattle.lego_model.specs.Packets.{Held}
 use Rattle.net_txn.specs.Net.{NetState}
-use Rattle.net_txn.specs.Undos.{keys_of, Undoes}
-use Rattle.net_txn.specs.Releases.{MovesBy, committed, StopsRelease, Commits}
+use Rattle.net_txn.specs.Undos.{keys_of, AreJoined, Undoes}
+use Rattle.net_txn.specs.Releases.{committed, StopsRelease, Commits}
 use Rattle.app_visor.specs.declared.state.TurnEnd.{TurnEnd}
 use Rattle.app_visor.specs.Talks.{give_act}
 use Rattle.app_visor.specs.Beats.{Beat, Talk, Chain, Halts, Stops}
@@ -26,46 +26,58 @@ use Rattle.app_visor.specs.laws.BeatLaws.{Chain-continues, halts_continue, Stops
 use Rattle.app_visor.specs.laws.CallOrderLaws.{chain_messages}
 use Rattle.app_visor.specs.Turns.{Turns}
 use Rattle.switch_laws.specs.Since.{Ready, Goes, logged_since, JoinedSince, TablesSince}
-use Rattle.lego_model.specs.AfterFault.{UndoneButFailed, TurnDone, TurnKept, after_packets, TurnReleasing}
+use Rattle.lego_model.specs.AfterFault.{WasLost, UndoneButFailed, TurnDone, TurnKept, after_packets, TurnReleasing}
+use Rattle.lego_model.specs.Controller.{leavers}
+use Rattle.switch_laws.specs.Released.{MovesOrLoses}
 use Rattle.switch_laws.specs.laws.SinceLaws.{begun}
-use Rattle.switch_laws.specs.laws.FaultLaws.{tables-since, fault-since, undone-but-failed}
-use Rattle.switch_laws.specs.laws.ReleaseLaws.{release-moves, moves-then}
+use Rattle.switch_laws.specs.laws.FaultLaws.{lost-still, tables-since, fault-since, undone-but-failed}
+use Rattle.switch_laws.specs.laws.LossLaws.{ready-joined}
+use Rattle.switch_laws.specs.laws.ReleaseLaws.{release-moves, moves-or, moves-then}
 use Rattle.turn_laws.specs.laws.ChainLaws.{chain-shown}
 
 -- ---- The beats before
 
+-- how a transaction goes, with the switches that were lost in it
+record GoesLosing {Own : Type 0} (old mid : Seen Own) (net mid_net : NetState) : Type 0 where
+  lost : List ℕ
+  goes : Goes (length net.log) lost old mid net mid_net
+
 chain-goes : {Own : Type 0} (Tells : Type 0) (app : ℕ) (trace : List (Beat Own)) (old mid : Seen Own) (net mid_net : NetState) → Tells → Conforming old → InOrder mid → Ready old net → Chain Tells app trace old mid net mid_net
-    → Goes (length net.log) old mid net mid_net
+    → GoesLosing old mid net mid_net
 chain-goes Tells app trace old mid net mid_net told keeps order ready chain =
-    let first : Goes (length net.log) old old net net = record { since = begun old net; ready = ready } in
+    let first : Goes (length net.log) [] old old net net = record { since = begun old net; ready = ready } in
     let on = Chain-continues Tells app trace old mid net mid_net chain in
     let kept = Conforming-on old mid told on keeps order (chain_messages Tells app trace old mid net mid_net chain told) in
-    (chain-shown Tells app (λ places. true) (length net.log) old net trace old mid net mid_net told kept chain first).goes
+    let leads = chain-shown Tells app (λ places. true) (length net.log) [] old net trace old mid net mid_net told kept chain first in
+    record { lost = leavers leads.left; goes = leads.goes }
 
 -- ---- Where it stopped
 
 -- memory was wanting, and nothing was done
-wanting-since : {Own : Type 0} (start : ℕ) (first old new : Seen Own) (net : NetState) → state new ≡ state old → TablesSince start first old net → TablesSince start first new net
-wanting-since start first old new net same since = record {
-  viewed = since.viewed;
-  unviewed = since.unviewed;
-  joined = λ d s is. subst (λ (t : State). JoinedSince (keys_of d (logged_since start net)) s (switch_of d t)) (sym same) (since.joined d s is);
-  out = λ d is. ap (switch_of d) same ∙ since.out d is;
+wanting-since : {Own : Type 0} (start : ℕ) (first old new : Seen Own) (net : NetState) → Longer old.history new.history → state new ≡ state old → TablesSince start first old net → TablesSince start first new net
+wanting-since start first old new net longer same since = record {
+  joined = λ d s is. elim (since.joined d s is) [
+    | inl here ↦ inl (here.0, subst (λ (t : State). JoinedSince (keys_of d (logged_since start net)) s (switch_of d t)) (sym same) here.1)
+    | inr gone ↦ inr (gone.0, lost-still first old new d gone.1 longer (ap (switch_of d) same ∙ gone.1.out))
+  ];
+  out = λ d is. let o = since.out d is in (o.0, ap (switch_of d) same ∙ o.1);
 }
 
-halt-since : {Own : Type 0} (Tells : Type 0) (start : ℕ) (first old new : Seen Own) (net0 net now_net : NetState) (fault : TxnFault) → Tells → Goes start first old net0 net → Halts Tells old new net now_net fault → TablesSince start first new now_net
-halt-since Tells start first old new net0 net now_net fault told goes (inl wants) =
+halt-since : {Own : Type 0} (Tells : Type 0) (start : ℕ) (lost : List ℕ) (first old new : Seen Own) (net0 net now_net : NetState) (fault : TxnFault) → Tells → Continues Tells first old → Goes start lost first old net0 net → Halts Tells old new net now_net fault
+    → TablesSince start first new now_net
+halt-since Tells start lost first old new net0 net now_net fault told later goes (inl wants) =
     let same : state new ≡ state old = state-append old new [] wants.2.continues.given (wants.2.history told ∙ sym (append-nil old.history)) in
-    subst (λ (n : NetState). TablesSince start first new n) (sym wants.1) (wanting-since start first old new net same (tables-since start first old net0 net goes))
-halt-since Tells start first old new net0 net now_net fault told goes (inr failed) =
-    fault-since Tells failed.0 failed.1.0 start first old new net0 net now_net fault told failed.1.1.0 goes
+    subst (λ (n : NetState). TablesSince start first new n) (sym wants.1)
+    (wanting-since start first old new net (wants.2.continues.told told) same (tables-since Tells start lost first old net0 net told later goes))
+halt-since Tells start lost first old new net0 net now_net fault told later goes (inr failed) =
+    fault-since Tells failed.0 failed.1.0 start lost first old new net0 net now_net fault told later failed.1.1 goes
 
 stop-since : {Own : Type 0} (Tells : Type 0) (app : ℕ) (old new : Seen Own) (net now_net : NetState) (fault : TxnFault) → Tells → Conforming old → InOrder new → Ready old net → Stops Tells app old new net now_net fault
     → TablesSince (length net.log) old new now_net
 stop-since Tells app old new net now_net fault told keeps order ready stops =
     let before = InOrder-before told (halts_continue Tells stops.then_seen new stops.then_net now_net fault stops.halts) order in
-    let goes = chain-goes Tells app stops.leads.trace old stops.then_seen net stops.then_net told keeps before ready stops.leads.chain in
-    halt-since Tells (length net.log) old stops.then_seen new net stops.then_net now_net fault told goes stops.halts
+    let g = chain-goes Tells app stops.leads.trace old stops.then_seen net stops.then_net told keeps before ready stops.leads.chain in
+    halt-since Tells (length net.log) g.lost old stops.then_seen new net stops.then_net now_net fault told (Chain-continues Tells app stops.leads.trace old stops.then_seen net stops.then_net stops.leads.chain) g.goes stops.halts
 
 -- ---- The undo behind it
 
@@ -81,14 +93,22 @@ pub turn-undone : {Own : Type 0} (Tells : Type 0) (accepts : List TableView → 
     → Conforming old → InOrder new → Ready old net → Turns Tells accepts app budget rest frame old mid net mid_net end unread → Undoes Tells (length net.log) mid new mid_net now_net result → UndoneButFailed Tells old new
 turn-undone Tells accepts app budget rest frame old mid new net mid_net now_net end unread result told keeps order ready t undoes =
     let trace = Talk (give_act t.given app frame) ∷ t.trace in
-    let goes = chain-goes Tells app trace old mid net mid_net told keeps (InOrder-before told undoes.continues order) ready t.chain in
-    undone-but-failed Tells (length net.log) old mid new mid_net now_net result told (Chain-continues Tells app trace old mid net mid_net t.chain) (tables-since (length net.log) old mid net mid_net goes) undoes
+    let g = chain-goes Tells app trace old mid net mid_net told keeps (InOrder-before told undoes.continues order) ready t.chain in
+    let later = Chain-continues Tells app trace old mid net mid_net t.chain in
+    undone-but-failed Tells (length net.log) old mid new mid_net now_net result told later (tables-since Tells (length net.log) g.lost old mid net mid_net told later g.goes) undoes
 
 -- ---- The release of what it held
 
+-- where a turn ended, each switch that has a view is joined
+pub turn-joined : {Own : Type 0} (Tells : Type 0) (accepts : List TableView → Bool) (app budget : ℕ) (rest frame : List ℕ) (old mid : Seen Own) (net mid_net : NetState) (end : TurnEnd) (unread : List ℕ) → Tells → Conforming old → InOrder mid → Ready old net
+    → Turns Tells accepts app budget rest frame old mid net mid_net end unread → AreJoined mid_net.views (state mid)
+turn-joined Tells accepts app budget rest frame old mid net mid_net end unread told keeps order ready t =
+    let g = chain-goes Tells app (Talk (give_act t.given app frame) ∷ t.trace) old mid net mid_net told keeps order ready t.chain in
+    ready-joined mid mid_net g.goes.ready
+
 module _ {Own : Type 0} (old mid new : Seen Own) where
   moved-left : (packets : List Held) (steps : List WorldStep) → new.given ≡ mid.given → TurnDone old mid → new.history ≡ mid.history ++ steps → released (journal steps) ≡ packets
-      → ((d : ℕ) → switch_of d (state new) ≡ option_map (after_packets d packets) (switch_of d (state mid))) → ((new.history ≡ mid.history) × TurnKept old new) ⊎ TurnReleasing old new
+      → ((d : ℕ) → (switch_of d (state new) ≡ option_map (after_packets d packets) (switch_of d (state mid))) ⊎ WasLost d mid new) → ((new.history ≡ mid.history) × TurnKept old new) ⊎ TurnReleasing old new
   moved-left packets [] given done history so moved =
       inl (history ∙ append-nil mid.history, record { mid = mid; given = given; done = done; later = ([], history); stay = λ d. ap (λ (s : State). switch_of d s) (state-append mid new [] given history) })
   moved-left packets (first ∷ steps) given done history so moved =
@@ -99,11 +119,14 @@ module _ {Own : Type 0} (old mid new : Seen Own) where
         first = first;
         steps = steps;
         history = history;
-        moved = λ d. moved d ∙ ap (λ (ps : List Held). option_map (after_packets d ps) (switch_of d (state mid))) (sym so);
+        moved = λ d. elim (moved d) [
+          | inl same ↦ inl (same ∙ ap (λ (ps : List Held). option_map (after_packets d ps) (switch_of d (state mid))) (sym so))
+          | inr lost ↦ inr lost
+        ];
       })
 
 -- A whole turn whose packets were being released: nothing was done since, or the release was begun.
-pub moves-left : {Own : Type 0} (old mid new : Seen Own) (packets : List Held) → new.given ≡ mid.given → TurnDone old mid → MovesBy packets mid new → ((new.history ≡ mid.history) × TurnKept old new) ⊎ TurnReleasing old new
+pub moves-left : {Own : Type 0} (old mid new : Seen Own) (packets : List Held) → new.given ≡ mid.given → TurnDone old mid → MovesOrLoses packets mid new → ((new.history ≡ mid.history) × TurnKept old new) ⊎ TurnReleasing old new
 moves-left old mid new packets given done moves = moved-left old mid new packets moves.steps given done moves.history moves.released_so moves.moved
 
 nothing-behind : {X : Type 0} (xs ys : List X) → xs ++ ys ≡ [] → ys ≡ []
@@ -118,12 +141,12 @@ still-there a b c first second before behind same =
     let none = nothing-behind first second (append_cancel_left a.history (first ++ second) [] both) in
     behind ∙ ap (λ (steps : List WorldStep). b.history ++ steps) none ∙ append-nil b.history
 
-stop-left : {Own : Type 0} (Tells : Type 0) (start : ℕ) (old mid new : Seen Own) (mid_net : NetState) (queue : List Event) (fault : TxnFault) → Tells → new.given ≡ mid.given → TurnDone old mid → StopsRelease Tells start mid new mid_net queue fault
-    → ((fault ≡ NoMemory) × TurnKept old new) ⊎ TurnReleasing old new
-stop-left Tells start old mid new mid_net queue fault told given done stops =
-    let front = release-moves Tells stops.front mid stops.mid (committed start mid_net) stops.mid_net queue stops.mid_queue told stops.before in
+stop-left : {Own : Type 0} (Tells : Type 0) (start : ℕ) (old mid new : Seen Own) (mid_net : NetState) (queue : List Event) (fault : TxnFault) → Tells → AreJoined mid_net.views (state mid) → new.given ≡ mid.given → TurnDone old mid
+    → StopsRelease Tells start mid new mid_net queue fault → ((fault ≡ NoMemory) × TurnKept old new) ⊎ TurnReleasing old new
+stop-left Tells start old mid new mid_net queue fault told joined given done stops =
+    let front = release-moves Tells stops.front stops.sent mid stops.mid (committed start mid_net) stops.mid_net queue stops.mid_queue told joined stops.before in
     let broken = stops.breaks.moves told in
-    elim (moves-left old mid new _ given done (moves-then mid stops.mid new _ _ front broken)) [
+    elim (moves-left old mid new _ given done (moves-then mid stops.mid new _ _ front (moves-or _ stops.mid new broken))) [
       | inl kept ↦ inl (stops.breaks.begun told (still-there mid stops.mid new front.steps broken.steps front.history broken.history kept.0), kept.1)
       | inr releasing ↦ inr releasing
     ]
@@ -134,5 +157,7 @@ pub commit-left : {Own : Type 0} (Tells : Type 0) (accepts : List TableView → 
     → UndoneButFailed Tells old new ⊎ ((fault ≡ NoMemory) × TurnKept old new) ⊎ TurnReleasing old new
 commit-left Tells accepts app budget rest frame old mid new net mid_net now_net end unread queue now_queue fault told keeps order ready t done commits = elim commits.ended [
   | inl u ↦ inl (turn-undone Tells accepts app budget rest frame old mid new net mid_net now_net end unread u.result told keeps order ready t u.undoes)
-  | inr stops ↦ inr (stop-left Tells (length net.log) old mid new mid_net queue fault told commits.continues.given done stops)
+  | inr stops ↦
+      (let joined = turn-joined Tells accepts app budget rest frame old mid net mid_net end unread told keeps (InOrder-before told commits.continues order) ready t in
+      inr (stop-left Tells (length net.log) old mid new mid_net queue fault told joined commits.continues.given done stops))
 ]

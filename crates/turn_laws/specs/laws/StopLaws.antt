@@ -1,8 +1,9 @@
--- What follows of a turn that stops in a world that keeps its word, where all was ready, or of the release behind one: a link failed, or
--- memory was wanting, or a packet made its switch send too many messages.
-use Rattle.std.proofs.Common.{◌≡◌, ℕ, Bool, true, List, ◌∷◌, length, Option, Some, None, Err, refl, sym, subst, inl, inr}
+-- What follows of a turn that stops in a world that keeps its word, where all was ready, or of the release behind one: memory was wanting, or
+-- a packet made its switch send too many messages.
+use Rattle.std.proofs.Common.{◌≡◌, ℕ, Bool, true, List, [], ◌∷◌, length, Option, Some, None, Ok, Err, refl, sym, subst, inl, inr}
 use Rattle.flow_table.specs.View.{TableView}
 use Rattle.app_frames.specs.declared.frame.Answer.{Answer}
+use Rattle.app_frames.specs.declared.frame.Answer.TheVariants.{Unknown}
 use Rattle.app_frames.specs.declared.frame.Event.{Event}
 use Rattle.outside.specs.Seen.{Seen, Longer}
 use Rattle.outside.specs.laws.SeenLaws.{Longer-trans}
@@ -12,8 +13,9 @@ use Rattle.lego_model.specs.declared.fault.TxnFault.{TxnFault}
 use Rattle.lego_model.specs.declared.fault.TxnFault.TheVariants.{NoMemory}
 use Rattle.lego_model.specs.SwitchFaults.{FloodedByPacket}
 use Rattle.net_txn.specs.Net.{NetState}
-use Rattle.net_txn.specs.Changes.{known_rows, answer_of_host, Changes}
-use Rattle.net_txn.specs.Agreement.{Steps}
+use Rattle.net_txn.specs.Answering.{known_rows}
+use Rattle.net_txn.specs.Causes.{IsPlain}
+use Rattle.net_txn.specs.Changes.{answer_of_host, ChangesJoined, Changes}
 use Rattle.net_txn.specs.Releases.{Commits}
 use Rattle.app_visor.specs.declared.state.TurnEnd.{TurnEnd}
 use Rattle.app_visor.specs.Talks.{give_act}
@@ -26,37 +28,44 @@ use Rattle.switch_laws.specs.Since.{Ready, Goes}
 use Rattle.switch_laws.specs.laws.SinceLaws.{begun}
 use Rattle.switch_laws.specs.laws.ReleaseLaws.{release-plain}
 use Rattle.turn_laws.specs.laws.ChainLaws.{chain-shown}
-use Rattle.turn_laws.specs.Stop.{IsPlainStop}
 
-no_memory : (fault : TxnFault) → fault ≡ NoMemory → IsPlainStop fault
-no_memory fault is = subst IsPlainStop (sym is) (0, tt)
+no_memory : (fault : TxnFault) → fault ≡ NoMemory → IsPlain fault
+no_memory fault is = subst IsPlain (sym is) tt
 
--- one message, by whether the host had an answer
-message-plain : {Own : Type 0} (Tells : Type 0) (d : ℕ) (bytes : List ℕ) (old new : Seen Own) (net now_net : NetState) (fault : TxnFault) → Tells → Conforming new → Ready old net → Changes Tells d bytes old new net now_net (Err fault)
-    → Steps Tells d bytes old new net now_net (Err fault) → (o : Option Answer) → answer_of_host d bytes net ≡ o → IsPlainStop fault
-message-plain Tells d bytes old new net now_net fault told keeps ready changes steps (Some a) host = no_memory fault (changes.by_host a host).fault
-message-plain Tells d bytes old new net now_net fault told keeps ready changes steps None host =
+-- one message whose switch was not lost, by whether the host had an answer
+message-plain : {Own : Type 0} (Tells : Type 0) (d : ℕ) (bytes : List ℕ) (old new : Seen Own) (net now_net : NetState) (fault : TxnFault) → Tells → Conforming new → Ready old net → ChangesJoined Tells d bytes old new net now_net (Err fault)
+    → (o : Option Answer) → answer_of_host d bytes net ≡ o → IsPlain fault
+message-plain Tells d bytes old new net now_net fault told keeps ready changes (Some a) host = no_memory fault (changes.by_host a host).fault
+message-plain Tells d bytes old new net now_net fault told keeps ready changes None host =
     let read = asked (known_rows d net.views) bytes host in
-    (d, steps read.xid read.change told host read.read keeps (ready.waits d) (ready.agrees d))
+    changes.in_step read.xid read.change told host read.read keeps (ready.waits d) (ready.agrees d)
 
-halt-plain : {Own : Type 0} (Tells : Type 0) (old new : Seen Own) (net now_net : NetState) (fault : TxnFault) → Tells → Conforming new → Ready old net → Halts Tells old new net now_net fault → IsPlainStop fault
+change-plain : {Own : Type 0} (Tells : Type 0) (d : ℕ) (bytes : List ℕ) (old new : Seen Own) (net now_net : NetState) (fault : TxnFault) → Tells → Conforming new → Ready old net → Changes Tells d bytes old new net now_net (Err fault) → IsPlain fault
+change-plain Tells d bytes old new net now_net fault told keeps ready changes = elim changes.answered [
+  | inl joined ↦ message-plain Tells d bytes old new net now_net fault told keeps ready joined (answer_of_host d bytes net) refl
+  | inr gone ↦ absurd (no_answer Unknown gone.1)
+]
+  where
+    no_answer : (a : Answer) → Err fault ≡ Ok a → ⊥
+    no_answer a h = cc
+
+halt-plain : {Own : Type 0} (Tells : Type 0) (old new : Seen Own) (net now_net : NetState) (fault : TxnFault) → Tells → Conforming new → Ready old net → Halts Tells old new net now_net fault → IsPlain fault
 halt-plain Tells old new net now_net fault told keeps ready (inl wants) = no_memory fault wants.0
-halt-plain Tells old new net now_net fault told keeps ready (inr failed) =
-    message-plain Tells failed.0 failed.1.0 old new net now_net fault told keeps ready failed.1.1.0 failed.1.1.1 (answer_of_host failed.0 failed.1.0 net) refl
+halt-plain Tells old new net now_net fault told keeps ready (inr failed) = change-plain Tells failed.0 failed.1.0 old new net now_net fault told keeps ready failed.1.1
 
-pub stop-plain : {Own : Type 0} (Tells : Type 0) (app : ℕ) (old new : Seen Own) (net now_net : NetState) (fault : TxnFault) → Tells → Conforming new → Ready old net → Stops Tells app old new net now_net fault → IsPlainStop fault
+pub stop-plain : {Own : Type 0} (Tells : Type 0) (app : ℕ) (old new : Seen Own) (net now_net : NetState) (fault : TxnFault) → Tells → Conforming new → Ready old net → Stops Tells app old new net now_net fault → IsPlain fault
 stop-plain Tells app old new net now_net fault told keeps ready stops =
-    let first : Goes (length net.log) old old net net = record { since = begun old net; ready = ready } in
+    let first : Goes (length net.log) [] old old net net = record { since = begun old net; ready = ready } in
     let kept = Conforming-before told (halts_continue Tells stops.then_seen new stops.then_net now_net fault stops.halts) keeps in
-    let leads = chain-shown Tells app (λ places. true) (length net.log) old net stops.leads.trace old stops.then_seen net stops.then_net told kept stops.leads.chain first in
+    let leads = chain-shown Tells app (λ places. true) (length net.log) [] old net stops.leads.trace old stops.then_seen net stops.then_net told kept stops.leads.chain first in
     halt-plain Tells stops.then_seen new stops.then_net now_net fault told keeps leads.goes.ready stops.halts
 
 -- A turn that ends leaves all ready.
 pub turn-ready : {Own : Type 0} (Tells : Type 0) (accepts : List TableView → Bool) (app budget : ℕ) (rest frame : List ℕ) (old new : Seen Own) (net now_net : NetState) (end : TurnEnd) (unread : List ℕ) → Tells → Conforming new → Ready old net
     → Turns Tells accepts app budget rest frame old new net now_net end unread → Ready new now_net
 turn-ready Tells accepts app budget rest frame old new net now_net end unread told keeps ready t =
-    let first : Goes (length net.log) old old net net = record { since = begun old net; ready = ready } in
-    (chain-shown Tells app (λ places. true) (length net.log) old net (Talk (give_act t.given app frame) ∷ t.trace) old new net now_net told keeps t.chain first).goes.ready
+    let first : Goes (length net.log) [] old old net net = record { since = begun old net; ready = ready } in
+    (chain-shown Tells app (λ places. true) (length net.log) [] old net (Talk (give_act t.given app frame) ∷ t.trace) old new net now_net told keeps t.chain first).goes.ready
 
 -- ---- The release behind it
 

@@ -14,7 +14,7 @@ use Rattle.app_visor.proofs.asking.exchange.Goals as goal
 pub returns-in_err-answer-clause-err : goal.returns-in_err-answer-clause-err
 returns-in_err-answer-clause-err g c =
     let p = err_from_is_err_and c.from_residual.result c.from_residual.ensures.1 in
-    rw (p.1, p.2) (stops_at_change c.args.app c.in_err-answer.field-0.0 c.in_err-answer.ensures.changes c.in_err-answer.ensures.in_step)
+    rw (p.1, p.2) (stops_at_change c.args.app c.in_err-answer.field-0.0 c.in_err-answer.ensures.changes)
 
 pub encode_answer-requires : goal.encode_answer-requires
 encode_answer-requires g c =
@@ -27,7 +27,7 @@ returns-in_err-frame-clause-err g c =
     let old = g.W.World.seen c.args.world.now in
     let after = g.W.World.seen c.change.new.world in
     let is : IsExchange g.W.World.Tells (exchange_of c.args.dpid c.args.bytes.now c.in_ok-answer.answer old after c.args.txn.now.net.now c.change.new.self.net.now) =
-    record { changes = c.in_ok-answer.ensures.changes; reached = c.in_ok-answer.ensures.reached; in_step = c.in_ok-answer.ensures.in_step } in
+    record { changes = c.in_ok-answer.ensures.changes } in
     err_so _ c.from_residual-in_err-frame.result p.0 NoMemory p.1 p.2
     (stops_wanting (leads_asked c.args.app c.args.dpid c.args.bytes.now c.in_ok-answer.answer old after c.args.txn.now.net.now c.change.new.self.net.now is) (Wants-refl after))
 
@@ -37,7 +37,7 @@ returns-in_err-give-clause-err g c =
     let old = g.W.World.seen c.args.world.now in
     let after = g.W.World.seen c.change.new.world in
     let is : IsExchange g.W.World.Tells (exchange_of c.args.dpid c.args.bytes.now c.in_ok-answer.answer old after c.args.txn.now.net.now c.change.new.self.net.now) =
-    record { changes = c.in_ok-answer.ensures.changes; reached = c.in_ok-answer.ensures.reached; in_step = c.in_ok-answer.ensures.in_step } in
+    record { changes = c.in_ok-answer.ensures.changes } in
     err_so _ c.from_residual-in_err-give.result p.0 NoMemory p.1 p.2
     (stops_wanting (leads_asked c.args.app c.args.dpid c.args.bytes.now c.in_ok-answer.answer old after c.args.txn.now.net.now c.change.new.self.net.now is) c.in_err-give.ensures.err)
 
@@ -46,7 +46,7 @@ returns-clause-ok g c =
     let old = g.W.World.seen c.args.world.now in
     let after = g.W.World.seen c.change.new.world in
     let is : IsExchange g.W.World.Tells (exchange_of c.args.dpid c.args.bytes.now c.in_ok-answer.answer old after c.args.txn.now.net.now c.change.new.self.net.now) =
-    record { changes = c.in_ok-answer.ensures.changes; reached = c.in_ok-answer.ensures.reached; in_step = c.in_ok-answer.ensures.in_step } in
+    record { changes = c.in_ok-answer.ensures.changes } in
     exchanges_so g.W.World.Tells c.args.app c.args.dpid c.args.bytes.now c.in_ok-give.field-0 c.in_ok-answer.answer c.as_slice.result.now old after (g.W.World.seen c.give.new.world) c.args.txn.now.net.now
     c.change.new.self.net.now is (c.as_slice.ensures ∙ c.in_ok-frame.ensures) c.in_ok-give.ensures.ok
 

@@ -1,4 +1,4 @@
-use Rattle.run_laws.specs.laws.CutLaws.{cut-so, lines-so, some-so, start-so, event-so, end-so}
+use Rattle.run_laws.specs.laws.CutLaws.{cut-so, lines-so, some-so, start-so, loss-so, event-so, end-so}
 use Rattle.run_laws.proofs.whole.cut_runs_are_the_references.Goals as goal
 
 pub returns-clause-cut : goal.returns-clause-cut
@@ -12,6 +12,9 @@ returns-clause-short g c = some-so
 
 pub returns-clause-start : goal.returns-clause-start
 returns-clause-start g c = start-so
+
+pub returns-clause-loss : goal.returns-clause-loss
+returns-clause-loss g c = loss-so
 
 pub returns-clause-event : goal.returns-clause-event
 returns-clause-event g c = event-so
