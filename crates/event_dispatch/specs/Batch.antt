@@ -1,6 +1,7 @@
 -- What a batch does in a world that tells and keeps its word. All of this is our own.
 use Rattle.std.specs.Prelude.{◌≡◌, ◌⊎◌, ℕ, ◌≤◌, Bool, true, false, List, [], ◌++◌, length, map, Option, Some, None}
 use Rattle.of_types.specs.declared.journal.WorldStim.{WorldStim}
+use Rattle.of_wire.specs.declared.message.Message.{Message}
 use Rattle.of_wire.specs.declared.fault.WireFault.{WireFault}
 use Rattle.of_wire.specs.declared.fault.WireFault.TheVariants.{NoMemory}
 use Rattle.outside.specs.declared.item.Item.{Item}
@@ -10,22 +11,36 @@ use Rattle.outside.specs.declared.step.WorldStep.TheVariants.{From}
 use Rattle.outside.specs.Seen.{Seen}
 use Rattle.outside.specs.Conforming.{Conforming}
 use Rattle.batch_laws.specs.Calm.{Calm}
-use Rattle.batch_laws.specs.Knowledge.{knowledge_of, handled_all}
+use Rattle.batch_laws.specs.Knowledge.{knowledge_of, handled_all, HandledTo}
 use Rattle.batch_laws.specs.Batches.{Standing}
-use Rattle.batch_laws.specs.Items.{TakesNext}
-use Rattle.batch_laws.specs.InBatch.{BatchDone, BatchOver, SoFar}
+use Rattle.batch_laws.specs.Items.{Enters, Handles, TakesNext}
+use Rattle.batch_laws.specs.InBatch.{BatchEnds, BatchOver, SoFar}
 use Rattle.event_dispatch.specs.declared.batch.Rest.{Rest}
 use Rattle.event_dispatch.specs.declared.batch.Rest.TheVariants as rests
 use Rattle.event_dispatch.specs.declared.run.Run.{Run}
 
 abbrev pub standing_of : {Own : Type 0} → Seen Own → Run → Standing Own
-standing_of seen run = record { seen = seen; net = run.net; queue = run.queue }
+standing_of seen run = record { seen = seen; net = run.net; queue = run.queue; text = run.lines.items }
 
 -- ---- Why bytes were not read
 
 abbrev pub of_memory : WireFault → Bool
 of_memory NoMemory = true
 of_memory other = false
+
+-- ---- An item
+
+-- it was handled, and this text noted
+pub record TakesItem {Own : Type 0} (Tells : Type 0) (item : WorldStep) (old new : Seen Own) (run now_run : Run) : Type 0 where
+  pub text : List ℕ
+  pub handles : Handles Tells item text old new run.net now_run.net run.queue now_run.queue
+  pub lines : now_run.lines.items ≡ run.lines.items ++ text
+
+-- it joined or was lost, and this text noted
+pub record TakesJoin {Own : Type 0} (Tells : Type 0) (d : ℕ) (m : Message) (old new : Seen Own) (run now_run : Run) : Type 0 where
+  pub text : List ℕ
+  pub enters : Enters Tells d m text old new run.net now_run.net run.queue now_run.queue
+  pub lines : now_run.lines.items ≡ run.lines.items ++ text
 
 -- ---- What was told next
 
@@ -36,7 +51,9 @@ rest_by other = None
 
 pub record NextTaken {Own : Type 0} (Tells : Type 0) (rest : Option Rest) (old new : Seen Own) (run now_run : Run) : Type 0 where
   pub item : Item
-  pub takes : TakesNext Tells item old new run.net now_run.net run.queue now_run.queue
+  pub text : List ℕ
+  pub takes : TakesNext Tells item text old new run.net now_run.net run.queue now_run.queue
+  pub lines : now_run.lines.items ≡ run.lines.items ++ text
   pub rest_so : rest ≡ rest_by item
 
 -- ---- The messages that were kept
@@ -45,7 +62,7 @@ pub record NextTaken {Own : Type 0} (Tells : Type 0) (rest : Option Rest) (old n
 abbrev pub as_told : List (ℕ × List ℕ) → List WorldStep
 as_told messages = map (λ m. From m.0 m.1) messages
 
--- In every world: these were taken, oldest first, and the others are kept still.
+-- In every world: these were taken, oldest first, and the others are kept still. None of them is an ECHO_REQUEST, so that no switch is lost.
 pub record TakesFirst (taken : List (ℕ × List ℕ)) (run now_run : Run) : Type 0 where
   pub kept_so : run.net.kept ≡ taken ++ now_run.net.kept
   pub knowledge : knowledge_of now_run.net now_run.queue ≡ handled_all (as_told taken) (knowledge_of run.net run.queue)
@@ -53,7 +70,7 @@ pub record TakesFirst (taken : List (ℕ × List ℕ)) (run now_run : Run) : Typ
 -- where there is none, nothing is done
 
 abbrev pub IsAsBefore : {Own : Type 0} → Seen Own → Seen Own → Run → Run → Type 0
-IsAsBefore old new run now_run = (new ≡ old) × (now_run.net ≡ run.net) × (now_run.queue ≡ run.queue)
+IsAsBefore old new run now_run = (new ≡ old) × (now_run.net ≡ run.net) × (now_run.queue ≡ run.queue) × (now_run.lines.items ≡ run.lines.items)
 
 -- after so many of them
 pub record KeptSoFar {Own : Type 0} (n : ℕ) (old new : Seen Own) (run now_run : Run) : Type 0 where
@@ -69,15 +86,15 @@ pub record TakesKept {Own : Type 0} (left : ℕ) (old new : Seen Own) (run now_r
   pub all : (now_run.net.kept ≡ []) ⊎ ((1000000 ≤ length taken) × (left ≡ 0))
   pub none : run.net.kept ≡ [] → (left ≡ 1000000) × IsAsBefore old new run now_run
 
--- In every world: a batch begins with the messages that were kept, oldest first, and then come the items that are told. Only where more
--- were kept than a batch can have items are some of them not taken.
+-- In every world: a batch begins with the messages that were kept, oldest first, and then come the items that are told, at each of which its
+-- switch may be lost. Only where more were kept than a batch can have items are some of them not taken.
 pub record KeptComesFirst (run now_run : Run) : Type 0 where
   pub taken : List (ℕ × List ℕ)
   pub others : List (ℕ × List ℕ)
   pub told : List WorldStep
   pub kept_so : run.net.kept ≡ taken ++ others
   pub all : (others ≡ []) ⊎ (1000000 ≤ length taken)
-  pub knowledge : knowledge_of now_run.net now_run.queue ≡ handled_all (as_told taken ++ told) (knowledge_of run.net run.queue)
+  pub handled : HandledTo told (handled_all (as_told taken) (knowledge_of run.net run.queue)) (knowledge_of now_run.net now_run.queue)
 
 -- ---- A batch, after so many items
 
@@ -87,7 +104,7 @@ pub record BatchGoes {Own : Type 0} (Tells : Type 0) (n : ℕ) (old new : Seen O
 -- ---- A batch that is over: one stimulus was begun and its items were told, or nothing is to come
 
 abbrev pub BatchBy : {Own : Type 0} → Rest → Standing Own → Standing Own → Type 0
-BatchBy rests.Idle first now = (x : WorldStim) × BatchDone x first now
+BatchBy rests.Idle first now = (x : WorldStim) × BatchEnds x first now
 BatchBy rests.End first now = BatchOver first now
 
 pub record BatchShown {Own : Type 0} (Tells : Type 0) (rest : Rest) (old new : Seen Own) (run now_run : Run) : Type 0 where

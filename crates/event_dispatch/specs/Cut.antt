@@ -27,6 +27,7 @@ use Rattle.event_dispatch.specs.Shows.{engine_of}
 use Rattle.event_dispatch.specs.Talking.{KeepsTalking, GoesOnTalking}
 use Rattle.event_dispatch.specs.Steady.{Reads, NoPoint, AtMostThisPoint, NoneMoves}
 use Rattle.event_dispatch.specs.Undone.{IsShort, DispatchLeft}
+use Rattle.std.specs.Io.KnownBytes.{append_known}
 use Rattle.event_dispatch.specs.Serves.{Writes, DispatchesSome, IsBatch, GoesRounds, GoesToEnd, Begins}
 
 -- Nothing was written, and it was not the sink that failed.
@@ -81,20 +82,37 @@ pub record CutBehind {Own : Type 0} (Tells : Type 0) (accepts : List TableView �
   pub rest : Rest
   pub mid : Seen Own
   pub mid_run : Run
+  pub noted : List ℕ
+  pub held : Option (List ℕ)
   pub first : Continues Tells old mid
-  pub batch : IsBatch Tells rest old mid (engine_of r) (engine_of mid_run)
+  pub batch : IsBatch Tells rest noted old mid (engine_of r) (engine_of mid_run)
+  pub written : held ≡ append_known contents noted
   pub reads : Reads Tells old mid r.net mid_run.net
   pub later : Continues Tells mid new
-  pub some : CutSome Tells accepts fault contents now_contents mid new mid_run
+  pub some : CutSome Tells accepts fault held now_contents mid new mid_run
+
+-- the batch was done, and the sink took a part of its lines
+pub record LossPart {Own : Type 0} (Tells : Type 0) (contents now_contents : Option (List ℕ)) (old new : Seen Own) (r : Run) : Type 0 where
+  pub rest : Rest
+  pub noted : List ℕ
+  pub now_run : Run
+  pub batch : IsBatch Tells rest noted old new (engine_of r) (engine_of now_run)
+  pub some : noted ≡ [] → ⊥
+  pub reads : Reads Tells old new r.net now_run.net
+  pub part : TookPart contents now_contents noted
+
+abbrev pub CutNoted : {Own : Type 0} → Type 0 → Fault → Option (List ℕ) → Option (List ℕ) → Seen Own → Seen Own → Run → Type 0
+CutNoted Tells faults.Write contents now_contents old new r = LossPart Tells contents now_contents old new r
+CutNoted Tells other contents now_contents old new r = ⊥
 
 -- it ended the batch, where no quiescent point lies behind, if nothing was kept before it
 pub record StopsBatch {Own : Type 0} (Tells : Type 0) (old new : Seen Own) (net : NetState) : Type 0 where
   pub here : net.kept ≡ [] → AtMostThisPoint Tells old new
   pub own : Tells → CallsFor index old new
 
--- the one or the other
+-- the one or the other, or the sink failed at what the batch noted
 abbrev pub CutRound : {Own : Type 0} → Type 0 → (List TableView → Bool) → Fault → Option (List ℕ) → Option (List ℕ) → Seen Own → Seen Own → Run → Type 0
-CutRound Tells accepts fault contents now_contents old new r = (IsStill fault contents now_contents × KeepsTalking Tells old new × StopsBatch Tells old new r.net) ⊎ CutBehind Tells accepts fault contents now_contents old new r
+CutRound Tells accepts fault contents now_contents old new r = (IsStill fault contents now_contents × KeepsTalking Tells old new × StopsBatch Tells old new r.net) ⊎ CutBehind Tells accepts fault contents now_contents old new r ⊎ CutNoted Tells fault contents now_contents old new r
 
 -- so many rounds were gone before it
 pub record CutRounds {Own : Type 0} (Tells : Type 0) (accepts : List TableView → Bool) (fault : Fault) (contents now_contents : Option (List ℕ)) (old new : Seen Own) (r : Run) : Type 0 where
@@ -123,11 +141,17 @@ CutStart Tells faults.Write contents now_contents old new e = StartPart Tells co
 CutStart Tells faults.NoMemory contents now_contents old new e = (now_contents ≡ contents) × KeepsTalking Tells old new × NoPoint Tells old new
 CutStart Tells other contents now_contents old new e = ⊥
 
+-- what is said at the end, where these switches are lost
+pub record EndSaid {Own : Type 0} (more : List ℕ) (last new : Seen Own) (e : Engine) : Type 0 where
+  pub lost : List ℕ
+  pub text_so : more ≡ last_text lost last e
+  pub leaves : Leaves lost last new
+
 -- the sink took a part of the lines of the end, for which switches were asked
 pub record EndPart {Own : Type 0} (Tells : Type 0) (contents now_contents : Option (List ℕ)) (last new : Seen Own) (e : Engine) : Type 0 where
   pub more : List ℕ
   pub now_net : NetState
-  pub shown : Tells → Conforming new → Calm last e.net → (more ≡ last_text last e) × Leaves last new
+  pub shown : Tells → Conforming new → Calm last e.net → EndSaid more last new e
   pub reads : Reads Tells last new e.net now_net
   pub part : TookPart contents now_contents more
 

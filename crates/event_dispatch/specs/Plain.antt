@@ -1,6 +1,6 @@
--- How a run may end in a world that keeps its word: no switch is at fault for what it sent, so that each end but the whole one is by a link
--- that failed, by the sink, by what comes next, by events that are left, or for want of memory; or a packet that was released made its switch
--- send more messages than a wait takes. All of this is our own.
+-- How a run may end in a world that keeps its word: no switch is at fault for what it sent, so that each end but the whole one is by the sink, by
+-- what comes next, by events that are left, or for want of memory; or a packet that was released made its switch send more messages than a wait
+-- takes. A switch whose link fails is lost, and ends no run. All of this is our own.
 use Rattle.std.specs.Prelude.{◌≡◌, ◌⊎◌, ℕ, ◌<◌, Bool, List, [], length, IsOk}
 use Rattle.of_wire.specs.Reading.{reading_of}
 use Rattle.flow_table.specs.View.{TableView}
@@ -9,8 +9,7 @@ use Rattle.outside.specs.declared.step.WorldStep.{WorldStep}
 use Rattle.outside.specs.Seen.{Seen}
 use Rattle.outside.specs.State.{state, waits_of}
 use Rattle.outside.specs.Conforming.{Conforming}
-use Rattle.lego_model.specs.declared.fault.TxnFault.{TxnFault}
-use Rattle.lego_model.specs.declared.fault.TxnFault.TheVariants.{SwitchFault, SwitchBroke, Diverged, Flooded, NoMemory}
+use Rattle.lego_model.specs.declared.fault.TxnFault.TheVariants.{Flooded}
 use Rattle.lego_model.specs.BarrierWaits.{flood}
 use Rattle.lego_model.specs.SwitchFaults.{FloodedByPacket}
 use Rattle.net_txn.specs.Net.{NetState}
@@ -27,16 +26,8 @@ use Rattle.event_dispatch.specs.declared.served.Served.{Served}
 use Rattle.event_dispatch.specs.declared.served.Served.TheVariants as ends
 use Rattle.event_dispatch.specs.Why.{served_by}
 
--- of a switch only its link failed
-abbrev pub IsOfLink : TxnFault → Type 0
-IsOfLink (SwitchFault d) = Unit {0}
-IsOfLink (SwitchBroke d bytes) = ⊥
-IsOfLink (Diverged d sent got) = ⊥
-IsOfLink (Flooded d n) = ⊥
-IsOfLink NoMemory = ⊥
-
 abbrev pub IsPlainServed : Served → Type 0
-IsPlainServed (ends.Txn fault) = IsOfLink fault
+IsPlainServed (ends.Txn fault) = ⊥
 IsPlainServed (ends.Ended events) = Unit {0}
 IsPlainServed ends.WriteFault = Unit {0}
 IsPlainServed ends.Shut = Unit {0}

@@ -1,5 +1,5 @@
 -- What the end of a report says in a world that keeps its word, and what it leaves. All of this is our own.
-use Rattle.std.specs.Prelude.{◌≡◌, ℕ, ◌+◌, List, [], ◌∷◌, ◌++◌, take, drop, Some}
+use Rattle.std.specs.Prelude.{◌≡◌, ℕ, ◌+◌, true, false, List, [], ◌∷◌, ◌++◌, take, drop, map, Option, Some, None}
 use Rattle.std.specs.List.{flat_map}
 use Rattle.of_match.specs.declared.key.Key.{Key}
 use Rattle.of_stats.specs.declared.flow_row.FlowRow.{FlowRow}
@@ -7,13 +7,16 @@ use Rattle.flow_table.specs.declared.view.ViewRow.{ViewRow}
 use Rattle.flow_table.specs.Switch.{SwitchState}
 use Rattle.net_txn.specs.Views.{rows_at}
 use Rattle.net_txn.specs.AskSteps.{RowsInStep}
+use Rattle.net_txn.specs.Asks.{AsksLost}
+use Rattle.net_txn.specs.Losing.{is_among, lose_all}
+use Rattle.net_txn.specs.laws.LostPartLaws.{Distinct}
 use Rattle.outside.specs.Seen.{Seen}
-use Rattle.outside.specs.State.{state, switch_of, waits_of}
+use Rattle.outside.specs.State.{state, switch_of, waits_of, is_joined}
 use Rattle.outside.specs.Conforming.{Conforming}
 use Rattle.switch_laws.specs.Since.{Ready}
 use Rattle.switch_laws.specs.Sound.{Sound}
 use Rattle.batch_laws.specs.Calm.{Calm}
-use Rattle.run_laws.specs.LastReport.{SameKeys, flow_lines, table_lines, shown_text, last_text, OnlyAsked}
+use Rattle.run_laws.specs.LastReport.{SameKeys, flow_lines, table_lines, shown_text, switch_left, last_text, OnlyAsked}
 use Rattle.event_dispatch.specs.declared.run.Run.{Run}
 use Rattle.event_dispatch.specs.Shows.{engine_of, Adds}
 
@@ -38,33 +41,51 @@ pub record TableSaid (d : ℕ) (rows : List FlowRow) (r now_r : Run) : Type 0 wh
 
 pub record AsksShown {Own : Type 0} (Tells : Type 0) (d : ℕ) (old new : Seen Own) (r now_r : Run) (rows : List FlowRow) : Type 0 where
   pub in_step : (s : SwitchState) → Tells → Conforming new → switch_of d (state old) ≡ Some s → waits_of d (state old) ≡ [] → RowsInStep d s old new r.net.kept now_r.net.kept rows
-  pub asked : Tells → OnlyAsked old new
+  pub asked : Tells → OnlyAsked [] old new
   pub engine : engine_of now_r ≡ record (engine_of r) { net = record r.net { xid = now_r.net.xid; kept = now_r.net.kept } }
   pub index : now_r.app.state.index ≡ r.app.state.index
   pub lines : now_r.lines.items ≡ r.lines.items
 
--- ---- What is said in a world that keeps its word: text, with nothing else of the run moved but the transaction id; no switch moved, and
--- nothing of one waits
-
-pub record Says {Own : Type 0} (text : List ℕ) (old new : Seen Own) (r now_r : Run) : Type 0 where
-  pub lines : now_r.lines.items ≡ r.lines.items ++ text
-  pub engine : engine_of now_r ≡ record (engine_of r) { net = record r.net { xid = now_r.net.xid } }
+-- it was lost meanwhile
+pub record AsksNone {Own : Type 0} (Tells : Type 0) (d : ℕ) (old new : Seen Own) (r now_r : Run) : Type 0 where
+  pub lost : AsksLost Tells d old new r.net now_r.net
+  pub asked : Tells → Conforming new → is_joined d (state old) ≡ true → OnlyAsked (d ∷ []) old new
+  pub engine : engine_of now_r ≡ record (engine_of r) { net = now_r.net }
   pub index : now_r.app.state.index ≡ r.app.state.index
-  pub switches : (d : ℕ) → switch_of d (state new) ≡ switch_of d (state old)
+  pub lines : now_r.lines.items ≡ r.lines.items
+
+abbrev pub AsksAs : {Own : Type 0} → Type 0 → ℕ → Seen Own → Seen Own → Run → Run → Option (List FlowRow) → Type 0
+AsksAs Tells d old new r now_r (Some rows) = AsksShown Tells d old new r now_r rows
+AsksAs Tells d old new r now_r None = AsksNone Tells d old new r now_r
+
+-- ---- What is said in a world that keeps its word: text, where these switches are lost, with nothing else of the run moved but the transaction
+-- id; no other switch moved, and nothing of one waits
+
+pub record Says {Own : Type 0} (lost text : List ℕ) (old new : Seen Own) (r now_r : Run) : Type 0 where
+  pub lines : now_r.lines.items ≡ r.lines.items ++ text
+  pub engine : engine_of now_r ≡ record (engine_of r) { net = record (lose_all lost r.net) { xid = now_r.net.xid } }
+  pub index : now_r.app.state.index ≡ r.app.state.index
+  pub switches : (d : ℕ) → switch_of d (state new) ≡ switch_left lost (state old) d
   pub waits : (d : ℕ) → waits_of d (state new) ≡ []
-  pub asked : OnlyAsked old new
+  pub asked : OnlyAsked lost old new
+
+-- some of these are lost, and this is said then
+pub record SaysOf {Own : Type 0} (ds : List ℕ) (text : List ℕ → List ℕ) (old new : Seen Own) (r now_r : Run) : Type 0 where
+  pub lost : List ℕ
+  pub among : (d : ℕ) → is_among d ds ≡ false → is_among d lost ≡ false
+  pub says : Says lost (text lost) old new r now_r
 
 -- of one switch
 pub record TableShown {Own : Type 0} (Tells : Type 0) (d : ℕ) (old new : Seen Own) (r now_r : Run) : Type 0 where
-  pub shown : Tells → Conforming new → Ready old r.net → Sound (state old) → Says (shown_text r.net.views (state old) d) old new r now_r
+  pub shown : Tells → Conforming new → Ready old r.net → Sound (state old) → SaysOf (d ∷ []) (λ lost. shown_text lost r.net.views (state old) d) old new r now_r
 
--- of these switches
+-- of these switches, each of which stands once
 pub record TablesShown {Own : Type 0} (Tells : Type 0) (ds : List ℕ) (old new : Seen Own) (r now_r : Run) : Type 0 where
-  pub shown : Tells → Conforming new → Ready old r.net → Sound (state old) → Says (flat_map (shown_text r.net.views (state old)) ds) old new r now_r
+  pub shown : Distinct ds → Tells → Conforming new → Ready old r.net → Sound (state old) → SaysOf ds (λ lost. flat_map (shown_text lost r.net.views (state old)) ds) old new r now_r
 
 -- the whole end
 pub record LastShown {Own : Type 0} (Tells : Type 0) (old new : Seen Own) (r now_r : Run) : Type 0 where
-  pub shown : Tells → Conforming new → Calm old r.net → Says (last_text old (engine_of r)) old new r now_r
+  pub shown : Tells → Conforming new → Calm old r.net → SaysOf (map (λ v. v.dpid) r.net.views) (λ lost. last_text lost old (engine_of r)) old new r now_r
 
 -- one row more
 pub record NextRow (row : FlowRow) (ws : List ViewRow) (rest : List FlowRow) : Type 0 where

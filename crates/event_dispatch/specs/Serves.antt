@@ -19,11 +19,12 @@ use Rattle.net_txn.specs.Releases.{Commits}
 use Rattle.app_visor.specs.declared.state.TurnEnd.{TurnEnd}
 use Rattle.app_visor.specs.declared.state.TurnEnd.TheVariants as ends
 use Rattle.app_visor.specs.Turns.{Turns}
+use Rattle.batch_laws.specs.Knowledge.{lost_text}
 use Rattle.run_laws.specs.Engine.{Engine}
 use Rattle.lego_model.specs.Application.{budget, name}
 use Rattle.lego_model.specs.History.{stimuli_in}
 use Rattle.run_laws.specs.Readings.{JudgesAlike}
-use Rattle.run_laws.specs.Facts.{turn_word, out_text, StartsAgain, TakesTurn, Dispatches}
+use Rattle.run_laws.specs.Facts.{turn_word, out_text, all_told, StartsAgain, TakesTurn, Dispatches}
 use Rattle.run_laws.specs.Moves.{AtRest, Shown, ShownIdle, ShownOver, ShownRounds, ShownToEnd}
 use Rattle.lego_model.specs.ReferenceRun.{dispatch_next, times}
 use Rattle.run_laws.specs.First.{engine_at_first}
@@ -68,17 +69,17 @@ pub record PlaysTurn {Own : Type 0} (Tells : Type 0) (accepts : List TableView �
   pub turns : Turns Tells accepts app budget rest (event_frame number net.moment event) old mid net mid_net (end_of closing) unread
   pub played : IsPlayed Tells closing (length net.log) mid new mid_net now_net queue now_queue
 
--- the turn was counted, and how it ended was noted, with the packets that were released
+-- the turn was counted, and how it ended was noted, with the packets that were released and the switches that were lost
 pub record IsCounted {Own : Type 0} (stop : Bool) (out : List (ℕ × ℕ)) (old new : Seen Own) (r now_r : Run) : Type 0 where
   pub seen : new ≡ old
-  pub engine : engine_of now_r ≡ record (engine_of r) { done = r.app.done + 1 }
-  pub notes : Notes (turn_line name (turn_word (ends.Done stop)) ++ out_text out) r now_r
+  pub engine : engine_of now_r ≡ all_told r.net r.queue (record (engine_of r) { done = r.app.done + 1 })
+  pub notes : Notes (turn_line name (turn_word (ends.Done stop)) ++ (out_text out ++ lost_text r.net.left)) r now_r
 
 -- and so it was where it failed, and the application started again
 pub record IsRestarted {Own : Type 0} (Tells : Type 0) (cause : Cause) (old new : Seen Own) (r now_r : Run) : Type 0 where
   pub text : List ℕ
-  pub starts : StartsAgain Tells text old new (record (engine_of r) { failed = r.app.failed + 1 }) (engine_of now_r)
-  pub notes : Notes (turn_line name (words.Failed cause) ++ text) r now_r
+  pub starts : StartsAgain Tells text old new (all_told r.net r.queue (record (engine_of r) { failed = r.app.failed + 1 })) (engine_of now_r)
+  pub notes : Notes (turn_line name (words.Failed cause) ++ (lost_text r.net.left ++ text)) r now_r
 
 abbrev pub Closes : {Own : Type 0} → Type 0 → Closing → Seen Own → Seen Own → Run → Run → Type 0
 Closes Tells (closings.Done stop out) old new r now_r = IsCounted stop out.items old new r now_r
@@ -124,24 +125,28 @@ pub record DispatchesWaiting {Own : Type 0} (Tells : Type 0) (accepts : List Tab
 
 -- ---- Rounds
 
--- the last batch, that has no stimulus, since none is to come
-pub record IsLast {Own : Type 0} (Tells : Type 0) (old new : Seen Own) (e now_e : Engine) : Type 0 where
-  pub over : ShownOver Tells old new e now_e
+-- the last batch, that has no stimulus, since none is to come, and notes nothing
+pub record IsLast {Own : Type 0} (Tells : Type 0) (text : List ℕ) (old new : Seen Own) (e now_e : Engine) : Type 0 where
+  pub over : ShownOver Tells text old new e now_e
+  pub none_noted : Tells → Conforming new → AtRest old e → text ≡ []
   pub none_to_come : Tells → Conforming new → AtRest old e → (state old).to_come ≡ []
 
--- a batch: one stimulus with its items, or the last one
-abbrev pub IsBatch : {Own : Type 0} → Type 0 → Rest → Seen Own → Seen Own → Engine → Engine → Type 0
-IsBatch Tells rests.Idle old new e now_e = ShownIdle Tells old new e now_e
-IsBatch Tells rests.End old new e now_e = IsLast Tells old new e now_e
+-- a batch: one stimulus with its items, or the last one; and what was noted
+abbrev pub IsBatch : {Own : Type 0} → Type 0 → Rest → List ℕ → Seen Own → Seen Own → Engine → Engine → Type 0
+IsBatch Tells rests.Idle text old new e now_e = ShownIdle Tells text old new e now_e
+IsBatch Tells rests.End text old new e now_e = IsLast Tells text old new e now_e
 
--- a batch, and then the events that wait
+-- a batch, whose lines were written, and then the events that wait
 pub record GoesRound {Own : Type 0} (Tells : Type 0) (accepts : List TableView → Bool) (rest : Rest) (contents now_contents : Option (List ℕ)) (old new : Seen Own) (r now_r : Run) : Type 0 where
   pub mid : Seen Own
   pub mid_run : Run
   pub first : Continues Tells old mid
-  pub batch : IsBatch Tells rest old mid (engine_of r) (engine_of mid_run)
+  pub noted : List ℕ
+  pub held : Option (List ℕ)
+  pub batch : IsBatch Tells rest noted old mid (engine_of r) (engine_of mid_run)
+  pub written : held ≡ append_known contents noted
   pub later : Continues Tells mid new
-  pub dispatches : DispatchesWaiting Tells accepts contents now_contents mid new mid_run now_r
+  pub dispatches : DispatchesWaiting Tells accepts held now_contents mid new mid_run now_r
 
 -- so many rounds
 pub record GoesRounds {Own : Type 0} (Tells : Type 0) (accepts : List TableView → Bool) (number : ℕ) (contents now_contents : Option (List ℕ)) (old new : Seen Own) (r now_r : Run) : Type 0 where

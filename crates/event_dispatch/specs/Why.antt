@@ -7,7 +7,7 @@ use Rattle.outside.specs.declared.step.WorldStep.{WorldStep}
 use Rattle.outside.specs.declared.step.WorldStep.TheVariants.{From}
 use Rattle.outside.specs.Seen.{Seen, Continues}
 use Rattle.lego_model.specs.declared.fault.TxnFault.{TxnFault}
-use Rattle.lego_model.specs.declared.fault.TxnFault.TheVariants.{SwitchFault, SwitchBroke, Diverged, Flooded, NoMemory}
+use Rattle.lego_model.specs.declared.fault.TxnFault.TheVariants.{SwitchBroke, Diverged, Flooded, NoMemory}
 use Rattle.event_dispatch.specs.declared.fault.Fault.{Fault}
 use Rattle.event_dispatch.specs.declared.fault.Fault.TheVariants as faults
 use Rattle.event_dispatch.specs.declared.served.Served.{Served}
@@ -31,7 +31,6 @@ IsWhy Tells old new sink_old sink_new ends.NoMemory = Unit {0}
 -- what a fault of the network is then
 abbrev pub fault_of : TxnFault → Fault
 fault_of NoMemory = faults.NoMemory
-fault_of (SwitchFault d) = faults.Txn (SwitchFault d)
 fault_of (SwitchBroke d bytes) = faults.Txn (SwitchBroke d bytes)
 fault_of (Diverged d sent got) = faults.Txn (Diverged d sent got)
 fault_of (Flooded d n) = faults.Txn (Flooded d n)

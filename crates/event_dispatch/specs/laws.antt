@@ -4,6 +4,7 @@ pub mod WholeLaws
 pub mod WhyLaws
 pub mod ViewedLaws
 pub mod LastLaws
+pub mod LosingLaws
 pub mod BatchLaws
 pub mod PlainLaws
 pub mod TalkingLaws
@@ -25,3 +26,4 @@ pub mod EndedLaws
 pub mod NoEventLaws
 pub mod LeftLaws
 pub mod StoreLaws
+pub mod JoinLaws

@@ -10,9 +10,9 @@ ghost use Rattle.of_wire.specs.Spelling.{message_size, message_bytes};
 ghost use Rattle.app_frames.specs.declared.frame.EventKind.TheVariants as kinds;
 ghost use Rattle.net_txn.specs.Views.{rows_at, is_viewed};
 ghost use Rattle.batch_laws.specs.Knowledge.{with_event};
-ghost use Rattle.batch_laws.specs.Items.{Departs, Enters, Handles};
+ghost use Rattle.batch_laws.specs.Items.{Departs};
 ghost use Rattle.event_dispatch.specs.Runs.{AreRead, Waits};
-ghost use Rattle.event_dispatch.specs.Batch.{of_memory, TakesKept, KeptComesFirst, NextTaken, BatchShown};
+ghost use Rattle.event_dispatch.specs.Batch.{of_memory, TakesItem, TakesJoin, TakesKept, KeptComesFirst, NextTaken, BatchShown};
 ghost use Rattle.event_dispatch.specs.Why.{IsReason, WhyItem, WhyMessage, served_by};
 ghost use Rattle.event_dispatch.specs.Talking.{KeepsTalking};
 ghost use Rattle.net_txn.specs.LinkSteps.{OnLinks, MakesNoStrayCall, AsksWithoutStrays};
@@ -104,7 +104,8 @@ fn next_item<W: World>(world: &mut W, buf: &mut [u8]) -> Result<Item, Fault>
 }
 
 impl Run {
-    /// Takes a message that came from a switch. One of a switch that is not joined is ignored.
+    /// Takes a message that came from a switch. One of a switch that is not joined is ignored; where an ECHO_REQUEST could not be
+    /// answered the switch is lost, and told.
     #[tactic(auto, using(crate::specs::laws::BatchSteadyLaws::links_none, crate::specs::laws::BatchSteadyLaws::only_none, crate::specs::laws::SteadyLaws::places_none, crate::specs::laws::SteadyLaws::reads_none, crate::specs::laws::FaultLaws::arrival_why, crate::specs::laws::TalkingLaws::keeps_none, crate::specs::laws::TalkingLaws::keeps_links))]
     pub(crate) fn take_message<W: World>(
         &mut self,
@@ -112,9 +113,9 @@ impl Run {
         dpid: Dpid,
         frame: &[u8],
     ) -> Result<(), Fault>
+        requires none_left { self.old.net.left ≡ [] }
         ensures waits { OnOk result (Waits self.old self.new) }
         ensures app { self.new.app ≡ self.old.app }
-        ensures lines { self.new.lines ≡ self.old.lines }
         ensures continues { Continues W.Tells (W.seen world.old) (W.seen world.new) }
         ensures talks { KeepsTalking W.Tells (W.seen world.old) (W.seen world.new) }
         ensures links { OnLinks W.Tells (W.seen world.old) (W.seen world.new) }
@@ -124,15 +125,14 @@ impl Run {
         ensures read { OnOk result (AreRead self.old.net.kept → AreRead self.new.net.kept) }
         ensures why { IfErr result (WhyMessage W.Tells dpid frame.now (W.seen world.old) (W.seen world.new)) }
         ensures plain { IfErr result (PlainRead frame.now) }
-        ensures handles { OnOk result (Handles W.Tells (From dpid frame.now) (W.seen world.old) (W.seen world.new)
-            self.old.net self.new.net self.old.queue self.new.queue) }
+        ensures takes { OnOk result (TakesItem W.Tells (From dpid frame.now) (W.seen world.old) (W.seen world.new) self.old self.new) }
     {
         if !is_joined(&self.net, dpid) {
             return Ok(());
         }
         let event = self.net.arrived(world, dpid, frame)?;
         append(&mut self.queue, event)?;
-        Ok(())
+        Ok(self.tell_lost()?)
     }
 
     /// Takes a switch out that leaves. One that is not joined is ignored.
@@ -153,9 +153,9 @@ impl Run {
     /// Takes a switch in that describes itself as it joins. One that is joined is not taken in again.
     #[tactic(auto, using(crate::specs::laws::BatchSteadyLaws::links_none, crate::specs::laws::BatchSteadyLaws::puts_none, crate::specs::laws::BatchSteadyLaws::only_none, crate::specs::laws::BatchSteadyLaws::joined_puts, crate::specs::laws::TalkingLaws::keeps_none))]
     fn take_in<W: World>(&mut self, world: &mut W, dpid: Dpid, frame: &[u8]) -> Result<(), Fault>
+        requires none_left { self.old.net.left ≡ [] }
         ensures waits { OnOk result (Waits self.old self.new) }
         ensures app { self.new.app ≡ self.old.app }
-        ensures lines { self.new.lines ≡ self.old.lines }
         ensures continues { Continues W.Tells (W.seen world.old) (W.seen world.new) }
         ensures talks { KeepsTalking W.Tells (W.seen world.old) (W.seen world.new) }
         ensures links { OnLinks W.Tells (W.seen world.old) (W.seen world.new) }
@@ -164,8 +164,7 @@ impl Run {
         ensures read { OnOk result (AreRead self.old.net.kept → AreRead self.new.net.kept) }
         ensures why { IfErr result (IsReason W.Tells (W.seen world.old) (W.seen world.new) 0 0) }
         ensures plain { IfErr result (PlainJoin W.Tells dpid (W.seen world.old) (W.seen world.new)) }
-        ensures handles { OnOk result (Handles W.Tells (Joined dpid frame.now) (W.seen world.old) (W.seen world.new)
-            self.old.net self.new.net self.old.queue self.new.queue) }
+        ensures takes { OnOk result (TakesItem W.Tells (Joined dpid frame.now) (W.seen world.old) (W.seen world.new) self.old self.new) }
     {
         if is_joined(&self.net, dpid) {
             return Ok(());
@@ -181,14 +180,13 @@ impl Run {
         }
     }
 
-    /// Lets a switch join with what it says of itself.
+    /// Lets a switch join with what it says of itself. Where it is lost meanwhile, that is told, and makes no event.
     #[tactic(auto, using(crate::specs::laws::BatchSteadyLaws::links_none, crate::specs::laws::BatchSteadyLaws::only_none, crate::specs::laws::KeptLaws::joins_read, crate::specs::laws::TalkingLaws::keeps_none, crate::specs::laws::TalkingLaws::keeps_links))]
     fn join<W: World>(&mut self, world: &mut W, dpid: Dpid, message: &Message) -> Result<(), Fault>
         requires out { rows_at dpid self.old.net.views ≡ None }
         requires fits { message_size message.now ≤ 65535 }
         ensures waits { OnOk result (Waits self.old self.new) }
         ensures app { self.new.app ≡ self.old.app }
-        ensures lines { self.new.lines ≡ self.old.lines }
         ensures continues { Continues W.Tells (W.seen world.old) (W.seen world.new) }
         ensures talks { KeepsTalking W.Tells (W.seen world.old) (W.seen world.new) }
         ensures links { OnLinks W.Tells (W.seen world.old) (W.seen world.new) }
@@ -197,12 +195,14 @@ impl Run {
         ensures read { OnOk result (AreRead self.old.net.kept → AreRead self.new.net.kept) }
         ensures why { IfErr result (IsReason W.Tells (W.seen world.old) (W.seen world.new) 0 0) }
         ensures plain { IfErr result (PlainJoin W.Tells dpid (W.seen world.old) (W.seen world.new)) }
-        ensures enters { OnOk result (Enters W.Tells dpid message.now (W.seen world.old) (W.seen world.new)
-            self.old.net self.new.net self.old.queue self.new.queue) }
+        ensures joins { OnOk result (TakesJoin W.Tells dpid message.now (W.seen world.old) (W.seen world.new) self.old self.new) }
     {
         if let Message::FeaturesReply(features) = message {
-            self.net.joined(world, dpid, features)?;
-            self.announce(dpid, message)?;
+            if self.net.joined(world, dpid, features)? {
+                self.announce(dpid, message)?;
+            } else {
+                self.note_loss(dpid)?;
+            }
         }
         Ok(())
     }
@@ -226,10 +226,10 @@ impl Run {
     /// Takes one item. Bytes that it has stand in the buffer.
     #[tactic(auto, using(crate::specs::laws::BatchSteadyLaws::links_none, crate::specs::laws::BatchSteadyLaws::puts_none, crate::specs::laws::BatchSteadyLaws::only_none, crate::specs::laws::TalkingLaws::keeps_none))]
     fn take_item<W: World>(&mut self, world: &mut W, item: Item, buf: &[u8]) -> Result<(), Fault>
-        requires { IsItemIn W.Tells item buf.now }
+        requires item { IsItemIn W.Tells item buf.now }
+        requires none_left { self.old.net.left ≡ [] }
         ensures waits { OnOk result (Waits self.old self.new) }
         ensures app { self.new.app ≡ self.old.app }
-        ensures lines { self.new.lines ≡ self.old.lines }
         ensures continues { Continues W.Tells (W.seen world.old) (W.seen world.new) }
         ensures talks { KeepsTalking W.Tells (W.seen world.old) (W.seen world.new) }
         ensures links { OnLinks W.Tells (W.seen world.old) (W.seen world.new) }
@@ -240,8 +240,7 @@ impl Run {
         ensures read { OnOk result (AreRead self.old.net.kept → AreRead self.new.net.kept) }
         ensures why { IfErr result (WhyItem W.Tells (item_step item buf.now) (W.seen world.old) (W.seen world.new)) }
         ensures plain { IfErr result (PlainItem W.Tells (item_step item buf.now) (W.seen world.old) (W.seen world.new)) }
-        ensures handles { OnOk result (Handles W.Tells (item_step item buf.now) (W.seen world.old) (W.seen world.new)
-            self.old.net self.new.net self.old.queue self.new.queue) }
+        ensures takes { OnOk result (TakesItem W.Tells (item_step item buf.now) (W.seen world.old) (W.seen world.new) self.old self.new) }
     {
         match item {
             Item::From(dpid, size) => self.take_message(world, dpid, &buf[..size]),
@@ -260,9 +259,10 @@ impl Run {
     #[tactic(auto, using(crate::specs::laws::BatchSteadyLaws::links_none, crate::specs::laws::BatchSteadyLaws::links_then, crate::specs::laws::SteadyLaws::places_none, crate::specs::laws::SteadyLaws::reads_none, crate::specs::laws::WhyLaws::continues_then, crate::specs::laws::WhyLaws::why_then, crate::specs::laws::WhyLaws::waits_then, crate::specs::laws::TalkingLaws::keeps_none, crate::specs::laws::TalkingLaws::keeps_then))]
     fn take_kept<W: World>(&mut self, world: &mut W) -> Result<u32, Fault>
         requires read { AreRead self.old.net.kept }
+        requires none_left { self.old.net.left ≡ [] }
         ensures waits { OnOk result (Waits self.old self.new) }
         ensures app { self.new.app ≡ self.old.app }
-        ensures lines { self.new.lines ≡ self.old.lines }
+        ensures lines { OnOk result (self.new.lines.items ≡ self.old.lines.items) }
         ensures continues { Continues W.Tells (W.seen world.old) (W.seen world.new) }
         ensures talks { KeepsTalking W.Tells (W.seen world.old) (W.seen world.new) }
         ensures links { OnLinks W.Tells (W.seen world.old) (W.seen world.new) }
@@ -285,10 +285,10 @@ impl Run {
     /// Takes what the outside tells next, and answers whether the batch is over.
     #[tactic(auto, using(crate::specs::laws::WhyLaws::continues_then, crate::specs::laws::TalkingLaws::keeps_none, crate::specs::laws::TalkingLaws::keeps_then))]
     fn take_next<W: World>(&mut self, world: &mut W, buf: &mut [u8]) -> Result<Option<Rest>, Fault>
-        requires { most_message ≤ length buf.old }
+        requires buffer { most_message ≤ length buf.old }
+        requires none_left { self.old.net.left ≡ [] }
         ensures waits { OnOk result (Waits self.old self.new) }
         ensures app { self.new.app ≡ self.old.app }
-        ensures lines { self.new.lines ≡ self.old.lines }
         ensures continues { Continues W.Tells (W.seen world.old) (W.seen world.new) }
         ensures talks { KeepsTalking W.Tells (W.seen world.old) (W.seen world.new) }
         ensures places { NoStray W.Tells (W.seen world.old) (W.seen world.new) self.old.net }
@@ -323,9 +323,9 @@ impl Run {
     ) -> Result<Rest, Fault>
         requires buffer { most_message ≤ length buf.old }
         requires read { AreRead self.old.net.kept }
+        requires none_left { self.old.net.left ≡ [] }
         ensures waits { OnOk result (Waits self.old self.new) }
         ensures app { self.new.app ≡ self.old.app }
-        ensures lines { self.new.lines ≡ self.old.lines }
         ensures continues { Continues W.Tells (W.seen world.old) (W.seen world.new) }
         ensures talks { KeepsTalking W.Tells (W.seen world.old) (W.seen world.new) }
 
@@ -341,10 +341,11 @@ impl Run {
         ensures why { IfErr result (IsReason W.Tells (W.seen world.old) (W.seen world.new) 0 0) }
         ensures buffer { length buf.new ≡ length buf.old }
 
-        // In every world the messages that were kept come first, oldest first, and then what is told.
+        // In every world the messages that were kept come first, oldest first, and then what is told, where switches may be lost.
         ensures first { OnOk result (KeptComesFirst self.old self.new) }
 
-        // Where the world keeps its word and all was calm, one stimulus was begun, and its items were told and taken.
+        // Where the world keeps its word and all was calm, one stimulus was begun, and its items were told and taken, or its
+        // switch was lost at one.
         ensures batch { IfOk result (λ rest. BatchShown W.Tells rest (W.seen world.old) (W.seen world.new) self.old self.new) }
 
         // Where the world keeps its word and all was calm, a fault is a plain one.

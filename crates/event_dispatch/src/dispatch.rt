@@ -225,7 +225,7 @@ impl Run {
         self.note_out(out)
     }
 
-    /// Closes a turn: counts and tells it, and starts an application again that failed.
+    /// Closes a turn: counts and tells it, with the switches that were lost in it, and starts an application again that failed.
     #[tactic(auto, using(crate::specs::laws::TalkingLaws::keeps_none))]
     fn close<W: World>(&mut self, world: &mut W, closing: Closing) -> Result<(), AllocError>
         requires done { self.old.app.done < self.old.events }
@@ -247,11 +247,13 @@ impl Run {
         match closing {
             Closing::Done { stop, out } => {
                 self.app.done += 1;
-                self.note_done(if stop { TurnWord::Stop } else { TurnWord::Done }, &out)
+                self.note_done(if stop { TurnWord::Stop } else { TurnWord::Done }, &out)?;
+                self.tell_lost()
             }
             Closing::Failed(cause) => {
                 self.app.failed += 1;
                 self.note_turn(TurnWord::Failed(cause))?;
+                self.tell_lost()?;
                 self.start(world)
             }
         }

@@ -8,14 +8,14 @@ use lego_io::WriteFault;
 use net_txn::TxnFault;
 use std::alloc::{AllocError, AllocFailed};
 
-/// What is wrong with the outside, the sink or a switch, so that a run cannot go on.
+/// What is wrong with the outside, the sink or a switch, so that a run cannot go on. A link that fails is none of it.
 #[derive(Drop, Debug)]
 pub(crate) enum Fault {
     /// The sink failed.
     Write,
     /// The outside failed at what comes next.
     Next,
-    /// A switch failed.
+    /// A switch broke a rule of the protocol.
     Txn(TxnFault),
     /// Memory ran out.
     NoMemory,

@@ -1,4 +1,5 @@
-//! The end of a report: the tables of the joined switches, the application, and how many events there were.
+//! The end of a report: the tables of the joined switches, the application, and how many events there were. A switch that is lost when it
+//! is asked for its table is told in its place.
 
 ghost use Rattle.std.specs.Prelude.{◌≡◌, ◌<◌, ◌∷◌, List, length, map, drop, None, Some, MatchOption, IsSome, IfSome, IfOk, IfErr, OnOk};
 ghost use Rattle.flow_table.specs.declared.view.ViewRow.{ViewRow};
@@ -8,12 +9,12 @@ ghost use Rattle.lego_model.specs.RunReport.{flow_line};
 ghost use Rattle.net_txn.specs.Views.{rows_at};
 ghost use Rattle.run_laws.specs.LastReport.{engine_end};
 ghost use Rattle.event_dispatch.specs.Steady.{NoStray, Reads, NoPoint};
-ghost use Rattle.event_dispatch.specs.Runs.{Waits};
+ghost use Rattle.event_dispatch.specs.Runs.{Waits, WaitsAtEnd};
 ghost use Rattle.event_dispatch.specs.Why.{IsReason, served_by};
 ghost use Rattle.event_dispatch.specs.Plain.{PlainTable, PlainCalm};
 ghost use Rattle.event_dispatch.specs.Talking.{KeepsTalking};
 ghost use Rattle.event_dispatch.specs.Shows.{engine_of, Adds};
-ghost use Rattle.event_dispatch.specs.ReportEnd.{FindsFlags, FlowsSaid, TableSaid, AsksShown, TableShown, LastShown};
+ghost use Rattle.event_dispatch.specs.ReportEnd.{FindsFlags, FlowsSaid, TableSaid, AsksAs, TableShown, LastShown};
 
 use crate::batch::is_joined;
 use crate::fault::Fault;
@@ -109,11 +110,11 @@ impl Run {
         self.note_flows(dpid, rows)
     }
 
-    /// Asks a joined switch for its entries.
+    /// Asks a joined switch for its entries. There are none where it is lost meanwhile.
     #[tactic(auto, using(crate::specs::laws::TalkingLaws::keeps_links))]
-    fn ask_rows<W: World>(&mut self, world: &mut W, dpid: Dpid) -> Result<RowList, Fault>
+    fn ask_rows<W: World>(&mut self, world: &mut W, dpid: Dpid) -> Result<Option<RowList>, Fault>
         requires { IsSome (rows_at dpid self.old.net.views) }
-        ensures waits { OnOk result (Waits self.old self.new) }
+        ensures waits { OnOk result (WaitsAtEnd self.old self.new) }
         ensures continues { Continues W.Tells (W.seen world.old) (W.seen world.new) }
         ensures places { NoStray W.Tells (W.seen world.old) (W.seen world.new) self.old.net }
         ensures reads { OnOk result (Reads W.Tells (W.seen world.old) (W.seen world.new) self.old.net self.new.net) }
@@ -121,7 +122,7 @@ impl Run {
         ensures talks { KeepsTalking W.Tells (W.seen world.old) (W.seen world.new) }
         ensures why { IfErr result (IsReason W.Tells (W.seen world.old) (W.seen world.new) 0 0) }
         ensures plain { IfErr result (PlainTable W.Tells (W.seen world.old) (W.seen world.new) self.old.net) }
-        ensures asks { IfOk result (λ rows. AsksShown W.Tells dpid (W.seen world.old) (W.seen world.new) self.old self.new rows) }
+        ensures asks { IfOk result (λ rows. AsksAs W.Tells dpid (W.seen world.old) (W.seen world.new) self.old self.new rows) }
     {
         match self.net.rows(world, dpid) {
             Ok(rows) => Ok(rows),
@@ -129,10 +130,11 @@ impl Run {
         }
     }
 
-    /// Asks a switch for its entries, and appends their lines. One that is not joined has none.
-    #[tactic(auto, using(crate::specs::laws::WhyLaws::waits_then, crate::specs::laws::TalkingLaws::keeps_none))]
+    /// Asks a switch for its entries, and appends their lines. One that is not joined has none; of one that is lost meanwhile that is
+    /// told.
+    #[tactic(auto, using(crate::specs::laws::WhyLaws::waits_at_end, crate::specs::laws::TalkingLaws::keeps_none))]
     fn note_table<W: World>(&mut self, world: &mut W, dpid: Dpid) -> Result<(), Fault>
-        ensures waits { OnOk result (Waits self.old self.new) }
+        ensures waits { OnOk result (WaitsAtEnd self.old self.new) }
         ensures continues { Continues W.Tells (W.seen world.old) (W.seen world.new) }
         ensures places { NoStray W.Tells (W.seen world.old) (W.seen world.new) self.old.net }
         ensures reads { OnOk result (Reads W.Tells (W.seen world.old) (W.seen world.new) self.old.net self.new.net) }
@@ -145,8 +147,10 @@ impl Run {
         if !is_joined(&self.net, dpid) {
             return Ok(());
         }
-        let rows = self.ask_rows(world, dpid)?;
-        Ok(self.note_rows(dpid, &rows)?)
+        match self.ask_rows(world, dpid)? {
+            Some(rows) => Ok(self.note_rows(dpid, &rows)?),
+            None => Ok(self.note_loss(dpid)?),
+        }
     }
 
     /// Lists the joined switches, by number.
@@ -173,9 +177,9 @@ impl Run {
     }
 
     /// Appends the last lines: the tables of the joined switches, by number, the application, and the end.
-    #[tactic(auto, using(crate::specs::laws::WhyLaws::continues_then, crate::specs::laws::WhyLaws::why_then, crate::specs::laws::WhyLaws::waits_then, crate::specs::laws::TalkingLaws::keeps_none, crate::specs::laws::TalkingLaws::keeps_then))]
+    #[tactic(auto, using(crate::specs::laws::WhyLaws::continues_then, crate::specs::laws::WhyLaws::why_then, crate::specs::laws::WhyLaws::waits_at_end, crate::specs::laws::TalkingLaws::keeps_none, crate::specs::laws::TalkingLaws::keeps_then))]
     pub(crate) fn note_last<W: World>(&mut self, world: &mut W) -> Result<(), Fault>
-        ensures waits { OnOk result (Waits self.old self.new) }
+        ensures waits { OnOk result (WaitsAtEnd self.old self.new) }
         ensures continues { Continues W.Tells (W.seen world.old) (W.seen world.new) }
         ensures places { NoStray W.Tells (W.seen world.old) (W.seen world.new) self.old.net }
         ensures reads { OnOk result (Reads W.Tells (W.seen world.old) (W.seen world.new) self.old.net self.new.net) }

@@ -78,6 +78,7 @@ impl Run {
     /// Appends a line to those that are to be written.
     pub(crate) fn note(&mut self, line: &ByteList) -> Result<(), AllocError>
         ensures waits { OnOk result (Waits self.old self.new) }
+        ensures app { self.new.app ≡ self.old.app }
         ensures adds { OnOk result (Adds line.now self.old self.new) }
     {
         self.lines.extend_from_slice(line.as_slice())?;

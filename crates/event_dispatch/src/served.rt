@@ -22,7 +22,7 @@ pub enum Served {
     Shut,
     /// The outside failed at what comes next.
     NextFault,
-    /// A switch failed.
+    /// A switch broke a rule of the protocol.
     Txn(TxnFault),
     /// After the last batch so many events were left.
     EventsLeft(usize),

@@ -1,13 +1,14 @@
 //! A whole run.
 
-ghost use Rattle.std.specs.Prelude.{◌≡◌, ℕ, ◌+◌, ◌^◌, ◌<◌, ◌≤◌, Bool, List, [], ◌∷◌, ◌++◌, length, IfOk, IfErr, OnOk};
-ghost use Rattle.lego_io.specs.Count.{NeverFell};
+ghost use Rattle.std.specs.Prelude.{◌≡◌, ℕ, ◌+◌, ◌^◌, ◌<◌, ◌≤◌, Bool, List, [], ◌∷◌, ◌++◌, length, IfOk, IfErr, OnOk, OnErr};
+ghost use Rattle.lego_io.specs.Count.{Rose, NeverFell};
+ghost use Rattle.lego_io.specs.Sink.{TookPart};
 ghost use Rattle.outside.specs.Seen.{Continues};
 ghost use Rattle.outside.specs.Calls.{most_message};
 ghost use Rattle.outside.specs.State.{state};
 ghost use Rattle.outside.specs.InOrder.{InOrder};
 ghost use Rattle.net_txn.specs.LinkSteps.{MakesNoStrayCall};
-ghost use Rattle.event_dispatch.specs.Runs.{Going, most_rounds};
+ghost use Rattle.event_dispatch.specs.Runs.{Going, Waits, most_rounds};
 ghost use Rattle.event_dispatch.specs.Why.{IsWhy, IsReason, served_by};
 ghost use Rattle.event_dispatch.specs.Shows.{engine_of};
 ghost use Rattle.event_dispatch.specs.Plain.{IsPlainEnd, EndsPlain, PlainCalm, PlainRun, PlainWhole};
@@ -19,19 +20,36 @@ ghost use Rattle.run_laws.specs.Promise.{PremiseSoFar, Premise};
 ghost use Rattle.event_dispatch.specs.Talking.{KeepsTalking};
 ghost use Rattle.event_dispatch.specs.Steady.{NoStray, Reads, IsEnded, NoneRuns};
 ghost use Rattle.event_dispatch.specs.Cut.{CutRound, CutRounds, CutStart, CutEnd, CutFinishAs, CutAs, ReadsAs, IsReadServed};
-ghost use Rattle.event_dispatch.specs.Serves.{GoesRound, GoesToEnd, Begins, EndsReport, Finishes, GoesAs, RunsAs, IsUnopened, IsCut, IsAlike};
+ghost use Rattle.event_dispatch.specs.Serves.{Writes, GoesRound, GoesToEnd, Begins, EndsReport, Finishes, GoesAs, RunsAs, IsUnopened, IsCut, IsAlike};
 
 use crate::batch::Rest;
 use crate::fault::Fault;
 use crate::limits::MOST_MESSAGE;
 use crate::run::{INDEX, Run};
 use crate::served::Served;
-use lego_io::Sink;
+use lego_io::{Sink, WriteFault};
 use outside::{Judge, OpenFault, World};
 use std::alloc::Global;
 
 impl Run {
-    /// Runs one round: a batch, and then the events that wait.
+    /// Writes the lines that a batch noted, of a switch that was lost; mostly there are none.
+    fn write_noted<K: Sink>(&mut self, sink: &mut K) -> Result<(), WriteFault>
+        ensures waits { OnOk result (Waits self.old self.new) }
+        ensures engine { engine_of self.new ≡ engine_of self.old }
+        ensures index { self.new.app.state.index ≡ self.old.app.state.index }
+        ensures writes { OnOk result (Writes self.old.lines.items (K.contents sink.old) (K.contents sink.new) self.new) }
+        ensures some { OnErr result (self.old.lines.items ≡ [] → ⊥) }
+        ensures part { OnErr result (TookPart (K.contents sink.old) (K.contents sink.new) self.old.lines.items) }
+        ensures rose { OnErr result (Rose (K.faults sink.old) (K.faults sink.new)) }
+        ensures never_fell { NeverFell (K.faults sink.old) (K.faults sink.new) }
+    {
+        if self.lines.is_empty() {
+            return Ok(());
+        }
+        self.write(sink)
+    }
+
+    /// Runs one round: a batch, whose lines are written, and then the events that wait.
     #[tactic(auto, using(crate::specs::laws::WhyLaws::continues_then, crate::specs::laws::WhyLaws::why_behind, crate::specs::laws::WhyLaws::why_sink))]
     fn run_round<W: World, J: Judge, K: Sink>(
         &mut self,
@@ -59,6 +77,7 @@ impl Run {
         ensures plain { IfErr result (λ fault. PlainRun W.Tells (J.accepts judge.now) (W.seen world.old) (W.seen world.new) (engine_of self.old) (served_by fault)) }
     {
         let rest = self.take_batch(world, buf)?;
+        self.write_noted(sink)?;
         self.dispatch_waiting(world, judge, sink)?;
         Ok(rest)
     }
@@ -270,8 +289,9 @@ fn run<W: World, J: Judge, K: Sink>(
 ///
 /// The world is opened at the port. The words of the command start the application, at first and after each failed turn. At
 /// most so many rounds are run; one is a batch and the events that wait then. The lines of an event are written when its
-/// dispatch has ended. However the run ends, the application is ended. What is wrong with the outside, the sink or a switch
-/// ends the run, and so do events that are left after the last batch.
+/// dispatch has ended. However the run ends, the application is ended. A switch whose link fails is lost: it leaves, and the run
+/// goes on. What else is wrong with the outside, the sink or a switch ends the run, and so do events that are left after the last
+/// batch.
 ///
 /// What is said of the reference run holds where fewer stimuli come than there are rounds. Of a run with as many stimuli as
 /// rounds, or more, nothing is promised of it yet. No clause speaks of the port or of the words of the command.
@@ -292,7 +312,8 @@ pub fn serve<W: World, J: Judge, K: Sink>(
     ensures end_has_cause { IsWhy W.Tells (W.seen world.old) (W.seen world.new) (K.faults sink.old) (K.faults sink.new) result }
     // In a world that tells and keeps its word, on which no call was made before, where fewer stimuli come than there are rounds, the run
     // is the reference controller's over what the world told: the tables agree at every quiescent point, the application was given what it
-    // is given there, the packets that were released are those that it releases, in their order, and what was written is the report, whole
+    // is given there, the packets that were released are those that it releases and the switches that were lost those that it loses, in
+    // their order, and what was written is the report, whole
     // where all events were dispatched, and as far as these go where some were left. It is so, too, over all that was said of the
     // application, of which the world told the front.
     ensures reference_run { (allows : List Place → Bool) → Premise W.Tells (J.accepts judge.now) allows rounds (W.seen world.old) (W.seen world.new)
@@ -304,8 +325,8 @@ pub fn serve<W: World, J: Judge, K: Sink>(
     // called.
     ensures reference_run_until_fault { (allows : List Place → Bool) → PremiseSoFar W.Tells (J.accepts judge.now) allows rounds (W.seen world.old) (W.seen world.new)
         → IsCut allows (W.seen world.new) (K.contents sink.old) (K.contents sink.new) result }
-    // In a world that keeps its word to the end no switch is at fault for what it sent: of a switch only its link ends a run, unless a packet that
-    // was released made it send as many messages as are too many.
+    // In a world that keeps its word to the end no switch is at fault for what it sent, and none ends the run, unless a packet that was
+    // released made it send as many messages as are too many: one whose link fails is lost, and the run goes on.
     ensures no_switch_at_fault { (allows : List Place → Bool) → Premise W.Tells (J.accepts judge.now) allows rounds (W.seen world.old) (W.seen world.new)
         → EndsPlain (W.seen world.old) (W.seen world.new) result }
     // In a world that tells in order, though bytes that come of switches may be no messages: no call of a link is a stray one, and at the end

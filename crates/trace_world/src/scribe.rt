@@ -6,7 +6,7 @@ use lego_io::{Sink, write_all};
 use of_types::Dpid;
 use outside::{GiveFault, Item, LinkFault, NextFault, OpenFault, Short, StartFault, Taken};
 use std::alloc::{AllocError, Global};
-use std::collections::BTreeMap;
+use std::collections::{BTreeMap, BTreeSet};
 use trace_words::{AppWords, HostWords, MessageWords};
 
 /// How many bytes are kept of an application whose frame is yet to come: the longest frame and a piece of 65,536 bytes
@@ -20,6 +20,8 @@ pub(crate) struct Scribe<K> {
     sink: K,
     /// The applications that run, each with the bytes that are not told yet; `None` where bytes are told as counts.
     lives: BTreeMap<u32, Option<BytesMut>>,
+    /// The switches that are joined, as far as there is memory for them.
+    joined: BTreeSet<Dpid>,
 }
 
 /// The front of a buffer: so many bytes, or all where it has fewer.
@@ -34,6 +36,7 @@ impl<K: Sink + Drop> Scribe<K> {
             alloc,
             sink,
             lives: BTreeMap::new(alloc),
+            joined: BTreeSet::new(alloc),
         }
     }
 
@@ -63,8 +66,14 @@ impl<K: Sink + Drop> Scribe<K> {
     pub(crate) fn came(&mut self, answer: Result<Item, NextFault>, buf: &[u8]) {
         let line = match answer {
             Ok(Item::From(dpid, count)) => return self.told(dpid, front(buf, count)),
-            Ok(Item::Joined(dpid, _)) => format!(in self.alloc; "switch {dpid} joined\n"),
-            Ok(Item::Left(dpid)) => format!(in self.alloc; "switch {dpid} left\n"),
+            Ok(Item::Joined(dpid, _)) => {
+                let _ = self.joined.insert(dpid);
+                format!(in self.alloc; "switch {dpid} joined\n")
+            }
+            Ok(Item::Left(dpid)) => {
+                self.joined.remove(&dpid);
+                format!(in self.alloc; "switch {dpid} left\n")
+            }
             Ok(Item::Moment(moment)) => format!(in self.alloc; "moment {moment}\n"),
             Ok(Item::Idle) => return,
             Ok(Item::End) => format!(in self.alloc; "world ended\n"),
@@ -83,11 +92,12 @@ impl<K: Sink + Drop> Scribe<K> {
         self.write(format!(in self.alloc; "switch {dpid} -> {message}\n"));
     }
 
-    /// A call on the link to the switch failed.
+    /// A call on the link to the switch failed. So a switch that was joined is lost, unless only memory was short.
     fn link_failed(&mut self, dpid: Dpid, fault: LinkFault) {
         let what = match fault {
-            LinkFault::Failed => "link failed",
             LinkFault::Short => "out of memory",
+            LinkFault::Failed if self.joined.remove(&dpid) => "lost",
+            LinkFault::Failed => "link failed",
         };
         self.write(format!(in self.alloc; "switch {dpid} {what}\n"));
     }

@@ -1,8 +1,10 @@
 -- Laws of whole runs that a fault ended: they are the reference controller's as far as they go, if the world kept its word as far as there,
 -- and no quiescent point lies behind.
-use Rattle.std.proofs.Common.{◌≡◌, ℕ, ◌<◌, Bool, true, List, [], ◌++◌, length, Option, sym, ap, ◌∙◌, subst, arith, inl, inr}
+use Rattle.std.proofs.Common.{◌≡◌, ℕ, ◌<◌, Bool, true, List, [], ◌++◌, length, Option, refl, sym, ap, ◌∙◌, subst, arith, inl, inr}
 use Rattle.std.specs.Io.KnownBytes.{append_known}
+use Rattle.std.proofs.lemmas.List.{append-nil}
 use Rattle.lego_io.specs.Sink.{TookPart}
+use Rattle.lego_model.specs.Controller.{Run as ModelRun}
 use Rattle.lego_io.specs.laws.ToldLaws.{append_known-append}
 use Rattle.flow_table.specs.View.{TableView}
 use Rattle.lego_model.specs.Places.{Place}
@@ -29,7 +31,7 @@ use Rattle.lego_model.specs.ReferenceRun.{all_started}
 use Rattle.run_laws.specs.Promise.{PremiseSoFar}
 use Rattle.lego_model.specs.AllLines.{CutBehindLines, CutInLines, CutForMemory}
 use Rattle.run_laws.specs.Cut.{CutAt, CutAlike, CutWithLines, CutWriting, GoneSoFar}
-use Rattle.run_laws.specs.laws.CutLaws.{gone-rounds, gone-happens, gone-still, gone-more, gone-whole, lines-so, rounds-so, some-so, none-so, start-so, event-so, end-so}
+use Rattle.run_laws.specs.laws.CutLaws.{gone-rounds, gone-happens, gone-still, gone-more, gone-whole, lines-so, rounds-so, some-so, none-so, start-so, loss-so, event-so, end-so}
 use Rattle.event_dispatch.specs.declared.batch.Rest.{Rest}
 use Rattle.event_dispatch.specs.declared.batch.Rest.TheVariants as rests
 use Rattle.event_dispatch.specs.declared.fault.Fault.{Fault}
@@ -46,7 +48,8 @@ use Rattle.lego_model.specs.AfterFault.{TablesLeft}
 use Rattle.event_dispatch.specs.laws.SteadyLaws.{reads_then}
 use Rattle.event_dispatch.specs.laws.FrontLaws.{keeps_first, keeps_to, calm_rest}
 use Rattle.event_dispatch.specs.Serves.{IsBatch, IsCut}
-use Rattle.event_dispatch.specs.Cut.{IsStill, CutOne, StopsBatch, CutBehind, CutRound, StartPart, CutStart, CutEnd, CutGoing, CutEnding, CutGoes, CutRun}
+use Rattle.event_dispatch.specs.declared.run.Run.{Run}
+use Rattle.event_dispatch.specs.Cut.{IsStill, CutOne, StopsBatch, CutBehind, CutNoted, CutRound, StartPart, CutStart, CutEnd, CutGoing, CutEnding, CutGoes, CutRun}
 
 -- ---- A fault that is not the sink's
 
@@ -246,26 +249,33 @@ rounds_gone {allows = allows} {first = first} p g keeps =
     gone-rounds allows g.rounds.number g.text g.rounds.rounds.text first g.begun g.rounds.mid engine_at_first (engine_of g.begun_run) (engine_of g.rounds.mid_run) (begun_moved p g keeps) (rounds_moved p g keeps)
 
 -- a batch more
-batch_gone : {Own : Type 0} {Tells : Type 0} {accepts : List TableView → Bool} {allows : List Place → Bool} {most : ℕ} {fault : Fault} {a b : Option (List ℕ)} {first stop seen : Seen Own} (p : Supposed Tells accepts allows most first stop seen) (g : CutGoing Tells accepts fault a b first stop engine_at_first) (rest : Rest) (behind : Seen Own) (e : Engine) → Conforming g.rounds.mid → Conforming behind → IsBatch Tells rest g.rounds.mid behind (engine_of g.rounds.mid_run) e → GoneSoFar allows true 0 (g.text ++ g.rounds.rounds.text) first behind engine_at_first e
-batch_gone {allows = allows} {first = first} p g rests.Idle behind e keeps_mid keeps batch =
-    gone-happens allows g.rounds.number g.text g.rounds.rounds.text first g.begun g.rounds.mid behind engine_at_first (engine_of g.begun_run) (engine_of g.rounds.mid_run) e (begun_moved p g keeps_mid) (rounds_moved p g keeps_mid)
+batch_gone : {Own : Type 0} {Tells : Type 0} {accepts : List TableView → Bool} {allows : List Place → Bool} {most : ℕ} {fault : Fault} {a b : Option (List ℕ)} {first stop seen : Seen Own} (p : Supposed Tells accepts allows most first stop seen) (g : CutGoing Tells accepts fault a b first stop engine_at_first) (rest : Rest) (noted : List ℕ) (behind : Seen Own) (e : Engine) → Conforming g.rounds.mid → Conforming behind → IsBatch Tells rest noted g.rounds.mid behind (engine_of g.rounds.mid_run) e → GoneSoFar allows true 0 ((g.text ++ g.rounds.rounds.text) ++ noted) first behind engine_at_first e
+batch_gone {allows = allows} {first = first} p g rests.Idle noted behind e keeps_mid keeps batch =
+    gone-happens allows g.rounds.number g.text g.rounds.rounds.text noted first g.begun g.rounds.mid behind engine_at_first (engine_of g.begun_run) (engine_of g.rounds.mid_run) e (begun_moved p g keeps_mid) (rounds_moved p g keeps_mid)
     (batch.happens p.told keeps (rounds_moved p g keeps_mid).moved.settled)
-batch_gone {allows = allows} {first = first} p g rests.End behind e keeps_mid keeps batch =
-    gone-still allows true 0 (g.text ++ g.rounds.rounds.text) first g.rounds.mid behind engine_at_first (engine_of g.rounds.mid_run) e (rounds_gone p g keeps_mid) (batch.over.moved p.told keeps (rounds_moved p g keeps_mid).moved.settled)
+batch_gone {allows = allows} {first = first} p g rests.End noted behind e keeps_mid keeps batch =
+    let settled = (rounds_moved p g keeps_mid).moved.settled in
+    let none : noted ≡ [] = batch.none_noted p.told keeps settled in
+    subst (λ (text : List ℕ). GoneSoFar allows true 0 text first behind engine_at_first e) (sym (ap (λ (xs : List ℕ). (g.text ++ g.rounds.rounds.text) ++ xs) none ∙ append-nil (g.text ++ g.rounds.rounds.text)))
+    (gone-still allows true 0 (g.text ++ g.rounds.rounds.text) first g.rounds.mid behind engine_at_first (engine_of g.rounds.mid_run) e (rounds_gone p g keeps_mid)
+    (subst (λ (text : List ℕ). Moved [] (λ (r : ModelRun). r) text g.rounds.mid behind (engine_of g.rounds.mid_run) e) none (batch.over.moved p.told keeps settled)))
 
 -- and events behind it
-behind_gone : {Own : Type 0} {Tells : Type 0} {accepts : List TableView → Bool} {allows : List Place → Bool} {most : ℕ} {fault : Fault} {a b : Option (List ℕ)} {first stop seen : Seen Own} (p : Supposed Tells accepts allows most first stop seen) (g : CutGoing Tells accepts fault a b first stop engine_at_first) (h : CutBehind Tells accepts fault g.rounds.held b g.rounds.mid stop g.rounds.mid_run) → Conforming h.mid → GoneSoFar allows true 0 (g.text ++ g.rounds.rounds.text) first h.mid engine_at_first (engine_of h.mid_run)
-behind_gone p g h keeps = batch_gone p g h.rest h.mid (engine_of h.mid_run) (Conforming-before p.told h.first keeps) keeps h.batch
+behind_gone : {Own : Type 0} {Tells : Type 0} {accepts : List TableView → Bool} {allows : List Place → Bool} {most : ℕ} {fault : Fault} {a b : Option (List ℕ)} {first stop seen : Seen Own} (p : Supposed Tells accepts allows most first stop seen) (g : CutGoing Tells accepts fault a b first stop engine_at_first) (h : CutBehind Tells accepts fault g.rounds.held b g.rounds.mid stop g.rounds.mid_run) → Conforming h.mid → GoneSoFar allows true 0 ((g.text ++ g.rounds.rounds.text) ++ h.noted) first h.mid engine_at_first (engine_of h.mid_run)
+behind_gone p g h keeps = batch_gone p g h.rest h.noted h.mid (engine_of h.mid_run) (Conforming-before p.told h.first keeps) keeps h.batch
 
-some_gone : {Own : Type 0} {Tells : Type 0} {accepts : List TableView → Bool} {allows : List Place → Bool} {most : ℕ} {fault : Fault} {a b : Option (List ℕ)} {first stop seen : Seen Own} (p : Supposed Tells accepts allows most first stop seen) (g : CutGoing Tells accepts fault a b first stop engine_at_first) (h : CutBehind Tells accepts fault g.rounds.held b g.rounds.mid stop g.rounds.mid_run) → Conforming h.some.mid → GoneSoFar allows true h.some.number ((g.text ++ g.rounds.rounds.text) ++ h.some.some.text) first h.some.mid engine_at_first (engine_of h.some.mid_run)
+some_gone : {Own : Type 0} {Tells : Type 0} {accepts : List TableView → Bool} {allows : List Place → Bool} {most : ℕ} {fault : Fault} {a b : Option (List ℕ)} {first stop seen : Seen Own} (p : Supposed Tells accepts allows most first stop seen) (g : CutGoing Tells accepts fault a b first stop engine_at_first) (h : CutBehind Tells accepts fault g.rounds.held b g.rounds.mid stop g.rounds.mid_run) → Conforming h.some.mid → GoneSoFar allows true h.some.number (((g.text ++ g.rounds.rounds.text) ++ h.noted) ++ h.some.some.text) first h.some.mid engine_at_first (engine_of h.some.mid_run)
 some_gone {allows = allows} {first = first} p g h keeps =
     let before = behind_gone p g h (Conforming-before p.told h.some.on keeps) in
-    gone-more allows true h.some.number (g.text ++ g.rounds.rounds.text) h.some.some.text first h.mid h.some.mid engine_at_first (engine_of h.mid_run) (engine_of h.some.mid_run) before
+    gone-more allows true h.some.number ((g.text ++ g.rounds.rounds.text) ++ h.noted) h.some.some.text first h.mid h.some.mid engine_at_first (engine_of h.mid_run) (engine_of h.some.mid_run) before
     (h.some.some.shown.moved allows p.told keeps p.judges before.moved.settled)
 
-some_held : {Own : Type 0} {Tells : Type 0} {accepts : List TableView → Bool} {allows : List Place → Bool} {most : ℕ} {fault : Fault} {a b : Option (List ℕ)} {first stop seen : Seen Own} (p : Supposed Tells accepts allows most first stop seen) (g : CutGoing Tells accepts fault a b first stop engine_at_first) (h : CutBehind Tells accepts fault g.rounds.held b g.rounds.mid stop g.rounds.mid_run) → h.some.held ≡ append_known a ((g.text ++ g.rounds.rounds.text) ++ h.some.some.text)
+noted_held : {Own : Type 0} {Tells : Type 0} {accepts : List TableView → Bool} {allows : List Place → Bool} {most : ℕ} {fault : Fault} {a b : Option (List ℕ)} {first stop seen : Seen Own} (p : Supposed Tells accepts allows most first stop seen) (g : CutGoing Tells accepts fault a b first stop engine_at_first) (h : CutBehind Tells accepts fault g.rounds.held b g.rounds.mid stop g.rounds.mid_run) → h.held ≡ append_known a ((g.text ++ g.rounds.rounds.text) ++ h.noted)
+noted_held {a = a} p g h = h.written ∙ ap (λ (o : Option (List ℕ)). append_known o h.noted) (rounds_held p g) ∙ sym (append_known-append a (g.text ++ g.rounds.rounds.text) h.noted)
+
+some_held : {Own : Type 0} {Tells : Type 0} {accepts : List TableView → Bool} {allows : List Place → Bool} {most : ℕ} {fault : Fault} {a b : Option (List ℕ)} {first stop seen : Seen Own} (p : Supposed Tells accepts allows most first stop seen) (g : CutGoing Tells accepts fault a b first stop engine_at_first) (h : CutBehind Tells accepts fault g.rounds.held b g.rounds.mid stop g.rounds.mid_run) → h.some.held ≡ append_known a (((g.text ++ g.rounds.rounds.text) ++ h.noted) ++ h.some.some.text)
 some_held {a = a} p g h =
-    h.some.some.writes.written ∙ ap (λ (o : Option (List ℕ)). append_known o h.some.some.text) (rounds_held p g) ∙ sym (append_known-append a (g.text ++ g.rounds.rounds.text) h.some.some.text)
+    h.some.some.writes.written ∙ ap (λ (o : Option (List ℕ)). append_known o h.some.some.text) (noted_held p g h) ∙ sym (append_known-append a ((g.text ++ g.rounds.rounds.text) ++ h.noted) h.some.some.text)
 
 -- what came up to there was read
 rounds_on : {Own : Type 0} {Tells : Type 0} {accepts : List TableView → Bool} {allows : List Place → Bool} {most : ℕ} {fault : Fault} {a b : Option (List ℕ)} {first stop seen : Seen Own} (p : Supposed Tells accepts allows most first stop seen) (g : CutGoing Tells accepts fault a b first stop engine_at_first) → Continues Tells first g.rounds.mid
@@ -305,42 +315,64 @@ some_stop {first = first} {stop = stop} {seen = seen} p g h here short dispatch 
       tables_for short (dispatch.left p.told keeps order settled.calm.ready settled.speaks);
 }
 
+-- a fault that is not the sink's ends no lines of a batch
+noted_none : {Own : Type 0} (Tells : Type 0) (fault : Fault) (a b : Option (List ℕ)) (old new : Seen Own) (r : Run) → NotWrite fault → CutNoted Tells fault a b old new r → ⊥
+noted_none Tells faults.Write a b old new r other cut = absurd other
+noted_none Tells faults.Next a b old new r other cut = cut
+noted_none Tells (faults.Txn fault) a b old new r other cut = cut
+noted_none Tells faults.NoMemory a b old new r other cut = cut
+
 round_alike : {Own : Type 0} {Tells : Type 0} {accepts : List TableView → Bool} {allows : List Place → Bool} {most : ℕ} {fault : Fault} {a b : Option (List ℕ)} {first stop seen : Seen Own} (p : Supposed Tells accepts allows most first stop seen) (g : CutGoing Tells accepts fault a b first stop engine_at_first) → NotWrite fault → CutRound Tells accepts fault g.rounds.held b g.rounds.mid stop g.rounds.mid_run → CutAlike allows seen a b
 round_alike {allows = allows} {fault = fault} {a = a} {b = b} {first = first} {stop = stop} {seen = seen} p g other (inl still) =
     cut_at (λ (last : Seen _). CutForMemory allows seen last a b) first stop seen p g.rounds.mid (round_stop p g still.1 still.2) (λ keeps. still.1.talks p.told (rounds_gone p g keeps).moved.settled.speaks.at_once) (λ keeps.
     some-so allows 0 (g.text ++ g.rounds.rounds.text) a b first g.rounds.mid seen (engine_of g.rounds.mid_run) p.opened (rounds_gone p g keeps) (omega arith) keeps
     (still_held fault g.rounds.held b still.0 ∙ rounds_held p g))
-round_alike {Tells = Tells} {accepts = accepts} {allows = allows} {fault = fault} {a = a} {b = b} {first = first} {stop = stop} {seen = seen} p g other (inr h) =
+round_alike {Tells = Tells} {accepts = accepts} {allows = allows} {fault = fault} {a = a} {b = b} {first = first} {stop = stop} {seen = seen} p g other (inr (inl h)) =
     cut_at (λ (last : Seen _). CutForMemory allows seen last a b) first stop seen p h.some.mid (some_stop p g h (one_here Tells accepts fault h.some.held b h.some.mid stop (engine_of h.some.mid_run) other h.some.one) (may_be_short fault)
     (one_left Tells accepts fault h.some.held b h.some.mid stop (engine_of h.some.mid_run) other h.some.one))
     (λ keeps. (one_talks Tells accepts fault h.some.held b h.some.mid stop (engine_of h.some.mid_run) other h.some.one).talks p.told (some_gone p g h keeps).moved.settled.speaks) (λ keeps.
-    some-so allows h.some.number ((g.text ++ g.rounds.rounds.text) ++ h.some.some.text) a b first h.some.mid seen (engine_of h.some.mid_run) p.opened (some_gone p g h keeps) (omega (arith, h.some.few)) keeps
+    some-so allows h.some.number (((g.text ++ g.rounds.rounds.text) ++ h.noted) ++ h.some.some.text) a b first h.some.mid seen (engine_of h.some.mid_run) p.opened (some_gone p g h keeps) (omega (arith, h.some.few)) keeps
     (one_held Tells accepts fault h.some.held b h.some.mid stop (engine_of h.some.mid_run) other h.some.one ∙ some_held p g h))
+round_alike {Tells = Tells} {fault = fault} {b = b} {stop = stop} p g other (inr (inr noted)) = absurd (noted_none Tells fault g.rounds.held b g.rounds.mid stop g.rounds.mid_run other noted)
 
 round_lines : {Own : Type 0} {Tells : Type 0} {accepts : List TableView → Bool} {allows : List Place → Bool} {most : ℕ} {fault : Fault} {a b : Option (List ℕ)} {first stop seen : Seen Own} (p : Supposed Tells accepts allows most first stop seen) (g : CutGoing Tells accepts fault a b first stop engine_at_first) → IsOutside fault → CutRound Tells accepts fault g.rounds.held b g.rounds.mid stop g.rounds.mid_run → CutWithLines allows seen a b
 round_lines {allows = allows} {fault = fault} {a = a} {b = b} {first = first} {stop = stop} {seen = seen} p g out (inl still) =
     cut_at (λ (last : Seen _). CutBehindLines allows last a b) first stop seen p g.rounds.mid (round_stop p g still.1 still.2) (λ keeps. still.1.talks p.told (rounds_gone p g keeps).moved.settled.speaks.at_once) (λ keeps.
     rounds-so allows g.rounds.number g.text g.rounds.rounds.text a b first g.begun g.rounds.mid (engine_of g.begun_run) (engine_of g.rounds.mid_run) p.opened (begun_moved p g keeps) (rounds_moved p g keeps) keeps
     (still_held fault g.rounds.held b still.0 ∙ rounds_held p g))
-round_lines {Tells = Tells} {accepts = accepts} {allows = allows} {fault = fault} {a = a} {b = b} {first = first} {stop = stop} {seen = seen} p g out (inr h) =
+round_lines {Tells = Tells} {accepts = accepts} {allows = allows} {fault = fault} {a = a} {b = b} {first = first} {stop = stop} {seen = seen} p g out (inr (inl h)) =
     let other = not_write fault out in
     cut_at (λ (last : Seen _). CutBehindLines allows last a b) first stop seen p h.some.mid (some_stop p g h (one_here Tells accepts fault h.some.held b h.some.mid stop (engine_of h.some.mid_run) other h.some.one) (not_short fault out)
     (one_left Tells accepts fault h.some.held b h.some.mid stop (engine_of h.some.mid_run) other h.some.one))
     (λ keeps. (one_talks Tells accepts fault h.some.held b h.some.mid stop (engine_of h.some.mid_run) other h.some.one).talks p.told (some_gone p g h keeps).moved.settled.speaks) (λ keeps.
-    lines-so allows h.some.number ((g.text ++ g.rounds.rounds.text) ++ h.some.some.text) a b first h.some.mid (engine_of h.some.mid_run) p.opened (some_gone p g h keeps) (omega (arith, h.some.few))
+    lines-so allows h.some.number (((g.text ++ g.rounds.rounds.text) ++ h.noted) ++ h.some.some.text) a b first h.some.mid (engine_of h.some.mid_run) p.opened (some_gone p g h keeps) (omega (arith, h.some.few))
     (inr (inr (one_alive Tells accepts fault h.some.held b h.some.mid stop (engine_of h.some.mid_run) out h.some.one))) keeps
     (one_held Tells accepts fault h.some.held b h.some.mid stop (engine_of h.some.mid_run) other h.some.one ∙ some_held p g h))
+round_lines {Tells = Tells} {fault = fault} {b = b} {stop = stop} p g out (inr (inr noted)) = absurd (noted_none Tells fault g.rounds.held b g.rounds.mid stop g.rounds.mid_run (not_write fault out) noted)
+
+-- the sink failed at what a batch noted: it had a stimulus, since the last one notes nothing
+noted_lines : {Own : Type 0} {Tells : Type 0} {accepts : List TableView → Bool} {allows : List Place → Bool} {most : ℕ} {a b : Option (List ℕ)} {first stop seen : Seen Own} (p : Supposed Tells accepts allows most first stop seen) (g : CutGoing Tells accepts faults.Write a b first stop engine_at_first) (rest : Rest) (noted : List ℕ) (e : Engine) → IsBatch Tells rest noted g.rounds.mid stop (engine_of g.rounds.mid_run) e
+    → (noted ≡ [] → ⊥) → TookPart g.rounds.held b noted → Conforming stop → CutInLines allows stop a b
+noted_lines {allows = allows} {a = a} {b = b} {first = first} {stop = stop} p g rests.Idle noted e batch some part keeps =
+    let keeps_mid = Conforming-before p.told g.rounds.later keeps in
+    let gone = gone-rounds allows g.rounds.number g.text g.rounds.rounds.text first g.begun g.rounds.mid engine_at_first (engine_of g.begun_run) (engine_of g.rounds.mid_run) (begun_moved p g keeps_mid) (rounds_moved p g keeps_mid) in
+    loss-so allows (g.text ++ g.rounds.rounds.text) noted a b first g.rounds.mid stop (engine_of g.rounds.mid_run) e p.opened gone refl (batch.happens p.told keeps (rounds_moved p g keeps_mid).moved.settled) keeps
+    (subst (λ (held : Option (List ℕ)). TookPart held b noted) (rounds_held p g) part)
+noted_lines p g rests.End noted e batch some part keeps = absurd (some (batch.none_noted p.told keeps (rounds_moved p g (Conforming-before p.told g.rounds.later keeps)).moved.settled))
 
 round_writing : {Own : Type 0} {Tells : Type 0} {accepts : List TableView → Bool} {allows : List Place → Bool} {most : ℕ} {a b : Option (List ℕ)} {first stop seen : Seen Own} (p : Supposed Tells accepts allows most first stop seen) (g : CutGoing Tells accepts faults.Write a b first stop engine_at_first) → CutRound Tells accepts faults.Write g.rounds.held b g.rounds.mid stop g.rounds.mid_run → CutWriting allows seen a b
 round_writing p g (inl still) = absurd still.0
-round_writing {allows = allows} {a = a} {b = b} {first = first} {stop = stop} {seen = seen} p g (inr h) =
+round_writing {allows = allows} {a = a} {b = b} {first = first} {stop = stop} {seen = seen} p g (inr (inl h)) =
     let one = h.some.one in
     let reads = reads_then first h.some.mid stop net_at_first h.some.mid_run.net one.now_engine.net (some_on p g h) h.some.later (some_read p g h) one.reads in
     writing_at a b first stop seen p (keeps_to first stop p.told p.opened p.before reads) (λ keeps.
     let gone = some_gone p g h (Conforming-before p.told h.some.later keeps) in
-    event-so allows h.some.number ((g.text ++ g.rounds.rounds.text) ++ h.some.some.text) one.more a b first h.some.mid stop (engine_of h.some.mid_run) one.now_engine p.opened gone
+    event-so allows h.some.number (((g.text ++ g.rounds.rounds.text) ++ h.noted) ++ h.some.some.text) one.more a b first h.some.mid stop (engine_of h.some.mid_run) one.now_engine p.opened gone
     (one.shown.moved allows p.told keeps p.judges gone.moved.settled) h.some.few keeps
     (subst (λ (held : Option (List ℕ)). TookPart held b one.more) (some_held p g h) one.part))
+round_writing {allows = allows} {a = a} {b = b} {first = first} {stop = stop} {seen = seen} p g (inr (inr h)) =
+    let reads = reads_then first g.rounds.mid stop net_at_first g.rounds.mid_run.net h.now_run.net (rounds_on p g) g.rounds.later (rounds_read p g) h.reads in
+    writing_at a b first stop seen p (keeps_to first stop p.told p.opened p.before reads) (λ keeps. noted_lines p g h.rest h.noted (engine_of h.now_run) h.batch h.some h.part keeps)
 
 -- ---- The end
 
@@ -391,7 +423,7 @@ end_writing {allows = allows} {a = a} {b = b} {first = first} {stop = stop} {see
     writing_at a b first stop seen p (keeps_to first stop p.told p.opened p.before reads) (λ keeps.
     let gone = last_gone p n (Conforming-before p.told n.later keeps) in
     let shown = cut.shown p.told keeps gone.moved.settled.calm in
-    end-so allows (n.text ++ n.rounds.text) cut.more a b first n.last stop (engine_of n.last_run) p.opened gone n.none_left shown.0 shown.1 keeps
+    end-so allows shown.lost (n.text ++ n.rounds.text) cut.more a b first n.last stop (engine_of n.last_run) p.opened gone n.none_left shown.text_so shown.leaves keeps
     (subst (λ (held : Option (List ℕ)). TookPart held b cut.more) (last_held p n) cut.part))
 
 -- ---- All of it

@@ -1,11 +1,11 @@
 -- Laws of a batch: one item more takes it on or ends it, and it ends before so many items were told.
-use Rattle.std.specs.Prelude.{◌≡◌, ℕ, ◌+◌, ◌-◌, ◌≤◌, ◌⊎◌, Bool, true, List, [], ◌∷◌, ◌++◌, length, drop, slice_get, take, Option, Some, None, is_some, Result, Ok, Err, OnOk, false, refl}
+use Rattle.std.specs.Prelude.{◌≡◌, ◌==◌, IsSome, ℕ, ◌+◌, ◌-◌, ◌≤◌, ◌⊎◌, Bool, true, List, [], ◌∷◌, ◌++◌, length, drop, slice_get, take, Option, Some, None, is_some, Result, Ok, Err, OnOk, false, refl}
 use Rattle.std.proofs.Common.{sym, ap, ap₂, ◌∙◌, subst, arith, inl, inr, true≢false, append_assoc}
 use Rattle.std.proofs.lemmas.List.{append-nil, length-append}
 use Rattle.of_wire.specs.declared.message.Envelope.{Envelope}
 use Rattle.of_wire.specs.declared.fault.WireFault.{WireFault}
 use Rattle.of_wire.specs.declared.fault.WireFault.TheVariants.{BadVersion, BadType, BadLength, BadAction, NoMemory}
-use Rattle.of_wire.specs.Reading.{Fails}
+use Rattle.of_wire.specs.Reading.{Fails, reading_of}
 use Rattle.app_frames.specs.declared.frame.Event.{Event}
 use Rattle.outside.specs.declared.item.Item.{Item}
 use Rattle.outside.specs.declared.item.Item.TheVariants as items
@@ -18,22 +18,29 @@ use Rattle.outside.specs.Calls.{item_step}
 use Rattle.outside.specs.Conforming.{Conforming}
 use Rattle.net_txn.specs.Net.{NetState}
 use Rattle.batch_laws.specs.Calm.{Calm}
-use Rattle.batch_laws.specs.Knowledge.{knowledge_of, handled, handled_all}
+use Rattle.batch_laws.specs.Knowledge.{Knowledge, knowledge_of, handled, handled_all, HandledTo, LosesAt, known_lost, with_event, lost_text}
 use Rattle.batch_laws.specs.laws.LinkTellLaws.{handled_all-append}
-use Rattle.batch_laws.specs.Items.{DoesFrom, Handles, TakesNext}
+use Rattle.batch_laws.specs.Items.{DoesFrom, Departs, Handles, HandlesStill, HandlesLost, TakesNext}
 use Rattle.net_txn.specs.Views.{rows_at}
-use Rattle.batch_laws.specs.laws.HandleLaws.{idle_handles, end_handles}
+use Rattle.batch_laws.specs.laws.HandleLaws.{arrived_handles, departs_handles, enters_handles, idle_handles, end_handles}
 use Rattle.batch_laws.specs.InBatch.{SoFar, GoesOn}
 use Rattle.batch_laws.specs.laws.InBatchLaws.{next_goes_on, never_so_many}
 use Rattle.event_dispatch.specs.declared.batch.Rest.{Rest}
 use Rattle.event_dispatch.specs.declared.batch.Rest.TheVariants as rests
 use Rattle.event_dispatch.specs.declared.run.Run.{Run}
-use Rattle.event_dispatch.specs.Batch.{of_memory, standing_of, rest_by, as_told, TakesFirst, KeptSoFar, TakesKept, KeptComesFirst, NextTaken, BatchGoes, BatchShown}
+use Rattle.event_dispatch.specs.Runs.{AreRead}
+use Rattle.event_dispatch.specs.Shows.{TellsLost}
+use Rattle.event_dispatch.specs.Batch.{of_memory, standing_of, rest_by, as_told, TakesItem, TakesJoin, TakesFirst, KeptSoFar, TakesKept, KeptComesFirst, NextTaken, BatchGoes, BatchShown}
+use Rattle.run_laws.specs.laws.EchoLaws.{no-echo}
+use Rattle.run_laws.specs.Engine.{Engine}
+use Rattle.of_types.specs.Fields.{IsBytes, number_at}
+use Rattle.net_txn.specs.Arriving.{Arrives}
+use Rattle.net_txn.specs.LinkSteps.{OnLinks, AsksWithoutStrays}
 
 -- ---- What was kept
 
 pub kept_at_first : {Own : Type 0} (seen : Seen Own) (run : Run) → KeptSoFar 0 seen seen run run
-kept_at_first seen run = record { taken = []; number_so = refl; first = record { kept_so = refl; knowledge = refl }; none = λ is. (refl, (refl, refl, refl)) }
+kept_at_first seen run = record { taken = []; number_so = refl; first = record { kept_so = refl; knowledge = refl }; none = λ is. (refl, (refl, refl, refl, refl)) }
 
 pub some_kept : (m : ℕ × List ℕ) (kept : List (ℕ × List ℕ)) → Some m ≡ slice_get kept 0 → kept ≡ [] → ⊥
 some_kept m kept is none = let h : Some m ≡ None = is ∙ ap (λ (xs : List (ℕ × List ℕ)). slice_get xs 0) none in absurd cc
@@ -55,24 +62,47 @@ from_kept : {Own : Type 0} (Tells : Type 0) (d : ℕ) (bytes : List ℕ) (now ne
 from_kept Tells d bytes now new net now_net true does = does.kept
 from_kept Tells d bytes now new net now_net false does = does.kept
 
+same_first : (a b : ℕ × List ℕ) → Some a ≡ Some b → a ≡ b
+same_first a b is = cc
+
+-- the oldest one is no ECHO_REQUEST
+first_other : (m : ℕ × List ℕ) (kept : List (ℕ × List ℕ)) → AreRead kept → Some m ≡ slice_get kept 0 → (number_at 1 1 m.1 == 2) ≡ false
+first_other m [] read is = absurd cc
+first_other m (x ∷ kept) read is = subst (λ (y : ℕ × List ℕ). (number_at 1 1 y.1 == 2) ≡ false) (sym (same_first m x is)) read.0.1
+
+-- so that no switch is lost at it
+still_one : {Own Tells : Type 0} {d : ℕ} {text : List ℕ} {old new : Seen Own} {net now_net : NetState} {queue now_queue : List Event} (bytes : List ℕ) → (number_at 1 1 bytes == 2) ≡ false
+    → HandlesStill Tells (From d bytes) text old new net now_net queue now_queue ⊎ HandlesLost Tells (From d bytes) text old new net now_net queue now_queue → HandlesStill Tells (From d bytes) text old new net now_net queue now_queue
+still_one bytes other (inl still) = still
+still_one bytes other (inr lost) = absurd (no-echo bytes other lost.at.2)
+
 -- the oldest of those that are kept is taken, as if it were told now
-takes_next : {Own : Type 0} (Tells : Type 0) (taken : List (ℕ × List ℕ)) (m : ℕ × List ℕ) (now new : Seen Own) (run mid later : Run) (taken_net : NetState) → TakesFirst taken run mid → Some m ≡ slice_get mid.net.kept 0 → taken_net ≡ record mid.net { kept = drop 1 mid.net.kept }
-    → Handles Tells (From m.0 m.1) now new taken_net later.net mid.queue later.queue → TakesFirst (taken ++ m ∷ []) run later
-takes_next Tells taken m now new run mid later taken_net first is without handles = record {
+takes_next : {Own : Type 0} (Tells : Type 0) (taken : List (ℕ × List ℕ)) (m : ℕ × List ℕ) (text : List ℕ) (now new : Seen Own) (run mid later : Run) (taken_net : NetState) → TakesFirst taken run mid → Some m ≡ slice_get mid.net.kept 0 → taken_net ≡ record mid.net { kept = drop 1 mid.net.kept }
+    → HandlesStill Tells (From m.0 m.1) text now new taken_net later.net mid.queue later.queue → TakesFirst (taken ++ m ∷ []) run later
+takes_next Tells taken m text now new run mid later taken_net first is without handles = record {
   kept_so = first.kept_so ∙ ap (λ (xs : List (ℕ × List ℕ)). taken ++ xs) (one_first m mid.net.kept is) ∙ sym (append_assoc taken (m ∷ []) (drop 1 mid.net.kept))
       ∙ ap (λ (xs : List (ℕ × List ℕ)). (taken ++ m ∷ []) ++ xs) (sym (from_kept Tells m.0 m.1 now new taken_net later.net (is_some (rows_at m.0 taken_net.views)) handles.does ∙ ap (λ (s : NetState). s.kept) without));
   knowledge = handles.knowledge ∙ ap (λ (s : NetState). handled (From m.0 m.1) (knowledge_of s mid.queue)) without ∙ ap (handled (From m.0 m.1)) first.knowledge
       ∙ sym (handled_all-append (as_told taken) (From m.0 m.1 ∷ []) (knowledge_of run.net run.queue)) ∙ ap (λ (items : List WorldStep). handled_all items (knowledge_of run.net run.queue)) (sym (told_append taken (m ∷ [])));
 }
 
-pub kept_one_more : {Own : Type 0} {Tells : Type 0} (n d : ℕ) (bytes frame : List ℕ) (old now new : Seen Own) (run mid later : Run) (taken_net : NetState) → KeptSoFar n old now run mid → Some (d, bytes) ≡ slice_get mid.net.kept 0 → frame ≡ bytes → taken_net ≡ record mid.net { kept = drop 1 mid.net.kept }
-    → Handles Tells (From d frame) now new taken_net later.net mid.queue later.queue → KeptSoFar (n + 1) old new run later
-kept_one_more {Tells = Tells} n d bytes frame old now new run mid later taken_net so_far is same without handles = record {
+pub kept_one_more : {Own : Type 0} {Tells : Type 0} (n d : ℕ) (bytes frame : List ℕ) (old now new : Seen Own) (run mid later : Run) (taken_net : NetState) → KeptSoFar n old now run mid → AreRead mid.net.kept → Some (d, bytes) ≡ slice_get mid.net.kept 0 → frame ≡ bytes
+    → taken_net ≡ record mid.net { kept = drop 1 mid.net.kept } → TakesItem Tells (From d frame) now new (record mid { net = taken_net }) later → KeptSoFar (n + 1) old new run later
+kept_one_more {Tells = Tells} n d bytes frame old now new run mid later taken_net so_far read is same without takes = record {
   taken = so_far.taken ++ (d, bytes) ∷ [];
   number_so = length-append so_far.taken ((d, bytes) ∷ []) ∙ ap (λ (k : ℕ). k + 1) so_far.number_so;
-  first = takes_next Tells so_far.taken (d, bytes) now new run mid later taken_net so_far.first is without (subst (λ (b : List ℕ). Handles Tells (From d b) now new taken_net later.net mid.queue later.queue) same handles);
+  first = takes_next Tells so_far.taken (d, bytes) takes.text now new run mid later taken_net so_far.first is without (still_one bytes (first_other (d, bytes) mid.net.kept read is)
+      (subst (λ (b : List ℕ). HandlesStill Tells (From d b) takes.text now new taken_net later.net mid.queue later.queue ⊎ HandlesLost Tells (From d b) takes.text now new taken_net later.net mid.queue later.queue) same takes.handles.went));
   none = λ none. absurd (some_kept (d, bytes) mid.net.kept is (ap (λ (s : NetState). s.kept) (so_far.none none).1.1 ∙ none));
 }
+
+-- and nothing is noted
+pub kept_line : {Own : Type 0} {Tells : Type 0} (d : ℕ) (bytes frame : List ℕ) (now new : Seen Own) (mid later : Run) (taken_net : NetState) → AreRead mid.net.kept → Some (d, bytes) ≡ slice_get mid.net.kept 0 → frame ≡ bytes
+    → TakesItem Tells (From d frame) now new (record mid { net = taken_net }) later → later.lines.items ≡ mid.lines.items
+kept_line {Tells = Tells} d bytes frame now new mid later taken_net read is same takes =
+    let still = still_one bytes (first_other (d, bytes) mid.net.kept read is)
+    (subst (λ (b : List ℕ). HandlesStill Tells (From d b) takes.text now new taken_net later.net mid.queue later.queue ⊎ HandlesLost Tells (From d b) takes.text now new taken_net later.net mid.queue later.queue) same takes.handles.went) in
+    takes.lines ∙ ap (λ (t : List ℕ). mid.lines.items ++ t) still.text_so ∙ append-nil mid.lines.items
 
 without_first : (net : NetState) → net.kept ≡ [] → record net { kept = drop 1 net.kept } ≡ net
 without_first net none = ap (λ (xs : List (ℕ × List ℕ)). record net { kept = xs }) (ap (drop 1) none ∙ sym none)
@@ -80,8 +110,8 @@ without_first net none = ap (λ (xs : List (ℕ × List ℕ)). record net { kept
 none_left : (mid later : NetState) → later ≡ record mid { kept = drop 1 mid.kept } → None ≡ slice_get mid.kept 0 → later.kept ≡ []
 none_left mid later without none = ap (λ (s : NetState). s.kept) without ∙ ap (drop 1) (none_first mid.kept none)
 
-pub kept_ends : {Own : Type 0} (n : ℕ) (old now : Seen Own) (run mid later : Run) → KeptSoFar n old now run mid → later.net ≡ record mid.net { kept = drop 1 mid.net.kept } → None ≡ slice_get mid.net.kept 0 → later.queue ≡ mid.queue → TakesKept (1000000 - n) old now run later
-kept_ends n old now run mid later so_far net no_more queue = record {
+pub kept_ends : {Own : Type 0} (n : ℕ) (old now : Seen Own) (run mid later : Run) → KeptSoFar n old now run mid → later.net ≡ record mid.net { kept = drop 1 mid.net.kept } → None ≡ slice_get mid.net.kept 0 → later.queue ≡ mid.queue → later.lines.items ≡ mid.lines.items → TakesKept (1000000 - n) old now run later
+kept_ends n old now run mid later so_far net no_more queue lines = record {
   taken = so_far.taken;
   first = record {
     kept_so = so_far.first.kept_so ∙ ap (λ (xs : List (ℕ × List ℕ)). so_far.taken ++ xs) (none_first mid.net.kept no_more ∙ sym (none_left mid.net later.net net no_more));
@@ -91,7 +121,7 @@ kept_ends n old now run mid later so_far net no_more queue = record {
   none = λ none.
       let is = so_far.none none in
       let kept : mid.net.kept ≡ [] = ap (λ (s : NetState). s.kept) is.1.1 ∙ none in
-      (ap (λ (k : ℕ). 1000000 - k) is.0, (is.1.0, net ∙ without_first mid.net kept ∙ is.1.1, queue ∙ is.1.2));
+      (ap (λ (k : ℕ). 1000000 - k) is.0, (is.1.0, net ∙ without_first mid.net kept ∙ is.1.1, queue ∙ is.1.2, lines ∙ is.1.3));
 }
 
 pub kept_all : {Own : Type 0} (n : ℕ) (old now : Seen Own) (run mid : Run) → 1000000 ≤ n → KeptSoFar n old now run mid → TakesKept 0 old now run mid
@@ -112,7 +142,7 @@ kept_first left old new run now_run kept = record {
   told = [];
   kept_so = kept.first.kept_so;
   all = all_by kept.all;
-  knowledge = kept.first.knowledge ∙ ap (λ (items : List WorldStep). handled_all items (knowledge_of run.net run.queue)) (sym (append-nil (as_told kept.taken)));
+  handled = kept.first.knowledge;
 }
   where
     all_by : (now_run.net.kept ≡ []) ⊎ ((1000000 ≤ length kept.taken) × (left ≡ 0)) → (now_run.net.kept ≡ []) ⊎ (1000000 ≤ length kept.taken)
@@ -120,6 +150,18 @@ kept_first left old new run now_run kept = record {
     all_by (inr many) = inr many.0
 
 -- an item more is told
+abbrev ItemHandled : WorldStep → Knowledge → Knowledge → Type 0
+ItemHandled item k now = (now ≡ handled item k) ⊎ ((d : ℕ) × LosesAt d item k × (now ≡ known_lost d item k))
+
+handled_then : (items : List WorldStep) (item : WorldStep) (k mid now : Knowledge) → HandledTo items k mid → ItemHandled item mid now → HandledTo (items ++ item ∷ []) k now
+handled_then [] item k mid now is one = (now, (subst (λ (x : Knowledge). ItemHandled item x now) is one, refl))
+handled_then (x ∷ items) item k mid now is one = (is.0, (is.1.0, handled_then items item is.0 mid now is.1.1 one))
+
+item_handled : {Own Tells : Type 0} {item : WorldStep} {text : List ℕ} {old new : Seen Own} {net now_net : NetState} {queue now_queue : List Event} → HandlesStill Tells item text old new net now_net queue now_queue ⊎ HandlesLost Tells item text old new net now_net queue now_queue
+    → ItemHandled item (knowledge_of net queue) (knowledge_of now_net now_queue)
+item_handled (inl still) = inl still.knowledge
+item_handled (inr lost) = inr (lost.dpid, lost.at, lost.knowledge)
+
 pub then_told : {Own Tells : Type 0} (rest : Option Rest) (now new : Seen Own) (run mid later : Run) → KeptComesFirst run mid → NextTaken Tells rest now new mid later → KeptComesFirst run later
 then_told rest now new run mid later first next =
     let item = item_step next.item next.takes.buf in
@@ -129,46 +171,51 @@ then_told rest now new run mid later first next =
       told = first.told ++ item ∷ [];
       kept_so = first.kept_so;
       all = first.all;
-      knowledge = next.takes.handles.knowledge ∙ ap (handled item) first.knowledge ∙ sym (handled_all-append (as_told first.taken ++ first.told) (item ∷ []) (knowledge_of run.net run.queue))
-          ∙ ap (λ (items : List WorldStep). handled_all items (knowledge_of run.net run.queue)) (append_assoc (as_told first.taken) first.told (item ∷ []));
+      handled = handled_then first.told item (handled_all (as_told first.taken) (knowledge_of run.net run.queue)) (knowledge_of mid.net mid.queue) (knowledge_of later.net later.queue) first.handled (item_handled next.takes.handles.went);
     }
 
 -- ---- What was told
 
-takes_continues : {Own Tells : Type 0} {item : Item} {old new : Seen Own} {net now_net : NetState} {queue now_queue : List _} → TakesNext Tells item old new net now_net queue now_queue → Continues Tells old new
+takes_continues : {Own Tells : Type 0} {item : Item} {text : List ℕ} {old new : Seen Own} {net now_net : NetState} {queue now_queue : List _} → TakesNext Tells item text old new net now_net queue now_queue → Continues Tells old new
 takes_continues {Tells = Tells} {old = old} {new = new} takes = Continues-trans Tells old takes.mid new (Nexts-continues takes.nexts) takes.handles.continues
 
--- what comes of one item more
-went : {Own Tells : Type 0} {n : ℕ} {first now new : Seen Own} {run mid : Run} (later : Run) (item : Item) → BatchGoes Tells n first now run mid → TakesNext Tells item now new mid.net later.net mid.queue later.queue
-    → Tells → Conforming new → Calm first run.net → GoesOn item n (standing_of first run) (standing_of new later)
-went {n = n} {first = first} {now = now} {run = run} {mid = mid} later item goes takes told keeps calm = next_goes_on n (standing_of first run) (standing_of now mid) item told keeps calm (goes.so_far told (Conforming-before told (takes_continues takes) keeps) calm) takes
+-- one item more was told, and this text noted
+record OneMore {Own : Type 0} (Tells : Type 0) (item : Item) (now new : Seen Own) (mid later : Run) : Type 0 where
+  text : List ℕ
+  takes : TakesNext Tells item text now new mid.net later.net mid.queue later.queue
+  lines : later.lines.items ≡ mid.lines.items ++ text
 
-goes_by : {Own Tells : Type 0} {n : ℕ} {first now new : Seen Own} {run mid : Run} (later : Run) (item : Item) → BatchGoes Tells n first now run mid → TakesNext Tells item now new mid.net later.net mid.queue later.queue → None ≡ rest_by item → BatchGoes Tells (n + 1) first new run later
-goes_by later (items.From d k) goes takes is = record { so_far = λ told keeps calm. inr (went later (items.From d k) goes takes told keeps calm) }
-goes_by later (items.Joined d k) goes takes is = record { so_far = λ told keeps calm. inr (went later (items.Joined d k) goes takes told keeps calm) }
-goes_by later (items.Left d) goes takes is = record { so_far = λ told keeps calm. inr (went later (items.Left d) goes takes told keeps calm) }
-goes_by later (items.Moment t) goes takes is = record { so_far = λ told keeps calm. inr (went later (items.Moment t) goes takes told keeps calm) }
-goes_by later items.Idle goes takes is = absurd cc
-goes_by later items.End goes takes is = absurd cc
+-- what comes of it
+went : {Own Tells : Type 0} {n : ℕ} {first now new : Seen Own} {run mid : Run} (later : Run) (item : Item) → BatchGoes Tells n first now run mid → OneMore Tells item now new mid later → Tells → Conforming new → Calm first run.net → GoesOn item n (standing_of first run) (standing_of new later)
+went {n = n} {first = first} {now = now} {run = run} {mid = mid} later item goes more told keeps calm =
+    next_goes_on n (standing_of first run) (standing_of now mid) later.lines.items item told keeps calm (goes.so_far told (Conforming-before told (takes_continues more.takes) keeps) calm) more.takes more.lines
+
+goes_by : {Own Tells : Type 0} {n : ℕ} {first now new : Seen Own} {run mid : Run} (later : Run) (item : Item) → BatchGoes Tells n first now run mid → OneMore Tells item now new mid later → None ≡ rest_by item → BatchGoes Tells (n + 1) first new run later
+goes_by later (items.From d k) goes more is = record { so_far = λ told keeps calm. inr (went later (items.From d k) goes more told keeps calm) }
+goes_by later (items.Joined d k) goes more is = record { so_far = λ told keeps calm. inr (went later (items.Joined d k) goes more told keeps calm) }
+goes_by later (items.Left d) goes more is = record { so_far = λ told keeps calm. inr (went later (items.Left d) goes more told keeps calm) }
+goes_by later (items.Moment t) goes more is = record { so_far = λ told keeps calm. inr (went later (items.Moment t) goes more told keeps calm) }
+goes_by later items.Idle goes more is = absurd cc
+goes_by later items.End goes more is = absurd cc
 
 pub batch_goes : {Own : Type 0} {Tells : Type 0} (n : ℕ) (first now new : Seen Own) (run mid later : Run) → BatchGoes Tells n first now run mid → NextTaken Tells None now new mid later → BatchGoes Tells (n + 1) first new run later
-batch_goes n first now new run mid later goes taken = goes_by later taken.item goes taken.takes taken.rest_so
+batch_goes n first now new run mid later goes taken = goes_by later taken.item goes (record { text = taken.text; takes = taken.takes; lines = taken.lines }) taken.rest_so
 
 same_rest : (a b : Rest) → Some a ≡ Some b → a ≡ b
 same_rest a b e = cc
 
-shown_by : {Own Tells : Type 0} {n : ℕ} {first now new : Seen Own} {run mid : Run} (later : Run) (rest : Rest) (item : Item) → BatchGoes Tells n first now run mid → TakesNext Tells item now new mid.net later.net mid.queue later.queue → Some rest ≡ rest_by item → BatchShown Tells rest first new run later
-shown_by later rest (items.From d k) goes takes is = absurd cc
-shown_by later rest (items.Joined d k) goes takes is = absurd cc
-shown_by later rest (items.Left d) goes takes is = absurd cc
-shown_by later rest (items.Moment t) goes takes is = absurd cc
-shown_by {Tells = Tells} {first = first} {new = new} {run = run} later rest items.Idle goes takes is =
-    subst (λ (r : Rest). BatchShown Tells r first new run later) (sym (same_rest rest rests.Idle is)) (record { shown = λ told keeps calm. went later items.Idle goes takes told keeps calm })
-shown_by {Tells = Tells} {first = first} {new = new} {run = run} later rest items.End goes takes is =
-    subst (λ (r : Rest). BatchShown Tells r first new run later) (sym (same_rest rest rests.End is)) (record { shown = λ told keeps calm. went later items.End goes takes told keeps calm })
+shown_by : {Own Tells : Type 0} {n : ℕ} {first now new : Seen Own} {run mid : Run} (later : Run) (rest : Rest) (item : Item) → BatchGoes Tells n first now run mid → OneMore Tells item now new mid later → Some rest ≡ rest_by item → BatchShown Tells rest first new run later
+shown_by later rest (items.From d k) goes more is = absurd cc
+shown_by later rest (items.Joined d k) goes more is = absurd cc
+shown_by later rest (items.Left d) goes more is = absurd cc
+shown_by later rest (items.Moment t) goes more is = absurd cc
+shown_by {Tells = Tells} {first = first} {new = new} {run = run} later rest items.Idle goes more is =
+    subst (λ (r : Rest). BatchShown Tells r first new run later) (sym (same_rest rest rests.Idle is)) (record { shown = λ told keeps calm. went later items.Idle goes more told keeps calm })
+shown_by {Tells = Tells} {first = first} {new = new} {run = run} later rest items.End goes more is =
+    subst (λ (r : Rest). BatchShown Tells r first new run later) (sym (same_rest rest rests.End is)) (record { shown = λ told keeps calm. went later items.End goes more told keeps calm })
 
 pub batch_ends : {Own : Type 0} {Tells : Type 0} (n : ℕ) (rest : Rest) (first now new : Seen Own) (run mid later : Run) → BatchGoes Tells n first now run mid → NextTaken Tells (Some rest) now new mid later → BatchShown Tells rest first new run later
-batch_ends n rest first now new run mid later goes taken = shown_by later rest taken.item goes taken.takes taken.rest_so
+batch_ends n rest first now new run mid later goes taken = shown_by later rest taken.item goes (record { text = taken.text; takes = taken.takes; lines = taken.lines }) taken.rest_so
 
 -- a batch ends before so many items
 pub batch_too_long : {Own : Type 0} {Tells : Type 0} (n left : ℕ) (old first now : Seen Own) (run begun mid : Run) → left ≤ n → Continues Tells old now → TakesKept left old first run begun → BatchGoes Tells n old now run mid → BatchShown Tells rests.Idle old now run mid
@@ -176,7 +223,8 @@ batch_too_long n left old first now run begun mid many continues kept goes = rec
   where
     by : left ≡ 1000000 → Conforming old → Calm old run.net → SoFar n (standing_of old run) (standing_of now mid) → ⊥
     by is keeps calm (inl none) = omega (arith, is, many, none.0)
-    by is keeps calm (inr some) = omega (arith, is, many, never_so_many keeps calm some.1)
+    by is keeps calm (inr (x, inl batch)) = omega (arith, is, many, never_so_many keeps calm batch)
+    by is keeps calm (inr (x, inr lost)) = omega (arith, is, many, lost.0)
 
 -- ---- The answers of calls
 
@@ -208,9 +256,38 @@ pub end_step : (item : Item) (buf : List ℕ) → item ≡ items.End → End ≡
 unfolding item_step
 end_step item buf is = rw is refl
 
-pub rest_handles : {Own : Type 0} {Tells : Type 0} (item : Item) (buf : List ℕ) (seen : Seen Own) (net : NetState) (queue : List Event) → (item ≡ items.Idle) ⊎ (item ≡ items.End) → Handles Tells (item_step item buf) seen seen net net queue queue
-rest_handles {Tells = Tells} item buf seen net queue (inl is) = subst (λ (step : WorldStep). Handles Tells step seen seen net net queue queue) (idle_step item buf is) (idle_handles seen net queue)
-rest_handles {Tells = Tells} item buf seen net queue (inr is) = subst (λ (step : WorldStep). Handles Tells step seen seen net net queue queue) (end_step item buf is) (end_handles seen net queue)
+pub rest_handles : {Own : Type 0} {Tells : Type 0} (item : Item) (buf : List ℕ) (seen : Seen Own) (net : NetState) (queue : List Event) → net.left ≡ [] → (item ≡ items.Idle) ⊎ (item ≡ items.End) → Handles Tells (item_step item buf) [] seen seen net net queue queue
+rest_handles {Tells = Tells} item buf seen net queue none (inl is) = subst (λ (step : WorldStep). Handles Tells step [] seen seen net net queue queue) (idle_step item buf is) (idle_handles seen net queue none)
+rest_handles {Tells = Tells} item buf seen net queue none (inr is) = subst (λ (step : WorldStep). Handles Tells step [] seen seen net net queue queue) (end_step item buf is) (end_handles seen net queue none)
+
+-- ---- An item that is taken, and the text that is noted
+
+-- nothing is noted
+pub takes_none : {Own Tells : Type 0} {item : WorldStep} {old new : Seen Own} (run now_run : Run) → now_run.lines.items ≡ run.lines.items → Handles Tells item [] old new run.net now_run.net run.queue now_run.queue → TakesItem Tells item old new run now_run
+takes_none run now_run same handles = record { text = []; handles = handles; lines = same ∙ sym (append-nil run.lines.items) }
+
+-- of a message, where the switches that were lost are told behind it
+pub message_taken : {Own Tells : Type 0} (d : ℕ) (bytes : List ℕ) (old new : Seen Own) (run mid now_run : Run) (event : Option Event) → run.net.left ≡ [] → IsSome (rows_at d run.net.views) → IsBytes bytes → Arrives Tells d bytes old new run.net mid.net (Ok event)
+    → mid.queue ≡ with_event event run.queue → mid.lines.items ≡ run.lines.items → TellsLost mid now_run → TakesItem Tells (From d bytes) old new run now_run
+message_taken d bytes old new run mid now_run event none known fit arrives waits lines tells = record {
+  text = lost_text mid.net.left;
+  handles = arrived_handles d bytes old new run.net mid.net now_run.net run.queue mid.queue now_run.queue (lost_text mid.net.left) event none known fit arrives waits
+      (ap (λ (e : Engine). e.net) tells.engine) (ap (λ (e : Engine). e.queue) tells.engine) refl;
+  lines = tells.lines ∙ ap (λ (t : List ℕ). t ++ lost_text mid.net.left) lines;
+}
+
+-- of a switch that leaves
+pub left_taken : {Own Tells : Type 0} (d : ℕ) (seen : Seen Own) (run now_run : Run) → run.net.left ≡ [] → now_run.lines.items ≡ run.lines.items → Departs d run.net now_run.net run.queue now_run.queue → TakesItem Tells (Left d) seen seen run now_run
+left_taken d seen run now_run none lines departs = takes_none run now_run lines (departs_handles d seen run.net now_run.net run.queue now_run.queue none departs)
+
+-- of a switch that joins or is lost
+pub joined_taken : {Own Tells : Type 0} (d : ℕ) (bytes : List ℕ) (e : Envelope) (old new : Seen Own) (run now_run : Run) → run.net.left ≡ [] → rows_at d run.net.views ≡ None → reading_of bytes ≡ Ok e → Continues Tells old new → OnLinks Tells old new → AsksWithoutStrays Tells d old new
+    → TakesJoin Tells d e.message old new run now_run → TakesItem Tells (Joined d bytes) old new run now_run
+joined_taken d bytes e old new run now_run none out read continues links no_strays joins = record {
+  text = joins.text;
+  handles = enters_handles d bytes e joins.text old new run.net now_run.net run.queue now_run.queue none out read continues links no_strays joins.enters;
+  lines = joins.lines;
+}
 
 pub no_rest : (item : Item) → (item ≡ items.Idle → ⊥) → (item ≡ items.End → ⊥) → None ≡ rest_by item
 no_rest (items.From d n) idle end = refl

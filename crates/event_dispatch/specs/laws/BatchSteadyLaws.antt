@@ -28,11 +28,14 @@ use Rattle.app_visor.specs.CallsFor.{CallsFor}
 use Rattle.lego_model.specs.Application.{index}
 use Rattle.batch_laws.specs.Items.{Handles}
 use Rattle.event_dispatch.specs.declared.batch.Rest.{Rest}
+use Rattle.event_dispatch.specs.declared.run.Managed.{Managed}
 use Rattle.event_dispatch.specs.declared.run.Run.{Run}
 use Rattle.event_dispatch.specs.Runs.{AreRead, Waits}
-use Rattle.event_dispatch.specs.Batch.{rest_by}
+use Rattle.event_dispatch.specs.Shows.{TellsLost}
+use Rattle.event_dispatch.specs.Batch.{TakesItem, rest_by}
+use Rattle.run_laws.specs.Engine.{Engine}
 use Rattle.event_dispatch.specs.laws.BatchLaws.{joined_step, rest_handles}
-use Rattle.event_dispatch.specs.laws.KeptLaws.{read_rest, read_same}
+use Rattle.event_dispatch.specs.laws.KeptLaws.{read_rest, read_same, read_alike}
 use Rattle.event_dispatch.specs.Steady.{NoStray, Reads, NothingUnderWay, AtMostThisPoint}
 use Rattle.event_dispatch.specs.laws.SteadyLaws.{reads_as, places_then, reads_then, quietly_here, calls_then}
 use Rattle.event_dispatch.specs.Told.{OnlyMessages, NoStrayAtItem, CatchesUp, NextPoint, GoesBegun, BatchPoint}
@@ -63,10 +66,28 @@ arrived_places Tells d frame old new net now_net result known arrives = record {
   own = links_own arrives.links;
 }
 
-pub arrived_reads : {Own : Type 0} (Tells : Type 0) (d : ℕ) (frame : List ℕ) (old new : Seen Own) (net now_net : NetState) (event : Option Event) → Arrives Tells d frame old new net now_net (Ok event) → Reads Tells old new net now_net
-arrived_reads Tells d frame old new net now_net event arrives = record {
-  abreast = λ told order abreast. arrives_abreast arrives told abreast;
+pub arrived_reads : {Own : Type 0} (Tells : Type 0) (d : ℕ) (frame : List ℕ) (old new : Seen Own) (net now_net : NetState) (event : Option Event) → IsSome (rows_at d net.views) → Arrives Tells d frame old new net now_net (Ok event) → Reads Tells old new net now_net
+arrived_reads Tells d frame old new net now_net event known arrives = record {
+  abreast = λ told order abreast. arrives_abreast (viewed d net.views ∙ known) arrives told abreast;
   read = λ told order abreast. arrives_read arrives refl told;
+}
+
+-- and the switches that were lost are told
+pub told_reads : {Own : Type 0} (Tells : Type 0) (old new : Seen Own) (net : NetState) (mid now_run : Run) → TellsLost mid now_run → Reads Tells old new net mid.net → Reads Tells old new net now_run.net
+told_reads Tells old new net mid now_run tells reads = reads_as Tells old new net mid.net now_run.net (ap (λ (e : Engine). e.net.views) tells.engine) reads
+
+pub told_read : (mid now_run : Run) → TellsLost mid now_run → AreRead mid.net.kept → AreRead now_run.net.kept
+told_read mid now_run tells read = read_alike mid.net.kept now_run.net.kept (ap (λ (e : Engine). e.net.kept) tells.engine) read
+
+-- an item was taken, and no event was dispatched
+pub waits_taken : {Own Tells : Type 0} {item : WorldStep} {old new : Seen Own} (run mid now_run : Run) → Waits mid now_run → mid.events ≡ run.events → mid.app ≡ run.app → mid.store ≡ run.store → TakesItem Tells item old new run now_run → Waits run now_run
+waits_taken run mid now_run waits events app store takes = record {
+  room = takes.handles.room;
+  events = waits.events ∙ events;
+  done = waits.done ∙ ap (λ (a : Managed). a.done) app;
+  failed = waits.failed ∙ ap (λ (a : Managed). a.failed) app;
+  store = waits.store ∙ store;
+  left = λ none. takes.handles.left;
 }
 
 pub arrived_only : {Own : Type 0} (Tells : Type 0) (d : ℕ) (frame : List ℕ) (old new : Seen Own) (net now_net : NetState) (event : Option Event) → Arrives Tells d frame old new net now_net (Ok event) → OnlyMessages Tells old new
@@ -90,6 +111,7 @@ taken_waits run mid later taken_net taken first second = record {
   done = second.done ∙ first.done;
   failed = second.failed ∙ first.failed;
   store = second.store ∙ first.store;
+  left = λ none. second.left (ap (λ (n : NetState). n.left) taken ∙ first.left none);
 }
 
 pub taken_places : {Own : Type 0} (Tells : Type 0) (old now new : Seen Own) (net mid_net taken_net : NetState) → WithoutFirst mid_net taken_net → Continues Tells old now → Continues Tells now new → NoStray Tells old now net → Reads Tells old now net mid_net → NoStray Tells now new taken_net
@@ -137,14 +159,14 @@ next_reads Tells item buf old mid new net now_net call later catches = record {
       messages-then old mid new told (Nexts-continues call) later (next_messages call told (catches.item told order at)) (catches.read told);
 }
 
-pub handled_reads : {Own : Type 0} (Tells : Type 0) (item : Item) (buf : List ℕ) (old mid new : Seen Own) (net now_net : NetState) (queue now_queue : List Event) → Nexts Tells old mid (Ok item) buf → Handles Tells (item_step item buf) mid new net now_net queue now_queue
+pub handled_reads : {Own : Type 0} (Tells : Type 0) (item : Item) (buf : List ℕ) (old mid new : Seen Own) (net now_net : NetState) (queue now_queue : List Event) → Nexts Tells old mid (Ok item) buf → {text : List ℕ} → Handles Tells (item_step item buf) text mid new net now_net queue now_queue
     → OnLinks Tells mid new → OnlyMessages Tells mid new → Reads Tells old new net now_net
 handled_reads Tells item buf old mid new net now_net queue now_queue call handles links only = next_reads Tells item buf old mid new net now_net call handles.continues (caught_up item buf handles links only.read)
 
 -- the batch is over
-pub over_reads : {Own : Type 0} (Tells : Type 0) (item : Item) (buf : List ℕ) (old mid : Seen Own) (net : NetState) → (item ≡ items.Idle) ⊎ (item ≡ items.End) → Nexts Tells old mid (Ok item) buf → Reads Tells old mid net net
-over_reads Tells item buf old mid net over call =
-    handled_reads Tells item buf old mid mid net net [] [] call (rest_handles item buf mid net [] over) (links_none Tells mid) (only_none Tells mid)
+pub over_reads : {Own : Type 0} (Tells : Type 0) (item : Item) (buf : List ℕ) (old mid : Seen Own) (net : NetState) → net.left ≡ [] → (item ≡ items.Idle) ⊎ (item ≡ items.End) → Nexts Tells old mid (Ok item) buf → Reads Tells old mid net net
+over_reads Tells item buf old mid net none over call =
+    handled_reads Tells item buf old mid mid net net [] [] call (rest_handles item buf mid net [] none over) (links_none Tells mid) (only_none Tells mid)
 
 pub handled_quietly : {Own : Type 0} (Tells : Type 0) (old mid new : Seen Own) → Continues Tells mid new → NextPoint Tells old mid → OnLinks Tells mid new → NextPoint Tells old new
 handled_quietly Tells old mid new later next links = record {

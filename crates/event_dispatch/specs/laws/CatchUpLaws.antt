@@ -1,7 +1,8 @@
--- Laws of an item that is handled: the host keeps up with the switches again, and what came are messages.
-use Rattle.std.specs.Prelude.{◌≡◌, ◌≢◌, ◌==◌, ℕ, Bool, true, false, not, ◌||◌, List, [], ◌∷◌, filter, Result, Ok, Err, IsOk, IsOkAnd, if◌then◌else◌, refl}
+-- Laws of an item that is handled, where its switch may be lost: the host keeps up with the switches again, and what came are messages.
+use Rattle.std.specs.Prelude.{◌≡◌, ◌≢◌, ◌==◌, ℕ, Bool, true, false, not, ◌||◌, List, [], ◌∷◌, ◌++◌, filter, None, Result, Ok, Err, IsOk, IsOkAnd, if◌then◌else◌, refl}
 use Rattle.std.specs.Option.{is_some}
 use Rattle.std.proofs.Common.{sym, ap, ◌∙◌, subst, inl, inr, true≢false}
+use Rattle.std.proofs.lemmas.List.{append-nil}
 use Rattle.std.proofs.lemmas.Bool.{cases_Bool, cases_eq, eqb-true, ne_eqb}
 use Rattle.of_wire.specs.declared.message.Envelope.{Envelope}
 use Rattle.of_wire.specs.declared.message.Message.{Message}
@@ -13,18 +14,23 @@ use Rattle.app_frames.specs.declared.frame.Event.{Event}
 use Rattle.outside.specs.declared.item.Item.{Item}
 use Rattle.outside.specs.declared.item.Item.TheVariants as items
 use Rattle.outside.specs.declared.step.WorldStep.TheVariants.{From, Joined, Left}
-use Rattle.outside.specs.Seen.{Seen}
-use Rattle.outside.specs.State.{State, state, is_joined}
+use Rattle.outside.specs.Seen.{Seen, Continues, journal}
+use Rattle.outside.specs.State.{State, state, is_joined, switch_of}
 use Rattle.outside.specs.Calls.{IsFeatures, item_step}
 use Rattle.outside.specs.InOrder.{brings_message, MessagesSince}
 use Rattle.net_txn.specs.Net.{NetState}
-use Rattle.net_txn.specs.LinkSteps.{OnLinks}
+use Rattle.net_txn.specs.LinkSteps.{OnLinks, LinkSteps}
+use Rattle.net_txn.specs.Abreast.{Abreast}
+use Rattle.net_txn.specs.Losing.{GoesOut, lost_net}
+use Rattle.net_txn.specs.laws.LostLaws.{losses_then}
+use Rattle.lego_model.specs.Journal.{losses}
+use Rattle.lego_model.specs.History.{lost_of}
 use Rattle.net_txn.specs.Views.{rows_at, is_viewed}
 use Rattle.net_txn.specs.Joining.{with_view}
 use Rattle.net_txn.specs.laws.AgreeLaws.{viewed}
-use Rattle.net_txn.specs.laws.AbreastLaws.{links-joined, links-due, with_rows-viewed, with_view-viewed, with_view-viewed-other}
-use Rattle.batch_laws.specs.Knowledge.{Knowledge, knowledge_of, is_known, views_by, told_read, joined_read, left_by, handled}
-use Rattle.batch_laws.specs.Items.{DoesFrom, Handles}
+use Rattle.net_txn.specs.laws.AbreastLaws.{links-stay, links-due, with_rows-viewed, with_view-viewed, with_view-viewed-other, abreast-out, arrival_none_lost}
+use Rattle.batch_laws.specs.Knowledge.{Knowledge, knowledge_of, is_known, views_by, told_read, joined_read, left_by, handled, IsEchoRead}
+use Rattle.batch_laws.specs.Items.{answers, DoesFrom, DoesJoined, DoesLeft, TakesInBy, TakesInAs, Handles, HandlesStill, HandlesLost}
 use Rattle.event_dispatch.specs.Told.{IsTold, CatchesUp}
 
 -- ---- The views behind an item
@@ -155,25 +161,147 @@ from_read : {Own : Type 0} (Tells : Type 0) (old new : Seen Own) (net now_net : 
 from_read Tells old new net now_net d bytes true is does = does.read
 from_read Tells old new net now_net d bytes false is does = absurd (true≢false (sym is))
 
-item_read : {Own Tells : Type 0} {old new : Seen Own} {net now_net : NetState} {queue now_queue : List Event} (item : Item) (buf : List ℕ) → Handles Tells (item_step item buf) old new net now_net queue now_queue → IsTold (item_step item buf) (state old) net.views
+item_read : {Own Tells : Type 0} {text : List ℕ} {old new : Seen Own} {net now_net : NetState} {queue now_queue : List Event} (item : Item) (buf : List ℕ) → HandlesStill Tells (item_step item buf) text old new net now_net queue now_queue → IsTold (item_step item buf) (state old) net.views
     → brings_message (item_step item buf) ≡ true
 unfolding item_step
-item_read {Tells = Tells} {old = old} {new = new} {net = net} {now_net = now_net} (items.From d n) buf handles told =
-    from_read Tells old new net now_net d _ (is_some (rows_at d net.views)) (sym (viewed d net.views) ∙ sym (told.others d refl) ∙ told.told_of) handles.does
-item_read (items.Joined d n) buf handles told = refl
-item_read (items.Left d) buf handles told = refl
-item_read (items.Moment t) buf handles told = refl
-item_read items.Idle buf handles told = refl
-item_read items.End buf handles told = refl
+item_read {Tells = Tells} {old = old} {new = new} {net = net} {now_net = now_net} (items.From d n) buf still told =
+    from_read Tells old new net now_net d _ (is_some (rows_at d net.views)) (sym (viewed d net.views) ∙ sym (told.others d refl) ∙ told.told_of) still.does
+item_read (items.Joined d n) buf still told = refl
+item_read (items.Left d) buf still told = refl
+item_read (items.Moment t) buf still told = refl
+item_read items.Idle buf still told = refl
+item_read items.End buf still told = refl
+
+-- ---- No switch is lost
+
+same_losses : {Own : Type 0} (old new : Seen Own) → new ≡ old → lost_of new ≡ lost_of old
+same_losses old new same = ap lost_of same
+
+answers_none : (d : ℕ) (r : Result Envelope WireFault) → losses (journal (answers d r)) ≡ []
+unfolding journal losses
+answers_none d (Ok e) = arrival_none_lost d e.xid e.message
+answers_none d (Err fault) = refl
+
+from_losses : {Own : Type 0} (Tells : Type 0) (d : ℕ) (bytes : List ℕ) (known : Bool) (old new : Seen Own) (net now_net : NetState) → DoesFrom Tells d bytes known old new net now_net → Tells → lost_of new ≡ lost_of old
+from_losses Tells d bytes true old new net now_net does told =
+    losses_then old new (answers d (reading_of bytes)) (does.told told) ∙ ap (λ (ds : List ℕ). lost_of old ++ ds) (answers_none d (reading_of bytes)) ∙ append-nil (lost_of old)
+from_losses Tells d bytes false old new net now_net does told = same_losses old new does.seen
+
+taken_losses : {Own : Type 0} (Tells : Type 0) (d : ℕ) (m : Message) (old new : Seen Own) (net now_net : NetState) → TakesInBy Tells d m old new net now_net → Tells → lost_of new ≡ lost_of old
+taken_losses Tells d (messages.FeaturesReply features) old new net now_net takes told = takes.joins.losses told
+taken_losses Tells d (messages.Hello payload) old new net now_net takes told = same_losses old new takes.seen
+taken_losses Tells d (messages.Error kind code payload) old new net now_net takes told = same_losses old new takes.seen
+taken_losses Tells d (messages.EchoRequest payload) old new net now_net takes told = same_losses old new takes.seen
+taken_losses Tells d (messages.EchoReply payload) old new net now_net takes told = same_losses old new takes.seen
+taken_losses Tells d (messages.Vendor payload) old new net now_net takes told = same_losses old new takes.seen
+taken_losses Tells d messages.FeaturesRequest old new net now_net takes told = same_losses old new takes.seen
+taken_losses Tells d messages.GetConfigRequest old new net now_net takes told = same_losses old new takes.seen
+taken_losses Tells d (messages.GetConfigReply config) old new net now_net takes told = same_losses old new takes.seen
+taken_losses Tells d (messages.SetConfig config) old new net now_net takes told = same_losses old new takes.seen
+taken_losses Tells d (messages.PacketIn packet) old new net now_net takes told = same_losses old new takes.seen
+taken_losses Tells d (messages.FlowRemoved flow) old new net now_net takes told = same_losses old new takes.seen
+taken_losses Tells d (messages.PortStatus status) old new net now_net takes told = same_losses old new takes.seen
+taken_losses Tells d (messages.PacketOut packet) old new net now_net takes told = same_losses old new takes.seen
+taken_losses Tells d (messages.FlowMod m) old new net now_net takes told = same_losses old new takes.seen
+taken_losses Tells d (messages.PortMod port) old new net now_net takes told = same_losses old new takes.seen
+taken_losses Tells d (messages.StatsRequest m) old new net now_net takes told = same_losses old new takes.seen
+taken_losses Tells d (messages.StatsReply m) old new net now_net takes told = same_losses old new takes.seen
+taken_losses Tells d messages.BarrierRequest old new net now_net takes told = same_losses old new takes.seen
+taken_losses Tells d messages.BarrierReply old new net now_net takes told = same_losses old new takes.seen
+taken_losses Tells d (messages.QueueGetConfigRequest payload) old new net now_net takes told = same_losses old new takes.seen
+taken_losses Tells d (messages.QueueGetConfigReply payload) old new net now_net takes told = same_losses old new takes.seen
+
+taken_as : {Own : Type 0} (Tells : Type 0) (d : ℕ) (r : Result Envelope WireFault) (old new : Seen Own) (net now_net : NetState) → TakesInAs Tells d r old new net now_net → Tells → lost_of new ≡ lost_of old
+taken_as Tells d (Ok e) old new net now_net takes told = taken_losses Tells d e.message old new net now_net takes told
+taken_as Tells d (Err fault) old new net now_net takes told = same_losses old new takes.seen
+
+joined_losses : {Own : Type 0} (Tells : Type 0) (d : ℕ) (bytes : List ℕ) (known : Bool) (old new : Seen Own) (net now_net : NetState) → DoesJoined Tells d bytes known old new net now_net → Tells → lost_of new ≡ lost_of old
+joined_losses Tells d bytes true old new net now_net does told = same_losses old new does.seen
+joined_losses Tells d bytes false old new net now_net does told = taken_as Tells d (reading_of bytes) old new net now_net does told
+
+left_losses : {Own : Type 0} (d : ℕ) (known : Bool) (old new : Seen Own) (net now_net : NetState) → DoesLeft d known old new net now_net → lost_of new ≡ lost_of old
+left_losses d true old new net now_net does = same_losses old new does.seen
+left_losses d false old new net now_net does = same_losses old new does.seen
+
+still_losses : {Own Tells : Type 0} {text : List ℕ} {old new : Seen Own} {net now_net : NetState} {queue now_queue : List Event} (item : Item) (buf : List ℕ) → HandlesStill Tells (item_step item buf) text old new net now_net queue now_queue → Tells → lost_of new ≡ lost_of old
+unfolding item_step
+still_losses {Tells = Tells} {old = old} {new = new} {net = net} {now_net = now_net} (items.From d n) buf still told = from_losses Tells d _ (is_some (rows_at d net.views)) old new net now_net still.does told
+still_losses {Tells = Tells} {old = old} {new = new} {net = net} {now_net = now_net} (items.Joined d n) buf still told = joined_losses Tells d _ (is_some (rows_at d net.views)) old new net now_net still.does told
+still_losses {old = old} {new = new} {net = net} {now_net = now_net} (items.Left d) buf still told = left_losses d (is_some (rows_at d net.views)) old new net now_net still.does
+still_losses {old = old} {new = new} (items.Moment t) buf still told = same_losses old new still.does.seen
+still_losses {old = old} {new = new} items.Idle buf still told = same_losses old new still.does.seen
+still_losses {old = old} {new = new} items.End buf still told = same_losses old new still.does.seen
 
 -- An item was handled by calls of links alone, and what came were messages.
-pub caught_up : {Own Tells : Type 0} {old new : Seen Own} {net now_net : NetState} {queue now_queue : List Event} (item : Item) (buf : List ℕ) → Handles Tells (item_step item buf) old new net now_net queue now_queue → OnLinks Tells old new → (Tells → MessagesSince old new)
-    → CatchesUp Tells (item_step item buf) old new net now_net
-caught_up {Tells = Tells} {old = old} {new = new} {net = net} {now_net = now_net} {queue = queue} {now_queue = now_queue} item buf handles links read = record {
+still_caught_up : {Own Tells : Type 0} {text : List ℕ} {old new : Seen Own} {net now_net : NetState} {queue now_queue : List Event} (item : Item) (buf : List ℕ) → Continues Tells old new → HandlesStill Tells (item_step item buf) text old new net now_net queue now_queue → OnLinks Tells old new
+    → (Tells → MessagesSince old new) → CatchesUp Tells (item_step item buf) old new net now_net
+still_caught_up {Tells = Tells} {old = old} {new = new} {net = net} {now_net = now_net} {queue = queue} {now_queue = now_queue} item buf later still links read = record {
   abreast = λ told order at. record {
-    joined = λ e. links-joined handles.continues (links told) e ∙ item_keeps item buf (state old) (knowledge_of net queue) at e ∙ sym (ap (λ (k : Knowledge). is_viewed e k.views) handles.knowledge);
-    none_due = links-due handles.continues (links told) ∙ at.none_due;
+    joined = λ e. links-stay later (links told) (still_losses item buf still told) e ∙ item_keeps item buf (state old) (knowledge_of net queue) at e ∙ sym (ap (λ (k : Knowledge). is_viewed e k.views) still.knowledge);
+    none_due = links-due later (links told) ∙ at.none_due;
   };
-  item = λ told order at. item_read item buf handles at;
+  item = λ told order at. item_read item buf still at;
   read = read;
 }
+
+-- ---- Its switch is lost
+
+out_joined : {Own : Type 0} (d : ℕ) (seen : Seen Own) → switch_of d (state seen) ≡ None → is_joined d (state seen) ≡ false
+out_joined d seen out = ap is_some out
+
+-- it joined, and is out again
+joined_out : {Own : Type 0} (Tells : Type 0) (d : ℕ) (bytes : List ℕ) (old new : Seen Own) (net now_net : NetState) → Continues Tells old new → LinkSteps old new → IsTold (Joined d bytes) (state old) net.views → GoesOut d [] old new → now_net.views ≡ net.views → Abreast new now_net
+joined_out Tells d bytes old new net now_net later links told out views = record {
+  joined = λ e. elim (cases_eq e d) [
+    | inl same ↦ subst (λ (n : ℕ). is_joined n (state new) ≡ is_viewed n now_net.views) (sym same) (out_joined d new out.out ∙ sym (ap (is_viewed d) views ∙ told.told_of.1))
+    | inr other ↦ ap is_some (out.others e other) ∙ told.others e (apart d e other) ∙ sym (ap (is_viewed e) views)
+  ];
+  none_due = links-due later links ∙ told.none_due;
+}
+
+-- its message came
+from_out : {Own : Type 0} (Tells : Type 0) (d : ℕ) (bytes : List ℕ) (old new : Seen Own) (net now_net : NetState) → Continues Tells old new → LinkSteps old new → IsTold (From d bytes) (state old) net.views → GoesOut d [] old new → now_net.views ≡ (lost_net d net).views → Abreast new now_net
+from_out Tells d bytes old new net now_net later links told out views = abreast-out net now_net [] later links out views (record { joined = λ e. told.others e refl; none_due = told.none_due })
+
+-- the message can be read
+echo_brings : (r : Result Envelope WireFault) → IsEchoRead r → IsOk r
+echo_brings (Ok e) is = refl
+echo_brings (Err fault) is = absurd is
+
+at_from : {Own Tells : Type 0} {e : ℕ} {bytes text : List ℕ} {old new : Seen Own} {net now_net : NetState} {queue now_queue : List Event} → Continues Tells old new → HandlesLost Tells (From e bytes) text old new net now_net queue now_queue → OnLinks Tells old new → (Tells → MessagesSince old new)
+    → CatchesUp Tells (From e bytes) old new net now_net
+at_from {Tells = Tells} {e = e} {bytes = bytes} {old = old} {new = new} {net = net} {now_net = now_net} later lost links read = record {
+  abreast = λ told order at.
+      let here : IsTold (From lost.dpid bytes) (state old) net.views = subst (λ (n : ℕ). IsTold (From n bytes) (state old) net.views) lost.at.0 at in
+      from_out Tells lost.dpid bytes old new net now_net later (links told) here (lost.is_lost.out told here.told_of) (ap (λ (k : Knowledge). k.views) lost.knowledge);
+  item = λ told order at. echo_brings (reading_of bytes) lost.at.2;
+  read = read;
+}
+
+at_joined : {Own Tells : Type 0} {e : ℕ} {bytes text : List ℕ} {old new : Seen Own} {net now_net : NetState} {queue now_queue : List Event} → Continues Tells old new → HandlesLost Tells (Joined e bytes) text old new net now_net queue now_queue → OnLinks Tells old new → (Tells → MessagesSince old new)
+    → CatchesUp Tells (Joined e bytes) old new net now_net
+at_joined {Tells = Tells} {e = e} {bytes = bytes} {old = old} {new = new} {net = net} {now_net = now_net} later lost links read = record {
+  abreast = λ told order at.
+      let here : IsTold (Joined lost.dpid bytes) (state old) net.views = subst (λ (n : ℕ). IsTold (Joined n bytes) (state old) net.views) lost.at.0 at in
+      joined_out Tells lost.dpid bytes old new net now_net later (links told) here (lost.is_lost.out told here.told_of.0) (ap (λ (k : Knowledge). k.views) lost.knowledge);
+  item = λ told order at. refl;
+  read = read;
+}
+
+lost_caught_up : {Own Tells : Type 0} {text : List ℕ} {old new : Seen Own} {net now_net : NetState} {queue now_queue : List Event} (item : Item) (buf : List ℕ) → Continues Tells old new → HandlesLost Tells (item_step item buf) text old new net now_net queue now_queue → OnLinks Tells old new
+    → (Tells → MessagesSince old new) → CatchesUp Tells (item_step item buf) old new net now_net
+unfolding item_step
+lost_caught_up (items.From d n) buf later lost links read = at_from later lost links read
+lost_caught_up (items.Joined d n) buf later lost links read = at_joined later lost links read
+lost_caught_up (items.Left d) buf later lost links read = absurd lost.at
+lost_caught_up (items.Moment t) buf later lost links read = absurd lost.at
+lost_caught_up items.Idle buf later lost links read = absurd lost.at
+lost_caught_up items.End buf later lost links read = absurd lost.at
+
+pub caught_up : {Own Tells : Type 0} {text : List ℕ} {old new : Seen Own} {net now_net : NetState} {queue now_queue : List Event} (item : Item) (buf : List ℕ) → Handles Tells (item_step item buf) text old new net now_net queue now_queue → OnLinks Tells old new → (Tells → MessagesSince old new)
+    → CatchesUp Tells (item_step item buf) old new net now_net
+caught_up item buf handles links read =
+    elim handles.went [
+      | inl still ↦ still_caught_up item buf handles.continues still links read
+      | inr lost ↦ lost_caught_up item buf handles.continues lost links read
+    ]

@@ -30,7 +30,8 @@ use Rattle.event_dispatch.specs.laws.LeftLaws.{left_none, left_turn, left_as}
 use Rattle.net_txn.specs.Net.{NetState}
 use Rattle.event_dispatch.specs.laws.SteadyLaws.{quietly_none, quietly_then, none_move, none_move_then}
 use Rattle.event_dispatch.specs.laws.TalkingLaws.{keeps_none, keeps_then, goes_none, goes_turn, goes_as}
-use Rattle.event_dispatch.specs.Serves.{Starts, IsDispatched, Begins}
+use Rattle.event_dispatch.specs.Serves.{Writes, Starts, IsDispatched, IsBatch, Begins}
+use Rattle.event_dispatch.specs.laws.ReadLaws.{reads_engine}
 use Rattle.event_dispatch.specs.laws.RoundLaws.{first_event, batch_is}
 use Rattle.event_dispatch.specs.Cut.{IsStill, IsOfTurn, FailsIn, CutOne, CutSome, CutRound, CutRounds, CutStart, CutEnd, CutFinish, CutFinishAs, WentToEnd, CutGoes, CutRun, CutAs}
 
@@ -99,18 +100,34 @@ one_unwritten Tells accepts event contents now_contents old new r queue mid cont
 -- ---- Rounds
 
 -- a batch was done, and a fault ended what came behind it
-pub round_behind : {Own : Type 0} (Tells : Type 0) (accepts : List TableView → Bool) (rest : Rest) (fault : Fault) (contents now_contents : Option (List ℕ)) (old mid new : Seen Own) (r then_r : Run) → Continues Tells old mid → then_r.app ≡ r.app → Waits r then_r
-    → BatchShown Tells rest old mid r then_r → Reads Tells old mid r.net then_r.net → Continues Tells mid new → CutSome Tells accepts fault contents now_contents mid new then_r → CutRound Tells accepts fault contents now_contents old new r
-round_behind Tells accepts rest fault contents now_contents old mid new r then_r first app waits batch reads later some = inr (record {
+pub round_behind : {Own : Type 0} (Tells : Type 0) (accepts : List TableView → Bool) (rest : Rest) (fault : Fault) (contents held now_contents : Option (List ℕ)) (old mid new : Seen Own) (r then_r mid_r : Run) → Continues Tells old mid → r.lines.items ≡ [] → then_r.app ≡ r.app → Waits r then_r
+    → BatchShown Tells rest old mid r then_r → Reads Tells old mid r.net then_r.net → engine_of mid_r ≡ engine_of then_r → Writes then_r.lines.items contents held mid_r → Continues Tells mid new → CutSome Tells accepts fault held now_contents mid new mid_r → CutRound Tells accepts fault contents now_contents old new r
+round_behind Tells accepts rest fault contents held now_contents old mid new r then_r mid_r first none app waits batch reads same writes later some = inr (inl (record {
   rest = rest;
   mid = mid;
-  mid_run = then_r;
+  mid_run = mid_r;
+  noted = then_r.lines.items;
+  held = held;
   first = first;
-  batch = batch_is Tells rest old mid r then_r first app waits batch;
-  reads = reads;
+  batch = subst (λ (e : Engine). IsBatch Tells rest then_r.lines.items old mid (engine_of r) e) (sym same) (batch_is Tells rest old mid r then_r first none app waits batch);
+  written = writes.written;
+  reads = reads_engine old mid then_r mid_r same reads;
   later = later;
   some = some;
-})
+}))
+
+-- or the sink failed at what it noted
+pub round_unwritten : {Own : Type 0} (Tells : Type 0) (accepts : List TableView → Bool) (rest : Rest) (contents now_contents : Option (List ℕ)) (old new : Seen Own) (r then_r : Run) → Continues Tells old new → r.lines.items ≡ [] → then_r.app ≡ r.app → Waits r then_r
+    → BatchShown Tells rest old new r then_r → Reads Tells old new r.net then_r.net → (then_r.lines.items ≡ [] → ⊥) → TookPart contents now_contents then_r.lines.items → CutRound Tells accepts faults.Write contents now_contents old new r
+round_unwritten Tells accepts rest contents now_contents old new r then_r first none app waits batch reads some part = inr (inr (record {
+  rest = rest;
+  noted = then_r.lines.items;
+  now_run = then_r;
+  batch = batch_is Tells rest old new r then_r first none app waits batch;
+  some = some;
+  reads = reads;
+  part = part;
+}))
 
 -- ---- The start, and the end
 
@@ -135,7 +152,9 @@ pub end_unwritten : {Own : Type 0} (Tells : Type 0) (contents now_contents : Opt
 end_unwritten Tells contents now_contents last new r mid none shown reads part = record {
   more = mid.lines.items;
   now_net = mid.net;
-  shown = λ told keeps calm. let says = shown.shown told keeps calm in (says.lines ∙ ap (λ (xs : List ℕ). xs ++ last_text last (engine_of r)) none, says_leaves says);
+  shown = λ told keeps calm.
+      let says = shown.shown told keeps calm in
+      record { lost = says.lost; text_so = says.says.lines ∙ ap (λ (xs : List ℕ). xs ++ last_text says.lost last (engine_of r)) none; leaves = says_leaves says.says };
   reads = reads;
   part = part;
 }

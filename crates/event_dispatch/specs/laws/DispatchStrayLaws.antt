@@ -1,11 +1,10 @@
 -- Laws of what turns, starts and questions for rows keep of a world that tells in order.
-use Rattle.std.specs.Prelude.{◌≡◌, ℕ, Bool, List, IsSome, Result, Ok, refl, ◌∷◌}
-use Rattle.std.proofs.Common.{◌∙◌, subst}
+use Rattle.std.specs.Prelude.{◌≡◌, ℕ, Bool, List, [], IsSome, Option, Some, None, Result, Ok, refl, ◌∷◌}
+use Rattle.std.proofs.Common.{ap, subst}
 use Rattle.flow_table.specs.View.{TableView}
 use Rattle.of_stats.specs.declared.flow_row.FlowRow.{FlowRow}
 use Rattle.app_frames.specs.declared.frame.Event.{Event}
 use Rattle.outside.specs.Seen.{Seen, Continues}
-use Rattle.outside.specs.State.{state}
 use Rattle.outside.specs.laws.InOrderLaws.{InOrder-before, messages-then}
 use Rattle.lego_model.specs.declared.fault.TxnFault.{TxnFault}
 use Rattle.net_txn.specs.Net.{NetState}
@@ -13,10 +12,10 @@ use Rattle.net_txn.specs.Views.{rows_at}
 use Rattle.net_txn.specs.LinkSteps.{OnLinks}
 use Rattle.net_txn.specs.laws.LinkStrayLaws.{no_strays_then}
 use Rattle.net_txn.specs.Asks.{Asks}
-use Rattle.net_txn.specs.Undos.{AreJoined, Undoes}
+use Rattle.net_txn.specs.Undos.{Undoes}
 use Rattle.net_txn.specs.Releases.{Commits}
 use Rattle.net_txn.specs.Abreast.{Abreast}
-use Rattle.net_txn.specs.laws.AbreastLaws.{abreast-by, asks_abreast, undoes_abreast}
+use Rattle.net_txn.specs.laws.AbreastLaws.{abreast-out, asks_abreast, viewed_joined, undoes_abreast, commits_abreast}
 use Rattle.app_visor.specs.declared.state.TurnEnd.{TurnEnd}
 use Rattle.app_visor.specs.Talks.{give_act}
 use Rattle.app_visor.specs.Beats.{Talk, Stops}
@@ -49,12 +48,18 @@ reads_over {old = old} {new = new} net mid_net at_net now_net before after all =
 pub links_quietly : {Own : Type 0} {Tells : Type 0} {old new : Seen Own} → OnLinks Tells old new → NoPoint Tells old new
 links_quietly links = record { none_quiescent = λ told. (calm_links index (links told)).none_quiescent; own = λ told. (calm_links index (links told)).own }
 
-pub asked_places : {Own : Type 0} {Tells : Type 0} {d xid : ℕ} {old new : Seen Own} {kept now_kept : List (ℕ × List ℕ)} {result : Result (List FlowRow) TxnFault} (net : NetState) → IsSome (rows_at d net.views) → Asks Tells d xid old new kept now_kept result → NoStray Tells old new net
+pub asked_places : {Own : Type 0} {Tells : Type 0} {d : ℕ} {old new : Seen Own} {now_net : NetState} {result : Result (Option (List FlowRow)) TxnFault} (net : NetState) → IsSome (rows_at d net.views) → Asks Tells d old new net now_net result → NoStray Tells old new net
 asked_places {d = d} net there asks = record { places = λ told order abreast. asks.no_strays told order (abreast_joined d abreast there); own = (links_quietly asks.links).own }
 
-pub asked_reads : {Own : Type 0} {Tells : Type 0} {d xid : ℕ} {old new : Seen Own} {kept now_kept : List (ℕ × List ℕ)} {rows : List FlowRow} (net now_net : NetState) → now_net.views ≡ net.views → Asks Tells d xid old new kept now_kept (Ok rows) → Reads Tells old new net now_net
-asked_reads net now_net views asks = record {
-  abreast = λ told order abreast. asks_abreast net now_net asks.continues (asks.links told) views abreast;
+asked_abreast : {Own : Type 0} (Tells : Type 0) (d : ℕ) (old new : Seen Own) (net now_net : NetState) (rows : Option (List FlowRow)) → IsSome (rows_at d net.views) → Asks Tells d old new net now_net (Ok rows) → Tells → Abreast old net → Abreast new now_net
+asked_abreast Tells d old new net now_net (Some rows) there asks told abreast =
+    asks_abreast net now_net asks.continues (asks.links told) (asks.asks.losses told) (ap (λ (n : NetState). n.views) asks.asks.stays) abreast
+asked_abreast Tells d old new net now_net None there asks told abreast =
+    abreast-out net now_net [] asks.continues (asks.links told) (asks.asks.is_lost.out told (abreast_joined d abreast there)) (ap (λ (n : NetState). n.views) asks.asks.net_so) abreast
+
+pub asked_reads : {Own : Type 0} {Tells : Type 0} {d : ℕ} {old new : Seen Own} {rows : Option (List FlowRow)} (net now_net : NetState) → IsSome (rows_at d net.views) → Asks Tells d old new net now_net (Ok rows) → Reads Tells old new net now_net
+asked_reads {Tells = Tells} {d = d} {old = old} {new = new} {rows = rows} net now_net there asks = record {
+  abreast = λ told order abreast. asked_abreast Tells d old new net now_net rows there asks told abreast;
   read = λ told order abreast. asks.read refl told;
 }
 
@@ -100,16 +105,13 @@ later_here later = record { last = λ told order rest. (later told).last; own = 
 turn_continues : {Own : Type 0} {Tells : Type 0} {accepts : List TableView → Bool} {app budget : ℕ} {rest frame unread : List ℕ} {old new : Seen Own} {net now_net : NetState} {end : TurnEnd} → Turns Tells accepts app budget rest frame old new net now_net end unread → Continues Tells old new
 turn_continues {Tells = Tells} {app = app} {frame = frame} {old = old} {new = new} {net = net} {now_net = now_net} t = Chain-continues Tells app (Talk (give_act t.given app frame) ∷ t.trace) old new net now_net t.chain
 
-abreast_all : {Own : Type 0} {seen : Seen Own} {net : NetState} → Abreast seen net → AreJoined net.views (state seen)
-abreast_all abreast d there = abreast.joined d ∙ there
-
 -- it was played, and its packets were released, or not all of them
 pub turn_committed : {Own : Type 0} {Tells : Type 0} {accepts : List TableView → Bool} {app budget start : ℕ} {rest frame unread : List ℕ} {old mid new : Seen Own} {at_net mid_net now_net : NetState} {queue now_queue : List Event} {end : TurnEnd} {result : Result (List (ℕ × ℕ)) TxnFault} (net : NetState) → at_net ≡ net
     → (Tells → CallsFor index old new) → Turns Tells accepts app budget rest frame old mid at_net mid_net end unread → Commits Tells start mid new mid_net now_net queue now_queue result → NoStray Tells old new net
 turn_committed {Tells = Tells} {old = old} {mid = mid} {new = new} net begun own t commits = subst (λ (n : NetState). NoStray Tells old new n) begun (record {
   places = λ told order abreast.
       no_strays_then old mid new told (turn_continues t) commits.continues (turn_places t told (InOrder-before told commits.continues order) abreast)
-      (commits.no_strays told order (abreast_all (turn_abreast t told abreast)));
+      (commits.no_strays told order (viewed_joined (turn_abreast t told abreast)));
   own = own;
 })
 
@@ -119,7 +121,7 @@ pub turn_undone : {Own : Type 0} {Tells : Type 0} {accepts : List TableView → 
 turn_undone {Tells = Tells} {old = old} {mid = mid} {new = new} net begun own t undone = subst (λ (n : NetState). NoStray Tells old new n) begun (record {
   places = λ told order abreast.
       no_strays_then old mid new told (turn_continues t) undone.continues (turn_places t told (InOrder-before told undone.continues order) abreast)
-      (undone.no_strays told order (abreast_all (turn_abreast t told abreast)));
+      (undone.no_strays told order (viewed_joined (turn_abreast t told abreast)));
   own = own;
 })
 
@@ -129,7 +131,7 @@ pub stop_undone : {Own : Type 0} {Tells : Type 0} {app start : ℕ} {old mid new
 stop_undone {Tells = Tells} {old = old} {mid = mid} {new = new} net begun own s undone = subst (λ (n : NetState). NoStray Tells old new n) begun (record {
   places = λ told order abreast.
       no_strays_then old mid new told (Stops-continues s) undone.continues (stops_places s told (InOrder-before told undone.continues order) abreast)
-      (undone.no_strays told order (abreast_all (stops_abreast s told abreast)));
+      (undone.no_strays told order (viewed_joined (stops_abreast s told abreast)));
   own = own;
 })
 
@@ -138,13 +140,10 @@ pub played_places : {Own : Type 0} {Tells : Type 0} {accepts : List TableView �
 played_places (closings.Done stop out) net now_net own plays = turn_committed net refl own plays.turns plays.played
 played_places (closings.Failed cause) net now_net own plays = turn_undone net refl own plays.turns plays.played.0
 
-commits_abreast : {Own : Type 0} {Tells : Type 0} {start : ℕ} {old new : Seen Own} {queue now_queue : List Event} {result : Result (List (ℕ × ℕ)) TxnFault} (net now_net : NetState) → Commits Tells start old new net now_net queue now_queue result → Tells → Abreast old net → Abreast new now_net
-commits_abreast net now_net commits told abreast = abreast-by net now_net commits.continues (commits.links told) commits.switches abreast
-
 pub played_reads : {Own : Type 0} {Tells : Type 0} {accepts : List TableView → Bool} {app number : ℕ} {event : Event} {old new : Seen Own} {queue now_queue : List Event} {rest unread : List ℕ} (closing : Closing) (net now_net : NetState)
     → PlaysTurn Tells accepts app number event closing old new net now_net queue now_queue rest unread → Reads Tells old new net now_net
 played_reads {old = old} {new = new} (closings.Done stop out) net now_net plays = record {
-  abreast = λ told order abreast. commits_abreast plays.mid_net now_net plays.played told (turn_abreast plays.turns told abreast);
+  abreast = λ told order abreast. commits_abreast plays.played told (turn_abreast plays.turns told abreast);
   read = λ told order abreast.
       messages-then old plays.mid new told (turn_continues plays.turns) plays.played.continues (turn_messages plays.turns told) (plays.played.read refl told);
 }

@@ -4,9 +4,9 @@ use Rattle.std.specs.List.{AllByRecursion, list_any}
 use Rattle.std.proofs.Common.{sym, ap, ◌∙◌, subst, true≢false}
 use Rattle.std.proofs.lemmas.Bool.{eq-eqb}
 use Rattle.of_types.specs.declared.journal.Act.{Act}
-use Rattle.of_types.specs.declared.journal.Act.TheVariants.{Stim, Started, Gave, Gone, Took, Ended, Sent, Got}
+use Rattle.of_types.specs.declared.journal.Act.TheVariants.{Stim, Started, Gave, Gone, Took, Ended, Sent, Got, Lost}
 use Rattle.outside.specs.declared.step.WorldStep.{WorldStep}
-use Rattle.outside.specs.declared.step.WorldStep.TheVariants.{Acted, TookInto, From, Joined, Left, Moment, Idle, End, Opened, NotOpened, NextFailed, SendFailed, RecvFailed}
+use Rattle.outside.specs.declared.step.WorldStep.TheVariants.{Acted, TookInto, From, Joined, Left, Moment, Idle, End, Opened, NotOpened, NextFailed, SendLost, RecvLost, SendFailed, RecvFailed}
 use Rattle.outside.specs.Seen.{Seen, Continues}
 use Rattle.outside.specs.State.{State, state, at_first, is_running, after_stim, after_act, after_step, after_steps}
 use Rattle.outside.specs.laws.SeenLaws.{Continues-trans}
@@ -49,6 +49,7 @@ act_runs app (Took of what) s is all = all
 act_runs app (Ended of) s is all = all-filter (λ a. a ≡ app) (λ a. a ≡ app) (λ a. not (a == of)) (λ a same kept. same) s.running all
 act_runs app (Sent d bytes) s is all = all
 act_runs app (Got d bytes) s is all = all
+act_runs app (Lost d) s is all = all
 
 step_runs : (app : ℕ) (step : WorldStep) (s : State) → IsCallFor app step → AreAll app s.running → AreAll app (after_step step s).running
 unfolding after_step
@@ -63,6 +64,8 @@ step_runs app End s is all = all
 step_runs app Opened s is all = all
 step_runs app NotOpened s is all = absurd is
 step_runs app NextFailed s is all = all
+step_runs app (SendLost d) s is all = all
+step_runs app (RecvLost d) s is all = all
 step_runs app (SendFailed d) s is all = all
 step_runs app (RecvFailed d) s is all = all
 

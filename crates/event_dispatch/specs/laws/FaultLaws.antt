@@ -1,5 +1,5 @@
 -- Each fault of the network has its cause in what happened.
-use Rattle.std.proofs.Common.{◌≡◌, ◌⊎◌, ◌==◌, ℕ, zero, suc, Bool, true, false, ◌&&◌, if◌then◌else◌, List, [], ◌∷◌, ◌++◌, length, Option, Some, None, Err, IsErr, slice_get, nat_le, refl, sym, ap, ◌∙◌, subst, append_assoc, arith, inl, inr, true≢false}
+use Rattle.std.proofs.Common.{◌≡◌, ◌⊎◌, ◌==◌, ℕ, zero, suc, Bool, true, false, ◌&&◌, if◌then◌else◌, List, [], ◌∷◌, ◌++◌, length, Option, Some, None, Ok, Err, IsErr, slice_get, nat_le, refl, sym, ap, ◌∙◌, subst, append_assoc, arith, inl, inr, true≢false}
 use Rattle.std.specs.Prelude.{take}
 use Rattle.std.specs.List.{flat_map}
 use Rattle.std.proofs.lemmas.List.{append-nil}
@@ -15,12 +15,13 @@ use Rattle.of_wire.specs.Reading.{reading_of}
 use Rattle.of_wire.specs.Spelling.{message_bytes}
 use Rattle.of_wire.specs.declared.message.Message.TheVariants.{FlowMod, PacketOut, StatsRequest, BarrierReply}
 use Rattle.app_frames.specs.declared.frame.Answer.{Answer}
+use Rattle.app_frames.specs.declared.frame.Answer.TheVariants.{Unknown}
 use Rattle.app_frames.specs.declared.frame.Event.{Event}
 use Rattle.outside.specs.declared.step.WorldStep.{WorldStep}
 use Rattle.outside.specs.declared.step.WorldStep.TheVariants.{Acted, From}
 use Rattle.outside.specs.Seen.{Seen, Continues}
 use Rattle.lego_model.specs.declared.fault.TxnFault.{TxnFault}
-use Rattle.lego_model.specs.declared.fault.TxnFault.TheVariants.{SwitchFault, SwitchBroke, Diverged, Flooded, NoMemory}
+use Rattle.lego_model.specs.declared.fault.TxnFault.TheVariants.{SwitchBroke, Diverged, Flooded, NoMemory}
 use Rattle.lego_model.specs.declared.wait.Awaited.{Awaited}
 use Rattle.lego_model.specs.declared.wait.Heard.{Heard}
 use Rattle.lego_model.specs.declared.wait.Heard.TheVariants.{Reply, Refused, Notice, Echo, Other}
@@ -37,10 +38,12 @@ use Rattle.net_txn.specs.Arriving.{IsArrivalCause}
 use Rattle.net_txn.specs.Causes.{EndsByGot, IsCause}
 use Rattle.net_txn.specs.Joining.{greeting, greeted_from}
 use Rattle.net_txn.specs.Waits.{Floods, IfFlooded}
-use Rattle.net_txn.specs.Changes.{known_rows, answer_of_host, change_sent, IfGivenUp, Changes}
+use Rattle.net_txn.specs.Answering.{known_rows}
+use Rattle.net_txn.specs.Changes.{answer_of_host, change_sent, ChangesJoined, Changes}
 use Rattle.net_txn.specs.Asks.{IsRefusal, IsRepliesFault, IsAskCause, Asks}
 use Rattle.lego_model.specs.FlowQueries.{is_about, all_flows, flows_request, request_sent, asked_from, parts_in, refusals_in}
-use Rattle.net_txn.specs.Undos.{Part, Inverse, BarrierPassed, Stuck, part_steps, steps_of, parts_of, fault_in, first_fault_of, first_fault, IsRun, ended_by as undo_ended, Undoes}
+use Rattle.net_txn.specs.laws.LostPartLaws.{faulty}
+use Rattle.net_txn.specs.Undos.{Part, part_steps, steps_of, parts_of, fault_in, first_fault_of, first_fault, IsRun, ended_by as undo_ended, Undoes}
 use Rattle.app_visor.specs.Beats.{Halts, Stops}
 use Rattle.app_visor.specs.laws.BeatLaws.{Leads-continues}
 use Rattle.switch_laws.specs.laws.AskedLaws.{asked}
@@ -70,7 +73,6 @@ flood_of a first old new f = record {
 -- what a fault of a call tells where it may be Flooded
 abbrev FloodSo : {Own : Type 0} → Type 0 → ℕ → Seen Own → Seen Own → TxnFault → Type 0
 FloodSo Tells d old new (Flooded of n) = IsFlood Tells d flood old new
-FloodSo Tells d old new (SwitchFault of) = Unit {0}
 FloodSo Tells d old new (SwitchBroke of bytes) = Unit {0}
 FloodSo Tells d old new (Diverged of sent got) = Unit {0}
 FloodSo Tells d old new NoMemory = Unit {0}
@@ -81,7 +83,6 @@ got_last : (d : ℕ) (bytes : List ℕ) (old new : List WorldStep) → EndsByGot
 got_last d bytes old new last = inr (record { before = last.0; behind = []; told = last.1 })
 
 cause_why : {Own : Type 0} (Tells : Type 0) (d : ℕ) (old new : Seen Own) (fault : TxnFault) → IsCause Tells d old new fault → FloodSo Tells d old new fault → IsWhy Tells old new 0 0 (ended_by fault)
-cause_why Tells d old new (SwitchFault e) cause flooded = subst (λ (n : ℕ). Rose (old.counts.link_faults n) (new.counts.link_faults n)) (sym cause.0) cause.1
 cause_why Tells d old new (SwitchBroke e bytes) cause flooded =
     subst (λ (n : ℕ). (Tells → CameFrom n bytes old.history new.history) × (IsErr (reading_of bytes) ⊎ IsBadPart Tells n bytes old new)) (sym cause.0) ((λ told. got_last d bytes old.history new.history (cause.2 told)), inl cause.1)
 cause_why Tells d old new (Diverged e sent got) cause flooded = absurd cause
@@ -93,8 +94,6 @@ cause_why Tells d old new NoMemory cause flooded = tt
 
 arrived_why : {Own Tells : Type 0} (d : ℕ) (frame : List ℕ) (before old new : Seen Own) (fault : TxnFault) → Continues Tells before old → Continues Tells old new → (IsErr (reading_of frame) → Tells → Happened (From d frame ∷ []) before.history old.history)
     → IsArrivalCause d frame old new fault → IsWhy Tells before new 0 0 (ended_by fault)
-arrived_why d frame before old new (SwitchFault e) first later told cause =
-    subst (λ (n : ℕ). Rose (before.counts.link_faults n) (new.counts.link_faults n)) (sym cause.0) (Rose-after (before.counts.link_faults d) (old.counts.link_faults d) (new.counts.link_faults d) (first.none_fell.link_faults d) cause.1)
 arrived_why {Tells = Tells} d frame before old new (SwitchBroke e bytes) first later told cause =
     let here : (Tells → CameFrom d frame before.history new.history) × (IsErr (reading_of frame) ⊎ IsBadPart Tells d frame before new) =
     ((λ tells. inl (happened_before _ before.history old.history new.history (later.told tells) (told cause.2 tells))), inl cause.2) in
@@ -111,7 +110,6 @@ arrival_why d frame old new fault later cause = record { why = λ before first t
 
 join_flood : {Own : Type 0} (Tells : Type 0) (d xid : ℕ) (old new : Seen Own) (fault : TxnFault) → IfFlooded Tells (greeted_from d xid) (greeting d xid) old new fault → FloodSo Tells d old new fault
 join_flood Tells d xid old new (Flooded of n) f = flood_of (greeted_from d xid) (take 2 (greeting d xid)) old new f
-join_flood Tells d xid old new (SwitchFault of) f = tt
 join_flood Tells d xid old new (SwitchBroke of bytes) f = tt
 join_flood Tells d xid old new (Diverged of sent got) f = tt
 join_flood Tells d xid old new NoMemory f = tt
@@ -256,7 +254,6 @@ module _ {Own Tells : Type 0} (d xid : ℕ) (got : List (List ℕ)) (old new : S
   refused_why bytes (inr none) = subst (λ (b : List ℕ). IsWhyTxn Tells old new (Diverged d (flows_request xid) b)) (sym none.2) (unanswered_why none.0 none.1)
 
   replies_why : (fault : TxnFault) → IsRepliesFault d (flows_request xid) (message_bytes (next_xid xid) BarrierReply) (parts_in xid (came_for d xid got)) (refusals_in xid (came_for d xid got)) fault → IsWhy Tells old new 0 0 (ended_by fault)
-  replies_why (SwitchFault e) is = absurd is
   replies_why (SwitchBroke e bytes) is = part_why e bytes is
   replies_why (Diverged e sent bytes) is =
       subst (λ (n : ℕ). IsWhyTxn Tells old new (Diverged n sent bytes)) (sym is.0) (subst (λ (s : List ℕ). IsWhyTxn Tells old new (Diverged d s bytes)) (sym is.1) (refused_why bytes is.2))
@@ -265,7 +262,6 @@ module _ {Own Tells : Type 0} (d xid : ℕ) (got : List (List ℕ)) (old new : S
 
 ask_flood : {Own : Type 0} (Tells : Type 0) (d xid : ℕ) (old new : Seen Own) (fault : TxnFault) → IfFlooded Tells (asked_from d xid) (request_sent d xid ∷ barrier_sent (asked_from d xid) ∷ []) old new fault → FloodSo Tells d old new fault
 ask_flood Tells d xid old new (Flooded of n) f = flood_of (asked_from d xid) (request_sent d xid ∷ []) old new f
-ask_flood Tells d xid old new (SwitchFault of) f = tt
 ask_flood Tells d xid old new (SwitchBroke of bytes) f = tt
 ask_flood Tells d xid old new (Diverged of sent got) f = tt
 ask_flood Tells d xid old new NoMemory f = tt
@@ -280,8 +276,8 @@ ask_why {Tells = Tells} d xid old new kept now_kept fault flooded (inr asks) =
     replies_why d xid waits.got old new told fault
     (subst (λ (came : List (ℕ × List ℕ)). IsRepliesFault d (flows_request xid) (message_bytes (next_xid xid) BarrierReply) (parts_in xid came) (refusals_in xid came) fault) waits.hears.kept_so asks.2)
 
-pub asks_why : {Own : Type 0} {Tells : Type 0} {d xid : ℕ} {old new : Seen Own} {kept now_kept : List (ℕ × List ℕ)} (fault : TxnFault) → Asks Tells d xid old new kept now_kept (Err fault) → IsWhy Tells old new 0 0 (ended_by fault)
-asks_why {d = d} {xid = xid} {old = old} {new = new} {kept = kept} {now_kept = now_kept} fault asks = ask_why d xid old new kept now_kept fault asks.flooded asks.answer
+pub asks_why : {Own : Type 0} {Tells : Type 0} {d : ℕ} {old new : Seen Own} {net now_net : NetState} (fault : TxnFault) → Asks Tells d old new net now_net (Err fault) → IsWhy Tells old new 0 0 (ended_by fault)
+asks_why {d = d} {old = old} {new = new} {net = net} {now_net = now_net} fault asks = ask_why d net.xid old new net.kept now_net.kept fault asks.asks.flooded asks.asks.answer
 
 -- ---- An undo
 
@@ -290,7 +286,6 @@ unfolding inverse_bytes
 inverse_message bytes inverse key kind is = record { kind = kind; message = FlowMod (delete_strict key); sent_so = is }
 
 undone_why : {Own : Type 0} (Tells : Type 0) (old new : Seen Own) (d : ℕ) (fault : TxnFault) → IsWhyUndo Tells d old new fault → IsWhy Tells old new 0 0 (ended_by fault)
-undone_why Tells old new d (SwitchFault e) why = subst (λ (n : ℕ). Rose (old.counts.link_faults n) (new.counts.link_faults n)) (sym why.0) why.1
 undone_why Tells old new d (SwitchBroke e bytes) why =
     subst (λ (n : ℕ). (Tells → CameFrom n bytes old.history new.history) × (IsErr (reading_of bytes) ⊎ IsBadPart Tells n bytes old new)) (sym why.0) ((λ tells. inr (why.2 tells)), inl why.1)
 undone_why Tells old new d (Diverged e inverse bytes) why =
@@ -302,12 +297,10 @@ undone_why Tells old new d NoMemory why = tt
 module _ {Own Tells : Type 0} (old new : Seen Own) where
   stuck_why : (d : ℕ) (p : Part) (older : List (ℕ × Part)) (rest : List WorldStep) (fault : TxnFault) → (Tells → new.history ≡ old.history ++ ((steps_of older ++ part_steps d p) ++ rest)) → IsRun old.counts new.counts d (p ∷ parts_of d older) → fault_in p ≡ Some fault
       → IsWhy Tells old new 0 0 (ended_by fault)
-  stuck_why d (Inverse xid k) older rest fault told run is = absurd cc
-  stuck_why d (BarrierPassed xid got) older rest fault told run is = absurd cc
-  stuck_why d (Stuck xid why steps) older rest fault told run is = subst (λ (f : TxnFault). IsWhy Tells old new 0 0 (ended_by f)) (one_fault why fault is) (undone_why Tells old new d why (stuck_in_undo old new d older steps rest why told run.0.cause))
-    where
-      one_fault : (a b : TxnFault) → Some a ≡ Some b → a ≡ b
-      one_fault a b h = cc
+  stuck_why d p older rest fault told run is =
+      let f = faulty d old.counts new.counts p (parts_of d older) fault run is in
+      undone_why Tells old new d fault
+      (stuck_in_undo old new d older f.steps rest fault (λ tells. told tells ∙ ap (λ (steps : List WorldStep). old.history ++ ((steps_of older ++ steps) ++ rest)) f.steps_so) f.cause)
 
 module _ {Own Tells : Type 0} (old new : Seen Own) where
   by_older : (p : ℕ × Part) (older : List (ℕ × Part)) (rest : List WorldStep) (fault : TxnFault) → (Tells → new.history ≡ old.history ++ ((steps_of older ++ part_steps p.0 p.1) ++ rest)) → ((d : ℕ) → IsRun old.counts new.counts d (parts_of d (p ∷ older)))
@@ -334,18 +327,24 @@ undo_why start old new net now_net fault u =
 
 -- ---- A turn that stopped
 
-given_flood : {Own : Type 0} (Tells : Type 0) (d : ℕ) (m : Change) (old new : Seen Own) (net : NetState) (fault : TxnFault) → IfGivenUp Tells d m old new net fault → FloodSo Tells d old new fault
-given_flood Tells d m old new net (Flooded of n) given = flood_of _ (change_sent d net.xid m ∷ []) old new given.2
-given_flood Tells d m old new net (SwitchFault of) given = tt
-given_flood Tells d m old new net (SwitchBroke of bytes) given = tt
-given_flood Tells d m old new net (Diverged of sent got) given = tt
-given_flood Tells d m old new net NoMemory given = tt
-
-change_flood : {Own Tells : Type 0} (d : ℕ) (bytes : List ℕ) (old new : Seen Own) (net now_net : NetState) (fault : TxnFault) → Changes Tells d bytes old new net now_net (Err fault) → (o : Option Answer) → answer_of_host d bytes net ≡ o → FloodSo Tells d old new fault
+change_flood : {Own Tells : Type 0} (d : ℕ) (bytes : List ℕ) (old new : Seen Own) (net now_net : NetState) (fault : TxnFault) → ChangesJoined Tells d bytes old new net now_net (Err fault) → (o : Option Answer) → answer_of_host d bytes net ≡ o → FloodSo Tells d old new fault
 change_flood {Tells = Tells} d bytes old new net now_net fault changes (Some a) host = subst (λ (f : TxnFault). FloodSo Tells d old new f) (sym (changes.by_host a host).fault) tt
-change_flood {Tells = Tells} d bytes old new net now_net fault changes None host =
+change_flood {Tells = Tells} d bytes old new net now_net (Flooded of n) changes None host =
     let read = asked (known_rows d net.views) bytes host in
-    given_flood Tells d read.change old new net fault (changes.flooded read.xid read.change host read.read)
+    let given = changes.flooded read.xid read.change host read.read in
+    flood_of _ (change_sent d net.xid read.change ∷ []) old new given.2
+change_flood {Tells = Tells} d bytes old new net now_net (SwitchBroke of came) changes None host = tt
+change_flood {Tells = Tells} d bytes old new net now_net (Diverged of sent got) changes None host = tt
+change_flood {Tells = Tells} d bytes old new net now_net NoMemory changes None host = tt
+
+change_why : {Own Tells : Type 0} (d : ℕ) (bytes : List ℕ) (old new : Seen Own) (net now_net : NetState) (fault : TxnFault) → Changes Tells d bytes old new net now_net (Err fault) → IsWhy Tells old new 0 0 (ended_by fault)
+change_why {Tells = Tells} d bytes old new net now_net fault changes = elim changes.answered [
+  | inl joined ↦ cause_why Tells d old new fault changes.cause (change_flood d bytes old new net now_net fault joined (answer_of_host d bytes net) refl)
+  | inr gone ↦ absurd (no_answer Unknown gone.1)
+]
+  where
+    no_answer : (a : Answer) → Err fault ≡ Ok a → ⊥
+    no_answer a h = cc
 
 pub stops_why : {Own : Type 0} {Tells : Type 0} {app : ℕ} (old new : Seen Own) (net now_net : NetState) (fault : TxnFault) → Stops Tells app old new net now_net fault → IsWhy Tells old new 0 0 (ended_by fault)
 stops_why {Own} {Tells} old new net now_net fault stops =
@@ -353,14 +352,12 @@ stops_why {Own} {Tells} old new net now_net fault stops =
   where
     halts_why : (mid : Seen Own) (mid_net : NetState) → Halts Tells mid new mid_net now_net fault → IsWhy Tells mid new 0 0 (ended_by fault)
     halts_why mid mid_net (inl wants) = subst (λ (f : TxnFault). IsWhy Tells mid new 0 0 (ended_by f)) (sym wants.0) tt
-    halts_why mid mid_net (inr failed) =
-        cause_why Tells failed.0 mid new fault failed.1.1.0.cause (change_flood failed.0 failed.1.0 mid new mid_net now_net fault failed.1.1.0 (answer_of_host failed.0 failed.1.0 mid_net) refl)
+    halts_why mid mid_net (inr failed) = change_why failed.0 failed.1.0 mid new mid_net now_net fault failed.1.1
 
 -- ---- A release that stopped
 
 packet_flood : {Own : Type 0} (Tells : Type 0) (d xid : ℕ) (packet : Packet) (old new : Seen Own) (fault : TxnFault) → IfFlooded Tells (packet_awaited d xid) (packet_steps d xid packet) old new fault → FloodSo Tells d old new fault
 packet_flood Tells d xid packet old new (Flooded of n) f = flood_of (packet_awaited d xid) (Acted (Sent d (message_bytes xid (PacketOut packet))) ∷ []) old new f
-packet_flood Tells d xid packet old new (SwitchFault of) f = tt
 packet_flood Tells d xid packet old new (SwitchBroke of bytes) f = tt
 packet_flood Tells d xid packet old new (Diverged of sent got) f = tt
 packet_flood Tells d xid packet old new NoMemory f = tt
@@ -372,7 +369,7 @@ committed_why : {Own : Type 0} {Tells : Type 0} (start : ℕ) (old new : Seen Ow
     → IsWhy Tells old new 0 0 (ended_by fault)
 committed_why {Tells = Tells} start old new net now_net queue now_queue fault (inl undone) = subst (λ (f : TxnFault). IsWhy Tells old new 0 0 (ended_by f)) (sym undone.fault_so) tt
 committed_why {Tells = Tells} start old new net now_net queue now_queue fault (inr stops) =
-    IsWhy-behind old stops.mid new 0 0 0 (ended_by fault) (releases-continue Tells stops.front old stops.mid (committed start net) stops.mid_net queue stops.mid_queue stops.before) (omega arith)
+    IsWhy-behind old stops.mid new 0 0 0 (ended_by fault) (releases-continue Tells stops.front stops.sent old stops.mid (committed start net) stops.mid_net queue stops.mid_queue stops.before) (omega arith)
     (breaks_why stops.broken stops.mid new stops.mid_net fault stops.breaks)
 
 pub commit_why : {Own : Type 0} {Tells : Type 0} (start : ℕ) (old new : Seen Own) (net now_net : NetState) (queue now_queue : List Event) (fault : TxnFault) → Commits Tells start old new net now_net queue now_queue (Err fault) → IsWhy Tells old new 0 0 (ended_by fault)

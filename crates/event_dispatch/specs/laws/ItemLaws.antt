@@ -44,7 +44,7 @@ same_message a b h = cc
 
 first_read : (kept : List (ℕ × List ℕ)) (m : ℕ × List ℕ) → AreRead kept → slice_get kept 0 ≡ Some m → IsOk (reading_of m.1)
 first_read [] m read is = absurd cc
-first_read (x ∷ xs) m read is = subst (λ (y : ℕ × List ℕ). IsOk (reading_of y.1)) (same_message x m is) read.0
+first_read (x ∷ xs) m read is = subst (λ (y : ℕ × List ℕ). IsOk (reading_of y.1)) (same_message x m is) read.0.0
 
 pub kept_why : {Own Tells : Type 0} (kept : List (ℕ × List ℕ)) (d : ℕ) (bytes frame : List ℕ) (before old new : Seen Own) (fault : Fault) → AreRead kept → slice_get kept 0 ≡ Some (d, bytes) → frame ≡ bytes → Continues Tells before old → WhyMessage Tells d frame old new fault
     → IsReason Tells before new 0 0 fault

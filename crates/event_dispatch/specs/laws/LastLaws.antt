@@ -1,39 +1,47 @@
 -- What follows of the end of a report: its parts, one after the other, say what the whole says.
-use Rattle.std.proofs.Common.{◌≡◌, ◌==◌, ℕ, zero, suc, ◌+◌, ◌^◌, ◌<◌, ◌≤◌, true, ◌&&◌, nat_eq, List, [], ◌∷◌, ◌++◌, length, map, get_or, take, drop, Option, Some, None, IsSome, refl, sym, ap, ap₂, ◌∙◌, subst, append_assoc, inl, inr, arith, add-one}
-use Rattle.std.proofs.lemmas.Bool.{cases_eq, eq-eqb}
+use Rattle.std.proofs.Common.{◌≡◌, ◌≢◌, ◌==◌, ℕ, zero, suc, ◌+◌, ◌^◌, ◌<◌, ◌≤◌, Bool, true, false, ◌&&◌, ◌||◌, nat_eq, List, [], ◌∷◌, ◌++◌, length, map, filter, get_or, take, drop, Option, Some, None, Ok, IsSome, if◌then◌else◌, refl, sym, ap, ap₂, ◌∙◌, subst, append_assoc, inl, inr, arith, add-one, true≢false}
+use Rattle.std.proofs.lemmas.Bool.{cases_Bool, cases_eq, eq-eqb, ne_eqb, or_parts}
 use Rattle.std.proofs.lemmas.List.{take_all}
 use Rattle.std.specs.Cmp.Lexicographic.{pointwise}
 use Rattle.std.specs.List.{flat_map}
-use Rattle.std.specs.Option.{option_map}
+use Rattle.std.specs.Option.{is_some, option_map}
 use Rattle.of_match.specs.declared.key.Key.{Key}
 use Rattle.of_stats.specs.declared.flow_row.FlowRow.{FlowRow}
 use Rattle.flow_table.specs.declared.view.ViewRow.{ViewRow}
 use Rattle.flow_table.specs.View.{TableView}
 use Rattle.flow_table.specs.Switch.{SwitchState}
 use Rattle.undo_laws.specs.Owned.{owned_switch}
-use Rattle.lego_model.specs.RunReport.{flow_line, switch_text}
+use Rattle.lego_model.specs.Answers.{rows_of_table, rows_of_view}
+use Rattle.lego_model.specs.Application.{name}
+use Rattle.lego_model.specs.RunReport.{lost_line, flow_line, app_line, end_line, switch_text}
+use Rattle.net_txn.specs.declared.ports.KnownPorts.{KnownPorts}
+use Rattle.net_txn.specs.Losing.{is_among, lost_net, lose_all}
 use Rattle.net_txn.specs.Net.{NetState}
-use Rattle.net_txn.specs.Views.{rows_at}
-use Rattle.net_txn.specs.Agreement.{Agrees}
-use Rattle.net_txn.specs.AskSteps.{own_rows, RowsInStep}
+use Rattle.net_txn.specs.Views.{rows_at, is_viewed, ViewsAscend}
+use Rattle.net_txn.specs.laws.AgreeLaws.{viewed as viewed_rows}
+use Rattle.net_txn.specs.laws.LostPartLaws.{among-append, or_false, among-last, Distinct}
+use Rattle.net_txn.specs.Asks.{Asks}
+use Rattle.net_txn.specs.AskSteps.{own_rows, RowsInStep, AskSteps}
 use Rattle.outside.specs.Seen.{Seen, Continues}
 use Rattle.outside.specs.State.{State, state, switch_of, waits_of}
 use Rattle.outside.specs.Conforming.{Conforming}
 use Rattle.outside.specs.laws.StateLaws.{Conforming-before}
-use Rattle.switch_laws.specs.Shown.{flags_at, shown_places}
-use Rattle.switch_laws.specs.Since.{Ready}
+use Rattle.switch_laws.specs.Shown.{rows_or_none, flags_in, flags_at, shown_switch, shown_places}
+use Rattle.switch_laws.specs.Since.{ports_known, Ready}
+use Rattle.switch_laws.specs.laws.LossLaws.{lose_all-append, lose_all-xid, lose_all-moment, lose_all-rows, lose_all-rows_gone, lose_all-known, lose_all-known_gone, ready-joined}
 use Rattle.switch_laws.specs.Sound.{Sound}
 use Rattle.switch_laws.specs.laws.SoundLaws.{rows-are}
 use Rattle.switch_laws.specs.laws.StandLaws.{all-stand}
 use Rattle.switch_laws.specs.laws.ClockLaws.{switch-in_time, moment-within}
 use Rattle.run_laws.specs.Engine.{Engine}
-use Rattle.run_laws.specs.LastReport.{SameKeys, flow_lines, table_lines, shown_text, engine_end, OnlyAsked}
-use Rattle.run_laws.specs.laws.LastReportLaws.{keys-same, table-shown, joined-with, out-with, places-shown, asked-nothing, asked-then}
+use Rattle.run_laws.specs.LastReport.{SameKeys, flow_lines, table_lines, shown_text, switch_left, place_lines, engine_end, OnlyAsked}
+use Rattle.run_laws.specs.laws.LastReportLaws.{keys-same, table-shown, joined-with, out-with, places-shown, asked-nothing, rows-asked, lost-asked, asked-then}
 use Rattle.run_laws.specs.Endings.{Leaves}
 use Rattle.run_laws.specs.laws.LeaveLaws.{asked-leaves}
 use Rattle.event_dispatch.specs.declared.run.Run.{Run}
+use Rattle.event_dispatch.specs.Runs.{WaitsAtEnd}
 use Rattle.event_dispatch.specs.Shows.{engine_of, Adds}
-use Rattle.event_dispatch.specs.ReportEnd.{FindsFlags, FlowsSoFar, TableSaid, AsksShown, Says, TableShown, TablesShown, LastShown, NextRow}
+use Rattle.event_dispatch.specs.ReportEnd.{FindsFlags, FlowsSoFar, TableSaid, AsksShown, AsksNone, AsksAs, Says, SaysOf, TableShown, TablesShown, LastShown, NextRow}
 
 -- ---- Text that is noted
 
@@ -121,6 +129,27 @@ flows_next rows vs place from row more found a b c same is so finds adds =
 pub net_stays : (net now_net : NetState) (x : ℕ) → now_net ≡ record net { xid = x; kept = now_net.kept } → now_net ≡ record net { xid = now_net.xid; kept = now_net.kept }
 net_stays net now_net x h = h ∙ ap (λ (y : ℕ). record net { xid = y; kept = now_net.kept }) (sym (ap (λ (n : NetState). n.xid) h))
 
+-- rows were asked for
+pub asks_as : {Own : Type 0} (Tells : Type 0) (d : ℕ) (old new : Seen Own) (r : Run) (net : NetState) (rows : Option (List FlowRow)) → Asks Tells d old new r.net net (Ok rows) → AskSteps Tells d old new r.net.kept net.kept (Ok rows) → AsksAs Tells d old new r (record r { net = net }) rows
+asks_as Tells d old new r net (Some rows) asks steps = record {
+  in_step = steps;
+  asked = λ told. rows-asked Tells d r.net.xid old new r.net.kept net.kept rows told asks.asks.answer;
+  engine = ap (λ (n : NetState). record (engine_of r) { net = n }) (net_stays r.net net _ asks.asks.stays);
+  index = refl;
+  lines = refl;
+}
+asks_as Tells d old new r net None asks steps = record {
+  lost = asks.asks;
+  asked = λ told keeps joined. lost-asked Tells d old new r.net net told keeps joined asks.continues asks.links asks.no_strays asks.asks;
+  engine = refl;
+  index = refl;
+  lines = refl;
+}
+
+pub asks_wait : {Own : Type 0} {Tells : Type 0} {d : ℕ} {old new : Seen Own} (r : Run) (net : NetState) (rows : Option (List FlowRow)) → Asks Tells d old new r.net net (Ok rows) → WaitsAtEnd r (record r { net = net })
+asks_wait r net (Some rows) asks = record { room = ap (λ (n : NetState). n.room) asks.asks.stays; events = refl; done = refl; failed = refl; store = refl }
+asks_wait r net None asks = record { room = ap (λ (n : NetState). n.room) asks.asks.net_so; events = refl; done = refl; failed = refl; store = refl }
+
 pub views_kept : {text : List ℕ} {r now_r : Run} (d : ℕ) (vs : List ViewRow) → Adds text r now_r → rows_at d r.net.views ≡ Some vs → rows_at d now_r.net.views ≡ Some vs
 views_kept d vs adds is = ap (λ (e : Engine). rows_at d e.net.views) adds.engine ∙ is
 
@@ -130,7 +159,7 @@ pub some_is : (o : Option (List ViewRow)) → IsSome o → (vs : List ViewRow) �
 some_is None h = absurd cc
 some_is (Some vs) h = (vs, refl)
 
-shown_here : (views : List TableView) (s : State) (d : ℕ) (x : SwitchState) → switch_of d s ≡ Some x → shown_text views s d ≡ switch_text (Some (owned_switch (flags_at d views) x))
+shown_here : (views : List TableView) (s : State) (d : ℕ) (x : SwitchState) → switch_of d s ≡ Some x → shown_text [] views s d ≡ switch_text (Some (owned_switch (flags_at d views) x))
 shown_here views s d x is = rw is refl
 
 views_of : (e f : Engine) → e ≡ f → e.net.views ≡ f.net.views
@@ -138,7 +167,7 @@ views_of e f h = ap (λ (g : Engine). g.net.views) h
 
 in_step_says : {Own : Type 0} (d : ℕ) (s : SwitchState) (old new : Seen Own) (r mid now_r : Run) (rows : List FlowRow) (text : List ℕ) → ((e : ℕ) → waits_of e (state old) ≡ []) → switch_of d (state old) ≡ Some s
     → engine_of mid ≡ record (engine_of r) { net = record r.net { xid = mid.net.xid; kept = mid.net.kept } } → mid.app.state.index ≡ r.app.state.index → mid.lines.items ≡ r.lines.items
-    → RowsInStep d s old new r.net.kept mid.net.kept rows → OnlyAsked old new → Adds text mid now_r → Says text old new r now_r
+    → RowsInStep d s old new r.net.kept mid.net.kept rows → OnlyAsked [] old new → Adds text mid now_r → Says [] text old new r now_r
 in_step_says d s old new r mid now_r rows text none is engine index lines step asked adds =
     let xid : mid.net.xid ≡ now_r.net.xid = sym (ap (λ (e : Engine). e.net.xid) adds.engine) in
     record {
@@ -157,7 +186,7 @@ in_step_says d s old new r mid now_r rows text none is engine index lines step a
     }
 
 told_table : {Own : Type 0} (Tells : Type 0) (d : ℕ) (vs : List ViewRow) (old new : Seen Own) (r mid now_r : Run) (rows : List FlowRow) → rows_at d r.net.views ≡ Some vs → Continues Tells old new → AsksShown Tells d old new r mid rows → TableSaid d rows mid now_r
-    → Tells → Conforming new → Ready old r.net → Sound (state old) → Says (shown_text r.net.views (state old) d) old new r now_r
+    → Tells → Conforming new → Ready old r.net → Sound (state old) → Says [] (shown_text [] r.net.views (state old) d) old new r now_r
 told_table Tells d vs old new r mid now_r rows is continues asks said told keeps ready sound =
     let j = joined-with d r.net.views (state old) vs (ready.agrees d) is in
     let before : Conforming old = Conforming-before told continues keeps in
@@ -167,70 +196,220 @@ told_table Tells d vs old new r mid now_r rows is continues asks said told keeps
     let own : rows ≡ own_rows j.switch = step.same_rows (rows-are j.switch (sound.entries d j.switch j.stands) small) in
     let same : SameKeys rows vs = subst (λ (rs : List FlowRow). SameKeys rs vs) (sym own) (keys-same j.switch.moment j.switch.table.entries vs j.rows) in
     let there : rows_at d mid.net.views ≡ Some vs = ap (rows_at d) (views_of (engine_of mid) _ asks.engine) ∙ is in
-    let text : table_lines d rows vs ≡ shown_text r.net.views (state old) d =
+    let text : table_lines d rows vs ≡ shown_text [] r.net.views (state old) d =
     ap (λ (rs : List FlowRow). table_lines d rs vs) own ∙ table-shown d r.net.views vs j.switch is j.rows ((all-stand old).table d j.switch j.stands) time.number ∙ sym (shown_here r.net.views (state old) d j.switch j.stands)
     in
-    in_step_says d j.switch old new r mid now_r rows (shown_text r.net.views (state old) d) ready.waits j.stands asks.engine asks.index asks.lines step (asks.asked told) (subst (λ (t : List ℕ). Adds t mid now_r) text (said.adds vs there same))
+    in_step_says d j.switch old new r mid now_r rows (shown_text [] r.net.views (state old) d) ready.waits j.stands asks.engine asks.index asks.lines step (asks.asked told) (subst (λ (t : List ℕ). Adds t mid now_r) text (said.adds vs there same))
+
+-- where it is lost that is told, and it is out
+said_lost : (d : ℕ) (lost : List ℕ) (views : List TableView) (s : State) → is_among d lost ≡ true → shown_text lost views s d ≡ lost_line d
+said_lost d lost views s gone = rw gone refl
+
+left_out : (lost : List ℕ) (s : State) (d : ℕ) → is_among d lost ≡ true → switch_left lost s d ≡ None
+left_out lost s d gone = rw gone refl
+
+left_in : (lost : List ℕ) (s : State) (d : ℕ) → is_among d lost ≡ false → switch_left lost s d ≡ switch_of d s
+left_in lost s d here = rw here refl
+
+only_first : (d e : ℕ) → e ≢ d → is_among e (d ∷ []) ≡ false
+only_first d e other = rw (ne_eqb d e (λ same. other (sym same))) refl
+
+or_none : (a : Bool) → a ≡ false → (a || false) ≡ false
+or_none a is = rw is refl
+
+-- where none is lost
+says-of : {Own : Type 0} (ds : List ℕ) (text : List ℕ → List ℕ) (old new : Seen Own) (r now_r : Run) → Says [] (text []) old new r now_r → SaysOf ds text old new r now_r
+says-of ds text old new r now_r says = record { lost = []; among = λ e none. refl; says = says }
 
 -- a switch that has a view
 pub table_told : {Own : Type 0} {Tells : Type 0} {d : ℕ} {old new : Seen Own} {r mid now_r : Run} {rows : List FlowRow} → IsSome (rows_at d r.net.views) → Continues Tells old new → AsksShown Tells d old new r mid rows → TableSaid d rows mid now_r
     → TableShown Tells d old new r now_r
 table_told {Tells = Tells} {d = d} {old = old} {new = new} {r = r} {mid = mid} {now_r = now_r} {rows = rows} joined continues asks said =
     let vs = some_is (rows_at d r.net.views) joined in
-    record { shown = told_table Tells d vs.0 old new r mid now_r rows vs.1 continues asks said }
+    record {
+      shown = λ told keeps ready sound.
+          says-of (d ∷ []) (λ lost. shown_text lost r.net.views (state old) d) old new r now_r (told_table Tells d vs.0 old new r mid now_r rows vs.1 continues asks said told keeps ready sound);
+    }
+
+-- a switch that is lost meanwhile
+lost_says : {Own : Type 0} (Tells : Type 0) (d : ℕ) (old new : Seen Own) (r mid now_r : Run) → IsSome (rows_at d r.net.views) → AsksNone Tells d old new r mid → Adds (lost_line d) mid now_r → Tells → Conforming new → Ready old r.net
+    → Says (d ∷ []) (shown_text (d ∷ []) r.net.views (state old) d) old new r now_r
+lost_says Tells d old new r mid now_r there asks adds told keeps ready =
+    let vs = some_is (rows_at d r.net.views) there in
+    let viewed : is_viewed d r.net.views ≡ true = viewed_rows d r.net.views ∙ ap (λ (o : Option (List ViewRow)). is_some o) vs.1 in
+    let joined = ready-joined old r.net ready d viewed in
+    let out = asks.lost.is_lost.out told joined in
+    let xid : mid.net.xid ≡ now_r.net.xid = sym (ap (λ (e : Engine). e.net.xid) adds.engine) in
+    let here : is_among d (d ∷ []) ≡ true = rw (eq-eqb d d refl) refl in
+    record {
+      lines = adds.lines ∙ ap₂ (λ (xs ys : List ℕ). xs ++ ys) asks.lines (sym (said_lost d (d ∷ []) r.net.views (state old) here));
+      engine = adds.engine ∙ asks.engine ∙ ap (λ (n : NetState). record (engine_of r) { net = n }) asks.lost.net_so
+          ∙ ap (λ (x : ℕ). record (engine_of r) { net = record (lost_net d r.net) { xid = x } }) xid;
+      index = adds.index ∙ asks.index;
+      switches = λ e. elim (cases_eq e d) [
+        | inl same ↦ subst (λ (n : ℕ). switch_of n (state new) ≡ switch_left (d ∷ []) (state old) n) (sym same) (out.out ∙ sym (left_out (d ∷ []) (state old) d here))
+        | inr other ↦ out.others e other ∙ sym (left_in (d ∷ []) (state old) e (only_first d e other))
+      ];
+      waits = λ e. elim (cases_eq e d) [
+        | inl same ↦ ap (λ (n : ℕ). waits_of n (state new)) same ∙ out.waits
+        | inr other ↦ out.others_wait e other ∙ ready.waits e
+      ];
+      asked = asks.asked told keeps joined;
+    }
+
+pub table_lost : {Own : Type 0} {Tells : Type 0} {d : ℕ} {old new : Seen Own} {r mid now_r : Run} → IsSome (rows_at d r.net.views) → AsksNone Tells d old new r mid → Adds (lost_line d) mid now_r → TableShown Tells d old new r now_r
+table_lost {Tells = Tells} {d = d} {old = old} {new = new} {r = r} {mid = mid} {now_r = now_r} there asks adds = record {
+  shown = λ told keeps ready sound. record { lost = d ∷ []; among = λ e none. none; says = lost_says Tells d old new r mid now_r there asks adds told keeps ready };
+}
 
 -- one that has none
 pub table_out : {Own : Type 0} (Tells : Type 0) (d : ℕ) (seen : Seen Own) (r : Run) → rows_at d r.net.views ≡ None → TableShown Tells d seen seen r r
 table_out Tells d seen r out = record {
   shown = λ told keeps ready sound.
-      let none : shown_text r.net.views (state seen) d ≡ [] = rw (out-with d r.net.views (state seen) (ready.agrees d) out) refl in
-      record { lines = sym (nothing_more r.lines.items) ∙ ap (λ (text : List ℕ). r.lines.items ++ text) (sym none); engine = refl; index = refl; switches = λ e. refl; waits = ready.waits; asked = asked-nothing seen };
+      let none : shown_text [] r.net.views (state seen) d ≡ [] = rw (out-with d r.net.views (state seen) (ready.agrees d) out) refl in
+      says-of (d ∷ []) (λ lost. shown_text lost r.net.views (state seen) d) seen seen r r
+      (record { lines = sym (nothing_more r.lines.items) ∙ ap (λ (text : List ℕ). r.lines.items ++ text) (sym none); engine = refl; index = refl; switches = λ e. refl; waits = ready.waits; asked = asked-nothing seen });
 }
 
 -- ---- Switches, one after the other
 
-says_then : {Own : Type 0} (first rest : List ℕ) (old mid new : Seen Own) (a b c : Run) → Says first old mid a b → Says rest mid new b c → Says (first ++ rest) old new a c
-says_then first rest old mid new a b c one two = record {
+left_twice : (a b : Bool) (o : Option SwitchState) → (if b then None else (if a then None else o)) ≡ (if a || b then None else o)
+left_twice true true o = refl
+left_twice true false o = refl
+left_twice false true o = refl
+left_twice false false o = refl
+
+left_then : {Own : Type 0} (lost more : List ℕ) (old mid : Seen Own) (d : ℕ) → switch_of d (state mid) ≡ switch_left lost (state old) d → switch_left more (state mid) d ≡ switch_left (lost ++ more) (state old) d
+left_then lost more old mid d is =
+    ap (λ (o : Option SwitchState). if is_among d more then None else o) is
+    ∙ left_twice (is_among d lost) (is_among d more) (switch_of d (state old))
+    ∙ ap (λ (b : Bool). if b then None else switch_of d (state old)) (sym (among-append d lost more))
+
+says_then : {Own : Type 0} (lost more first rest : List ℕ) (old mid new : Seen Own) (a b c : Run) → Says lost first old mid a b → Says more rest mid new b c → Says (lost ++ more) (first ++ rest) old new a c
+says_then lost more first rest old mid new a b c one two = record {
   lines = two.lines ∙ ap (λ (xs : List ℕ). xs ++ rest) one.lines ∙ append_assoc a.lines.items first rest;
-  engine = two.engine ∙ ap (λ (e : Engine). record e { net = record e.net { xid = c.net.xid } }) one.engine;
+  engine = two.engine ∙ ap (λ (e : Engine). record e { net = record (lose_all more e.net) { xid = c.net.xid } }) one.engine
+      ∙ ap (λ (n : NetState). record (engine_of a) { net = record n { xid = c.net.xid } }) (lose_all-xid more (lose_all lost a.net) b.net.xid)
+      ∙ ap (λ (n : NetState). record (engine_of a) { net = record n { xid = c.net.xid } }) (sym (lose_all-append lost more a.net));
   index = two.index ∙ one.index;
-  switches = λ d. two.switches d ∙ one.switches d;
+  switches = λ d. two.switches d ∙ left_then lost more old mid d (one.switches d);
   waits = two.waits;
-  asked = asked-then old mid new one.asked two.asked;
+  asked = asked-then lost more old mid new one.asked two.asked;
 }
 
 -- and what it leaves
-pub says_leaves : {Own : Type 0} {text : List ℕ} {old new : Seen Own} {r now_r : Run} → Says text old new r now_r → Leaves old new
-says_leaves {old = old} {new = new} says = asked-leaves old new says.asked says.switches
-
-still_agrees : (d : ℕ) (views now_views : List TableView) (s t : State) → now_views ≡ views → switch_of d t ≡ switch_of d s → Agrees d views s → Agrees d now_views t
-still_agrees d views now_views s t same switch agrees = rw (same, switch) agrees
+pub says_leaves : {Own : Type 0} {lost text : List ℕ} {old new : Seen Own} {r now_r : Run} → Says lost text old new r now_r → Leaves lost old new
+says_leaves {lost = lost} {old = old} {new = new} says = asked-leaves lost old new says.asked says.switches
 
 flat_map-last : (f : ℕ → List ℕ) (xs : List ℕ) (x : ℕ) → flat_map f (xs ++ x ∷ []) ≡ flat_map f xs ++ f x
 flat_map-last f [] x = nothing_more (f x)
 flat_map-last f (y ∷ ys) x = ap (λ (text : List ℕ). f y ++ text) (flat_map-last f ys x) ∙ sym (append_assoc (f y) (flat_map f ys) (f x))
 
--- after what was said all is as ready and as sound
-pub says_ready : {Own : Type 0} {text : List ℕ} {old mid : Seen Own} {a b : Run} → Says text old mid a b → Ready old a.net → Ready mid b.net
-says_ready {old = old} {mid = mid} {a = a} {b = b} says ready =
-    let views : b.net.views ≡ a.net.views = views_of (engine_of b) _ says.engine in
-    record { waits = says.waits; agrees = λ e. still_agrees e a.net.views b.net.views (state old) (state mid) views (says.switches e) (ready.agrees e) }
+-- what is known then is known of the switches that were not lost
+says_views : {Own : Type 0} {lost text : List ℕ} {old mid : Seen Own} {a b : Run} (d : ℕ) → is_among d lost ≡ false → Says lost text old mid a b → rows_at d b.net.views ≡ rows_at d a.net.views
+says_views {lost = lost} {a = a} {b = b} d here says = ap (rows_at d) (views_of (engine_of b) _ says.engine) ∙ lose_all-rows lost d a.net here
 
-pub says_sound : {Own : Type 0} {text : List ℕ} {old mid : Seen Own} {a b : Run} → Says text old mid a b → Sound (state old) → Sound (state mid)
-says_sound says sound = record { entries = λ e x is. sound.entries e x (sym (says.switches e) ∙ is) }
+says_shown : {Own : Type 0} {lost text : List ℕ} {old mid : Seen Own} {a b : Run} (d : ℕ) → is_among d lost ≡ false → Says lost text old mid a b → shown_switch b.net.views (state mid) d ≡ shown_switch a.net.views (state old) d
+says_shown {lost = lost} {old = old} {mid = mid} {a = a} {b = b} d here says =
+    ap₂ (λ (o : Option (List ViewRow)) (x : Option SwitchState). option_map (owned_switch (flags_in (rows_or_none o))) x) (says_views d here says) (says.switches d ∙ left_in lost (state old) d here)
+
+-- after what was said all is as ready and as sound
+pub says_ready : {Own : Type 0} {lost text : List ℕ} {old mid : Seen Own} {a b : Run} → Says lost text old mid a b → Ready old a.net → Ready mid b.net
+says_ready {lost = lost} {old = old} {mid = mid} {a = a} {b = b} says ready =
+    let net : (f : NetState → List KnownPorts) → f b.net ≡ f (record (lose_all lost a.net) { xid = b.net.xid }) = λ f. ap (λ (e : Engine). f e.net) says.engine in
+    record {
+      waits = says.waits;
+      agrees = λ d. elim (cases_Bool (is_among d lost)) [
+        | inl gone ↦
+            ap (option_map rows_of_view) (ap (rows_at d) (views_of (engine_of b) _ says.engine) ∙ lose_all-rows_gone lost d a.net gone)
+            ∙ sym (ap (option_map (λ x. rows_of_table x.table.entries)) (says.switches d ∙ left_out lost (state old) d gone))
+        | inr here ↦
+            ap (option_map rows_of_view) (says_views d here says) ∙ ready.agrees d ∙ sym (ap (option_map (λ x. rows_of_table x.table.entries)) (says.switches d ∙ left_in lost (state old) d here))
+      ];
+      known = λ d. net (λ n. filter (λ k. k.dpid == d) n.ports) ∙ elim (cases_Bool (is_among d lost)) [
+        | inl gone ↦ lose_all-known_gone lost d a.net gone ∙ sym (ap (ports_known d) (says.switches d ∙ left_out lost (state old) d gone))
+        | inr here ↦ lose_all-known lost d a.net here ∙ ready.known d ∙ sym (ap (ports_known d) (says.switches d ∙ left_in lost (state old) d here))
+      ];
+    }
+
+pub says_sound : {Own : Type 0} {lost text : List ℕ} {old mid : Seen Own} {a b : Run} → Says lost text old mid a b → Sound (state old) → Sound (state mid)
+says_sound {lost = lost} {old = old} says sound = record {
+  entries = λ d x is. elim (cases_Bool (is_among d lost)) [
+    | inl gone ↦ absurd (no_switch x (sym (says.switches d ∙ left_out lost (state old) d gone) ∙ is))
+    | inr here ↦ sound.entries d x (sym (says.switches d ∙ left_in lost (state old) d here) ∙ is)
+  ];
+}
+  where
+    no_switch : (x : SwitchState) → None ≡ Some x → ⊥
+    no_switch x h = cc
+
+-- the text of switches that are lost, and of those that are not
+text_of_lost : {Own : Type 0} (lost : List ℕ) (views now_views : List TableView) (old mid : Seen Own) (d : ℕ) → is_among d lost ≡ true → shown_text lost now_views (state mid) d ≡ shown_text lost views (state old) d
+text_of_lost lost views now_views old mid d gone = said_lost d lost now_views (state mid) gone ∙ sym (said_lost d lost views (state old) gone)
+
+same_texts : (f g : ℕ → List ℕ) (ds : List ℕ) → ((d : ℕ) → is_among d ds ≡ true → f d ≡ g d) → flat_map f ds ≡ flat_map g ds
+same_texts f g [] same = refl
+same_texts f g (d ∷ ds) same =
+    ap₂ (λ (xs ys : List ℕ). xs ++ ys) (same d (rw (eq-eqb d d refl) refl)) (same_texts f g ds (λ e is. same e (later e is)))
+  where
+    later : (e : ℕ) → is_among e ds ≡ true → is_among e (d ∷ ds) ≡ true
+    later e is = elim (cases_Bool (d == e)) [
+      | inl here ↦ rw here refl
+      | inr other ↦ rw other is
+    ]
+
+distinct-front : (ds : List ℕ) (d : ℕ) → Distinct (ds ++ d ∷ []) → Distinct ds × (is_among d ds ≡ false)
+distinct-front [] d apart = (tt, refl)
+distinct-front (e ∷ es) d apart =
+    let rest = distinct-front es d apart.1 in
+    let n = or_parts (is_among e es) (d == e) (sym (among-last e d es) ∙ apart.0) in
+    ((n.0, rest.0), rw (ne_eqb e d (λ same. true≢false (sym (eq-eqb d e (sym same)) ∙ n.1))) rest.1)
+
+-- a switch that is among those before is not the last one
+not_last : (ds : List ℕ) (d e : ℕ) → is_among d ds ≡ false → is_among e ds ≡ true → e ≢ d
+not_last ds d e none is same = true≢false (sym is ∙ ap (λ (n : ℕ). is_among n ds) same ∙ none)
+
+module _ {Own : Type 0} (ds : List ℕ) (d : ℕ) (old mid new : Seen Own) (a b c : Run) (none : is_among d ds ≡ false)
+    (one : SaysOf ds (λ lost. flat_map (shown_text lost a.net.views (state old)) ds) old mid a b) (two : SaysOf (d ∷ []) (λ lost. shown_text lost b.net.views (state mid) d) mid new b c) where
+  both_lost : List ℕ
+  both_lost = one.lost ++ two.lost
+
+  -- the others of which it was told before
+  before_same : (e : ℕ) → is_among e ds ≡ true → is_among e both_lost ≡ is_among e one.lost
+  unfolding both_lost
+  before_same e is = among-append e one.lost two.lost ∙ ap (λ (b : Bool). is_among e one.lost || b) (two.among e (only_first d e (not_last ds d e none is))) ∙ or_false (is_among e one.lost)
+
+  last_same : is_among d both_lost ≡ is_among d two.lost
+  unfolding both_lost
+  last_same = among-append d one.lost two.lost ∙ ap (λ (b : Bool). b || is_among d two.lost) (one.among d none)
+
+  text_before : (e : ℕ) → is_among e ds ≡ true → shown_text one.lost a.net.views (state old) e ≡ shown_text both_lost a.net.views (state old) e
+  text_before e is = ap (λ (b : Bool). if b then lost_line e else switch_text (shown_switch a.net.views (state old) e)) (sym (before_same e is))
+
+  text_last : shown_text two.lost b.net.views (state mid) d ≡ shown_text both_lost a.net.views (state old) d
+  text_last =
+      ap (λ (o : Option SwitchState). if is_among d two.lost then lost_line d else switch_text o) (says_shown d (one.among d none) one.says)
+      ∙ ap (λ (b : Bool). if b then lost_line d else switch_text (shown_switch a.net.views (state old) d)) (sym last_same)
+
+  says_more : SaysOf (ds ++ d ∷ []) (λ lost. flat_map (shown_text lost a.net.views (state old)) (ds ++ d ∷ [])) old new a c
+  unfolding both_lost
+  says_more = record {
+    lost = both_lost;
+    among = λ e out.
+        let n = or_parts (is_among e ds) (d == e) (sym (among-last e d ds) ∙ out) in
+        among-append e one.lost two.lost ∙ ap₂ (λ (p q : Bool). p || q) (one.among e n.0) (two.among e (or_none (d == e) n.1));
+    says = subst (λ (t : List ℕ). Says both_lost t old new a c)
+        (ap₂ (λ (xs ys : List ℕ). xs ++ ys) (same_texts (shown_text one.lost a.net.views (state old)) (shown_text both_lost a.net.views (state old)) ds text_before) text_last
+        ∙ sym (flat_map-last (shown_text both_lost a.net.views (state old)) ds d))
+        (says_then one.lost two.lost (flat_map (shown_text one.lost a.net.views (state old)) ds) (shown_text two.lost b.net.views (state mid) d) old mid new a b c one.says two.says);
+  }
 
 pub tables_next : {Own : Type 0} (Tells : Type 0) (ds : List ℕ) (d : ℕ) (old mid new : Seen Own) (a b c : Run) → TablesShown Tells ds old mid a b → Continues Tells mid new → TableShown Tells d mid new b c → TablesShown Tells (ds ++ d ∷ []) old new a c
 tables_next Tells ds d old mid new a b c first continues next = record {
-  shown = λ told keeps ready sound.
-      let one = first.shown told (Conforming-before told continues keeps) ready sound in
-      let views : b.net.views ≡ a.net.views = views_of (engine_of b) _ one.engine in
-      let two = next.shown told keeps (says_ready one ready) (says_sound one sound) in
-      let text : shown_text b.net.views (state mid) d ≡ shown_text a.net.views (state old) d =
-      ap₂ (λ (vs : List TableView) (o : Option SwitchState). switch_text (option_map (owned_switch (flags_at d vs)) o)) views (one.switches d)
-      in
-      subst (λ (t : List ℕ). Says t old new a c)
-      (ap (λ (t : List ℕ). flat_map (shown_text a.net.views (state old)) ds ++ t) text ∙ sym (flat_map-last (shown_text a.net.views (state old)) ds d))
-      (says_then (flat_map (shown_text a.net.views (state old)) ds) (shown_text b.net.views (state mid) d) old mid new a b c one two);
+  shown = λ apart told keeps ready sound.
+      let n = distinct-front ds d apart in
+      let one = first.shown n.0 told (Conforming-before told continues keeps) ready sound in
+      says_more ds d old mid new a b c n.1 one (next.shown told keeps (says_ready one.says ready) (says_sound one.says sound));
 }
 
 -- ---- The end
@@ -242,24 +421,65 @@ over_map f (v ∷ vs) = ap (λ (text : List ℕ). f v.dpid ++ text) (over_map f 
 pub take_whole : (xs ys : List ℕ) (i : ℕ) → length xs ≤ i → xs ≡ ys → take i xs ≡ ys
 take_whole xs ys i le same = take_all i xs le ∙ same
 
+-- the views stand by number
+apart-views : (least : ℕ) (vs : List TableView) → ViewsAscend least vs → (d : ℕ) → d < least → is_among d (map (λ v. v.dpid) vs) ≡ false
+apart-views least [] up d lt = refl
+apart-views least (v ∷ vs) up d lt = rw (ne_eqb v.dpid d (λ same. omega (arith, same, up.0, lt))) (apart-views (v.dpid + 1) vs up.1 d (omega (arith, up.0, lt)))
+
+pub distinct-views : (least : ℕ) (vs : List TableView) → ViewsAscend least vs → Distinct (map (λ v. v.dpid) vs)
+distinct-views least [] up = tt
+distinct-views least (v ∷ vs) up = (apart-views (v.dpid + 1) vs up.1 v.dpid (omega arith), distinct-views (v.dpid + 1) vs up.1)
+
+none-taken : (n d : ℕ) (ds : List ℕ) → is_among d ds ≡ false → is_among d (take n ds) ≡ false
+none-taken zero d ds none = refl
+none-taken (suc n) d [] none = refl
+none-taken (suc n) d (e ∷ es) none =
+    let both = or_parts (e == d) (is_among d es) none in
+    rw both.0 (none-taken n d es both.1)
+
+pub distinct-take : (n : ℕ) (ds : List ℕ) → Distinct ds → Distinct (take n ds)
+distinct-take zero ds apart = tt
+distinct-take (suc n) [] apart = tt
+distinct-take (suc n) (d ∷ ds) apart = (none-taken n d ds apart.0, distinct-take n ds apart.1)
+
+none-among : (d : ℕ) (vs : List TableView) → rows_at d vs ≡ None → is_among d (map (λ v. v.dpid) vs) ≡ false
+none-among d [] none = refl
+none-among d (v ∷ vs) none =
+    elim (cases_Bool (v.dpid == d)) [
+      | inl here ↦ absurd (no_rows v.rows (rw here at none))
+      | inr other ↦ rw other (none-among d vs (rw other at none))
+    ]
+  where
+    no_rows : (rows : List ViewRow) → Some rows ≡ None → ⊥
+    no_rows rows h = cc
+
+engine_end-lost : (lost : List ℕ) (r mid : Run) → engine_of mid ≡ record (engine_of r) { net = record (lose_all lost r.net) { xid = mid.net.xid } } → engine_end (engine_of mid) ≡ engine_end (engine_of r)
+engine_end-lost lost r mid is =
+    ap engine_end is ∙ ap (λ (moment : ℕ). app_line name r.app.state.alive r.app.done r.app.failed ++ end_line moment r.events) (lose_all-moment lost r.net)
+
 pub last_shown : {Own : Type 0} {Tells : Type 0} {ds : List ℕ} {old new : Seen Own} {r mid now_r : Run} → Continues Tells old new → ds ≡ map (λ v. v.dpid) r.net.views → TablesShown Tells ds old new r mid → Adds (engine_end (engine_of mid)) mid now_r
     → LastShown Tells old new r now_r
 last_shown {Tells = Tells} {ds = ds} {old = old} {new = new} {r = r} {mid = mid} {now_r = now_r} continues all tables end = record {
   shown = λ told keeps calm.
-      let one = tables.shown told keeps calm.ready calm.sound in
+      let one = tables.shown (subst Distinct (sym all) (distinct-views 0 r.net.views calm.order)) told keeps calm.ready calm.sound in
       let before : Conforming old = Conforming-before told continues keeps in
-      let text : flat_map (shown_text r.net.views (state old)) ds ≡ flat_map (λ p. switch_text p.switch) (shown_places old.given.declared r.net.views (state old)) =
-      ap (flat_map (shown_text r.net.views (state old))) all ∙ over_map (shown_text r.net.views (state old)) r.net.views
-      ∙ places-shown old.given.declared r.net.views (state old) calm.order before.declared (all-stand old) calm.ready.agrees
+      let text : flat_map (shown_text one.lost r.net.views (state old)) ds ≡ flat_map (place_lines one.lost) (shown_places old.given.declared r.net.views (state old)) =
+      ap (flat_map (shown_text one.lost r.net.views (state old))) all ∙ over_map (shown_text one.lost r.net.views (state old)) r.net.views
+      ∙ places-shown one.lost old.given.declared r.net.views (state old) calm.order before.declared (all-stand old) calm.ready.agrees
+      (λ d none. one.among d (ap (is_among d) all ∙ none-among d r.net.views none))
       in
-      let last : engine_end (engine_of mid) ≡ engine_end (engine_of r) = ap engine_end one.engine in
+      let last : engine_end (engine_of mid) ≡ engine_end (engine_of r) = engine_end-lost one.lost r mid one.says.engine in
       let xid : mid.net.xid ≡ now_r.net.xid = sym (ap (λ (e : Engine). e.net.xid) end.engine) in
       record {
-        lines = end.lines ∙ ap₂ (λ (xs ys : List ℕ). xs ++ ys) one.lines last ∙ append_assoc r.lines.items _ (engine_end (engine_of r)) ∙ ap (λ (t : List ℕ). r.lines.items ++ (t ++ engine_end (engine_of r))) text;
-        engine = end.engine ∙ one.engine ∙ ap (λ (x : ℕ). record (engine_of r) { net = record r.net { xid = x } }) xid;
-        index = end.index ∙ one.index;
-        switches = one.switches;
-        waits = one.waits;
-        asked = one.asked;
+        lost = one.lost;
+        among = λ d none. one.among d (ap (is_among d) all ∙ none);
+        says = record {
+          lines = end.lines ∙ ap₂ (λ (xs ys : List ℕ). xs ++ ys) one.says.lines last ∙ append_assoc r.lines.items _ (engine_end (engine_of r)) ∙ ap (λ (t : List ℕ). r.lines.items ++ (t ++ engine_end (engine_of r))) text;
+          engine = end.engine ∙ one.says.engine ∙ ap (λ (x : ℕ). record (engine_of r) { net = record (lose_all one.lost r.net) { xid = x } }) xid;
+          index = end.index ∙ one.says.index;
+          switches = one.says.switches;
+          waits = one.says.waits;
+          asked = one.says.asked;
+        };
       };
 }

@@ -15,18 +15,21 @@ use Rattle.lego_model.specs.Journal.{is_event, reply_of, released_in, released}
 use Rattle.lego_model.specs.Packets.{Held}
 use Rattle.lego_model.specs.Turns.{Outcome, Completed, Failed, Played, turn_of}
 use Rattle.outside.specs.declared.step.WorldStep.{WorldStep}
-use Rattle.outside.specs.Seen.{Seen, Continues, journal}
+use Rattle.flow_table.specs.Switch.{SwitchState}
+use Rattle.outside.specs.Seen.{Seen, Continues, Longer, journal}
 use Rattle.outside.specs.State.{state, switch_of}
 use Rattle.outside.specs.laws.SeenLaws.{journal-append}
 use Rattle.outside.specs.laws.InOrderLaws.{InOrder-before}
 use Rattle.lego_model.specs.declared.fault.TxnFault.{TxnFault}
 use Rattle.lego_model.specs.declared.fault.TxnFault.TheVariants.{NoMemory}
 use Rattle.net_txn.specs.Net.{NetState}
-use Rattle.net_txn.specs.Undos.{Undoes}
-use Rattle.net_txn.specs.Releases.{MovesBy, committed, Commits}
-use Rattle.lego_model.specs.AfterFault.{NoEventSince, answering, IsCompleted, UndoneButFailed, TurnDone, SwitchesStay, TurnKept, after_packets, TurnReleasing, TablesLeft}
+use Rattle.net_txn.specs.Undos.{AreJoined, Undoes}
+use Rattle.net_txn.specs.Releases.{committed, Commits}
+use Rattle.lego_model.specs.AfterFault.{NoEventSince, answering, IsCompleted, HasEntriesAgain, WasLost, UndoneButFailed, TurnDone, SwitchesStay, TurnKept, after_packets, TurnReleasing, TablesLeft}
 use Rattle.lego_model.specs.laws.SwitchFaultLaws.{failed_before, failed_told}
+use Rattle.switch_laws.specs.Released.{MovesOrLoses}
 use Rattle.switch_laws.specs.Since.{Ready}
+use Rattle.switch_laws.specs.laws.FaultLaws.{lost-still}
 use Rattle.switch_laws.specs.laws.ReleaseLaws.{release-moves}
 use Rattle.journal_laws.specs.laws.FrameLaws.{event_is}
 use Rattle.app_visor.specs.declared.state.TurnEnd.{TurnEnd}
@@ -37,7 +40,7 @@ use Rattle.app_visor.specs.Turns.{IsEnd, Agrees, Turns}
 use Rattle.app_visor.specs.laws.TableLaws.{turn_alike}
 use Rattle.app_visor.specs.CallsFor.{OwnSteps}
 use Rattle.app_visor.specs.laws.ReadTurnLaws.{turn_acts}
-use Rattle.turn_laws.specs.laws.FaultLaws.{stop-undone, turn-undone, moves-left, commit-left}
+use Rattle.turn_laws.specs.laws.FaultLaws.{stop-undone, turn-undone, turn-joined, moves-left, commit-left}
 use Rattle.run_laws.specs.Engine.{Engine}
 use Rattle.event_dispatch.specs.declared.closing.Closing.{Closing}
 use Rattle.event_dispatch.specs.declared.closing.Closing.TheVariants as closings
@@ -55,9 +58,14 @@ undone_so old new told u = record {
   out = u.out;
 }
 
+-- a switch that has its entries again, or was lost, stands so still
+still_so : {Own : Type 0} (d : ℕ) (s : SwitchState) (old mid new : Seen Own) → Longer mid.history new.history → SwitchesStay mid new → HasEntriesAgain s (switch_of d (state mid)) ⊎ WasLost d old mid → HasEntriesAgain s (switch_of d (state new)) ⊎ WasLost d old new
+still_so d s old mid new longer stay (inl e) = inl (record { next = e.next; stands = stay d ∙ e.stands })
+still_so d s old mid new longer stay (inr lost) = inr (lost-still old mid new d lost longer (stay d ∙ lost.out))
+
 undone_then : {Own : Type 0} {Tells : Type 0} (old mid new : Seen Own) → Tells → Continues Tells old mid → Continues Tells mid new → SwitchesStay mid new → UndoneButFailed (Unit {0}) old mid → UndoneButFailed (Unit {0}) old new
 undone_then old mid new told first later stay u = record {
-  joined = λ d s is. elim (u.joined d s is) [ inl f ↦ inl (failed_before d old mid new first.none_fell later.none_fell (λ u. later.told told) f) | inr e ↦ inr (record { next = e.next; stands = stay d ∙ e.stands }) ];
+  joined = λ d s is. elim (u.joined d s is) [ inl f ↦ inl (failed_before d old mid new first.none_fell later.none_fell (λ u. later.told told) f) | inr e ↦ inr (still_so d s old mid new (later.told told) stay e) ];
   out = λ d is. stay d ∙ u.out d is;
 }
 
@@ -86,7 +94,10 @@ releasing_then old mid new later none stay r =
       first = r.first;
       steps = r.steps ++ none.steps;
       history = none.history ∙ ap (λ (xs : List WorldStep). xs ++ none.steps) r.history ∙ append_assoc r.mid.history front none.steps;
-      moved = λ d. stay d ∙ r.moved d ∙ ap (λ (packets : List Held). option_map (after_packets d packets) (switch_of d (state r.mid))) (sym same);
+      moved = λ d. elim (r.moved d) [
+        | inl moved ↦ inl (stay d ∙ moved ∙ ap (λ (packets : List Held). option_map (after_packets d packets) (switch_of d (state r.mid))) (sym same))
+        | inr lost ↦ inr (lost-still r.mid mid new d lost (none.steps, none.history) (stay d ∙ lost.out))
+      ];
     }
 
 -- What is left stays so behind parts in which no event is given, no packet is released, and no switch moves.
@@ -199,10 +210,10 @@ left_committed {Tells = Tells} {accepts = accepts} {app = app} {now_start = now_
           (commit-left Tells accepts app budget rest event old mid new net mid_net now_net (ends.Done stop) unread queue now_queue fault told keeps order ready turned (turn_done told is gives turned a passes) broken);
     }
 
--- all of them were released, and each switch moved by those alone
-released_by : {Own : Type 0} {Tells : Type 0} {start : ℕ} {old new : Seen Own} {net now_net : NetState} {queue now_queue : List Event} {sent : List (ℕ × ℕ)} → Tells → Commits Tells start old new net now_net queue now_queue (Ok sent) → (packets : List Held) × MovesBy packets old new
-released_by {Tells = Tells} {start = start} {old = old} {new = new} {net = net} {now_net = now_net} {queue = queue} {now_queue = now_queue} told commits =
-    (_, release-moves Tells net.held old new (committed start net) now_net queue now_queue told commits.ended.all)
+-- all of them were released, and each switch moved by those alone, or was lost
+released_by : {Own : Type 0} {Tells : Type 0} {start : ℕ} {old new : Seen Own} {net now_net : NetState} {queue now_queue : List Event} {sent : List (ℕ × ℕ)} → Tells → AreJoined net.views (state old) → Commits Tells start old new net now_net queue now_queue (Ok sent) → (packets : List Held) × MovesOrLoses packets old new
+released_by {Tells = Tells} {start = start} {old = old} {new = new} {net = net} {now_net = now_net} {queue = queue} {now_queue = now_queue} told joined commits =
+    (commits.ended.sent, release-moves Tells net.held commits.ended.sent old new (committed start net) now_net queue now_queue told joined commits.ended.all)
 
 left_moved : {Own : Type 0} {Tells : Type 0} (old first mid new : Seen Own) → Tells → Continues Tells mid new → NoneReleased mid new → SwitchesStay mid new → ((mid.history ≡ first.history) × TurnKept old mid) ⊎ TurnReleasing old mid → TablesLeft (Unit {0}) old new
 left_moved old first mid new told later none stay (inl kept) = inr (inr (inl (tt, kept_then old mid new told later stay kept.1)))
@@ -211,11 +222,13 @@ left_moved old first mid new told later none stay (inr releasing) = inr (inr (in
 -- its turn ended, and memory was wanting behind it
 pub left_closed : {Own : Type 0} {Tells : Type 0} {accepts : List TableView → Bool} {number : ℕ} {event : Event} {queue now_queue : List Event} {rest unread : List ℕ} (app : ℕ) (closing : Closing) (old mid new : Seen Own) (net mid_net : NetState) → app ≡ index → Continues Tells old mid → Continues Tells mid new
     → (Tells → OwnSteps index mid new) → PlaysTurn Tells accepts app number event closing old mid net mid_net queue now_queue rest unread → TurnLeft Tells (Unit {0}) rest old new net
-left_closed {number = number} {event = event} app (closings.Done stop out) old mid new net mid_net at first later own plays = record {
+left_closed {Tells = Tells} {accepts = accepts} {number = number} {event = event} {rest = rest} {unread = unread} app (closings.Done stop out) old mid new net mid_net at first later own plays = record {
   left = λ told keeps order ready a passes.
       let commits = plays.played in
       let done = turn_done told at (event_is number net.moment event) plays.turns a passes in
-      let moves = released_by told commits in
+      let order_mid = InOrder-before told commits.continues (InOrder-before told later order) in
+      let joined = turn-joined Tells accepts app budget rest (event_frame number net.moment event) old plays.mid net plays.mid_net (ends.Done stop) unread told keeps order_mid ready plays.turns in
+      let moves = released_by told joined commits in
       let stay = own_stay later (own told) in
       left_moved old plays.mid mid new told later (own_releases (own told)) stay (moves-left old plays.mid mid moves.0 commits.continues.given done moves.1);
 }

@@ -3,12 +3,12 @@ use Rattle.std.specs.Prelude.{◌≡◌, ◌==◌, ℕ, Bool, true, false, List,
 use Rattle.std.proofs.Common.{sym, ap, ◌∙◌, append_assoc, true≢false}
 use Rattle.std.proofs.lemmas.List.{append-nil}
 use Rattle.of_types.specs.declared.journal.Act.{Act}
-use Rattle.of_types.specs.declared.journal.Act.TheVariants.{Stim, Started, Gave, Gone, Took, Ended, Sent, Got}
+use Rattle.of_types.specs.declared.journal.Act.TheVariants.{Stim, Started, Gave, Gone, Took, Ended, Sent, Got, Lost}
 use Rattle.of_types.specs.declared.journal.WorldStim.{WorldStim}
 use Rattle.lego_model.specs.Journal.{is_event, released_in, released}
 use Rattle.lego_model.specs.Application.{index}
 use Rattle.outside.specs.declared.step.WorldStep.{WorldStep}
-use Rattle.outside.specs.declared.step.WorldStep.TheVariants.{Acted, TookInto, From, Joined, Left, Moment, Idle, End, Opened, NotOpened, NextFailed, SendFailed, RecvFailed}
+use Rattle.outside.specs.declared.step.WorldStep.TheVariants.{Acted, TookInto, From, Joined, Left, Moment, Idle, End, Opened, NotOpened, NextFailed, SendLost, RecvLost, SendFailed, RecvFailed}
 use Rattle.outside.specs.declared.item.Item.{Item}
 use Rattle.outside.specs.declared.item.Item.TheVariants as items
 use Rattle.outside.specs.declared.faults.NextFault.{NextFault}
@@ -49,6 +49,9 @@ no_event_then {old = old} {new = new} first second =
 link_gives : (step : WorldStep) → is_link_step step ≡ true → gives_event step ≡ false
 link_gives (Acted (Sent d bytes)) is = refl
 link_gives (Acted (Got d bytes)) is = refl
+link_gives (Acted (Lost d)) is = refl
+link_gives (SendLost d) is = refl
+link_gives (RecvLost d) is = refl
 link_gives (SendFailed d) is = refl
 link_gives (RecvFailed d) is = refl
 link_gives (Acted (Stim x)) is = refl
@@ -112,6 +115,7 @@ call_gives app (Ended of) is = refl
 call_gives app (Stim x) is = refl
 call_gives app (Sent d bytes) is = refl
 call_gives app (Got d bytes) is = refl
+call_gives app (Lost d) is = refl
 
 calls_give : (app : ℕ) (acts : List Act) → Calls app acts → GiveNoEvent (map step_of acts)
 calls_give app [] all = tt
@@ -137,6 +141,7 @@ call_releases app (Ended of) is = refl
 call_releases app (Stim x) is = refl
 call_releases app (Sent d bytes) is = absurd (true≢false (sym is))
 call_releases app (Got d bytes) is = refl
+call_releases app (Lost d) is = refl
 
 calls_release : (app : ℕ) (acts : List Act) → Calls app acts → released acts ≡ []
 unfolding released

@@ -4,7 +4,7 @@ use Rattle.std.specs.Option.{is_some, option_map}
 use Rattle.std.proofs.Common.{ap, inl, inr, true≢false}
 use Rattle.std.proofs.lemmas.Bool.{cases_Bool}
 use Rattle.of_types.specs.declared.journal.Act.{Act}
-use Rattle.of_types.specs.declared.journal.Act.TheVariants.{Stim, Started, Gave, Gone, Took, Ended, Sent, Got}
+use Rattle.of_types.specs.declared.journal.Act.TheVariants.{Stim, Started, Gave, Gone, Took, Ended, Sent, Got, Lost}
 use Rattle.of_types.specs.declared.journal.Stimulus.{Stimulus}
 use Rattle.of_types.specs.declared.journal.Stimulus.TheVariants.{Advance}
 use Rattle.of_types.specs.declared.journal.WorldStim.{WorldStim}
@@ -16,9 +16,9 @@ use Rattle.flow_table.specs.Switch.{Declared, SwitchState}
 use Rattle.flow_table.specs.Step.{after_stimulus}
 use Rattle.outside.specs.declared.call.FailCall.{FailCall}
 use Rattle.outside.specs.declared.step.WorldStep.{WorldStep}
-use Rattle.outside.specs.declared.step.WorldStep.TheVariants.{Acted, TookInto, From, Joined, Left, Moment, Idle, End, Opened, NotOpened, NextFailed, SendFailed, RecvFailed}
+use Rattle.outside.specs.declared.step.WorldStep.TheVariants.{Acted, TookInto, From, Joined, Left, Moment, Idle, End, Opened, NotOpened, NextFailed, SendLost, RecvLost, SendFailed, RecvFailed}
 use Rattle.outside.specs.Seen.{Seen}
-use Rattle.outside.specs.State.{Link, State, link_at_first, at_first, link_of, waits_in, switch_in, waits_of, switch_of, is_joined, with_link, switch_joined, link_joined, link_left, stimulus_sends, link_stimulated, switch_told, message_sends, link_sent, link_got, link_told, link_failed, links_after, after_stim, after_act, after_step, after_steps, state}
+use Rattle.outside.specs.State.{Link, State, link_at_first, at_first, link_of, waits_in, switch_in, waits_of, switch_of, is_joined, with_link, switch_joined, link_joined, link_left, stimulus_sends, link_stimulated, switch_told, message_sends, link_sent, link_got, link_told, link_failed, link_lost, links_after, after_stim, after_act, after_step, after_steps, state}
 use Rattle.event_dispatch.specs.NothingWaits.{EmptyOut, IsEmptyOut, AllEmptyOut}
 
 -- ---- One link
@@ -68,6 +68,10 @@ keeps-told : Keeps link_told
 unfolding link_told
 keeps-told = record { keeps = λ l empty. dropped l.switch l.waits empty }
 
+keeps-lost : Keeps link_lost
+unfolding link_lost
+keeps-lost = record { keeps = λ l empty out. refl }
+
 keeps-failed : Keeps link_failed
 unfolding link_failed
 keeps-failed = record { keeps = λ l empty. empty }
@@ -104,6 +108,7 @@ act_empty (Took app what) s all = all
 act_empty (Ended app) s all = all
 act_empty (Sent d bytes) s all = one d (link_sent bytes) (keeps-sent bytes) s.links all
 act_empty (Got d bytes) s all = one d link_got keeps-got s.links all
+act_empty (Lost d) s all = one d link_lost keeps-lost s.links all
 
 pub step_empty : (step : WorldStep) (s : State) → AllEmptyOut s.links → AllEmptyOut (after_step step s).links
 unfolding after_step
@@ -118,6 +123,8 @@ step_empty End s all = all
 step_empty Opened s all = all
 step_empty NotOpened s all = all
 step_empty NextFailed s all = all
+step_empty (SendLost d) s all = one d link_lost keeps-lost s.links all
+step_empty (RecvLost d) s all = one d link_lost keeps-lost s.links all
 step_empty (SendFailed d) s all = one d link_failed keeps-failed s.links all
 step_empty (RecvFailed d) s all = one d link_failed keeps-failed s.links all
 

@@ -1,5 +1,5 @@
 -- Laws of how a run may end in a world that keeps its word.
-use Rattle.std.proofs.Common.{◌≡◌, ℕ, ◌<◌, ◌^◌, Bool, List, [], ◌∷◌, ◌++◌, length, Option, Some, IsSome, Result, Ok, Err, IfErr, IsOk, IsErr, slice_get, take, refl, sym, ap, ◌∙◌, subst, inl, inr}
+use Rattle.std.proofs.Common.{◌≡◌, ℕ, ◌<◌, ◌^◌, Bool, List, [], ◌∷◌, ◌++◌, length, map, Option, Some, IsSome, Result, Ok, Err, IfErr, IsOk, IsErr, slice_get, take, refl, sym, ap, ◌∙◌, subst, inl, inr}
 use Rattle.of_stats.specs.Flows.{AreRows}
 use Rattle.of_wire.specs.Reading.{reading_of}
 use Rattle.flow_table.specs.View.{TableView}
@@ -16,10 +16,11 @@ use Rattle.outside.specs.State.{state, switch_of}
 use Rattle.outside.specs.laws.StateLaws.{Conforming-before}
 use Rattle.outside.specs.Conforming.{Conforming}
 use Rattle.lego_model.specs.declared.fault.TxnFault.{TxnFault}
-use Rattle.lego_model.specs.declared.fault.TxnFault.TheVariants.{SwitchFault, SwitchBroke, Diverged, Flooded, NoMemory}
+use Rattle.lego_model.specs.declared.fault.TxnFault.TheVariants.{SwitchBroke, Diverged, Flooded, NoMemory}
 use Rattle.lego_model.specs.SwitchFaults.{FloodedByPacket}
 use Rattle.switch_laws.specs.Released.{StopsFor}
-use Rattle.net_txn.specs.Causes.{IsPlainFault, IsPlain}
+use Rattle.net_txn.specs.Causes.{IsPlain}
+use Rattle.net_txn.specs.laws.LostPartLaws.{Distinct}
 use Rattle.net_txn.specs.Arriving.{IsArrivalCause}
 use Rattle.net_txn.specs.JoiningSteps.{JoinSteps}
 use Rattle.net_txn.specs.AskSteps.{own_rows, IsAskFault, AskSteps}
@@ -33,7 +34,6 @@ use Rattle.app_visor.specs.Turns.{Turns}
 use Rattle.switch_laws.specs.laws.SoundLaws.{rows-are}
 use Rattle.switch_laws.specs.laws.ClockLaws.{switch-in_time, moment-within}
 use Rattle.turn_laws.specs.laws.StopLaws.{stop-plain, turn-ready, flooded-since, commit-plain}
-use Rattle.turn_laws.specs.Stop.{IsPlainStop}
 use Rattle.batch_laws.specs.laws.InBatchLaws.{next_can}
 use Rattle.run_laws.specs.Engine.{Engine}
 use Rattle.run_laws.specs.laws.CalmLaws.{stands_ready}
@@ -56,7 +56,7 @@ use Rattle.event_dispatch.specs.Shows.{engine_of}
 use Rattle.event_dispatch.specs.Batch.{standing_of, KeptSoFar, BatchGoes, BatchShown}
 use Rattle.event_dispatch.specs.laws.BatchLaws.{some_kept}
 use Rattle.event_dispatch.specs.ReportEnd.{TablesShown}
-use Rattle.event_dispatch.specs.laws.LastLaws.{some_is, says_ready, says_sound}
+use Rattle.event_dispatch.specs.laws.LastLaws.{some_is, says_ready, says_sound, distinct-views, distinct-take}
 use Rattle.event_dispatch.specs.Serves.{DispatchesSome, IsBatch, GoesRounds, GoesToEnd, Begins, IsUnopened}
 use Rattle.event_dispatch.specs.laws.RoundLaws.{batch_is}
 use Rattle.event_dispatch.specs.laws.WholeLaws.{opened_so}
@@ -64,15 +64,11 @@ use Rattle.event_dispatch.specs.Plain.{IsPlainServed, IsPlainEnd, PlainRead, Pla
 
 -- ---- Want of memory, and faults of the network
 
-plain_fault : (d : ℕ) (fault : TxnFault) → IsPlainFault d fault → IsPlainServed (ended_by fault)
-plain_fault d (SwitchFault e) plain = tt
-plain_fault d NoMemory plain = tt
-plain_fault d (SwitchBroke e bytes) plain = absurd plain
-plain_fault d (Diverged e sent got) plain = absurd plain
-plain_fault d (Flooded e n) plain = absurd plain
-
-plain_stop : (fault : TxnFault) → IsPlainStop fault → IsPlainServed (ended_by fault)
-plain_stop fault plain = plain_fault plain.0 fault plain.1
+plain_fault : (fault : TxnFault) → IsPlain fault → IsPlainServed (ended_by fault)
+plain_fault NoMemory plain = tt
+plain_fault (SwitchBroke e bytes) plain = absurd plain
+plain_fault (Diverged e sent got) plain = absurd plain
+plain_fault (Flooded e n) plain = absurd plain
 
 -- ---- A flood
 
@@ -101,7 +97,7 @@ ends_before old mid new end told later (inr flood) = inr (flood.0, (flood.1.0, f
 
 -- a release that stopped
 ends_release : {Own : Type 0} (old new : Seen Own) (fault : TxnFault) → StopsFor old new fault → EndsPlain old new (ended_by fault)
-ends_release old new fault (inl plain) = inl (plain_stop fault plain)
+ends_release old new fault (inl plain) = inl (plain_fault fault plain)
 ends_release old new fault (inr flood) = inr (flood.0, (ap ended_by flood.1.0, flood.1.1))
 
 -- ---- A batch
@@ -111,7 +107,6 @@ no_fault (Ok x) ok err = absurd cc
 no_fault (Err e) ok err = absurd cc
 
 arrival_plain : {Own : Type 0} (d : ℕ) (frame : List ℕ) (old new : Seen Own) (fault : TxnFault) → IsArrivalCause d frame old new fault → IsOk (reading_of frame) → IsPlainServed (ended_by fault)
-arrival_plain d frame old new (SwitchFault e) cause read = tt
 arrival_plain d frame old new (SwitchBroke e bytes) cause read = absurd (no_fault (reading_of frame) read cause.2)
 arrival_plain d frame old new (Diverged e sent got) cause read = absurd cause
 arrival_plain d frame old new (Flooded e n) cause read = absurd cause
@@ -127,7 +122,7 @@ pub join_memory : {Own : Type 0} {Tells : Type 0} (d : ℕ) (old new : Seen Own)
 join_memory d old new = record { plain = λ told keeps free. tt }
 
 pub join_fault : {Own : Type 0} {Tells : Type 0} (d : ℕ) (old new : Seen Own) (net now_net : NetState) (fault : TxnFault) → JoinSteps Tells d old new net now_net (Err fault) → PlainJoin Tells d old new (fault_of fault)
-join_fault d old new net now_net fault steps = record { plain = λ told keeps free. plain_fault d fault (steps told keeps free) }
+join_fault d old new net now_net fault steps = record { plain = λ told keeps free. plain_fault fault (steps told keeps free) }
 
 -- an item
 pub item_from : {Own : Type 0} {Tells : Type 0} (item : Item) (d n : ℕ) (buf : List ℕ) (old new : Seen Own) (fault : Fault) → item ≡ items.From d n → PlainRead (take n buf) fault → PlainItem Tells (item_step item buf) old new fault
@@ -178,15 +173,8 @@ turn_noted {Tells = Tells} old new net noted fault same turn = subst (λ (n : Ne
 
 pub turn_stopped : {Own : Type 0} {Tells : Type 0} {app : ℕ} (old mid new : Seen Own) (net now_net : NetState) (fault : TxnFault) → Continues Tells mid new → Stops Tells app old mid net now_net fault → PlainTurn Tells old new net (fault_of fault)
 turn_stopped {Tells = Tells} {app = app} old mid new net now_net fault later stops = record {
-  plain = λ told keeps ready. inl (plain_stop fault (stop-plain Tells app old mid net now_net fault told (Conforming-before told later keeps) ready stops));
+  plain = λ told keeps ready. inl (plain_fault fault (stop-plain Tells app old mid net now_net fault told (Conforming-before told later keeps) ready stops));
 }
-
-plain_any : (fault : TxnFault) → IsPlain fault → IsPlainServed (ended_by fault)
-plain_any (SwitchFault e) plain = tt
-plain_any NoMemory plain = tt
-plain_any (SwitchBroke e bytes) plain = absurd plain
-plain_any (Diverged e sent got) plain = absurd plain
-plain_any (Flooded e n) plain = absurd plain
 
 -- a turn that failed, and could not be undone
 pub turn_not_undone : {Own : Type 0} {Tells : Type 0} {accepts : List TableView → Bool} {app budget start : ℕ} {rest frame unread : List ℕ} {end : TurnEnd} (old mid new : Seen Own) (net txn_net mid_net now_net : NetState) (result : Result (Unit {0}) TxnFault) (fault : TxnFault) → txn_net ≡ net
@@ -197,7 +185,7 @@ turn_not_undone {Own} {Tells} {accepts} {app} {budget} {start} {rest} {frame} {u
       plain = λ told keeps ready.
           let before : Conforming mid = Conforming-before told failed.continues keeps in
           let again = turn-ready Tells accepts app budget rest frame old mid txn_net mid_net end unread told before ready turns in
-          inl (plain_any fault (failed.plain told keeps (λ d viewed. stands_ready d mid mid_net again viewed (switch_of d (state mid)) refl)));
+          inl (plain_fault fault (failed.plain told keeps (λ d viewed. stands_ready d mid mid_net again viewed (switch_of d (state mid)) refl)));
     })
 
 -- one that was whole, and whose packets could not all be released
@@ -215,7 +203,6 @@ turn_uncommitted {Own} {Tells} {accepts} {app} {budget} {start} {now_start} {res
 -- ---- A question for rows
 
 ask_plain : (d : ℕ) (s : SwitchState) (fault : TxnFault) → AreRows (own_rows s) → IsAskFault d s fault → IsPlainServed (ended_by fault)
-ask_plain d s (SwitchFault e) are plain = tt
 ask_plain d s NoMemory are plain = tt
 ask_plain d s (SwitchBroke e bytes) are plain = absurd (plain.1 are)
 ask_plain d s (Diverged e sent got) are plain = absurd plain
@@ -236,11 +223,12 @@ table_asked {Tells = Tells} {old = old} {new = new} {net = net} d kept now_kept 
 pub table_memory : {Own : Type 0} {Tells : Type 0} (old new : Seen Own) (net : NetState) → PlainTable Tells old new net faults.NoMemory
 table_memory old new net = record { plain = λ told keeps ready sound. tt }
 
-pub tables_then : {Own : Type 0} {Tells : Type 0} (ds : List ℕ) (old mid new : Seen Own) (r then_r : Run) (fault : Fault) → TablesShown Tells ds old mid r then_r → Continues Tells mid new → PlainTable Tells mid new then_r.net fault
-    → PlainCalm Tells old new r.net (served_by fault)
-tables_then ds old mid new r then_r fault tables later table = record {
+pub tables_then : {Own : Type 0} {Tells : Type 0} (all : List ℕ) (i : ℕ) (old mid new : Seen Own) (r then_r : Run) (fault : Fault) → all ≡ map (λ v. v.dpid) r.net.views → TablesShown Tells (take i all) old mid r then_r → Continues Tells mid new
+    → PlainTable Tells mid new then_r.net fault → PlainCalm Tells old new r.net (served_by fault)
+tables_then all i old mid new r then_r fault is tables later table = record {
   plain = λ told keeps calm.
-      let says = tables.shown told (Conforming-before told later keeps) calm.ready calm.sound in
+      let apart : Distinct all = subst Distinct (sym is) (distinct-views 0 r.net.views calm.order) in
+      let says = (tables.shown (distinct-take i all apart) told (Conforming-before told later keeps) calm.ready calm.sound).says in
       table.plain told keeps (says_ready says calm.ready) (says_sound says calm.sound);
 }
 
@@ -265,17 +253,18 @@ run_settled old mid new r then_r end first some later rest = record {
 pub run_calm : {Own : Type 0} {Tells : Type 0} {accepts : List TableView → Bool} (old new : Seen Own) (r : Run) (end : Served) → PlainCalm Tells old new r.net end → PlainRun Tells accepts old new (engine_of r) end
 run_calm old new r end calm = record { plain = λ allows told keeps judges settled. inl (calm.plain told keeps settled.calm) }
 
-batch_settled : {Own : Type 0} {Tells : Type 0} (rest : Rest) (old new : Seen Own) (e now_e : Engine) → IsBatch Tells rest old new e now_e → Tells → Conforming new → AtRest old e → AtRest new now_e
-batch_settled rests.Idle old new e now_e batch told keeps settled = (batch.happens told keeps settled).moved.settled
-batch_settled rests.End old new e now_e batch told keeps settled = (batch.over.moved told keeps settled).settled
+batch_settled : {Own : Type 0} {Tells : Type 0} (rest : Rest) (noted : List ℕ) (old new : Seen Own) (e now_e : Engine) → IsBatch Tells rest noted old new e now_e → Tells → Conforming new → AtRest old e → AtRest new now_e
+batch_settled rests.Idle noted old new e now_e batch told keeps settled = (batch.happens told keeps settled).moved.settled
+batch_settled rests.End noted old new e now_e batch told keeps settled = (batch.over.moved told keeps settled).settled
 
-pub run_batch : {Own : Type 0} {Tells : Type 0} {accepts : List TableView → Bool} (rest : Rest) (old mid new : Seen Own) (r then_r : Run) (end : Served) → Continues Tells old mid → then_r.app ≡ r.app → Waits r then_r → BatchShown Tells rest old mid r then_r
-    → Continues Tells mid new → PlainRun Tells accepts mid new (engine_of then_r) end → PlainRun Tells accepts old new (engine_of r) end
-run_batch {Tells = Tells} rest old mid new r then_r end first app waits batch later settle = record {
+pub run_batch : {Own : Type 0} {Tells : Type 0} {accepts : List TableView → Bool} (rest : Rest) (old mid new : Seen Own) (r then_r mid_r : Run) (end : Served) → Continues Tells old mid → r.lines.items ≡ [] → then_r.app ≡ r.app → Waits r then_r → BatchShown Tells rest old mid r then_r
+    → engine_of mid_r ≡ engine_of then_r → Continues Tells mid new → PlainRun Tells accepts mid new (engine_of mid_r) end → PlainRun Tells accepts old new (engine_of r) end
+run_batch {Tells = Tells} rest old mid new r then_r mid_r end first none app waits batch same later settle = record {
   plain = λ allows told keeps judges settled.
       ends_behind old mid new end (first.told told)
       (settle.plain allows told keeps judges
-      (batch_settled rest old mid (engine_of r) (engine_of then_r) (batch_is Tells rest old mid r then_r first app waits batch) told (Conforming-before told later keeps) settled));
+      (subst (AtRest mid) (sym same)
+      (batch_settled rest then_r.lines.items old mid (engine_of r) (engine_of then_r) (batch_is Tells rest old mid r then_r first none app waits batch) told (Conforming-before told later keeps) settled)));
 }
 
 -- rounds

@@ -8,6 +8,7 @@ use Rattle.flow_table.specs.View.{TableView}
 use Rattle.app_frames.specs.declared.frame.Event.{Event}
 use Rattle.lego_model.specs.Journal.{Reply, Start}
 use Rattle.lego_model.specs.Places.{Place}
+use Rattle.lego_model.specs.Losses.{Losses}
 use Rattle.lego_model.specs.Controller.{Run as ModelRun, settle, per_batch}
 use Rattle.outside.specs.Seen.{Seen, Continues}
 use Rattle.outside.specs.laws.SeenLaws.{Continues-trans}
@@ -30,8 +31,8 @@ use Rattle.event_dispatch.specs.declared.batch.Rest.{Rest}
 use Rattle.event_dispatch.specs.declared.batch.Rest.TheVariants as rests
 use Rattle.event_dispatch.specs.declared.run.Managed.{Managed}
 use Rattle.event_dispatch.specs.declared.run.Run.{Run}
-use Rattle.event_dispatch.specs.Runs.{Waits}
-use Rattle.event_dispatch.specs.Batch.{BatchShown}
+use Rattle.event_dispatch.specs.Runs.{AreRead, StoreRests, Going, Waits}
+use Rattle.event_dispatch.specs.Batch.{standing_of, BatchShown}
 use Rattle.event_dispatch.specs.Shows.{engine_of, queued_run}
 use Rattle.app_visor.specs.Attempts.{kept_of}
 use Rattle.checkpoint_store.specs.Slots.{Slot}
@@ -111,25 +112,27 @@ settled_early {Own} Tells accepts n m text old new e now_e sum none shown = reco
         moves = record {
           starts = m.moves.starts;
           replies = m.moves.replies;
+          batches = m.moves.batches;
+          turns = m.moves.turns;
           given = m.moves.given;
           read_starts = m.moves.read_starts;
           read_replies = m.moves.read_replies;
           read_stimuli = m.moves.read_stimuli;
-          stands = λ ss rs q starts_so replies_so s.
+          stands = λ ss rs later q starts_so replies_so s.
               let later_starts = drop (length m.moves.starts) ss in
               let later_replies = drop (length m.moves.replies) rs in
-              let t = m.moves.stands ss rs q starts_so replies_so s in
-              subst (Stands new now_e later_starts later_replies) (same allows later_starts later_replies q t) t;
-          says = λ ss rs q starts_so replies_so s.
-              let t = m.moves.stands ss rs q starts_so replies_so s in
-              subst (λ (p : ModelRun). text_of p ≡ text_of q ++ text) (same allows (drop (length m.moves.starts) ss) (drop (length m.moves.replies) rs) q t) (m.moves.says ss rs q starts_so replies_so s);
+              let t = m.moves.stands ss rs later q starts_so replies_so s in
+              subst (Stands new now_e later_starts later_replies later) (same allows later_starts later_replies later q t) t;
+          says = λ ss rs later q starts_so replies_so s.
+              let t = m.moves.stands ss rs later q starts_so replies_so s in
+              subst (λ (p : ModelRun). text_of p ≡ text_of q ++ text) (same allows (drop (length m.moves.starts) ss) (drop (length m.moves.replies) rs) later q t) (m.moves.says ss rs later q starts_so replies_so s);
         };
         settled = m.settled;
       };
 }
   where
-    same : (allows : List Place → Bool) (ss : List Start) (rs : List Reply) (q : ModelRun) → Stands new now_e ss rs (times n (dispatch_next allows) q) → times n (dispatch_next allows) q ≡ settle allows q
-    same allows ss rs q t = sym (times-stop allows n m q (t.queue ∙ none)) ∙ ap (λ (k : ℕ). times k (dispatch_next allows) q) sum ∙ settle-times allows q
+    same : (allows : List Place → Bool) (ss : List Start) (rs : List Reply) (later : Losses) (q : ModelRun) → Stands new now_e ss rs later (times n (dispatch_next allows) q) → times n (dispatch_next allows) q ≡ settle allows q
+    same allows ss rs later q t = sym (times-stop allows n m q (t.queue ∙ none)) ∙ ap (λ (k : ℕ). times k (dispatch_next allows) q) sum ∙ settle-times allows q
 
 pub settles_early : {Own : Type 0} (Tells : Type 0) (accepts : List TableView → Bool) (n : ℕ) (a b : Option (List ℕ)) (old new : Seen Own) (r now_r : Run) → n ≤ 1000 → now_r.queue ≡ [] → DispatchesSome Tells accepts n a b old new r now_r → DispatchesWaiting Tells accepts a b old new r now_r
 settles_early Tells accepts n a b old new r now_r few none some =
@@ -152,31 +155,61 @@ engine_behind r now_r app waits =
     ap₂ (λ (n : ℕ) (a : Managed). record { net = now_r.net; queue = now_r.queue; events = n; alive = a.state.alive; rest = a.state.rest; kept = kept_of index r.store; done = a.done; failed = a.failed }) (sym waits.events) (sym app)
     ∙ ap (λ (slots : List Slot). record (engine_of now_r) { kept = kept_of index slots }) (sym waits.store)
 
-pub batch_is : {Own : Type 0} (Tells : Type 0) (rest : Rest) (old new : Seen Own) (r now_r : Run) → Continues Tells old new → now_r.app ≡ r.app → Waits r now_r → BatchShown Tells rest old new r now_r → IsBatch Tells rest old new (engine_of r) (engine_of now_r)
-batch_is Tells rests.Idle old new r now_r continues app waits shown = record {
+-- its lines are all that it noted
+pub batch_is : {Own : Type 0} (Tells : Type 0) (rest : Rest) (old new : Seen Own) (r now_r : Run) → Continues Tells old new → r.lines.items ≡ [] → now_r.app ≡ r.app → Waits r now_r → BatchShown Tells rest old new r now_r
+    → IsBatch Tells rest now_r.lines.items old new (engine_of r) (engine_of now_r)
+batch_is Tells rests.Idle old new r now_r continues none app waits shown = record {
   happens = λ told keeps settled.
       let done = shown.shown told keeps settled.calm in
-      subst (OneHappens old new (engine_of r)) (engine_behind r now_r app waits)
-      (batch-happens Tells done.0 old new r.net now_r.net r.queue now_r.queue (engine_of r) told continues (Conforming-before told continues keeps) keeps settled refl refl done.1);
+      subst (OneHappens now_r.lines.items old new (engine_of r)) (engine_behind r now_r app waits)
+      (batch-happens Tells done.0 now_r.lines.items (standing_of old r) (standing_of new now_r) (engine_of r) told continues (Conforming-before told continues keeps) settled refl refl done.1 (ap (λ (xs : List ℕ). xs ++ now_r.lines.items) (sym none)));
 }
-batch_is Tells rests.End old new r now_r continues app waits shown = record {
+batch_is Tells rests.End old new r now_r continues none app waits shown = record {
   over = record {
     moved = λ told keeps settled.
-        subst (Moved [] (λ (q : ModelRun). q) [] old new (engine_of r)) (engine_behind r now_r app waits)
-        (batch-over old new r.net now_r.net r.queue now_r.queue (engine_of r) settled refl refl (shown.shown told keeps settled.calm));
+        subst (Moved [] (λ (q : ModelRun). q) now_r.lines.items old new (engine_of r)) (engine_behind r now_r app waits)
+        (batch-over now_r.lines.items (standing_of old r) (standing_of new now_r) (engine_of r) settled refl refl (shown.shown told keeps settled.calm) (ap (λ (xs : List ℕ). xs ++ now_r.lines.items) (sym none)));
   };
+  none_noted = λ told keeps settled. (shown.shown told keeps settled.calm).text ∙ none;
   none_to_come = λ told keeps settled. (shown.shown told keeps settled.calm).to_come;
 }
 
-pub round_so : {Own : Type 0} {Tells : Type 0} {accepts : List TableView → Bool} {rest : Rest} {contents now_contents : Option (List ℕ)} {old mid new : Seen Own} {r then_r now_r : Run} → Continues Tells old mid → then_r.app ≡ r.app → Waits r then_r
-    → BatchShown Tells rest old mid r then_r → Continues Tells mid new → DispatchesWaiting Tells accepts contents now_contents mid new then_r now_r → GoesRound Tells accepts rest contents now_contents old new r now_r
-round_so {Tells = Tells} {rest = rest} {old = old} {mid = mid} {r = r} {then_r = then_r} first app waits batch later dispatches = record {
+-- and were written
+pub round_so : {Own : Type 0} {Tells : Type 0} {accepts : List TableView → Bool} {rest : Rest} {contents held now_contents : Option (List ℕ)} {old mid new : Seen Own} {r then_r mid_r now_r : Run} → Continues Tells old mid → r.lines.items ≡ [] → then_r.app ≡ r.app → Waits r then_r
+    → BatchShown Tells rest old mid r then_r → engine_of mid_r ≡ engine_of then_r → Writes then_r.lines.items contents held mid_r → Continues Tells mid new → DispatchesWaiting Tells accepts held now_contents mid new mid_r now_r → GoesRound Tells accepts rest contents now_contents old new r now_r
+round_so {Tells = Tells} {rest = rest} {held = held} {old = old} {mid = mid} {r = r} {then_r = then_r} {mid_r = mid_r} first none app waits batch same writes later dispatches = record {
   mid = mid;
-  mid_run = then_r;
+  mid_run = mid_r;
   first = first;
-  batch = batch_is Tells rest old mid r then_r first app waits batch;
+  noted = then_r.lines.items;
+  held = held;
+  batch = subst (λ (e : Engine). IsBatch Tells rest then_r.lines.items old mid (engine_of r) e) (sym same) (batch_is Tells rest old mid r then_r first none app waits batch);
+  written = writes.written;
   later = later;
   dispatches = dispatches;
+}
+
+-- where it noted nothing, nothing is written
+pub nothing_noted : (contents : Option (List ℕ)) (r : Run) → r.lines.items ≡ [] → Writes r.lines.items contents contents r
+nothing_noted contents r none = record { written = subst (λ (text : List ℕ). contents ≡ append_known contents text) (sym none) (nothing_written contents); none_waits = none }
+
+-- and the run goes on
+pub going_written : (r then_r mid_r : Run) → Going r → Waits r then_r → then_r.app ≡ r.app → AreRead then_r.net.kept → Waits then_r mid_r → engine_of mid_r ≡ engine_of then_r → mid_r.app.state.index ≡ then_r.app.state.index → Going mid_r
+going_written r then_r mid_r going first app read second same named = record {
+  room = subst (λ (n : ℕ). 1 ≤ n) (sym (second.room ∙ first.room)) going.room;
+  done = omega (arith, going.done, first.done, first.events, second.done, second.events);
+  failed = omega (arith, going.failed, first.failed, first.events, second.failed, second.events);
+  index = named ∙ ap (λ (a : Managed). a.state.index) app ∙ going.index;
+  read = subst (λ (e : Engine). AreRead e.net.kept) (sym same) read;
+  store = subst StoreRests (sym (second.store ∙ first.store)) going.store;
+  left = second.left (first.left going.left);
+}
+
+-- what a round wrote, behind what was written before
+round_written : (first noted second : List ℕ) (a b held c : Option (List ℕ)) (r later : Run) → Writes first a b r → held ≡ append_known b noted → Writes second held c later → Writes ((first ++ noted) ++ second) a c later
+round_written first noted second a b held c r later one written two = record {
+  written = two.written ∙ ap (λ (o : Option (List ℕ)). append_known o second) (written ∙ ap (λ (o : Option (List ℕ)). append_known o noted) one.written ∙ known-append a first noted) ∙ known-append a (first ++ noted) second;
+  none_waits = two.none_waits;
 }
 
 pub rounds_none : {Own : Type 0} (Tells : Type 0) (accepts : List TableView → Bool) (contents : Option (List ℕ)) (seen : Seen Own) (r : Run) → r.lines.items ≡ [] → GoesRounds Tells accepts 0 contents contents seen seen r r
@@ -185,23 +218,23 @@ rounds_none Tells accepts contents seen r none = record { text = []; shown = rou
 pub rounds_next : {Own : Type 0} (Tells : Type 0) (accepts : List TableView → Bool) (n : ℕ) (a b c : Option (List ℕ)) (old mid new : Seen Own) (r then_r now_r : Run) → GoesRounds Tells accepts n a b old mid r then_r → GoesRound Tells accepts rests.Idle b c mid new then_r now_r
     → GoesRounds Tells accepts (n + 1) a c old new r now_r
 rounds_next Tells accepts n a b c old mid new r then_r now_r rounds one = record {
-  text = rounds.text ++ one.dispatches.text;
-  shown = rounds-more Tells accepts n rounds.text one.dispatches.text old mid one.mid new (engine_of r) (engine_of then_r) (engine_of one.mid_run) (engine_of now_r) one.first one.later rounds.shown one.batch one.dispatches.shown;
-  writes = writes_then rounds.text one.dispatches.text a b c then_r now_r rounds.writes one.dispatches.writes;
+  text = (rounds.text ++ one.noted) ++ one.dispatches.text;
+  shown = rounds-more Tells accepts n rounds.text one.noted one.dispatches.text old mid one.mid new (engine_of r) (engine_of then_r) (engine_of one.mid_run) (engine_of now_r) one.first one.later rounds.shown one.batch one.dispatches.shown;
+  writes = round_written rounds.text one.noted one.dispatches.text a b one.held c then_r now_r rounds.writes one.written one.dispatches.writes;
 }
 
 pub rounds_last : {Own : Type 0} (Tells : Type 0) (accepts : List TableView → Bool) (most n : ℕ) (a b c : Option (List ℕ)) (old mid new : Seen Own) (r then_r now_r : Run) → GoesRounds Tells accepts n a b old mid r then_r → GoesRound Tells accepts rests.End b c mid new then_r now_r
     → GoesToEnd Tells accepts most a c old new r now_r
 rounds_last Tells accepts most n a b c old mid new r then_r now_r rounds one = record {
-  text = rounds.text ++ one.dispatches.text;
-  shown = rounds-end Tells accepts n most rounds.text one.dispatches.text old mid one.mid new (engine_of r) (engine_of then_r) (engine_of one.mid_run) (engine_of now_r) one.first one.later rounds.shown one.batch.over one.dispatches.shown;
+  text = (rounds.text ++ one.noted) ++ one.dispatches.text;
+  shown = rounds-end Tells accepts n most rounds.text one.noted one.dispatches.text old mid one.mid new (engine_of r) (engine_of then_r) (engine_of one.mid_run) (engine_of now_r) one.first one.later rounds.shown one.batch.over one.dispatches.shown;
   none_to_come = record {
     none = λ allows told keeps judges settled few.
         let keeps_mid = Conforming-before told one.later keeps in
         let then_settled = (rounds.shown.rounds_so allows told (Conforming-before told one.first keeps_mid) judges settled).moved.settled in
         none-later Tells mid new told (Continues-trans Tells mid one.mid new one.first one.later) keeps (one.batch.none_to_come told keeps_mid then_settled);
   };
-  writes = writes_then rounds.text one.dispatches.text a b c then_r now_r rounds.writes one.dispatches.writes;
+  writes = round_written rounds.text one.noted one.dispatches.text a b one.held c then_r now_r rounds.writes one.written one.dispatches.writes;
 }
 
 -- so many rounds that there are not so many stimuli

@@ -21,7 +21,8 @@ use Rattle.app_visor.specs.Turns.{StagesTurn}
 use Rattle.checkpoint_store.specs.Slots.{Slot}
 use Rattle.run_laws.specs.Engine.{Engine}
 use Rattle.lego_model.specs.Application.{index, budget, name}
-use Rattle.run_laws.specs.Facts.{turn_word, out_text, StartsAgain}
+use Rattle.batch_laws.specs.Knowledge.{lost_text}
+use Rattle.run_laws.specs.Facts.{turn_word, out_text, all_told, StartsAgain}
 use Rattle.event_dispatch.specs.declared.closing.Closing.{Closing}
 use Rattle.event_dispatch.specs.declared.closing.Closing.TheVariants as closings
 use Rattle.event_dispatch.specs.declared.run.Run.{Run}
@@ -38,7 +39,7 @@ turn_at : {Own : Type 0} (Tells : Type 0) (accepts : List TableView → Bool) (e
 turn_at Tells accepts event (closings.Done stop out) old mid new net queue app slots r now_r holds alive closes =
     let plays = holds.plays in
     record {
-      text = turn_line name (turn_word (ends.Done stop)) ++ out_text out.items;
+      text = turn_line name (turn_word (ends.Done stop)) ++ (out_text out.items ++ lost_text net.left);
       takes = record {
         mid = plays.mid;
         mid_net = plays.mid_net;
@@ -51,8 +52,8 @@ turn_at Tells accepts event (closings.Done stop out) old mid new net queue app s
           sent = out.items;
           commits = subst (λ (s : Seen _). Commits Tells (length r.net.log) plays.mid s plays.mid_net net r.queue queue (Ok out.items)) (sym closes.seen) plays.played;
           engine = closes.engine
-              ∙ ap (λ (b : Bool). record (engine_of r) { net = net; queue = queue; alive = b; rest = app.rest; kept = kept_of index slots; done = r.app.done + 1 }) alive
-              ∙ ap (λ (kept : List ℕ). record (engine_of r) { net = net; queue = queue; rest = app.rest; kept = kept; done = r.app.done + 1 }) holds.kept_so;
+              ∙ ap (λ (b : Bool). all_told net queue (record (engine_of r) { alive = b; rest = app.rest; kept = kept_of index slots; done = r.app.done + 1 })) alive
+              ∙ ap (λ (kept : List ℕ). all_told net queue (record (engine_of r) { rest = app.rest; kept = kept; done = r.app.done + 1 })) holds.kept_so;
           text_so = refl;
         };
       };
@@ -63,7 +64,7 @@ turn_at Tells accepts event (closings.Failed cause) old mid new net queue app sl
     let same : kept_of index slots ≡ kept_of index r.store =
     holds.kept_so ∙ ap (λ (checkpoint : Option (List ℕ)). unwrap_or checkpoint (kept_of index r.store)) (none_handed cause app.rest plays.turns.outcome plays.turns.ends) in
     record {
-      text = turn_line name (words.Failed cause) ++ closes.text;
+      text = turn_line name (words.Failed cause) ++ (lost_text net.left ++ closes.text);
       takes = record {
         mid = plays.mid;
         mid_net = plays.mid_net;
@@ -76,9 +77,9 @@ turn_at Tells accepts event (closings.Failed cause) old mid new net queue app sl
           undoes = plays.played.0;
           later_text = closes.text;
           starts = subst (λ (e : Engine). StartsAgain Tells closes.text mid new e (engine_of now_r))
-              (ap (λ (unread : List ℕ). record (engine_of r) { net = net; queue = queue; alive = app.alive; rest = unread; kept = kept_of index slots; failed = r.app.failed + 1 }) plays.turns.leaves
-              ∙ ap₂ (λ (q : List Event) (b : Bool). record (engine_of r) { net = net; queue = q; alive = b; rest = []; kept = kept_of index slots; failed = r.app.failed + 1 }) plays.played.1 alive
-              ∙ ap (λ (kept : List ℕ). record (engine_of r) { net = net; rest = []; kept = kept; failed = r.app.failed + 1 }) same) closes.starts;
+              (ap (λ (unread : List ℕ). all_told net queue (record (engine_of r) { alive = app.alive; rest = unread; kept = kept_of index slots; failed = r.app.failed + 1 })) plays.turns.leaves
+              ∙ ap₂ (λ (q : List Event) (b : Bool). all_told net q (record (engine_of r) { alive = b; rest = []; kept = kept_of index slots; failed = r.app.failed + 1 })) plays.played.1 alive
+              ∙ ap (λ (kept : List ℕ). all_told net r.queue (record (engine_of r) { rest = []; kept = kept; failed = r.app.failed + 1 })) same) closes.starts;
           text_so = refl;
         };
       };

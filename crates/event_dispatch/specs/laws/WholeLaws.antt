@@ -4,6 +4,7 @@ use Rattle.std.specs.Io.KnownBytes.{append_known}
 use Rattle.std.proofs.lemmas.List.{append-nil}
 use Rattle.flow_table.specs.View.{TableView}
 use Rattle.lego_model.specs.Places.{Place}
+use Rattle.lego_model.specs.History.{lost_of}
 use Rattle.outside.specs.declared.step.WorldStep.{WorldStep}
 use Rattle.outside.specs.declared.step.WorldStep.TheVariants.{Opened, NotOpened}
 use Rattle.outside.specs.declared.faults.OpenFault.{OpenFault}
@@ -45,8 +46,9 @@ ends_so Tells contents now_contents last new r mid now_r none shown counted writ
     shown = λ told keeps calm.
         let says = shown.shown told keeps calm in
         record {
-          written = writes.written ∙ ap (append_known contents) (says.lines ∙ ap (λ (xs : List ℕ). xs ++ last_text last (engine_of r)) none);
-          leaves = says_leaves says;
+          lost = says.lost;
+          written = writes.written ∙ ap (append_known contents) (says.says.lines ∙ ap (λ (xs : List ℕ). xs ++ last_text says.lost last (engine_of r)) none);
+          leaves = says_leaves says.says;
         };
   };
   events = ap (λ (e : Engine). e.events) same ∙ counted;
@@ -90,13 +92,13 @@ went_full {Own} Tells accepts most left a b c d old begun last new r r1 r2 now_r
     whole_so = whole-of Tells accepts most begins.text rounds.text old begun last (engine_of r) (engine_of r1) (engine_of r2) on begins.shown rounds.shown;
     left_so = ends.0;
     contents_so = ends.1 ∙ (writes_then begins.text rounds.text a b c r1 r2 begins.writes rounds.writes).written;
-    leaves = record { shown = λ told keeps. subst (Leaves last) (sym ends.2) (leaves-nothing last) };
+    leaves = record { shown = λ told keeps. subst (Leaves [] last) (sym ends.2) (leaves-nothing last) };
   };
   none_to_come = none_then Tells accepts most old begun last new (engine_of r) b c r1 r2 on later begins.shown rounds;
 }
   where
-    leaves-nothing : (seen : Seen Own) → Leaves seen seen
-    leaves-nothing seen = record { given = refl; starts = refl; replies = refl; inputs = refl; stimuli = refl; released = refl; marks = refl; switches = λ d. refl; at_once = λ said. said; orderly = orderly-none index seen }
+    leaves-nothing : (seen : Seen Own) → Leaves [] seen seen
+    leaves-nothing seen = record { given = refl; starts = refl; replies = refl; inputs = refl; stimuli = refl; released = refl; lost_so = sym (append-nil (lost_of seen)); marks = refl; switches = λ d. refl; at_once = λ said. said; orderly = orderly-none index seen }
 
 pub went_as : {Own : Type 0} (Tells : Type 0) (accepts : List TableView → Bool) (most : ℕ) (result : Result (Unit {0}) Served) (a b c d : Option (List ℕ)) (old begun last new : Seen Own) (r r1 r2 now_r : Run) → Continues Tells begun last → Continues Tells last new → Begins Tells a b old begun r r1
     → GoesToEnd Tells accepts most b c begun last r1 r2 → Finishes Tells result c d last new r2 now_r → GoesAs Tells accepts most result a d old new r now_r
@@ -128,7 +130,7 @@ out_then Tells accepts most events a b old mid new e later leaves runs = record 
     finish = record {
       shown = λ told keeps calm.
           let done = runs.out.finish.shown told (Conforming-before told later keeps) calm in
-          record { written = done.written; leaves = leaves-then runs.out.last mid new done.leaves (leaves.shown told keeps) };
+          record { lost = done.lost; written = done.written; leaves = leaves-then done.lost runs.out.last mid new done.leaves (leaves.shown told keeps) };
     };
   };
   events_so = runs.events_so;
@@ -146,7 +148,7 @@ full_then Tells accepts most left a b old mid new e later leaves runs = record {
     whole_so = runs.full.whole_so;
     left_so = runs.full.left_so;
     contents_so = runs.full.contents_so;
-    leaves = record { shown = λ told keeps. leaves-then runs.full.last mid new (runs.full.leaves.shown told (Conforming-before told later keeps)) (leaves.shown told keeps) };
+    leaves = record { shown = λ told keeps. leaves-then [] runs.full.last mid new (runs.full.leaves.shown told (Conforming-before told later keeps)) (leaves.shown told keeps) };
   };
   none_to_come = none_later_then Tells accepts most old mid new e later runs.none_to_come;
 }

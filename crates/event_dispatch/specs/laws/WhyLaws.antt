@@ -8,11 +8,11 @@ use Rattle.outside.specs.Seen.{NoneFell, Seen, Longer, Continues}
 use Rattle.outside.specs.Calls.{Ends}
 use Rattle.outside.specs.laws.SeenLaws.{Continues-trans, Ends-continues}
 use Rattle.lego_model.specs.declared.fault.TxnFault.{TxnFault}
-use Rattle.lego_model.specs.declared.fault.TxnFault.TheVariants.{SwitchFault, SwitchBroke, Diverged, Flooded, NoMemory}
+use Rattle.lego_model.specs.declared.fault.TxnFault.TheVariants.{SwitchBroke, Diverged, Flooded, NoMemory}
 use Rattle.event_dispatch.specs.declared.served.Served.{Served}
 use Rattle.event_dispatch.specs.declared.served.Served.TheVariants as ends
 use Rattle.event_dispatch.specs.declared.run.Run.{Run}
-use Rattle.event_dispatch.specs.Runs.{Waits}
+use Rattle.event_dispatch.specs.Runs.{Waits, WaitsAtEnd}
 use Rattle.event_dispatch.specs.Why.{IsWhy}
 use Rattle.lego_model.specs.SwitchFaults.{CameFrom, IsBadPart, IsUnanswered, IsErrorFor, IsWhyTxn}
 use Rattle.lego_model.specs.laws.SwitchFaultLaws.{happened_behind, happened_before, IsFlood-behind, IsFlood-before}
@@ -53,7 +53,6 @@ module _ {Own Tells : Type 0} (a b c : Seen Own) (first : Tells → Longer a.his
   refused_behind d sent got (inr none) = inr (unanswered_behind d sent got none)
 
   pub IsWhyTxn-behind : (fault : TxnFault) → NoneFell a.counts b.counts → IsWhyTxn Tells b c fault → IsWhyTxn Tells a c fault
-  IsWhyTxn-behind (SwitchFault d) fell why = Rose-after (a.counts.link_faults d) (b.counts.link_faults d) (c.counts.link_faults d) (fell.link_faults d) why
   IsWhyTxn-behind (Flooded d n) fell why = (why.0, IsFlood-behind a b c first d n why.1)
   IsWhyTxn-behind NoMemory fell why = why
   IsWhyTxn-behind (SwitchBroke d bytes) fell why = ((λ told. came_behind d bytes a.history b.history c.history (first told) (why.0 told)), broken_behind d bytes why.1)
@@ -83,7 +82,6 @@ module _ {Own Tells : Type 0} (a b c : Seen Own) (rest : Tells → Longer b.hist
   refused_before d sent got (inr none) = inr (unanswered_before d sent got none)
 
   IsWhyTxn-before : (fault : TxnFault) → NoneFell a.counts b.counts → NoneFell b.counts c.counts → IsWhyTxn Tells a b fault → IsWhyTxn Tells a c fault
-  IsWhyTxn-before (SwitchFault d) fell on why = Rose-before (a.counts.link_faults d) (b.counts.link_faults d) (c.counts.link_faults d) (fell.link_faults d) why (on.link_faults d)
   IsWhyTxn-before (Flooded d n) fell on why = (why.0, IsFlood-before a b c rest d n why.1)
   IsWhyTxn-before NoMemory fell on why = why
   IsWhyTxn-before (SwitchBroke d bytes) fell on why = ((λ told. came_before d bytes a.history b.history c.history (rest told) (why.0 told)), broken_before d bytes why.1)
@@ -131,7 +129,14 @@ pub why_then : {Own : Type 0} {Tells : Type 0} (a b c : Seen Own) (end : Served)
 why_then a b c end first why = IsWhy-behind a b c 0 0 0 end first (omega arith) why
 
 pub waits_then : (a b c : Run) → Waits a b → Waits b c → Waits a c
-waits_then a b c first rest = record { room = rest.room ∙ first.room; events = rest.events ∙ first.events; done = rest.done ∙ first.done; failed = rest.failed ∙ first.failed; store = rest.store ∙ first.store }
+waits_then a b c first rest = record { room = rest.room ∙ first.room; events = rest.events ∙ first.events; done = rest.done ∙ first.done; failed = rest.failed ∙ first.failed; store = rest.store ∙ first.store; left = λ none. rest.left (first.left none) }
+
+-- at the end of a report
+pub waits_at_end : (a b c : Run) → WaitsAtEnd a b → Waits b c → WaitsAtEnd a c
+waits_at_end a b c first rest = record { room = rest.room ∙ first.room; events = rest.events ∙ first.events; done = rest.done ∙ first.done; failed = rest.failed ∙ first.failed; store = rest.store ∙ first.store }
+
+pub ends_then : (a b c : Run) → WaitsAtEnd a b → WaitsAtEnd b c → WaitsAtEnd a c
+ends_then a b c first rest = record { room = rest.room ∙ first.room; events = rest.events ∙ first.events; done = rest.done ∙ first.done; failed = rest.failed ∙ first.failed; store = rest.store ∙ first.store }
 
 -- what came before an undo
 pub why_before : {Own : Type 0} {Tells : Type 0} (a b c : Seen Own) (end : Served) → Continues Tells a b → Continues Tells b c → IsWhy Tells a b 0 0 end → IsWhy Tells a c 0 0 end

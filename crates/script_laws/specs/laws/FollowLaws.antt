@@ -5,7 +5,7 @@ use Rattle.std.proofs.Common.{◌≡◌, ◌==◌, ◌≤◌, ◌+◌, ℕ, Bool
 use Rattle.std.proofs.lemmas.Bool.{eqb-true}
 use Rattle.of_types.specs.Fields.{number_at}
 use Rattle.of_types.specs.declared.journal.Act.{Act}
-use Rattle.of_types.specs.declared.journal.Act.TheVariants.{Stim, Started, Gave, Gone, Took, Ended, Sent, Got}
+use Rattle.of_types.specs.declared.journal.Act.TheVariants.{Stim, Started, Gave, Gone, Took, Ended, Sent, Got, Lost}
 use Rattle.of_types.specs.declared.journal.TookWhat.{TookWhat}
 use Rattle.of_types.specs.declared.journal.TookWhat.TheVariants as took
 use Rattle.app_frames.specs.declared.frame.AppFrame.{AppFrame}
@@ -21,7 +21,7 @@ use Rattle.lego_model.specs.History.{starts_in, replies_in}
 use Rattle.outside.specs.declared.call.CallKind.{CallKind}
 use Rattle.outside.specs.declared.call.CallKind.TheVariants as kinds
 use Rattle.outside.specs.declared.step.WorldStep.{WorldStep}
-use Rattle.outside.specs.declared.step.WorldStep.TheVariants.{Acted, TookInto, From, Joined, Left, Moment, Idle, End, Opened, NotOpened, NextFailed, SendFailed, RecvFailed}
+use Rattle.outside.specs.declared.step.WorldStep.TheVariants.{Acted, TookInto, From, Joined, Left, Moment, Idle, End, Opened, NotOpened, NextFailed, SendLost, RecvLost, SendFailed, RecvFailed}
 use Rattle.outside.specs.Seen.{journal}
 use Rattle.outside.specs.State.{event_number}
 use Rattle.sim_world.specs.Told.{is_told}
@@ -288,6 +288,7 @@ module _ (own : Scripts) (app : ℕ) where
   act_goes_on (Stim x) lives s t so is says = by_other (Stim x) (lives app) s t refl so says
   act_goes_on (Sent d bytes) lives s t so is says = by_other (Sent d bytes) (lives app) s t refl so says
   act_goes_on (Got d bytes) lives s t so is says = by_other (Got d bytes) (lives app) s t refl so says
+  act_goes_on (Lost d) lives s t so is says = by_other (Lost d) (lives app) s t refl so says
 
   take_goes_on : (of : ℕ) (what : TookWhat) (room : ℕ) (lives : ℕ → Life) (s t : Before) → Stands (lives app) s → room ≡ 65536 → IsScripted own [] (TookInto of what room) lives → Says (is_of app (Took of what)) (Took of what) s t
       → GoesOn (Took of what) (lives app) (life_after own [] app (TookInto of what room) (lives app)) s t
@@ -323,6 +324,12 @@ module _ (own : Scripts) (app : ℕ) where
   follows (Opened ∷ steps) lives s t so are rooms said = follows steps (lives_after own [] Opened lives) s t so are.1 rooms.1 said
   follows (NotOpened ∷ steps) lives s t so are rooms said = follows steps (lives_after own [] NotOpened lives) s t so are.1 rooms.1 said
   follows (NextFailed ∷ steps) lives s t so are rooms said = follows steps (lives_after own [] NextFailed lives) s t so are.1 rooms.1 said
+  follows (SendLost d ∷ steps) lives s t so are rooms said =
+      let on = by_other (Lost d) (lives app) s said.0 refl so said.1.0 in
+      on.goes (journal steps) (follows steps (lives_after own [] (SendLost d) lives) said.0 t on.stands are.1 rooms.1 said.1.1)
+  follows (RecvLost d ∷ steps) lives s t so are rooms said =
+      let on = by_other (Lost d) (lives app) s said.0 refl so said.1.0 in
+      on.goes (journal steps) (follows steps (lives_after own [] (RecvLost d) lives) said.0 t on.stands are.1 rooms.1 said.1.1)
   follows (SendFailed d ∷ steps) lives s t so are rooms said = follows steps (lives_after own [] (SendFailed d) lives) s t so are.1 rooms.1 said
   follows (RecvFailed d ∷ steps) lives s t so are rooms said = follows steps (lives_after own [] (RecvFailed d) lives) s t so are.1 rooms.1 said
 

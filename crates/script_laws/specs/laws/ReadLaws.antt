@@ -1,7 +1,7 @@
 -- Laws of what is read of an application's acts: where each came as its lines say, its starts and replies are the fronts of them.
 use Rattle.std.proofs.Common.{◌≡◌, ℕ, zero, suc, Bool, true, false, not, List, [], ◌∷◌, ◌++◌, map, drop, refl, sym, ap, ◌∙◌, subst, true≢false, arith, inl, if◌then◌else◌}
 use Rattle.of_types.specs.declared.journal.Act.{Act}
-use Rattle.of_types.specs.declared.journal.Act.TheVariants.{Stim, Started, Gave, Gone, Took, Ended, Sent, Got}
+use Rattle.of_types.specs.declared.journal.Act.TheVariants.{Stim, Started, Gave, Gone, Took, Ended, Sent, Got, Lost}
 use Rattle.of_types.specs.declared.journal.TookWhat.{TookWhat}
 use Rattle.app_frames.specs.declared.script.ScriptStep.{ScriptStep}
 use Rattle.app_frames.specs.declared.script.ScriptStep.TheVariants.{Bytes}
@@ -178,6 +178,7 @@ reads_act p (Gone of frame) acts may r = absurd may
 reads_act p (Stim x) acts may r = absurd may
 reads_act p (Sent d bytes) acts may r = absurd may
 reads_act p (Got d bytes) acts may r = absurd may
+reads_act p (Lost d) acts may r = absurd may
 
 pub reads : (p : Ahead) (acts : List Act) → Goes p acts → Reads p acts
 reads p [] goes = reads_none p

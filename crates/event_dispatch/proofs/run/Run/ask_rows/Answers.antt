@@ -1,11 +1,8 @@
-use Rattle.std.proofs.Common.{refl, sym, ap, subst}
-use Rattle.net_txn.specs.Net.{NetState}
-use Rattle.run_laws.specs.laws.LastReportLaws.{rows-asked}
+use Rattle.std.proofs.Common.{sym, subst}
 use Rattle.event_dispatch.specs.declared.fault.Fault.{Fault}
-use Rattle.event_dispatch.specs.Shows.{engine_of}
 use Rattle.event_dispatch.specs.Why.{IsReason}
 use Rattle.event_dispatch.specs.laws.FaultLaws.{asks_why}
-use Rattle.event_dispatch.specs.laws.LastLaws.{net_stays}
+use Rattle.event_dispatch.specs.laws.LastLaws.{asks_as, asks_wait}
 use Rattle.event_dispatch.specs.laws.PlainLaws.{table_asked}
 use Rattle.event_dispatch.specs.Plain.{PlainTable}
 use Rattle.event_dispatch.specs.laws.DispatchStrayLaws.{asked_places, asked_reads, links_quietly}
@@ -19,13 +16,7 @@ returns-in-Err-clause-why g c =
 
 -- src/last.rt:107:5
 pub returns-in-Ok-clause-asks : goal.returns-in-Ok-clause-asks
-returns-in-Ok-clause-asks g c = record {
-  in_step = c.in-Ok.ensures.in_step;
-  asked = λ told. rows-asked g.W.World.Tells c.args.dpid c.args.self.now.net.xid (g.W.World.seen c.args.world.now) (g.W.World.seen c.rows.new.world) c.args.self.now.net.kept c.rows.new.self.kept c.in-Ok.rows told c.in-Ok.ensures.asks.answer;
-  engine = ap (λ (n : NetState). record (engine_of c.args.self.now) { net = n }) (net_stays c.args.self.now.net c.rows.new.self _ c.in-Ok.ensures.stays);
-  index = refl;
-  lines = refl;
-}
+returns-in-Ok-clause-asks g c = asks_as g.W.World.Tells c.args.dpid (g.W.World.seen c.args.world.now) (g.W.World.seen c.rows.new.world) c.args.self.now c.rows.new.self c.in-Ok.rows c.in-Ok.ensures.asks c.in-Ok.ensures.in_step
 
 pub returns-in-Err-clause-plain : goal.returns-in-Err-clause-plain
 returns-in-Err-clause-plain g c =
@@ -44,4 +35,7 @@ pub returns-in-Err-clause-no_point : goal.returns-in-Err-clause-no_point
 returns-in-Err-clause-no_point g c = links_quietly c.in-Err.ensures.asks.links
 
 pub returns-in-Ok-clause-reads : goal.returns-in-Ok-clause-reads
-returns-in-Ok-clause-reads g c = asked_reads c.args.self.now.net c.rows.new.self (ap (λ (n : NetState). n.views) c.in-Ok.ensures.stays) c.in-Ok.ensures.asks
+returns-in-Ok-clause-reads g c = asked_reads c.args.self.now.net c.rows.new.self c.requires c.in-Ok.ensures.asks
+
+pub returns-in-Ok-clause-waits : goal.returns-in-Ok-clause-waits
+returns-in-Ok-clause-waits g c = asks_wait c.args.self.now c.rows.new.self c.in-Ok.rows c.in-Ok.ensures.asks

@@ -1,4 +1,4 @@
-use Rattle.std.proofs.Common.{ap}
+use Rattle.std.proofs.Common.{ap, ◌∙◌}
 use Rattle.std.proofs.lemmas.Result.{on_ok_weaker}
 use Rattle.run_laws.specs.Engine.{Engine}
 use Rattle.event_dispatch.specs.laws.SteadyLaws.{places_none, reads_none}
@@ -9,15 +9,23 @@ use Rattle.event_dispatch.proofs.run.Run.close.Goals as goal
 pub returns-in_err-note_turn-in-Failed-clause-places : goal.returns-in_err-note_turn-in-Failed-clause-places
 returns-in_err-note_turn-in-Failed-clause-places g c = places_none g.W.World.Tells (g.W.World.seen c.args.world.now) c.args.self.now.net
 
-pub returns-after-stop-clause-places : goal.returns-after-stop-clause-places
-returns-after-stop-clause-places g c = places_none g.W.World.Tells (g.W.World.seen c.args.world.now) c.args.self.now.net
+pub returns-in_err-tell_lost-in-Failed-clause-places : goal.returns-in_err-tell_lost-in-Failed-clause-places
+returns-in_err-tell_lost-in-Failed-clause-places g c = places_none g.W.World.Tells (g.W.World.seen c.args.world.now) c.args.self.now.net
 
-pub returns-after-stop-clause-reads : goal.returns-after-stop-clause-reads
-returns-after-stop-clause-reads g c =
-    on_ok_weaker c.note_done.result (λ adds. reads_none g.W.World.Tells (g.W.World.seen c.args.world.now) c.args.self.now.net c.note_done.new.self.net (ap (λ (e : Engine). e.net.views) adds.engine)) c.note_done.ensures.adds
+pub returns-in_err-note_done-in-Done-clause-places : goal.returns-in_err-note_done-in-Done-clause-places
+returns-in_err-note_done-in-Done-clause-places g c = places_none g.W.World.Tells (g.W.World.seen c.args.world.now) c.args.self.now.net
+
+pub returns-in_ok-note_done-in-Done-clause-places : goal.returns-in_ok-note_done-in-Done-clause-places
+returns-in_ok-note_done-in-Done-clause-places g c = places_none g.W.World.Tells (g.W.World.seen c.args.world.now) c.args.self.now.net
+
+pub returns-in_ok-note_done-in-Done-clause-reads : goal.returns-in_ok-note_done-in-Done-clause-reads
+returns-in_ok-note_done-in-Done-clause-reads g c =
+    on_ok_weaker c.tell_lost.result
+    (λ tells. reads_none g.W.World.Tells (g.W.World.seen c.args.world.now) c.args.self.now.net c.tell_lost.new.self.net (ap (λ (e : Engine). e.net.views) tells.engine ∙ ap (λ (e : Engine). e.net.views) c.in_ok-note_done-in-Done.ensures.adds.engine))
+    c.tell_lost.ensures.tells
 
 pub returns-in_err-note_turn-in-Failed-clause-own : goal.returns-in_err-note_turn-in-Failed-clause-own
 returns-in_err-note_turn-in-Failed-clause-own g c = λ told. own_none index (g.W.World.seen c.args.world.now)
 
-pub returns-after-stop-clause-own : goal.returns-after-stop-clause-own
-returns-after-stop-clause-own g c = λ told. own_none index (g.W.World.seen c.args.world.now)
+pub returns-in_ok-note_done-in-Done-clause-own : goal.returns-in_ok-note_done-in-Done-clause-own
+returns-in_ok-note_done-in-Done-clause-own g c = λ told. own_none index (g.W.World.seen c.args.world.now)

@@ -1,7 +1,7 @@
 use Rattle.event_dispatch.specs.declared.fault.Fault.TheVariants as faults
 use Rattle.std.proofs.Common.{◌∙◌, ℕ, List, get_or, take, sym, subst, refl, ap, rules}
 use Rattle.std.proofs.lemmas.List.{take_more}
-use Rattle.event_dispatch.specs.laws.WhyLaws.{waits_then, continues_then}
+use Rattle.event_dispatch.specs.laws.WhyLaws.{ends_then, continues_then}
 use Rattle.event_dispatch.specs.ReportEnd.{TablesShown}
 use Rattle.event_dispatch.specs.laws.LastLaws.{take_whole, tables_next, last_shown}
 use Rattle.event_dispatch.specs.laws.PlainLaws.{calm_anyway, tables_then}
@@ -20,7 +20,7 @@ loop-dpid-preserved g c =
     let ds = c.deref-dpid-items.result.now in
     let i = c.loop-dpid.dpid-index in
     record {
-      waits = waits_then c.args.self.now c.loop-dpid.self c.note_table.new.self c.loop-dpid.invariant.waits c.in_ok-note_table.ensures.waits;
+      waits = ends_then c.args.self.now c.loop-dpid.self c.note_table.new.self c.loop-dpid.invariant.waits c.in_ok-note_table.ensures.waits;
       continues = continues_then g.W.World.Tells (g.W.World.seen c.args.world.now) (g.W.World.seen c.loop-dpid.world) (g.W.World.seen c.note_table.new.world) c.loop-dpid.invariant.continues c.in_ok-note_table.ensures.continues;
       talks = keeps_then g.W.World.Tells (g.W.World.seen c.args.world.now) (g.W.World.seen c.loop-dpid.world) (g.W.World.seen c.note_table.new.world) c.loop-dpid.invariant.talks c.in_ok-note_table.ensures.talks;
       places = places_then (g.W.World.seen c.args.world.now) (g.W.World.seen c.loop-dpid.world) (g.W.World.seen c.note_table.new.world) c.args.self.now.net c.loop-dpid.self.net c.loop-dpid.invariant.continues c.note_table.ensures.continues c.loop-dpid.invariant.places c.loop-dpid.invariant.reads c.note_table.ensures.places;
@@ -44,7 +44,7 @@ returns-in_err-switches-clause-plain g c =
 pub returns-in_err-note_table-clause-plain : goal.returns-in_err-note_table-clause-plain
 returns-in_err-note_table-clause-plain g c =
     if_err (λ fault. PlainCalm g.W.World.Tells (g.W.World.seen c.args.world.now) (g.W.World.seen c.note_table.new.world) c.args.self.now.net (served_by fault)) c.in_err-note_table.field-0.0 c.from_residual-in_err-note_table.result c.from_residual-in_err-note_table.ensures.1
-    (tables_then _ (g.W.World.seen c.args.world.now) (g.W.World.seen c.loop-dpid.world) (g.W.World.seen c.note_table.new.world) c.args.self.now c.loop-dpid.self c.in_err-note_table.field-0.0 c.loop-dpid.invariant.shown c.in_err-note_table.ensures.continues c.in_err-note_table.ensures.plain)
+    (tables_then c.deref-dpid-items.result.now c.loop-dpid.dpid-index (g.W.World.seen c.args.world.now) (g.W.World.seen c.loop-dpid.world) (g.W.World.seen c.note_table.new.world) c.args.self.now c.loop-dpid.self c.in_err-note_table.field-0.0 (c.deref-dpid-items.ensures.value ∙ c.in_ok-switches.ensures) c.loop-dpid.invariant.shown c.in_err-note_table.ensures.continues c.in_err-note_table.ensures.plain)
 
 pub returns-in_err-note_end-clause-plain : goal.returns-in_err-note_end-clause-plain
 returns-in_err-note_end-clause-plain g c =

@@ -1,14 +1,14 @@
 use Rattle.event_dispatch.specs.Talking.{KeepsTalking}
 use Rattle.std.proofs.Common.{take}
 use Rattle.outside.specs.Seen.{Continues}
-use Rattle.event_dispatch.specs.Runs.{Waits}
+use Rattle.event_dispatch.specs.Runs.{WaitsAtEnd}
 use Rattle.event_dispatch.specs.Steady.{NoStray, Reads, NoPoint}
 use Rattle.event_dispatch.specs.ReportEnd.{TablesShown}
 use Rattle.event_dispatch.proofs.run.Run.note_last.Given as goal
 
 abbrev pub invariant-loop-dpid : goal.invariant-loop-dpid
 invariant-loop-dpid g l = record {
-  waits : Waits l.fn.self l.self;
+  waits : WaitsAtEnd l.fn.self l.self;
   continues : Continues g.W.World.Tells (g.W.World.seen l.fn.world) (g.W.World.seen l.world);
   talks : KeepsTalking g.W.World.Tells (g.W.World.seen l.fn.world) (g.W.World.seen l.world);
   places : NoStray g.W.World.Tells (g.W.World.seen l.fn.world) (g.W.World.seen l.world) l.fn.self.net;

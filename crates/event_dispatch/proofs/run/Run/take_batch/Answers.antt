@@ -31,7 +31,7 @@ pub loop-item-preserved : goal.loop-item-preserved
 loop-item-preserved g c = record {
   waits = waits_then c.args.self.now c.loop-item.self c.take_next.new.self c.loop-item.invariant.waits c.in_ok-rest.ensures.waits;
   app = c.in_ok-rest.ensures.app ∙ c.loop-item.invariant.app;
-  lines = c.in_ok-rest.ensures.lines ∙ c.loop-item.invariant.lines;
+  left = c.in_ok-rest.ensures.waits.left c.loop-item.invariant.left;
   read = c.in_ok-rest.ensures.read c.loop-item.invariant.read;
   goes = batch_goes c.loop-item._item (g.W.World.seen c.args.world.now) (g.W.World.seen c.loop-item.world) (g.W.World.seen c.take_next.new.world) c.args.self.now c.loop-item.self c.take_next.new.self c.loop-item.invariant.goes
       (subst (λ (rest : Option Rest). NextTaken g.W.World.Tells rest (g.W.World.seen c.loop-item.world) (g.W.World.seen c.take_next.new.world) c.loop-item.self c.take_next.new.self) c.in_default.is c.in_ok-rest.ensures.taken);

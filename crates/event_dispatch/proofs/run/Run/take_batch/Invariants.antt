@@ -1,5 +1,5 @@
 use Rattle.event_dispatch.specs.Talking.{KeepsTalking}
-use Rattle.std.proofs.Common.{◌≡◌, length}
+use Rattle.std.proofs.Common.{◌≡◌, [], length}
 use Rattle.outside.specs.Seen.{Continues}
 use Rattle.event_dispatch.specs.Steady.{NoStray, Reads}
 use Rattle.event_dispatch.specs.Told.{BatchPoint}
@@ -11,7 +11,7 @@ abbrev pub invariant-loop-item : goal.invariant-loop-item
 invariant-loop-item g l = record {
   waits : Waits l.fn.self l.self;
   app : l.self.app ≡ l.fn.self.app;
-  lines : l.self.lines ≡ l.fn.self.lines;
+  left : l.self.net.left ≡ [];
   read : AreRead l.self.net.kept;
   goes : BatchGoes g.W.World.Tells l._item (g.W.World.seen l.fn.world) (g.W.World.seen l.world) l.fn.self l.self;
   first : KeptComesFirst l.fn.self l.self;

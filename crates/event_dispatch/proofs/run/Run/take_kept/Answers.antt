@@ -1,7 +1,7 @@
 use Rattle.event_dispatch.specs.declared.fault.Fault.TheVariants as faults
 use Rattle.std.proofs.Common.{refl, sym, ◌∙◌}
 use Rattle.outside.specs.laws.SeenLaws.{Continues-refl}
-use Rattle.event_dispatch.specs.laws.BatchLaws.{kept_at_first, kept_one_more, kept_ends, kept_all}
+use Rattle.event_dispatch.specs.laws.BatchLaws.{kept_at_first, kept_one_more, kept_line, kept_ends, kept_all}
 use Rattle.event_dispatch.specs.laws.PlainLaws.{kept_memory, kept_none}
 use Rattle.event_dispatch.specs.laws.CutLaws.{if_err}
 use Rattle.event_dispatch.specs.Plain.{PlainKept}
@@ -15,7 +15,7 @@ use Rattle.event_dispatch.proofs.run.Run.take_kept.Goals as goal
 
 pub returns-in_default-clause-kept : goal.returns-in_default-clause-kept
 returns-in_default-clause-kept g c =
-    kept_ends c.loop-taken.taken (g.W.World.seen c.args.world.now) (g.W.World.seen c.loop-taken.world) c.args.self.now c.loop-taken.self _ c.loop-taken.invariant.kept c.in_ok-dpid.ensures.rest (sym c.in_default.is ∙ c.in_ok-dpid.ensures.first) refl
+    kept_ends c.loop-taken.taken (g.W.World.seen c.args.world.now) (g.W.World.seen c.loop-taken.world) c.args.self.now c.loop-taken.self _ c.loop-taken.invariant.kept c.in_ok-dpid.ensures.rest (sym c.in_default.is ∙ c.in_ok-dpid.ensures.first) refl refl
 
 pub returns-clause-kept : goal.returns-clause-kept
 returns-clause-kept g c =
@@ -37,9 +37,10 @@ returns-in_err-take_message-clause-why g c =
 
 pub loop-taken-init : goal.loop-taken-init
 loop-taken-init g c = record {
-  waits = record { room = refl; events = refl; done = refl; failed = refl; store = refl };
+  waits = record { room = refl; events = refl; done = refl; failed = refl; store = refl; left = λ none. none };
   app = refl;
   lines = refl;
+  left = c.requires.none_left;
   read = c.requires.read;
   kept = kept_at_first (g.W.World.seen c.args.world.now) c.args.self.now;
   continues = Continues-refl g.W.World.Tells (g.W.World.seen c.args.world.now);
@@ -56,9 +57,10 @@ loop-taken-preserved g c =
     record {
       waits = taken_waits c.args.self.now c.loop-taken.self c.take_message.new.self c.waiting.new.self c.in_ok-dpid.ensures.rest before.waits since.waits;
       app = since.app ∙ before.app;
-      lines = since.lines ∙ before.lines;
+      lines = kept_line _ _ _ (g.W.World.seen c.loop-taken.world) (g.W.World.seen c.take_message.new.world) c.loop-taken.self c.take_message.new.self c.waiting.new.self before.read (sym c.in-Some.is ∙ c.in_ok-dpid.ensures.first) c.as_slice.ensures since.takes ∙ before.lines;
+      left = since.takes.handles.left;
       read = since.read (taken_read c.loop-taken.self.net c.waiting.new.self c.in_ok-dpid.ensures.rest before.read);
-      kept = kept_one_more c.loop-taken.taken _ _ _ (g.W.World.seen c.args.world.now) (g.W.World.seen c.loop-taken.world) (g.W.World.seen c.take_message.new.world) c.args.self.now c.loop-taken.self c.take_message.new.self c.waiting.new.self before.kept (sym c.in-Some.is ∙ c.in_ok-dpid.ensures.first) c.as_slice.ensures c.in_ok-dpid.ensures.rest since.handles;
+      kept = kept_one_more c.loop-taken.taken _ _ _ (g.W.World.seen c.args.world.now) (g.W.World.seen c.loop-taken.world) (g.W.World.seen c.take_message.new.world) c.args.self.now c.loop-taken.self c.take_message.new.self c.waiting.new.self before.kept before.read (sym c.in-Some.is ∙ c.in_ok-dpid.ensures.first) c.as_slice.ensures c.in_ok-dpid.ensures.rest since.takes;
       continues = continues_then g.W.World.Tells (g.W.World.seen c.args.world.now) (g.W.World.seen c.loop-taken.world) (g.W.World.seen c.take_message.new.world) before.continues since.continues;
       talks = keeps_then g.W.World.Tells (g.W.World.seen c.args.world.now) (g.W.World.seen c.loop-taken.world) (g.W.World.seen c.take_message.new.world) before.talks since.talks;
       links = links_then g.W.World.Tells (g.W.World.seen c.args.world.now) (g.W.World.seen c.loop-taken.world) (g.W.World.seen c.take_message.new.world) before.links since.links;
@@ -70,3 +72,6 @@ pub returns-in_err-take_message-clause-places : goal.returns-in_err-take_message
 returns-in_err-take_message-clause-places g c =
     taken_places g.W.World.Tells (g.W.World.seen c.args.world.now) (g.W.World.seen c.loop-taken.world) (g.W.World.seen c.take_message.new.world) c.args.self.now.net c.loop-taken.self.net c.waiting.new.self c.in_ok-dpid.ensures.rest c.loop-taken.invariant.continues c.in_err-take_message.ensures.continues
     c.loop-taken.invariant.places c.loop-taken.invariant.reads c.in_err-take_message.ensures.places
+
+pub returns-in_err-take_message-clause-links : goal.returns-in_err-take_message-clause-links
+returns-in_err-take_message-clause-links g c = links_then g.W.World.Tells (g.W.World.seen c.args.world.now) (g.W.World.seen c.loop-taken.world) (g.W.World.seen c.take_message.new.world) c.loop-taken.invariant.links c.take_message.ensures.links

@@ -1,5 +1,5 @@
 use Rattle.event_dispatch.specs.Talking.{KeepsTalking}
-use Rattle.std.proofs.Common.{◌≡◌}
+use Rattle.std.proofs.Common.{◌≡◌, []}
 use Rattle.outside.specs.Seen.{Continues}
 use Rattle.net_txn.specs.LinkSteps.{OnLinks}
 use Rattle.event_dispatch.specs.Steady.{NoStray, Reads}
@@ -11,7 +11,8 @@ abbrev pub invariant-loop-taken : goal.invariant-loop-taken
 invariant-loop-taken g l = record {
   waits : Waits l.fn.self l.self;
   app : l.self.app ≡ l.fn.self.app;
-  lines : l.self.lines ≡ l.fn.self.lines;
+  lines : l.self.lines.items ≡ l.fn.self.lines.items;
+  left : l.self.net.left ≡ [];
   read : AreRead l.self.net.kept;
   kept : KeptSoFar l.taken (g.W.World.seen l.fn.world) (g.W.World.seen l.world) l.fn.self l.self;
   continues : Continues g.W.World.Tells (g.W.World.seen l.fn.world) (g.W.World.seen l.world);

@@ -1,4 +1,5 @@
-use Rattle.std.proofs.Common.{sym, ap, inl, inr}
+use Rattle.std.proofs.Common.{[], sym, ap, inl, inr}
+use Rattle.std.proofs.lemmas.List.{append-nil}
 use Rattle.event_dispatch.specs.Batch.{rest_by}
 use Rattle.event_dispatch.specs.laws.WhyLaws.{continues_then}
 use Rattle.event_dispatch.specs.laws.BatchLaws.{rest_handles, no_rest}
@@ -19,8 +20,10 @@ returns-in-Idle-clause-taken g c = record {
     buf = c.next_item.new.buf;
     fit = c.in_ok-item.ensures.bytes;
     nexts = c.in_ok-item.ensures.nexts;
-    handles = rest_handles c.in_ok-item.item c.next_item.new.buf (g.W.World.seen c.next_item.new.world) c.args.self.now.net c.args.self.now.queue (inl c.in-Idle.is);
+    handles = rest_handles c.in_ok-item.item c.next_item.new.buf (g.W.World.seen c.next_item.new.world) c.args.self.now.net c.args.self.now.queue c.requires.none_left (inl c.in-Idle.is);
   };
+  text = [];
+  lines = sym (append-nil c.args.self.now.lines.items);
   rest_so = sym (ap rest_by c.in-Idle.is);
 }
 
@@ -32,8 +35,10 @@ returns-in-End-clause-taken g c = record {
     buf = c.next_item.new.buf;
     fit = c.in_ok-item.ensures.bytes;
     nexts = c.in_ok-item.ensures.nexts;
-    handles = rest_handles c.in_ok-item.item c.next_item.new.buf (g.W.World.seen c.next_item.new.world) c.args.self.now.net c.args.self.now.queue (inr c.in-End.is);
+    handles = rest_handles c.in_ok-item.item c.next_item.new.buf (g.W.World.seen c.next_item.new.world) c.args.self.now.net c.args.self.now.queue c.requires.none_left (inr c.in-End.is);
   };
+  text = [];
+  lines = sym (append-nil c.args.self.now.lines.items);
   rest_so = sym (ap rest_by c.in-End.is);
 }
 
@@ -41,11 +46,10 @@ pub returns-in_ok-take_item-in_default : goal.returns-in_ok-take_item-in_default
 returns-in_ok-take_item-in_default g c = record {
   waits = c.in_ok-take_item-in_default.ensures.waits;
   app = c.in_ok-take_item-in_default.ensures.app;
-  lines = c.in_ok-take_item-in_default.ensures.lines;
   continues = continues_then g.W.World.Tells (g.W.World.seen c.args.world.now) (g.W.World.seen c.next_item.new.world) (g.W.World.seen c.take_item.new.world) c.in_ok-item.ensures.continues c.in_ok-take_item-in_default.ensures.continues;
   talks = keeps_then g.W.World.Tells (g.W.World.seen c.args.world.now) (g.W.World.seen c.next_item.new.world) (g.W.World.seen c.take_item.new.world) c.in_ok-item.ensures.talks c.in_ok-take_item-in_default.ensures.talks;
   places = handled_places g.W.World.Tells c.in_ok-item.item c.next_item.new.buf (g.W.World.seen c.args.world.now) (g.W.World.seen c.next_item.new.world) (g.W.World.seen c.take_item.new.world) c.args.self.now.net c.in_ok-item.ensures.nexts c.in_ok-take_item-in_default.ensures.continues c.in_ok-item.ensures.no_point c.in_ok-take_item-in_default.ensures.links c.in_ok-take_item-in_default.ensures.places;
-  reads = handled_reads g.W.World.Tells c.in_ok-item.item c.next_item.new.buf (g.W.World.seen c.args.world.now) (g.W.World.seen c.next_item.new.world) (g.W.World.seen c.take_item.new.world) c.args.self.now.net c.take_item.new.self.net c.args.self.now.queue c.take_item.new.self.queue c.in_ok-item.ensures.nexts c.in_ok-take_item-in_default.ensures.handles
+  reads = handled_reads g.W.World.Tells c.in_ok-item.item c.next_item.new.buf (g.W.World.seen c.args.world.now) (g.W.World.seen c.next_item.new.world) (g.W.World.seen c.take_item.new.world) c.args.self.now.net c.take_item.new.self.net c.args.self.now.queue c.take_item.new.self.queue c.in_ok-item.ensures.nexts c.in_ok-take_item-in_default.ensures.takes.handles
       c.in_ok-take_item-in_default.ensures.links c.in_ok-take_item-in_default.ensures.messages;
   no_point = handled_quietly g.W.World.Tells (g.W.World.seen c.args.world.now) (g.W.World.seen c.next_item.new.world) (g.W.World.seen c.take_item.new.world) c.in_ok-take_item-in_default.ensures.continues c.in_ok-item.ensures.no_point c.in_ok-take_item-in_default.ensures.links;
   begun = goes_begun g.W.World.Tells c.in_ok-item.item c.next_item.new.buf (g.W.World.seen c.args.world.now) (g.W.World.seen c.next_item.new.world) (g.W.World.seen c.take_item.new.world) c.in_ok-item.ensures.nexts c.in_ok-take_item-in_default.ensures.continues c.in_ok-take_item-in_default.ensures.links (no_rest c.in_ok-item.item c.in_default.not-Idle c.in_default.not-End);
@@ -55,7 +59,9 @@ returns-in_ok-take_item-in_default g c = record {
   buffer = c.in_ok-item.ensures.buffer;
   taken = record {
     item = c.in_ok-item.item;
-    takes = record { mid = g.W.World.seen c.next_item.new.world; buf = c.next_item.new.buf; fit = c.in_ok-item.ensures.bytes; nexts = c.in_ok-item.ensures.nexts; handles = c.in_ok-take_item-in_default.ensures.handles };
+    takes = record { mid = g.W.World.seen c.next_item.new.world; buf = c.next_item.new.buf; fit = c.in_ok-item.ensures.bytes; nexts = c.in_ok-item.ensures.nexts; handles = c.in_ok-take_item-in_default.ensures.takes.handles };
+    text = c.in_ok-take_item-in_default.ensures.takes.text;
+    lines = c.in_ok-take_item-in_default.ensures.takes.lines;
     rest_so = no_rest c.in_ok-item.item c.in_default.not-Idle c.in_default.not-End;
   };
 }
@@ -78,7 +84,7 @@ pub returns-in-Idle-clause-places : goal.returns-in-Idle-clause-places
 returns-in-Idle-clause-places g c = next_places g.W.World.Tells (g.W.World.seen c.args.world.now) (g.W.World.seen c.next_item.new.world) c.args.self.now.net c.in_ok-item.ensures.places c.in_ok-item.ensures.no_point
 
 pub returns-in-Idle-clause-reads : goal.returns-in-Idle-clause-reads
-returns-in-Idle-clause-reads g c = over_reads g.W.World.Tells c.in_ok-item.item c.next_item.new.buf (g.W.World.seen c.args.world.now) (g.W.World.seen c.next_item.new.world) c.args.self.now.net (inl c.in-Idle.is) c.in_ok-item.ensures.nexts
+returns-in-Idle-clause-reads g c = over_reads g.W.World.Tells c.in_ok-item.item c.next_item.new.buf (g.W.World.seen c.args.world.now) (g.W.World.seen c.next_item.new.world) c.args.self.now.net c.requires.none_left (inl c.in-Idle.is) c.in_ok-item.ensures.nexts
 
 pub returns-in-Idle-clause-begun : goal.returns-in-Idle-clause-begun
 returns-in-Idle-clause-begun g c = over_begun g.W.World.Tells _ (g.W.World.seen c.args.world.now) (g.W.World.seen c.next_item.new.world)
@@ -87,7 +93,7 @@ pub returns-in-End-clause-places : goal.returns-in-End-clause-places
 returns-in-End-clause-places g c = next_places g.W.World.Tells (g.W.World.seen c.args.world.now) (g.W.World.seen c.next_item.new.world) c.args.self.now.net c.in_ok-item.ensures.places c.in_ok-item.ensures.no_point
 
 pub returns-in-End-clause-reads : goal.returns-in-End-clause-reads
-returns-in-End-clause-reads g c = over_reads g.W.World.Tells c.in_ok-item.item c.next_item.new.buf (g.W.World.seen c.args.world.now) (g.W.World.seen c.next_item.new.world) c.args.self.now.net (inr c.in-End.is) c.in_ok-item.ensures.nexts
+returns-in-End-clause-reads g c = over_reads g.W.World.Tells c.in_ok-item.item c.next_item.new.buf (g.W.World.seen c.args.world.now) (g.W.World.seen c.next_item.new.world) c.args.self.now.net c.requires.none_left (inr c.in-End.is) c.in_ok-item.ensures.nexts
 
 pub returns-in-End-clause-begun : goal.returns-in-End-clause-begun
 returns-in-End-clause-begun g c = over_begun g.W.World.Tells _ (g.W.World.seen c.args.world.now) (g.W.World.seen c.next_item.new.world)
