@@ -14,7 +14,7 @@ use Rattle.event_dispatch.specs.laws.WhyLaws.{IsWhyTxn-behind}
 use Rattle.lego_model.specs.SessionLines.{SessionValue}
 use Rattle.legosdn.specs.declared.stop.Refusal.{Refusal}
 use Rattle.legosdn.specs.declared.stop.Stop.{Stop}
-use Rattle.legosdn.specs.declared.stop.Stop.TheVariants.{Usage, Refused, ReadFault, WriteFault, Shut, NextFault, SwitchFault, SwitchBroke, Diverged, EventsLeft, NoMemory}
+use Rattle.legosdn.specs.declared.stop.Stop.TheVariants.{Usage, Refused, ReadFault, WriteFault, Shut, NextFault, SwitchBroke, Diverged, EventsLeft, NoMemory}
 use Rattle.legosdn.specs.Input.{session_of}
 use Rattle.legosdn.specs.Stops.{stop_status, stop_line, refusal_line, stop_of_switch}
 use Rattle.legosdn.specs.Headline.{Faults, faults_of, IsNoSession, IsReadCause, IsRunCause, IsCause, IsEarly, Loaded, LoadedAt, RunsNoOther, NeverRuns, Wrote}
@@ -22,7 +22,6 @@ use Rattle.legosdn.proofs.Statuses.{is_refused, not_late}
 use Rattle.legosdn.proofs.Loads.{late_loaded, no_other}
 
 pub switch_cause : {Own : Type 0} (Tells : Type 0) (k l : ℕ) (old new : Seen Own) (fault : TxnFault) → IsWhyTxn Tells old new fault → IsRunCause Tells k l old new (stop_of_switch fault)
-switch_cause Tells k l old new (faults.SwitchFault d) why = why
 switch_cause Tells k l old new (faults.SwitchBroke d bytes) why = (faults.SwitchBroke d bytes, refl, why)
 switch_cause Tells k l old new (faults.Flooded d count) why = (faults.Flooded d count, refl, why)
 switch_cause Tells k l old new (faults.Diverged d sent got) why = (faults.Diverged d sent got, refl, why)
@@ -65,7 +64,6 @@ run_cause told i j k l a b c ReadFault first second why = absurd why
 run_cause told i j k l a b c WriteFault first second why = why
 run_cause told i j k l a b c Shut first second why = Rose-after a.counts.shuts b.counts.shuts c.counts.shuts (fell a b first second).shuts why
 run_cause told i j k l a b c NextFault first second why = Rose-after a.counts.next_faults b.counts.next_faults c.counts.next_faults (fell a b first second).next_faults why
-run_cause told i j k l a b c (SwitchFault d) first second why = Rose-after (a.counts.link_faults d) (b.counts.link_faults d) (c.counts.link_faults d) ((fell a b first second).link_faults d) why
 run_cause told i j k l a b c (SwitchBroke d) first second why = (why.0, why.1, why_behind a b c why.0 first second why.2)
 run_cause told i j k l a b c (Diverged d) first second why = (why.0, why.1, why_behind a b c why.0 first second why.2)
 run_cause told i j k l a b c (EventsLeft left) first second why = why
@@ -79,7 +77,6 @@ ran_cause Tells IsRefused told i j k l a c ReadFault why = absurd why
 ran_cause Tells IsRefused told i j k l a c WriteFault why = why
 ran_cause Tells IsRefused told i j k l a c Shut why = why
 ran_cause Tells IsRefused told i j k l a c NextFault why = why
-ran_cause Tells IsRefused told i j k l a c (SwitchFault d) why = why
 ran_cause Tells IsRefused told i j k l a c (SwitchBroke d) why = why
 ran_cause Tells IsRefused told i j k l a c (Diverged d) why = why
 ran_cause Tells IsRefused told i j k l a c (EventsLeft left) why = why
@@ -98,7 +95,6 @@ unread_cause Tells IsRefused told i j k l a c ReadFault why = why
 unread_cause Tells IsRefused told i j k l a c WriteFault why = absurd why
 unread_cause Tells IsRefused told i j k l a c Shut why = absurd why
 unread_cause Tells IsRefused told i j k l a c NextFault why = absurd why
-unread_cause Tells IsRefused told i j k l a c (SwitchFault d) why = absurd why
 unread_cause Tells IsRefused told i j k l a c (SwitchBroke d) why = absurd why
 unread_cause Tells IsRefused told i j k l a c (Diverged d) why = absurd why
 unread_cause Tells IsRefused told i j k l a c (EventsLeft left) why = absurd why
@@ -118,7 +114,6 @@ cause_then Tells IsRefused told i j k l m a c ReadFault up on why = why
 cause_then Tells IsRefused told i j k l m a c WriteFault up on why = Rose-before k l m up why on
 cause_then Tells IsRefused told i j k l m a c Shut up on why = why
 cause_then Tells IsRefused told i j k l m a c NextFault up on why = why
-cause_then Tells IsRefused told i j k l m a c (SwitchFault d) up on why = why
 cause_then Tells IsRefused told i j k l m a c (SwitchBroke d) up on why = why
 cause_then Tells IsRefused told i j k l m a c (Diverged d) up on why = why
 cause_then Tells IsRefused told i j k l m a c (EventsLeft left) up on why = why

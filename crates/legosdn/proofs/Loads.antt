@@ -15,7 +15,7 @@ use Rattle.session_text.specs.Loading.{given_by, LoadFails}
 use Rattle.legosdn.specs.declared.stop.Refusal.{Refusal}
 use Rattle.legosdn.specs.declared.stop.Refusal.TheVariants.{Session}
 use Rattle.legosdn.specs.declared.stop.Stop.{Stop}
-use Rattle.legosdn.specs.declared.stop.Stop.TheVariants.{Usage, Refused, ReadFault, WriteFault, Shut, NextFault, SwitchFault, SwitchBroke, Diverged, EventsLeft, NoMemory}
+use Rattle.legosdn.specs.declared.stop.Stop.TheVariants.{Usage, Refused, ReadFault, WriteFault, Shut, NextFault, SwitchBroke, Diverged, EventsLeft, NoMemory}
 use Rattle.lego_model.specs.Application.{names as app_names}
 use Rattle.legosdn.specs.Input.{or_refused, session_lines, session_of}
 use Rattle.legosdn.specs.Stops.{stop_of_session}
@@ -71,7 +71,6 @@ loaded_at told left seen old k l ReadFault cause loaded = absurd cause
 loaded_at told left seen old k l WriteFault cause loaded = loaded
 loaded_at told left seen old k l Shut cause loaded = loaded
 loaded_at told left seen old k l NextFault cause loaded = loaded
-loaded_at told left seen old k l (SwitchFault d) cause loaded = loaded
 loaded_at told left seen old k l (SwitchBroke d) cause loaded = loaded
 loaded_at told left seen old k l (Diverged d) cause loaded = loaded
 loaded_at told left seen old k l (EventsLeft n) cause loaded = loaded
@@ -89,7 +88,6 @@ unread_at told left seen k l ReadFault none cause = none
 unread_at told left seen k l WriteFault none cause = absurd cause
 unread_at told left seen k l Shut none cause = absurd cause
 unread_at told left seen k l NextFault none cause = absurd cause
-unread_at told left seen k l (SwitchFault d) none cause = absurd cause
 unread_at told left seen k l (SwitchBroke d) none cause = absurd cause
 unread_at told left seen k l (Diverged d) none cause = absurd cause
 unread_at told left seen k l (EventsLeft n) none cause = absurd cause
@@ -108,7 +106,6 @@ late_loaded told left seen ReadFault late loaded = absurd late
 late_loaded told left seen WriteFault late loaded = loaded
 late_loaded told left seen Shut late loaded = loaded
 late_loaded told left seen NextFault late loaded = loaded
-late_loaded told left seen (SwitchFault d) late loaded = loaded
 late_loaded told left seen (SwitchBroke d) late loaded = loaded
 late_loaded told left seen (Diverged d) late loaded = loaded
 late_loaded told left seen (EventsLeft n) late loaded = loaded
@@ -121,7 +118,6 @@ no_other told left seen ReadFault loaded = inl loaded
 no_other told left seen WriteFault loaded = inr loaded
 no_other told left seen Shut loaded = inr loaded
 no_other told left seen NextFault loaded = inr loaded
-no_other told left seen (SwitchFault d) loaded = inr loaded
 no_other told left seen (SwitchBroke d) loaded = inr loaded
 no_other told left seen (Diverged d) loaded = inr loaded
 no_other told left seen (EventsLeft n) loaded = inr loaded

@@ -3,10 +3,10 @@ use Rattle.std.proofs.Common.{◌≡◌, ℕ, ◌==◌, Bool, true, false, List,
 use Rattle.std.specs.List.{AllByRecursion}
 use Rattle.std.proofs.lemmas.Bool.{eq-eqb}
 use Rattle.of_types.specs.declared.journal.Act.{Act}
-use Rattle.of_types.specs.declared.journal.Act.TheVariants.{Stim, Started, Gave, Gone, Took, Ended, Sent, Got}
+use Rattle.of_types.specs.declared.journal.Act.TheVariants.{Stim, Started, Gave, Gone, Took, Ended, Sent, Got, Lost}
 use Rattle.of_types.specs.declared.journal.TookWhat.TheVariants as took
 use Rattle.outside.specs.declared.step.WorldStep.{WorldStep}
-use Rattle.outside.specs.declared.step.WorldStep.TheVariants.{Acted, TookInto, From, Joined, Left, Moment, Idle, End, Opened, NotOpened, NextFailed, SendFailed, RecvFailed}
+use Rattle.outside.specs.declared.step.WorldStep.TheVariants.{Acted, TookInto, From, Joined, Left, Moment, Idle, End, Opened, NotOpened, NextFailed, SendLost, RecvLost, SendFailed, RecvFailed}
 use Rattle.outside.specs.Seen.{Given, Seen, act_of}
 use Rattle.outside.specs.State.{State, at_first, after_step, after_steps, state, is_running}
 use Rattle.net_txn.specs.LinkSteps.{MakesNoStrayCall}
@@ -30,6 +30,7 @@ act_for (Took of what) so = so
 act_for (Ended of) so = so
 act_for (Sent d bytes) so = tt
 act_for (Got d bytes) so = tt
+act_for (Lost d) so = tt
 
 step_for : (step : WorldStep) → IsOrderly index step → IsCallFor index step
 step_for (Acted act) so = act_for act so
@@ -43,6 +44,8 @@ step_for End so = tt
 step_for Opened so = tt
 step_for NotOpened so = so
 step_for NextFailed so = tt
+step_for (SendLost d) so = tt
+step_for (RecvLost d) so = tt
 step_for (SendFailed d) so = tt
 step_for (RecvFailed d) so = tt
 
@@ -74,6 +77,7 @@ act_in_place (Took of what) s own so = tt
 act_in_place (Ended of) s own so = tt
 act_in_place (Sent d bytes) s own so = tt
 act_in_place (Got d bytes) s own so = tt
+act_in_place (Lost d) s own so = tt
 
 step_in_place : (step : WorldStep) (s : State) → IsCallFor index step → IsInPlaceOf index (act_of step) (is_running index s) → IsExpectedOnLink step s → IsExpected step s
 step_in_place (Acted act) s own so link = act_in_place act s own so
@@ -89,8 +93,10 @@ step_in_place End s own so link = tt
 step_in_place Opened s own so link = tt
 step_in_place NotOpened s own so link = absurd own
 step_in_place NextFailed s own so link = tt
-step_in_place (SendFailed d) s own so link = link
-step_in_place (RecvFailed d) s own so link = link
+step_in_place (SendLost d) s own so link = tt
+step_in_place (RecvLost d) s own so link = link
+step_in_place (SendFailed d) s own so link = absurd link
+step_in_place (RecvFailed d) s own so link = absurd link
 
 steps_in_place : (steps : List WorldStep) (s : State) → AllByRecursion (IsCallFor index) steps → AreInPlaceOf index steps s → AreExpectedOnLinks steps s → AreExpected steps s
 steps_in_place [] s own so links = tt

@@ -20,7 +20,7 @@ use Rattle.sim_world.specs.Building.{IsNew, Begins}
 use Rattle.session_text.specs.Loading.{given_by}
 use Rattle.legosdn.specs.declared.stop.Refusal.{Refusal}
 use Rattle.legosdn.specs.declared.stop.Stop.{Stop}
-use Rattle.legosdn.specs.declared.stop.Stop.TheVariants.{Usage, Refused, ReadFault, WriteFault, Shut, NextFault, SwitchFault, SwitchBroke, Diverged, EventsLeft, NoMemory}
+use Rattle.legosdn.specs.declared.stop.Stop.TheVariants.{Usage, Refused, ReadFault, WriteFault, Shut, NextFault, SwitchBroke, Diverged, EventsLeft, NoMemory}
 use Rattle.legosdn.specs.Input.{session_of}
 use Rattle.legosdn.specs.Stops.{stop_status, stop_line}
 use Rattle.legosdn.specs.Headline.{Faults, IsNoSession, IsReadCause, IsCause, NoneFailed, IsLate, KeepsLines, Wrote, RunsWhole, RunsPart, NoneFloods, SomeRefused, StopsAs, RunsAs, LeftAs, CutShort}
@@ -90,7 +90,6 @@ stops_said sim a b ReadFault lines until = tt
 stops_said sim a b WriteFault lines until = writing_said sim a b lines until
 stops_said sim a b Shut lines until = until
 stops_said sim a b NextFault lines until = lines_said sim a b lines until
-stops_said sim a b (SwitchFault d) lines until = lines_said sim a b lines until
 stops_said sim a b (SwitchBroke d) lines until = ((λ none. some_refused sim (until.0 none)), lines_said sim a b lines until.1)
 stops_said sim a b (Diverged d) lines until = (some_refused sim until.0, lines_said sim a b lines until.1)
 stops_said sim a b (EventsLeft left) lines until = runs_part sim a b left lines until
@@ -134,7 +133,6 @@ read_runs told k l sim contents ReadFault none cause = tt
 read_runs told k l sim contents WriteFault none cause = absurd cause
 read_runs told k l sim contents Shut none cause = absurd cause
 read_runs told k l sim contents NextFault none cause = absurd cause
-read_runs told k l sim contents (SwitchFault d) none cause = absurd cause
 read_runs told k l sim contents (SwitchBroke d) none cause = absurd cause
 read_runs told k l sim contents (Diverged d) none cause = absurd cause
 read_runs told k l sim contents (EventsLeft left) none cause = absurd cause
@@ -152,7 +150,6 @@ read_not_late P IsRefused told k l ReadFault cause late = absurd late
 read_not_late P IsRefused told k l WriteFault cause late = absurd cause
 read_not_late P IsRefused told k l Shut cause late = absurd cause
 read_not_late P IsRefused told k l NextFault cause late = absurd cause
-read_not_late P IsRefused told k l (SwitchFault d) cause late = absurd cause
 read_not_late P IsRefused told k l (SwitchBroke d) cause late = absurd cause
 read_not_late P IsRefused told k l (Diverged d) cause late = absurd cause
 read_not_late P IsRefused told k l (EventsLeft left) cause late = absurd cause
@@ -182,7 +179,6 @@ completes Tells IsRefused told old new ReadFault cause good broke diverged none 
 completes Tells IsRefused told old new WriteFault cause good broke diverged none = absurd (none.sink cause)
 completes Tells IsRefused told old new Shut cause good broke diverged none = absurd (none.shuts cause)
 completes Tells IsRefused told old new NextFault cause good broke diverged none = absurd (none.next_faults cause)
-completes Tells IsRefused told old new (SwitchFault d) cause good broke diverged none = absurd (none.link_faults d cause)
 completes Tells IsRefused told old new (SwitchBroke d) cause good broke diverged none = absurd (broke refl)
 completes Tells IsRefused told old new (Diverged d) cause good broke diverged none = absurd (diverged refl)
 completes Tells IsRefused told old new (EventsLeft left) cause good broke diverged none = (1, omega arith, refl)

@@ -5,7 +5,7 @@ use Rattle.std.specs.List.{AllByRecursion}
 use Rattle.of_types.specs.declared.journal.WorldStim.{WorldStim}
 use Rattle.outside.specs.declared.call.FailCall.{FailCall}
 use Rattle.outside.specs.declared.step.WorldStep.{WorldStep}
-use Rattle.outside.specs.declared.step.WorldStep.TheVariants.{Acted, TookInto, From, Joined, Left, Moment, Idle, End, Opened, NotOpened, NextFailed, SendFailed, RecvFailed}
+use Rattle.outside.specs.declared.step.WorldStep.TheVariants.{Acted, TookInto, From, Joined, Left, Moment, Idle, End, Opened, NotOpened, NextFailed, SendLost, RecvLost, SendFailed, RecvFailed}
 use Rattle.outside.specs.Seen.{Given, Seen, journal}
 use Rattle.lego_model.specs.AtOnce.{AtOnce}
 use Rattle.lego_model.specs.Scripted.{starts_said, replies_said}
@@ -41,6 +41,8 @@ step_has_room End so = tt
 step_has_room Opened so = tt
 step_has_room NotOpened so = tt
 step_has_room NextFailed so = tt
+step_has_room (SendLost d) so = tt
+step_has_room (RecvLost d) so = tt
 step_has_room (SendFailed d) so = tt
 step_has_room (RecvFailed d) so = tt
 
@@ -70,21 +72,21 @@ kept_to_lines seen fails keeps none orderly at_once = record {
 
 -- ---- The whole run, and one that leaves events
 
-pub ends_as_said : (seen : Seen Scripts) (contents now_contents : Option (List ℕ)) (events : ℕ) → EndsAlike all_allowed seen contents now_contents events → stimuli_in seen ≡ seen.given.stimuli → KeptToLines seen
-    → WithEnough (λ more. EndsAs seen contents now_contents events (reference_over more seen.given))
+pub ends_as_said : (seen : Seen Scripts) (contents now_contents : Option (List ℕ)) (events : ℕ) → (alike : EndsAlike all_allowed seen contents now_contents events) → stimuli_in seen ≡ seen.given.stimuli → KeptToLines seen
+    → WithEnough (λ more. EndsAs seen contents now_contents events (reference_over more alike.losses seen.given))
 ends_as_said seen contents now_contents events alike stimuli k = record {
   enough = told_in seen;
   holds = λ more few. subst (λ (xs : List WorldStim). EndsAs seen contents now_contents events
-      (reference all_allowed seen.given.declared (fresh (starts_said more (starts_of index seen.given.own)) (replies_said more (replies_of index seen.given.own)) ∷ []) xs)) stimuli
+      (reference all_allowed seen.given.declared (fresh (starts_said more (starts_of index seen.given.own)) (replies_said more (replies_of index seen.given.own)) ∷ []) alike.losses xs)) stimuli
       (alike.as_said _ _ (are_said seen more k few));
 }
 
-pub leaves_as_said : (seen : Seen Scripts) (contents now_contents : Option (List ℕ)) (left : ℕ) → LeavesAlike all_allowed seen contents now_contents left → stimuli_in seen ≡ seen.given.stimuli → KeptToLines seen
-    → WithEnough (λ more. LeavesAs seen contents now_contents left (reference_over more seen.given))
+pub leaves_as_said : (seen : Seen Scripts) (contents now_contents : Option (List ℕ)) (left : ℕ) → (alike : LeavesAlike all_allowed seen contents now_contents left) → stimuli_in seen ≡ seen.given.stimuli → KeptToLines seen
+    → WithEnough (λ more. LeavesAs seen contents now_contents left (reference_over more alike.losses seen.given))
 leaves_as_said seen contents now_contents left alike stimuli k = record {
   enough = told_in seen;
   holds = λ more few. subst (λ (xs : List WorldStim). LeavesAs seen contents now_contents left
-      (reference all_allowed seen.given.declared (fresh (starts_said more (starts_of index seen.given.own)) (replies_said more (replies_of index seen.given.own)) ∷ []) xs)) stimuli
+      (reference all_allowed seen.given.declared (fresh (starts_said more (starts_of index seen.given.own)) (replies_said more (replies_of index seen.given.own)) ∷ []) alike.losses xs)) stimuli
       (alike.as_said _ _ (are_said seen more k few));
 }
 
@@ -109,12 +111,12 @@ given_session told left seen input session loaded whole spelled =
     loaded.given ∙ ap given_by (same_session loaded.session session (session_of input) (ap session_of (sym same) ∙ loaded.spelled) spelled)
 
 -- the whole report is that of the reference controller of the session
-pub reports : (told left : Option (List ℕ)) (seen : Seen Scripts) (contents now_contents : Option (List ℕ)) (input : List ℕ) (session : SessionValue) → Loaded told left seen → RunsWhole seen contents now_contents → told ≡ Some input → session_of input ≡ Ok session
-    → WithEnough (λ more. now_contents ≡ append_known contents (run_report names (reference_of_session more session)))
+pub reports : (told left : Option (List ℕ)) (seen : Seen Scripts) (contents now_contents : Option (List ℕ)) (input : List ℕ) (session : SessionValue) → Loaded told left seen → (runs : RunsWhole seen contents now_contents) → told ≡ Some input → session_of input ≡ Ok session
+    → WithEnough (λ more. now_contents ≡ append_known contents (run_report names (reference_of_session more runs.alike.losses session)))
 reports told left seen contents now_contents input session loaded runs whole spelled =
     let given = given_session told left seen input session loaded whole spelled in
     let said = runs.as_said (ap (λ (g : Given Scripts). without_links g.fails) given ∙ none_of_the_application session) in
     record {
       enough = said.enough;
-      holds = λ more few. subst (λ (g : Given Scripts). now_contents ≡ append_known contents (run_report names (reference_over more g))) given (said.holds more few).report;
+      holds = λ more few. subst (λ (g : Given Scripts). now_contents ≡ append_known contents (run_report names (reference_over more runs.alike.losses g))) given (said.holds more few).report;
     }

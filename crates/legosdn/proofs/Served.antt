@@ -162,7 +162,6 @@ not_diverged old new d sent got (inr flooded) = absurd (other flooded.0 flooded.
 
 switch_until : {Own : Type 0} (old seen : Seen Own) (a b : Option (List ℕ)) (fault : TxnFault) → (BringMessages seen.history → EndsPlain old seen (served.Txn fault)) → UpToPoint seen ⊥ (λ last. CutBehindLines all_allowed last a b)
     → ServesUntil (stop_of_switch fault) seen a b
-switch_until old seen a b (faults.SwitchFault d) plain place = place
 switch_until old seen a b (faults.SwitchBroke d bytes) plain place = ((λ none messages. ends_plainly old seen (served.Txn (faults.SwitchBroke d bytes)) none (plain messages)), place)
 switch_until old seen a b (faults.Flooded d n) plain place = ((λ none messages. ends_plainly old seen (served.Txn (faults.Flooded d n)) none (plain messages)), place)
 switch_until old seen a b (faults.Diverged d sent got) plain place = ((λ messages. not_diverged old seen d sent got (plain messages)), place)

@@ -9,7 +9,7 @@ use Rattle.outside.specs.InOrder.{BringMessages}
 use Rattle.sim_world.specs.World.{WorldData, seen_of}
 use Rattle.legosdn.specs.declared.stop.Refusal.{Refusal}
 use Rattle.legosdn.specs.declared.stop.Stop.{Stop}
-use Rattle.legosdn.specs.declared.stop.Stop.TheVariants.{Usage, Refused, ReadFault, WriteFault, Shut, NextFault, SwitchFault, SwitchBroke, Diverged, EventsLeft, NoMemory}
+use Rattle.legosdn.specs.declared.stop.Stop.TheVariants.{Usage, Refused, ReadFault, WriteFault, Shut, NextFault, SwitchBroke, Diverged, EventsLeft, NoMemory}
 use Rattle.legosdn.specs.Input.{run_policy}
 use Rattle.legosdn.specs.Stops.{stop_status, refusal_line}
 use Rattle.legosdn.specs.Headline.{NoneFloods, faults_of, IsReplay, IsRun, IsNoSession, IsNoPolicy, IsReadCause, IsRunCause, IsEarly, IsLate, KeepsLines, Replays}
@@ -51,7 +51,6 @@ serves_none told i j seen contents ReadFault cause none = tt
 serves_none told i j seen contents WriteFault cause none = absurd cause
 serves_none told i j seen contents Shut cause none = absurd cause
 serves_none told i j seen contents NextFault cause none = absurd cause
-serves_none told i j seen contents (SwitchFault d) cause none = absurd cause
 serves_none told i j seen contents (SwitchBroke d) cause none = absurd cause
 serves_none told i j seen contents (Diverged d) cause none = absurd cause
 serves_none told i j seen contents (EventsLeft left) cause none = absurd cause
@@ -100,7 +99,6 @@ not_early P Tells k l old new ReadFault cause early = absurd cause
 not_early P Tells k l old new WriteFault cause early = absurd early
 not_early P Tells k l old new Shut cause early = absurd early
 not_early P Tells k l old new NextFault cause early = absurd early
-not_early P Tells k l old new (SwitchFault d) cause early = absurd early
 not_early P Tells k l old new (SwitchBroke d) cause early = absurd early
 not_early P Tells k l old new (Diverged d) cause early = absurd early
 not_early P Tells k l old new (EventsLeft left) cause early = absurd early

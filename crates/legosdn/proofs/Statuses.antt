@@ -2,7 +2,7 @@
 use Rattle.std.proofs.Common.{◌≡◌, ℕ, [], ◌∷◌, Contains, refl, subst, arith}
 use Rattle.legosdn.specs.declared.stop.Refusal.{Refusal}
 use Rattle.legosdn.specs.declared.stop.Stop.{Stop}
-use Rattle.legosdn.specs.declared.stop.Stop.TheVariants.{Usage, Refused, ReadFault, WriteFault, Shut, NextFault, SwitchFault, SwitchBroke, Diverged, EventsLeft, NoMemory}
+use Rattle.legosdn.specs.declared.stop.Stop.TheVariants.{Usage, Refused, ReadFault, WriteFault, Shut, NextFault, SwitchBroke, Diverged, EventsLeft, NoMemory}
 use Rattle.legosdn.specs.Stops.{stop_status}
 use Rattle.legosdn.specs.Headline.{IsEarly, IsLate}
 
@@ -13,7 +13,6 @@ is_usage ReadFault e = absurd (omega arith)
 is_usage WriteFault e = absurd (omega arith)
 is_usage Shut e = absurd (omega arith)
 is_usage NextFault e = absurd (omega arith)
-is_usage (SwitchFault d) e = absurd (omega arith)
 is_usage (SwitchBroke d) e = absurd (omega arith)
 is_usage (Diverged d) e = absurd (omega arith)
 is_usage (EventsLeft left) e = absurd (omega arith)
@@ -26,7 +25,6 @@ is_read_fault ReadFault e = refl
 is_read_fault WriteFault e = absurd (omega arith)
 is_read_fault Shut e = absurd (omega arith)
 is_read_fault NextFault e = absurd (omega arith)
-is_read_fault (SwitchFault d) e = absurd (omega arith)
 is_read_fault (SwitchBroke d) e = absurd (omega arith)
 is_read_fault (Diverged d) e = absurd (omega arith)
 is_read_fault (EventsLeft left) e = absurd (omega arith)
@@ -39,7 +37,6 @@ is_write_fault ReadFault e = absurd (omega arith)
 is_write_fault WriteFault e = refl
 is_write_fault Shut e = absurd (omega arith)
 is_write_fault NextFault e = absurd (omega arith)
-is_write_fault (SwitchFault d) e = absurd (omega arith)
 is_write_fault (SwitchBroke d) e = absurd (omega arith)
 is_write_fault (Diverged d) e = absurd (omega arith)
 is_write_fault (EventsLeft left) e = absurd (omega arith)
@@ -52,20 +49,18 @@ is_refused ReadFault e = absurd (omega arith)
 is_refused WriteFault e = absurd (omega arith)
 is_refused Shut e = absurd (omega arith)
 is_refused NextFault e = absurd (omega arith)
-is_refused (SwitchFault d) e = absurd (omega arith)
 is_refused (SwitchBroke d) e = absurd (omega arith)
 is_refused (Diverged d) e = absurd (omega arith)
 is_refused (EventsLeft left) e = absurd (omega arith)
 is_refused NoMemory e = absurd (omega arith)
 
-pub is_late : (stop : Stop) → Contains (0 ∷ 5 ∷ 6 ∷ 7 ∷ 8 ∷ 9 ∷ 10 ∷ []) (stop_status stop) → IsLate stop
+pub is_late : (stop : Stop) → Contains (0 ∷ 5 ∷ 6 ∷ 8 ∷ 9 ∷ 10 ∷ []) (stop_status stop) → IsLate stop
 is_late Usage e = absurd (grind arith)
 is_late (Refused refusal) e = absurd (grind arith)
 is_late ReadFault e = absurd (grind arith)
 is_late WriteFault e = tt
 is_late Shut e = tt
 is_late NextFault e = tt
-is_late (SwitchFault d) e = tt
 is_late (SwitchBroke d) e = tt
 is_late (Diverged d) e = tt
 is_late (EventsLeft left) e = tt
@@ -78,7 +73,6 @@ is_early ReadFault e = tt
 is_early WriteFault e = absurd (grind arith)
 is_early Shut e = absurd (grind arith)
 is_early NextFault e = absurd (grind arith)
-is_early (SwitchFault d) e = absurd (grind arith)
 is_early (SwitchBroke d) e = absurd (grind arith)
 is_early (Diverged d) e = absurd (grind arith)
 is_early (EventsLeft left) e = absurd (grind arith)
@@ -91,7 +85,6 @@ not_late ReadFault e = (2, omega arith, refl)
 not_late WriteFault e = absurd (e tt)
 not_late Shut e = absurd (e tt)
 not_late NextFault e = absurd (e tt)
-not_late (SwitchFault d) e = absurd (e tt)
 not_late (SwitchBroke d) e = absurd (e tt)
 not_late (Diverged d) e = absurd (e tt)
 not_late (EventsLeft left) e = absurd (e tt)
@@ -104,7 +97,6 @@ is_left ReadFault e = absurd (omega arith)
 is_left WriteFault e = absurd (omega arith)
 is_left Shut e = absurd (omega arith)
 is_left NextFault e = absurd (omega arith)
-is_left (SwitchFault d) e = absurd (omega arith)
 is_left (SwitchBroke d) e = absurd (omega arith)
 is_left (Diverged d) e = absurd (omega arith)
 is_left (EventsLeft left) e = (left, refl)
@@ -117,7 +109,6 @@ is_broken ReadFault e = absurd (omega arith)
 is_broken WriteFault e = absurd (omega arith)
 is_broken Shut e = absurd (omega arith)
 is_broken NextFault e = absurd (omega arith)
-is_broken (SwitchFault d) e = absurd (omega arith)
 is_broken (SwitchBroke d) e = (d, refl)
 is_broken (Diverged d) e = absurd (omega arith)
 is_broken (EventsLeft left) e = absurd (omega arith)
@@ -130,7 +121,6 @@ is_diverged ReadFault e = absurd (omega arith)
 is_diverged WriteFault e = absurd (omega arith)
 is_diverged Shut e = absurd (omega arith)
 is_diverged NextFault e = absurd (omega arith)
-is_diverged (SwitchFault d) e = absurd (omega arith)
 is_diverged (SwitchBroke d) e = absurd (omega arith)
 is_diverged (Diverged d) e = (d, refl)
 is_diverged (EventsLeft left) e = absurd (omega arith)
@@ -143,7 +133,6 @@ not_zero ReadFault e = omega arith
 not_zero WriteFault e = omega arith
 not_zero Shut e = omega arith
 not_zero NextFault e = omega arith
-not_zero (SwitchFault d) e = omega arith
 not_zero (SwitchBroke d) e = omega arith
 not_zero (Diverged d) e = omega arith
 not_zero (EventsLeft left) e = omega arith

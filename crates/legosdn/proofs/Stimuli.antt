@@ -2,14 +2,14 @@
 use Rattle.std.proofs.Common.{◌≡◌, ◌≤◌, List, [], ◌∷◌, ◌++◌, length, drop, Some, refl, append_assoc, ap, ◌∙◌, arith}
 use Rattle.std.proofs.lemmas.List.{length-append}
 use Rattle.std.specs.Prelude.{slice_get}
-use Rattle.of_types.specs.declared.journal.Act.TheVariants.{Stim, Started, Gave, Gone, Took, Ended, Sent, Got}
+use Rattle.of_types.specs.declared.journal.Act.TheVariants.{Stim, Started, Gave, Gone, Took, Ended, Sent, Got, Lost}
 use Rattle.of_types.specs.declared.journal.WorldStim.{WorldStim}
 use Rattle.flow_table.specs.Switch.{Declared}
 use Rattle.lego_model.specs.Journal.{stimuli}
 use Rattle.lego_model.specs.laws.JournalLaws.{stimuli-append}
 use Rattle.lego_model.specs.History.{stimuli_in}
 use Rattle.outside.specs.declared.step.WorldStep.{WorldStep}
-use Rattle.outside.specs.declared.step.WorldStep.TheVariants.{Acted, TookInto, From, Joined, Left, Moment, Idle, End, Opened, NotOpened, NextFailed, SendFailed, RecvFailed}
+use Rattle.outside.specs.declared.step.WorldStep.TheVariants.{Acted, TookInto, From, Joined, Left, Moment, Idle, End, Opened, NotOpened, NextFailed, SendLost, RecvLost, SendFailed, RecvFailed}
 use Rattle.outside.specs.Seen.{Seen, journal}
 use Rattle.outside.specs.State.{State, at_first, after_stim, after_act, after_step, after_steps}
 use Rattle.outside.specs.laws.SeenLaws.{journal-append}
@@ -42,6 +42,7 @@ step_next declared (Acted (Took app what)) s may = refl
 step_next declared (Acted (Ended app)) s may = refl
 step_next declared (Acted (Sent d bytes)) s may = refl
 step_next declared (Acted (Got d bytes)) s may = refl
+step_next declared (Acted (Lost d)) s may = refl
 step_next declared (TookInto app what room) s may = refl
 step_next declared (From d bytes) s may = refl
 step_next declared (Joined d bytes) s may = refl
@@ -52,6 +53,8 @@ step_next declared End s may = refl
 step_next declared Opened s may = refl
 step_next declared NotOpened s may = refl
 step_next declared NextFailed s may = refl
+step_next declared (SendLost d) s may = refl
+step_next declared (RecvLost d) s may = refl
 step_next declared (SendFailed d) s may = refl
 step_next declared (RecvFailed d) s may = refl
 

@@ -27,7 +27,7 @@ use Rattle.legosdn.specs.declared.stop.Refusal.{Refusal}
 use Rattle.legosdn.specs.Input.{session_of, run_policy}
 use Rattle.legosdn.specs.Said.{all_allowed, reference_over, WithEnough, LinesRun, MemoryRun, WritingRun}
 use Rattle.legosdn.specs.declared.stop.Stop.{Stop}
-use Rattle.legosdn.specs.declared.stop.Stop.TheVariants.{Usage, Refused, ReadFault, WriteFault, Shut, NextFault, SwitchFault, SwitchBroke, Diverged, EventsLeft, NoMemory}
+use Rattle.legosdn.specs.declared.stop.Stop.TheVariants.{Usage, Refused, ReadFault, WriteFault, Shut, NextFault, SwitchBroke, Diverged, EventsLeft, NoMemory}
 use Rattle.legosdn.specs.Stops.{stop_status, stop_line, refusal_line, stop_of_switch}
 
 -- the words are `replay`
@@ -71,7 +71,6 @@ abbrev pub IsRunCause : {Own : Type 0} → Type 0 → ℕ → ℕ → Seen Own �
 IsRunCause Tells sink_old sink_new old new WriteFault = Rose sink_old sink_new
 IsRunCause Tells sink_old sink_new old new Shut = Rose old.counts.shuts new.counts.shuts
 IsRunCause Tells sink_old sink_new old new NextFault = Rose old.counts.next_faults new.counts.next_faults
-IsRunCause Tells sink_old sink_new old new (SwitchFault d) = Rose (old.counts.link_faults d) (new.counts.link_faults d)
 IsRunCause Tells sink_old sink_new old new (SwitchBroke d) = IsSwitchCause Tells old new (SwitchBroke d)
 IsRunCause Tells sink_old sink_new old new (Diverged d) = IsSwitchCause Tells old new (Diverged d)
 IsRunCause Tells sink_old sink_new old new (EventsLeft left) = 1 ≤ left
@@ -84,13 +83,12 @@ IsCause Tells IsRefused told old new (Refused refusal) = IfSome told (IsRefused 
 IsCause Tells IsRefused told old new ReadFault = Rose old.source new.source
 IsCause Tells IsRefused told old new stop = IsRunCause Tells old.sink new.sink old.world new.world stop
 
--- nothing failed: no count of the source, the sink or the world rose
+-- Nothing failed that ends a run: no count rose of the source, of the sink, of the opening of the world and of what comes next. Links may fail.
 pub record NoneFailed {Own : Type 0} (old new : Faults Own) : Type 0 where
   pub source : Rose old.source new.source → ⊥
   pub sink : Rose old.sink new.sink → ⊥
   pub shuts : Rose old.world.counts.shuts new.world.counts.shuts → ⊥
   pub next_faults : Rose old.world.counts.next_faults new.world.counts.next_faults → ⊥
-  pub link_faults : (d : ℕ) → Rose (old.world.counts.link_faults d) (new.world.counts.link_faults d) → ⊥
 
 -- the stops that come before anything runs
 abbrev pub IsEarly : Stop → Type 0
@@ -104,7 +102,6 @@ abbrev pub IsLate : Stop → Type 0
 IsLate WriteFault = Unit {0}
 IsLate Shut = Unit {0}
 IsLate NextFault = Unit {0}
-IsLate (SwitchFault d) = Unit {0}
 IsLate (SwitchBroke d) = Unit {0}
 IsLate (Diverged d) = Unit {0}
 IsLate (EventsLeft left) = Unit {0}
@@ -143,21 +140,21 @@ NeverRuns status seen = Contains (2 ∷ 3 ∷ 4 ∷ 12 ∷ []) status × (seen.h
 -- ---- What a run is
 
 -- All stimuli that the world was given were told, and the run is that of the reference controller over them: at every quiescent point the
--- tables agree, the application was given what it is given there, the packets that were released are those that it releases, no event is
--- left, and what was written is the whole report. The journal is a dialogue with the application, in which each change had reached its switch
+-- tables agree, the application was given what it is given there, the packets that were released are those that it releases, the switches that
+-- were lost are those that it loses, no event is left, and what was written is the whole report. The journal is a dialogue with the application, in which each change had reached its switch
 -- at once when it was answered.
 pub record RunsWhole (seen : Seen Scripts) (contents now_contents : Option (List ℕ)) : Type 0 where
   pub events : ℕ
   pub alike : EndsAlike all_allowed seen contents now_contents events
   pub stimuli : stimuli_in seen ≡ seen.given.stimuli
   -- it is that over what the lines of the session say of the application too
-  pub as_said : without_links seen.given.fails ≡ [] → WithEnough (λ more. EndsAs seen contents now_contents events (reference_over more seen.given))
+  pub as_said : without_links seen.given.fails ≡ [] → WithEnough (λ more. EndsAs seen contents now_contents events (reference_over more alike.losses seen.given))
 
 -- The same with so many events left, and with the lines of those that were dispatched.
 pub record RunsPart (seen : Seen Scripts) (contents now_contents : Option (List ℕ)) (left : ℕ) : Type 0 where
   pub alike : LeavesAlike all_allowed seen contents now_contents left
   pub stimuli : stimuli_in seen ≡ seen.given.stimuli
-  pub as_said : without_links seen.given.fails ≡ [] → WithEnough (λ more. LeavesAs seen contents now_contents left (reference_over more seen.given))
+  pub as_said : without_links seen.given.fails ≡ [] → WithEnough (λ more. LeavesAs seen contents now_contents left (reference_over more alike.losses seen.given))
 
 -- Of the run as far as a point this is so: no point behind it is quiescent, so that what lies behind it is of one stimulus, of one event, or of
 -- the end of the report; and all bytes that came of switches up to there are messages. The whole journal is a dialogue with the application,
@@ -191,7 +188,6 @@ StopsAs (EventsLeft left) sim contents now_contents = RunsPart (seen_of sim) con
 StopsAs WriteFault sim contents now_contents = UpToPoint (seen_of sim) ⊥ (λ last. WritingRun last contents now_contents)
 StopsAs Shut sim contents now_contents = NothingDone (NotOpened ∷ []) (seen_of sim) contents now_contents
 StopsAs NextFault sim contents now_contents = UpToPoint (seen_of sim) ⊥ (λ last. LinesRun last contents now_contents)
-StopsAs (SwitchFault d) sim contents now_contents = UpToPoint (seen_of sim) ⊥ (λ last. LinesRun last contents now_contents)
 StopsAs (SwitchBroke d) sim contents now_contents = (NoneFloods (seen_of sim) → SomeRefused sim) × UpToPoint (seen_of sim) ⊥ (λ last. LinesRun last contents now_contents)
 StopsAs (Diverged d) sim contents now_contents = SomeRefused sim × UpToPoint (seen_of sim) ⊥ (λ last. LinesRun last contents now_contents)
 StopsAs NoMemory sim contents now_contents = UpToPoint (seen_of sim) (Unit {0}) (λ last. MemoryRun (seen_of sim) last contents now_contents) ⊎ NothingDone [] (seen_of sim) contents now_contents

@@ -12,7 +12,7 @@ use Rattle.lego_model.specs.WholeRun.{EndsAlike, LeavesAlike}
 use Rattle.lego_model.specs.AllLines.{CutBehindLines, CutInLines, CutForMemory}
 use Rattle.lego_model.specs.CutRun.{NothingDone}
 use Rattle.legosdn.specs.declared.stop.Stop.{Stop}
-use Rattle.legosdn.specs.declared.stop.Stop.TheVariants.{WriteFault, Shut, NextFault, SwitchFault, SwitchBroke, Diverged, EventsLeft, NoMemory}
+use Rattle.legosdn.specs.declared.stop.Stop.TheVariants.{WriteFault, Shut, NextFault, SwitchBroke, Diverged, EventsLeft, NoMemory}
 use Rattle.legosdn.specs.Input.{run_policy}
 use Rattle.legosdn.specs.Stops.{stop_status, stop_line}
 use Rattle.legosdn.specs.Said.{all_allowed}
@@ -45,8 +45,8 @@ NoneStray seen = AreExpected seen.history (at_first seen.given)
 -- ---- The run
 
 -- All stimuli that the world was given were told, and the run is that of the reference controller over them: at every quiescent point the
--- tables agree, the application was given what it is given there, the packets that were released are those that it releases, no event is
--- left, and what was written is the whole report. The journal is a dialogue with the application, in which each change had reached its switch
+-- tables agree, the application was given what it is given there, the packets that were released are those that it releases, the switches that
+-- were lost are those that it loses, no event is left, and what was written is the whole report. The journal is a dialogue with the application, in which each change had reached its switch
 -- at once when it was answered.
 pub record ServesWhole {Own : Type 0} (seen : Seen Own) (contents now_contents : Option (List ℕ)) : Type 0 where
   pub events : ℕ
@@ -68,7 +68,6 @@ ServesUntil (EventsLeft left) seen contents now_contents = ServesPart seen conte
 ServesUntil WriteFault seen contents now_contents = UpToPoint seen ⊥ (λ last. CutInLines all_allowed last contents now_contents)
 ServesUntil Shut seen contents now_contents = NothingDone (NotOpened ∷ []) seen contents now_contents
 ServesUntil NextFault seen contents now_contents = UpToPoint seen ⊥ (λ last. CutBehindLines all_allowed last contents now_contents)
-ServesUntil (SwitchFault d) seen contents now_contents = UpToPoint seen ⊥ (λ last. CutBehindLines all_allowed last contents now_contents)
 ServesUntil (SwitchBroke d) seen contents now_contents = (NoneFloods seen → BringMessages seen.history → ⊥) × UpToPoint seen ⊥ (λ last. CutBehindLines all_allowed last contents now_contents)
 ServesUntil (Diverged d) seen contents now_contents = (BringMessages seen.history → ⊥) × UpToPoint seen ⊥ (λ last. CutBehindLines all_allowed last contents now_contents)
 ServesUntil NoMemory seen contents now_contents = UpToPoint seen (Unit {0}) (λ last. CutForMemory all_allowed seen last contents now_contents) ⊎ NothingDone [] seen contents now_contents

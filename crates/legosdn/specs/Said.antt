@@ -4,6 +4,7 @@ use Rattle.outside.specs.Seen.{Given, Seen}
 use Rattle.sim_world.specs.Told.{without_links}
 use Rattle.sim_world.specs.Scripts.{Scripts, starts_of, replies_of}
 use Rattle.lego_model.specs.Places.{Place}
+use Rattle.lego_model.specs.Losses.{Losses}
 use Rattle.lego_model.specs.Controller.{Run, reference}
 use Rattle.lego_model.specs.Scripted.{starts_said, replies_said}
 use Rattle.lego_model.specs.SessionLines.{SessionValue}
@@ -18,14 +19,14 @@ use Rattle.lego_model.specs.CutRun.{start_said, Progress, WroteSoFar, WasWriting
 abbrev pub all_allowed : List Place → Bool
 all_allowed places = true
 
--- over what a world was given; behind the last line come so many starts that are ready, and so many turns that are done at once
-abbrev pub reference_over : ℕ → Given Scripts → Run
-reference_over more given =
-    reference all_allowed given.declared (fresh (starts_said more (starts_of index given.own)) (replies_said more (replies_of index given.own)) ∷ []) given.stimuli
+-- over what a world was given, with these losses; behind the last line come so many starts that are ready, and so many turns that are done at once
+abbrev pub reference_over : ℕ → Losses → Given Scripts → Run
+reference_over more losses given =
+    reference all_allowed given.declared (fresh (starts_said more (starts_of index given.own)) (replies_said more (replies_of index given.own)) ∷ []) losses given.stimuli
 
 -- of a session
-abbrev pub reference_of_session : ℕ → SessionValue → Run
-reference_of_session more session = reference_over more (given_by session)
+abbrev pub reference_of_session : ℕ → Losses → SessionValue → Run
+reference_of_session more losses session = reference_over more losses (given_by session)
 
 -- with as many starts and turns behind the last lines as one likes, where they are enough
 pub record WithEnough (P : ℕ → Type 0) : Type 0 where
@@ -34,13 +35,13 @@ pub record WithEnough (P : ℕ → Type 0) : Type 0 where
 
 -- ---- A run that a fault ends
 
--- before anything is started, with an application of which the lines say so much
-abbrev pub start_by_lines : ℕ → Seen Scripts → Run
-start_by_lines more last = start_said last (starts_said more (starts_of index last.given.own)) (replies_said more (replies_of index last.given.own))
+-- before anything is started, with an application of which the lines say so much, and these losses to come
+abbrev pub start_by_lines : ℕ → Losses → Seen Scripts → Run
+start_by_lines more losses last = start_said losses last (starts_said more (starts_of index last.given.own)) (replies_said more (replies_of index last.given.own))
 
 -- What is so up to a point is so over what the lines of the session say of the application, too.
 abbrev pub HoldsAsSaid : {last : Seen Scripts} → (Holds : Progress last → Run → Type 0) → AlikeUpTo last Holds → Type 0
-HoldsAsSaid {last} Holds up_to = without_links last.given.fails ≡ [] → WithEnough (λ more. Holds up_to.far (start_by_lines more last))
+HoldsAsSaid {last} Holds up_to = without_links last.given.fails ≡ [] → WithEnough (λ more. Holds up_to.far (start_by_lines more up_to.far.losses last))
 
 -- all lines of what was done up to there were written
 pub record CutRun (last : Seen Scripts) (contents now_contents : Option (List ℕ)) : Type 0 where

@@ -26,7 +26,6 @@ stop_status stops.ReadFault = 4
 stop_status stops.WriteFault = 5
 stop_status stops.Shut = 6
 stop_status stops.NextFault = 6
-stop_status (stops.SwitchFault dpid) = 7
 stop_status (stops.SwitchBroke dpid) = 8
 stop_status (stops.Diverged dpid) = 9
 stop_status (stops.EventsLeft left) = 10
@@ -82,7 +81,6 @@ stop_line stops.ReadFault = line_of (codes "read fault")
 stop_line stops.WriteFault = []
 stop_line stops.Shut = line_of (codes "world shut")
 stop_line stops.NextFault = line_of (codes "world fault")
-stop_line (stops.SwitchFault dpid) = line_of (codes "switch fault " ++ decimal dpid)
 stop_line (stops.SwitchBroke dpid) = line_of (codes "switch broke " ++ decimal dpid)
 stop_line (stops.Diverged dpid) = line_of (codes "diverged " ++ decimal dpid)
 stop_line (stops.EventsLeft left) = line_of (codes "events left " ++ decimal left)
@@ -104,7 +102,6 @@ stop_of_session (text.Bad fault) = stops.Refused (refusals.Session fault)
 stop_of_session text.NoMemory = stops.NoMemory
 
 abbrev pub stop_of_switch : TxnFault → Stop
-stop_of_switch (faults.SwitchFault dpid) = stops.SwitchFault dpid
 stop_of_switch (faults.SwitchBroke dpid bytes) = stops.SwitchBroke dpid
 stop_of_switch (faults.Flooded dpid count) = stops.SwitchBroke dpid
 stop_of_switch (faults.Diverged dpid sent got) = stops.Diverged dpid

@@ -64,9 +64,6 @@ pub enum Stop {
     /// The outside failed at what comes next.
     #[error("the world failed at what comes next")]
     NextFault,
-    /// The link of this switch failed.
-    #[error("the link of switch {0} failed")]
-    SwitchFault(Dpid),
     /// This switch sent what is no message, or too many messages.
     #[error("switch {0} sent what is no message, or too many messages")]
     SwitchBroke(Dpid),
@@ -92,7 +89,6 @@ impl Stop {
             Stop::ReadFault => 4,
             Stop::WriteFault => 5,
             Stop::Shut | Stop::NextFault => 6,
-            Stop::SwitchFault(_) => 7,
             Stop::SwitchBroke(_) => 8,
             Stop::Diverged(_) => 9,
             Stop::EventsLeft(_) => 10,
@@ -115,7 +111,6 @@ impl Stop {
             Stop::WriteFault => Ok(()),
             Stop::Shut => write_all(sink, b"world shut\n"),
             Stop::NextFault => write_all(sink, b"world fault\n"),
-            Stop::SwitchFault(dpid) => write_numbered(sink, b"switch fault ", *dpid, b"\n"),
             Stop::SwitchBroke(dpid) => write_numbered(sink, b"switch broke ", *dpid, b"\n"),
             Stop::Diverged(dpid) => write_numbered(sink, b"diverged ", *dpid, b"\n"),
             Stop::EventsLeft(left) => write_numbered(sink, b"events left ", *left as u64, b"\n"),
@@ -297,7 +292,6 @@ impl From<TxnFault> for Stop {
 
     fn from(fault: TxnFault) -> Stop {
         match fault {
-            TxnFault::SwitchFault(dpid) => Stop::SwitchFault(dpid),
             TxnFault::SwitchBroke(dpid, _) | TxnFault::Flooded(dpid, _) => Stop::SwitchBroke(dpid),
             TxnFault::Diverged(dpid, _, _) => Stop::Diverged(dpid),
             TxnFault::NoMemory => Stop::NoMemory,

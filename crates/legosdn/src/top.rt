@@ -170,8 +170,8 @@ pub fn halt<K: Sink>(sink: &mut K, stop: Stop) -> u8
 /// the other world. The simulated world may tell its acts in words; contracts see it without them. The answer is the status
 /// of the program: 0 where the whole report was written, 2 where
 /// the words are no command, 3 where the input is refused, 4 where the source failed, 5 where the sink failed, 6 where
-/// the world stays shut or fails, 7 where the link of a switch failed, 8 where a switch broke, 9 where it diverged, 10
-/// where events were left, 12 where memory ran out. At any status but 0 and 5 the last line that is written says why.
+/// the world stays shut or fails, 8 where a switch broke, 9 where it diverged, 10 where events were left, 12 where memory
+/// ran out. A switch whose link fails is lost, and the run goes on. At any status but 0 and 5 the last line that is written says why.
 pub fn legosdn<S: Source, K: Sink, E: Sink + Drop, W: World>(
     alloc: Global,
     words: &[String],
@@ -184,25 +184,27 @@ pub fn legosdn<S: Source, K: Sink, E: Sink + Drop, W: World>(
     requires empty_world { given_of sim.old ≡ nothing_given }
     // `replay`. At status 0 all stimuli of the session happened, and the run is that of the reference controller over them and over what the
     // application did: at every quiescent point the tables agree, the application was given what it is given there, the packets that were
-    // released are those that it releases, no event is left, and what was written is the whole report. Each answer that the application was
+    // released are those that it releases, the switches that were lost are those that it loses, no event is left, and what was written is the whole report. Each answer that the application was
     // given is to its next message, and a change that passed the host's tests had then reached its switch: since the frame given before,
     // the change was sent there, a barrier behind it, the barrier's reply came, and no other change was sent.
     ensures whole_run { IsReplay (map string_bytes words.now) → result ≡ 0 → RunsWhole (seen_of sim.new) (K.contents sink.old) (K.contents sink.new) }
     // And that report is the one of the reference controller over the session that the input spells: over its switches and stimuli and what
-    // its lines say of the application, with as many ready starts and plain turns behind the last line as one likes, if they are enough.
+    // its lines say of the application, where it loses the same switches in the same places, with as many ready starts and plain turns behind
+    // the last line as one likes, if they are enough.
     ensures whole_report { IsReplay (map string_bytes words.now) → (input : List ℕ) (session : SessionValue) → S.remaining source.old ≡ Some input → session_of input ≡ Ok session
         → result ≡ 0
-        → WithEnough (λ more. K.contents sink.new ≡ append_known (K.contents sink.old) (run_report names (reference_of_session more session))) }
+        → (run : RunsWhole (seen_of sim.new) (K.contents sink.old) (K.contents sink.new))
+        × WithEnough (λ more. K.contents sink.new ≡ append_known (K.contents sink.old) (run_report names (reference_of_session more run.alike.losses session))) }
     // At status 10 the same with the lines of the events that were dispatched, and how many are left behind them.
     ensures events_left { IsReplay (map string_bytes words.now) → result ≡ 10
         → LeftAs sim.new (K.contents sink.old) (K.contents sink.new) (K.faults sink.old) (K.faults sink.new) }
     // Where a fault ends the run, it is that of the reference controller up to the last quiescent point: what was written is what this says so
     // far, or a part of the lines of what was done last where the sink failed, and behind it stands the line that says why; and the whole
     // journal is such a dialogue. Or nothing was done.
-    ensures run_until_fault { IsReplay (map string_bytes words.now) → Contains (5 ∷ 6 ∷ 7 ∷ 8 ∷ 9 ∷ 12 ∷ []) result
+    ensures run_until_fault { IsReplay (map string_bytes words.now) → Contains (5 ∷ 6 ∷ 8 ∷ 9 ∷ 12 ∷ []) result
         → CutShort result sim.new (K.contents sink.old) (K.contents sink.new) (K.faults sink.old) (K.faults sink.new) }
     // What the application did is what the lines of the session say.
-    ensures application_keeps_script { IsReplay (map string_bytes words.now) → Contains (0 ∷ 5 ∷ 6 ∷ 7 ∷ 8 ∷ 9 ∷ 10 ∷ []) result → KeepsLines sim.new }
+    ensures application_keeps_script { IsReplay (map string_bytes words.now) → Contains (0 ∷ 5 ∷ 6 ∷ 8 ∷ 9 ∷ 10 ∷ []) result → KeepsLines sim.new }
 
     // Any other status than 0 is that of a stop, whose cause there is, and whose line is the last that was written. Of a switch that broke or
     // diverged the world's history tells what came from it, and what was sent to it before.
@@ -229,7 +231,7 @@ pub fn legosdn<S: Source, K: Sink, E: Sink + Drop, W: World>(
     ensures input_refused { IsReplay (map string_bytes words.now) → result ≡ 3 → (refusal : Refusal) × IfSome (S.remaining source.old) (IsNoSession refusal)
         × Wrote (K.contents sink.old) (K.contents sink.new) (K.faults sink.old) (K.faults sink.new) (refusal_line refusal) }
     // Where the world runs, the input was read to its end and is a session, which the world was given.
-    ensures input_loaded { IsReplay (map string_bytes words.now) → Contains (0 ∷ 5 ∷ 6 ∷ 7 ∷ 8 ∷ 9 ∷ 10 ∷ []) result
+    ensures input_loaded { IsReplay (map string_bytes words.now) → Contains (0 ∷ 5 ∷ 6 ∷ 8 ∷ 9 ∷ 10 ∷ []) result
         → Loaded (S.remaining source.old) (S.remaining source.new) (seen_of sim.new) }
     // At every status: what was done in the world was done with the session that the input spells, if anything was. A refused input never runs.
     ensures no_other_session { RunsNoOther (S.remaining source.old) (S.remaining source.new) (seen_of sim.new) }
@@ -247,7 +249,7 @@ pub fn legosdn<S: Source, K: Sink, E: Sink + Drop, W: World>(
     // Where events are left, or a fault ends the run, it is so as far as it goes, and behind what was written stands the line that says why. A
     // switch diverges only where bytes came that are no message, and breaks only there or where a packet that was released made it send too many.
     ensures live_run_until_stop { (port rounds : ℕ) → IsRun (map string_bytes words.now) port rounds → TellsInOrder W.Tells rounds (W.seen live.old) (W.seen live.new)
-        → Contains (5 ∷ 6 ∷ 7 ∷ 8 ∷ 9 ∷ 10 ∷ 12 ∷ []) result
+        → Contains (5 ∷ 6 ∷ 8 ∷ 9 ∷ 10 ∷ 12 ∷ []) result
         → ServesCut result (W.seen live.new) (K.contents sink.old) (K.contents sink.new) (K.faults sink.old) (K.faults sink.new) }
     // No call of it was a stray one.
     ensures live_no_stray_call { (port rounds : ℕ) → IsRun (map string_bytes words.now) port rounds → TellsInOrder W.Tells rounds (W.seen live.old) (W.seen live.new)
@@ -268,7 +270,7 @@ pub fn legosdn<S: Source, K: Sink, E: Sink + Drop, W: World>(
         → (refusal : Refusal) × IfSome (S.remaining source.old) (IsNoPolicy refusal)
         × Wrote (K.contents sink.old) (K.contents sink.new) (K.faults sink.old) (K.faults sink.new) (refusal_line refusal) }
     // Where the world runs, the input was read to its end and is a policy that `run` takes. A refused policy never runs.
-    ensures policy_taken { (port rounds : ℕ) → IsRun (map string_bytes words.now) port rounds → Contains (0 ∷ 5 ∷ 6 ∷ 7 ∷ 8 ∷ 9 ∷ 10 ∷ []) result
+    ensures policy_taken { (port rounds : ℕ) → IsRun (map string_bytes words.now) port rounds → Contains (0 ∷ 5 ∷ 6 ∷ 8 ∷ 9 ∷ 10 ∷ []) result
         → Taken (S.remaining source.old) (S.remaining source.new) }
     ensures refused_policy_never_runs { (port rounds : ℕ) → IsRun (map string_bytes words.now) port rounds → (line : List ℕ)
         → IfSome (S.remaining source.old) (λ input. run_policy input ≡ Err line → Contains (2 ∷ 3 ∷ 4 ∷ 12 ∷ []) result × (live.new ≡ live.old)) }

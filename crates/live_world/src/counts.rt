@@ -19,7 +19,7 @@ fn bump(count: u64) -> u64
     count.saturating_add(1)
 }
 
-/// The faults of a switch.
+/// How often each fault came of one switch.
 #[derive(Clone, Copy, Debug)]
 pub struct SwitchFaults {
     pub(crate) links: u64,

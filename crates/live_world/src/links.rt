@@ -292,7 +292,7 @@ impl Links {
         }
     }
 
-    /// Closes the connection, and tells which switch it was, if it had joined.
+    /// Closes the connection, and tells which switch it was, if it had joined. A connection may be that switch again.
     fn close(&mut self, place: usize) -> Option<Dpid> {
         // A descriptor is free again.
         self.is_called = true;
@@ -328,7 +328,8 @@ impl Links {
         }
     }
 
-    /// Sends the message to the switch, within 5 seconds; where that fails the connection is closed.
+    /// Sends the message to the switch, within 5 seconds. Where that fails the switch is lost: its connection is closed, with all
+    /// that came on it, and no `Left` is told for it.
     pub(crate) fn send<C: Clock>(
         &mut self,
         clock: &mut C,
@@ -349,8 +350,8 @@ impl Links {
         Ok(())
     }
 
-    /// Takes the next message of the switch, within 5 seconds; where that fails the connection is closed. Where memory
-    /// runs out nothing is lost.
+    /// Takes the next message of the switch, within 5 seconds. Where that fails the switch is lost, as where `send` fails. Where
+    /// memory runs out nothing is lost.
     pub(crate) fn recv<C: Clock>(
         &mut self,
         clock: &mut C,

@@ -19,6 +19,10 @@ use std::process::{Processes, SystemProcess};
 /// outside is not known to any contract.
 ///
 /// `open` listens at 127.0.0.1, or at the address of `listen_at`, and fails a second time. Before it `next` fails.
+///
+/// Where `send` or `recv` fails for a switch that has joined, it is lost: its connection is closed, `next` does not tell that
+/// it left, and each further call for it fails. It may connect again, and joins then like any other.
+///
 /// `start` takes the words as a program and its arguments; the child has the variables PATH and HOME of this process, no
 /// descriptors but its pipes, and an empty standard error. `end`, and to drop the world, kills children and waits for
 /// them; what children of theirs do is up to them.

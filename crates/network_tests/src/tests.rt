@@ -13,11 +13,9 @@ mod worlds;
 
 use ended::Ended;
 use messages::{ADD, BAD_OUT_PORT, CONTROLLER, changed, packet, told};
-use plays::{Close, answer_behind, arrival, departure, late_notice, play, undo_both};
+use plays::{Close, answer_behind, arrival, departure, late_notice, loss, play, undo_both};
 use releases::{drop_one, release_two};
 use worlds::small_world;
-
-const CUT: Ended = Ended::SwitchFault(1);
 
 const ROW: Ended = Ended::Row {
     priority: 7,
@@ -98,15 +96,16 @@ fn first_other(
 #[test]
 fn link_fails_in_turn(rt: HostRuntime) -> Result<(), Fail> {
     let (fine, not_made) = (Ended::Fine, Ended::NotMade);
+    let (lost, unknown) = (Ended::Lost, Ended::Unknown);
     let cases = [
-        (Close::Keep, (1, 4), [CUT, not_made, not_made, not_made]),
-        (Close::Keep, (5, 7), [fine, CUT, fine, CUT]),
-        (Close::Keep, (8, 11), [fine, fine, fine, CUT]),
+        (Close::Keep, (1, 4), [lost, not_made, not_made, not_made]),
+        (Close::Keep, (5, 7), [fine, unknown, fine, unknown]),
+        (Close::Keep, (8, 11), [fine, fine, fine, lost]),
         (Close::Keep, (12, 12), [fine, fine, fine, ROW]),
-        (Close::Undo, (1, 4), [CUT, not_made, not_made, not_made]),
-        (Close::Undo, (5, 7), [fine, CUT, CUT, CUT]),
-        (Close::Undo, (8, 11), [fine, fine, CUT, CUT]),
-        (Close::Undo, (12, 15), [fine, fine, fine, CUT]),
+        (Close::Undo, (1, 4), [lost, not_made, not_made, not_made]),
+        (Close::Undo, (5, 7), [fine, unknown, fine, unknown]),
+        (Close::Undo, (8, 11), [fine, fine, fine, unknown]),
+        (Close::Undo, (12, 15), [fine, fine, fine, lost]),
         (Close::Undo, (16, 16), [fine, fine, fine, Ended::NoRow]),
     ];
     for (close, numbers, expected) in cases {
@@ -148,11 +147,11 @@ fn both_undone(alloc: Global, number: u64) -> Result<[Ended; 3], AllocError> {
 }
 
 #[test]
-fn an_undo_goes_on_past_a_fault(rt: HostRuntime) -> Result<(), Fail> {
+fn an_undo_goes_on_past_a_loss(rt: HostRuntime) -> Result<(), Fail> {
     for number in 8..=11 {
         assert_eq!(rt;
             both_undone(rt.alloc(), number)?,
-            [CUT, CUT, Ended::NoRow],
+            [Ended::Fine, Ended::Unknown, Ended::NoRow],
             "call {number}"
         );
     }
@@ -182,7 +181,7 @@ fn messages_arrive(rt: HostRuntime) -> Result<(), Fail> {
         (None, &messages::BROKEN, Ended::SwitchBroke(1)),
         // Only the answer to an ECHO_REQUEST is sent.
         (None, &messages::ECHO_REQUEST, Ended::NoEvent),
-        (fifth, &messages::ECHO_REQUEST, CUT),
+        (fifth, &messages::ECHO_REQUEST, Ended::Lost),
         (sixth, &messages::ECHO_REQUEST, Ended::NoMemory),
         (
             fifth,
@@ -224,6 +223,25 @@ fn nothing_stays_of_a_switch_that_left(rt: HostRuntime) -> Result<(), Fail> {
     Ok(())
 }
 
+/// How a change and its undo went whose switch is lost at a call of its link, and what is told of it then.
+fn told_lost(alloc: Global, number: u64) -> Result<[Ended; 4], AllocError> {
+    let mut world = small_world(alloc, 8, Some((CallKind::Link, number)))?;
+    Ok(loss(alloc, &mut world))
+}
+
+/// Lost at the change, in the undo, or not at all.
+#[test]
+fn a_lost_switch_leaves(rt: HostRuntime) -> Result<(), Fail> {
+    let (fine, none, leave) = (Ended::Fine, Ended::NoEvent, Ended::Event(EventKind::Leave));
+    assert_eq!(rt;
+        told_lost(rt.alloc(), 6)?,
+        [Ended::Unknown, fine, leave, none]
+    );
+    assert_eq!(rt; told_lost(rt.alloc(), 9)?, [fine, fine, leave, none]);
+    assert_eq!(rt; told_lost(rt.alloc(), 12)?, [fine, fine, none, none]);
+    Ok(())
+}
+
 /// How two changes went, and what is kept of an entry of the first one that had timed out before the second one.
 fn noticed(alloc: Global, fails: Option<(CallKind, u64)>) -> Result<[Ended; 4], AllocError> {
     let mut world = small_world(alloc, 8, fails)?;
@@ -235,9 +253,16 @@ fn messages_are_kept_during_a_wait(rt: HostRuntime) -> Result<(), Fail> {
     let (fine, removed, none) = (Ended::Fine, Ended::Removed(1), Ended::NoneKept);
     let cases = [
         (None, [fine, fine, removed, none]),
+        // Nothing is kept of a switch that is lost.
+        (
+            Some((CallKind::Link, 10)),
+            [fine, Ended::Unknown, none, none],
+        ),
+        (
+            Some((CallKind::Link, 11)),
+            [fine, Ended::Unknown, none, none],
+        ),
         // The notice was not got, or it was, but not the reply to the barrier.
-        (Some((CallKind::Link, 10)), [fine, CUT, none, none]),
-        (Some((CallKind::Link, 11)), [fine, CUT, removed, none]),
         (
             Some((CallKind::Short, 13)),
             [fine, Ended::NoMemory, none, none],
@@ -299,9 +324,9 @@ fn packets_are_held_and_released_in_order(rt: HostRuntime) -> Result<(), Fail> {
 }
 
 /// Four calls of the link for each packet: it, the barrier, the PACKET_IN and the reply. What came is taken behind the
-/// reply.
+/// reply. A release goes on past a loss, and stops at a fault.
 #[test]
-fn a_release_stops_at_a_fault(rt: HostRuntime) -> Result<(), Fail> {
+fn a_release_goes_on_or_stops(rt: HostRuntime) -> Result<(), Fail> {
     let (fine, none, event) = (
         Ended::Fine,
         Ended::NoEvent,
@@ -310,9 +335,16 @@ fn a_release_stops_at_a_fault(rt: HostRuntime) -> Result<(), Fail> {
     let first = packet(CONTROLLER, 1);
     for number in 5..=12u64 {
         let told_first = if number < 9 { none } else { event };
+        let sent = if number < 6 {
+            0
+        } else if number < 10 {
+            1
+        } else {
+            2
+        };
         assert_eq!(rt;
             released(rt.alloc(), Some((CallKind::Link, number)), &first, &told(1))?,
-            [fine, fine, CUT, told_first, none],
+            [fine, fine, out(sent), told_first, none],
             "call {number}"
         );
         // The same calls behind `next`.

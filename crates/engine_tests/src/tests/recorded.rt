@@ -1,11 +1,10 @@
-//! Runs in a world that writes down its acts, and the tables behind them: a turn that failed, packets that are released, a fault inside a turn,
-//! an undo or a release. All that is expected was worked out by hand.
+//! Runs in a world that writes down its acts, and the tables behind them: a turn that failed, packets that are released, a switch that is lost
+//! inside a turn, an undo or a release. All that is expected was worked out by hand.
 
 ghost use Rattle.std.specs.Prelude.{◌≡◌, length, IfOk};
 
 use event_dispatch::{MOST_ROUNDS, Served, serve};
 use lego_io::MemSink;
-use net_txn::TxnFault;
 use of_types::Dpid;
 use of_wire::check;
 use outside::{AllowAll, World};
@@ -70,7 +69,6 @@ fn record(alloc: Global, session: &str) -> Result<Option<Recorded>, AllocError> 
 #[derive(Clone, Copy, Debug, PartialEq, Eq)]
 enum Ended {
     Whole(u64),
-    SwitchFault(Dpid),
     Otherwise,
 }
 
@@ -78,7 +76,6 @@ enum Ended {
 fn end_of(served: &Served) -> Ended {
     match served {
         Served::Ended { events } => Ended::Whole(*events),
-        Served::Txn(TxnFault::SwitchFault(dpid)) => Ended::SwitchFault(*dpid),
         _ => Ended::Otherwise,
     }
 }
@@ -159,13 +156,58 @@ switch 1 -> BARRIER_REPLY xid=9
 app 0 ended
 ";
 
+/// The same, but the ninth call of the link fails: the barrier behind what takes the entry back. Four are made while the switch joins, and three for
+/// the entry.
+const LOST_IN_UNDO: &str = "session 1
+switch 1 4 1,2
+fault link 1 9
+reply app m:1:010e005000000000003820fe00010000000000000000000000000000000000000000000000000000000000000000000000000000000000000000000000000064ffffffffffff00000000000800020000 closed
+join 1
+";
+
+/// The acts of that session: nothing is said to the switch behind the call that failed, and its leave is the next event.
+const LOST_IN_UNDO_ACTS: &str = "\
+world opened, port 0
+app 0 started
+app 0 <- RESTORE bytes=0
+app 0 -> READY
+switch 1 joined
+switch 1 <- FLOW_MOD xid=1 DELETE any priority=0 idle=0 hard=0 cookie=0 flags=- out: -
+switch 1 <- SET_CONFIG xid=2 flags=0 miss_send_len=128
+switch 1 <- BARRIER_REQUEST xid=3
+switch 1 -> BARRIER_REPLY xid=3
+app 0 <- EVENT 1 join switch 1
+app 0 -> MESSAGE switch 1 FLOW_MOD xid=0 ADD in_port=1 priority=100 idle=0 hard=0 cookie=0 flags=- out: OUTPUT 2
+switch 1 <- FLOW_MOD xid=4 ADD in_port=1 priority=100 idle=0 hard=0 cookie=0 flags=SEND_FLOW_REM out: OUTPUT 2
+switch 1 <- BARRIER_REQUEST xid=5
+switch 1 -> BARRIER_REPLY xid=5
+app 0 <- ANSWER fine
+app 0 closed
+switch 1 <- FLOW_MOD xid=6 DELETE_STRICT in_port=1 priority=100 idle=0 hard=0 cookie=0 flags=- out: -
+switch 1 lost
+app 0 ended
+app 0 started
+app 0 <- RESTORE bytes=0
+app 0 -> READY
+app 0 <- EVENT 2 leave switch 1
+app 0 -> DONE
+world ended
+app 0 ended
+";
+
 #[test]
-fn failed_turn_is_recorded(rt: HostRuntime) -> Result<(), Fail> {
-    let run = record(rt.alloc(), FAILED_TURN)?;
-    assert!(rt; run.is_some());
-    if let Some(run) = run {
-        assert!(rt; matches!(run.served, Served::Ended { events: 1 }));
-        assert!(rt; run.acts.bytes() == FAILED_TURN_ACTS.as_bytes());
+fn failed_turns_are_recorded(rt: HostRuntime) -> Result<(), Fail> {
+    let cases = [
+        (FAILED_TURN, FAILED_TURN_ACTS, Ended::Whole(1)),
+        (LOST_IN_UNDO, LOST_IN_UNDO_ACTS, Ended::Whole(2)),
+    ];
+    for (session, acts, ended) in cases {
+        let run = record(rt.alloc(), session)?;
+        assert!(rt; run.is_some());
+        if let Some(run) = run {
+            assert_eq!(rt; end_of(&run.served), ended);
+            assert!(rt; run.acts.bytes() == acts.as_bytes());
+        }
     }
     Ok(())
 }
@@ -221,14 +263,14 @@ fn rows_behind(
     Ok(rows.map(|(len, is_none)| (end_of(&run.served), len, is_none)))
 }
 
-/// Where the link of switch 1 fails inside the turn (before its entry is sent, or before the barrier's reply), or inside the undo, the run
-/// ends with that fault, and switch 2 has no entry again.
+/// Where switch 1 is lost inside the turn (before its entry is sent, or before the barrier's reply), or inside the undo, switch 2 has no entry
+/// again, and the leave is the fourth event.
 #[test]
-fn other_switch_is_empty_after_a_fault(rt: HostRuntime) -> Result<(), Fail> {
+fn other_switch_is_empty_after_a_loss(rt: HostRuntime) -> Result<(), Fail> {
     for session in TWO_SWITCHES {
         assert_eq!(rt;
             rows_behind(rt.alloc(), session, 2)?,
-            Some((Ended::SwitchFault(1), 12, true))
+            Some((Ended::Whole(4), 12, true))
         );
     }
     Ok(())
@@ -361,7 +403,7 @@ fn done_turn_releases_its_packets(rt: HostRuntime) -> Result<(), Fail> {
 
 /// At event 2 the application adds an entry to switch 2, sends a packet to switch 1, and is done. Of switch 1's link the call behind the packet
 /// fails: its calls are four while it joins, then one for the packet and one for the barrier.
-const RELEASE_FAULT: &str = "session 1
+const LOST_IN_RELEASE: &str = "session 1
 switch 1 8 1,2,3
 switch 2 8 1,2
 fault link 1 6
@@ -371,12 +413,12 @@ join 1
 join 2
 ";
 
-/// A link that fails in a release ends the run, and what the turn did stays: one row of 96 bytes.
+/// Where a switch is lost in a release, what the turn did in the other one stays: one row of 96 bytes. The leave is the third event.
 #[test]
-fn changes_stay_after_a_release_that_stopped(rt: HostRuntime) -> Result<(), Fail> {
+fn changes_stay_where_a_switch_is_lost_in_a_release(rt: HostRuntime) -> Result<(), Fail> {
     assert_eq!(rt;
-        rows_behind(rt.alloc(), RELEASE_FAULT, 2)?,
-        Some((Ended::SwitchFault(1), 108, false))
+        rows_behind(rt.alloc(), LOST_IN_RELEASE, 2)?,
+        Some((Ended::Whole(3), 108, false))
     );
     Ok(())
 }

@@ -27,7 +27,7 @@ fn takes_a_switch_in(rt: HostRuntime) -> Result<(), Fail> {
     shadows.join(9, &[port(2, 0)])?;
     shadows.port_status(9, 0, &port(1, 0))?;
     assert_eq!(rt; shadows.ports(9).map(|ports| ports.len()), Some(2));
-    assert!(rt; shadows.leave(9).is_some());
+    assert_eq!(rt; shadows.leave(9).map(|ports| ports.len()), Some(2));
     assert!(rt; shadows.leave(9).is_none());
     Ok(())
 }

@@ -86,7 +86,8 @@ pub fn join<W: World>(alloc: Global, world: &mut W, net: &mut Net, dpid: Dpid) -
         return Err(Ended::Otherwise);
     }
     match net.joined(world, dpid, &features) {
-        Ok(()) => Ok(()),
+        Ok(true) => Ok(()),
+        Ok(false) => Err(Ended::Lost),
         Err(fault) => Err(by_fault(&fault)),
     }
 }
@@ -187,7 +188,8 @@ pub fn ask<W: World>(world: &mut W, net: &mut Net, dpid: Dpid) -> Ended {
         return Ended::Unknown;
     }
     match net.rows(world, dpid) {
-        Ok(rows) => by_rows(&rows),
+        Ok(Some(rows)) => by_rows(&rows),
+        Ok(None) => Ended::Lost,
         Err(fault) => by_fault(&fault),
     }
 }
@@ -199,7 +201,8 @@ pub fn arrive<W: World>(world: &mut W, net: &mut Net, frame: &[u8], body: &[u8])
     }
     match net.arrived(world, 1, frame) {
         Ok(Some(event)) => by_event(&event, body),
-        Ok(None) => Ended::NoEvent,
+        Ok(None) if is_joined(net, 1) => Ended::NoEvent,
+        Ok(None) => Ended::Lost,
         Err(fault) => by_fault(&fault),
     }
 }
@@ -214,6 +217,15 @@ pub fn leave(alloc: Global, net: &mut Net, body: &[u8]) -> Result<Ended, AllocEr
     match queue.take_first() {
         Some(event) if queue.is_empty() && queue.len() == 0 => Ok(by_event(&event, body)),
         _ => Ok(Ended::Otherwise),
+    }
+}
+
+/// What comes first of a switch that was lost; its event is expected with this body.
+pub fn take_lost(net: &mut Net, body: &[u8]) -> Ended {
+    match net.lost() {
+        Ok(Some(event)) => by_event(&event, body),
+        Ok(None) => Ended::NoEvent,
+        Err(_) => Ended::NoMemory,
     }
 }
 

@@ -29,8 +29,8 @@ pub enum Ended {
     Error(u16, u16),
     /// The switch is not known.
     Unknown,
-    /// The link of the switch failed.
-    SwitchFault(u64),
+    /// The link of the switch failed, and the switch is lost.
+    Lost,
     /// The switch sent bytes that are no message.
     SwitchBroke(u64),
     /// Memory was wanting.
@@ -49,7 +49,6 @@ impl From<AllocError> for Ended {
 
 pub fn by_fault(fault: &TxnFault) -> Ended {
     match fault {
-        TxnFault::SwitchFault(dpid) => Ended::SwitchFault(*dpid),
         TxnFault::SwitchBroke(dpid, _) => Ended::SwitchBroke(*dpid),
         TxnFault::Diverged(..) | TxnFault::Flooded(..) => Ended::Otherwise,
         TxnFault::NoMemory => Ended::NoMemory,

@@ -111,7 +111,7 @@ fn calls_fail_as_told(rt: HostRuntime) -> Result<(), Fail> {
         ),
         (
             Some((CallKind::Link, 1, 2)),
-            [YES, YES, YES, YES, YES, YES, YES, NO, NO, NO],
+            [YES, YES, YES, YES, YES, YES, YES, NO, YES, YES],
         ),
     ];
     for (fails, expected) in cases {

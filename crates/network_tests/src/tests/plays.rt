@@ -3,7 +3,7 @@
 ghost use Rattle.std.specs.Prelude.{◌≡◌, ◌≤◌, IfOk, OnOk};
 
 use super::calls::{
-    arrive, ask, join, keep, leave, new_net, pass, sees, take_kept, undo, undo_two,
+    arrive, ask, join, keep, leave, new_net, pass, sees, take_kept, take_lost, undo, undo_two,
 };
 use super::ended::Ended;
 use super::messages::{ADD, PORT_DOWN, PORTS, changed};
@@ -107,6 +107,18 @@ pub fn departure<W: World>(alloc: Global, world: &mut W) -> [Ended; 2] {
         Ok(left) => [left, ask(world, &mut net, 1)],
         Err(_) => [Ended::NoMemory, Ended::NotMade],
     }
+}
+
+/// How a change went behind a PORT_STATUS, and its undo, and the events of switches that were lost then.
+pub fn loss<W: World>(alloc: Global, world: &mut W) -> [Ended; 4] {
+    let mut net = match new_net(alloc, world) {
+        Ok(net) => net,
+        Err(ended) => return [ended, Ended::NotMade, Ended::NotMade, Ended::NotMade],
+    };
+    arrive(world, &mut net, &PORT_DOWN, &PORT_DOWN);
+    let (changed, undone) = undo(world, &mut net, 1, &ADD);
+    let first = take_lost(&mut net, &PORTS);
+    [changed, undone, first, take_lost(&mut net, &PORTS)]
 }
 
 /// Goes on to moment 5, at which one row is seen.

@@ -31,7 +31,7 @@ returns-in-Err-clause-refused_input_never_runs g c = λ is refusal. rw c.halt.en
 pub returns-in-Err-clause-input_loaded : goal.returns-in-Err-clause-input_loaded
 returns-in-Err-clause-input_loaded g c = λ is within.
     late_loaded (g.S.Source.remaining c.args.source.now) (g.S.Source.remaining c.run.new.source) (seen_of c.run.new.sim) c.in-Err.stop
-    (is_late c.in-Err.stop (subst (λ (status : ℕ). Contains (0 ∷ 5 ∷ 6 ∷ 7 ∷ 8 ∷ 9 ∷ 10 ∷ []) status) c.halt.ensures.status within)) (c.in-Err.ensures.replays is).loaded
+    (is_late c.in-Err.stop (subst (λ (status : ℕ). Contains (0 ∷ 5 ∷ 6 ∷ 8 ∷ 9 ∷ 10 ∷ []) status) c.halt.ensures.status within)) (c.in-Err.ensures.replays is).loaded
 
 pub returns-in-Ok-clause-whole_run : goal.returns-in-Ok-clause-whole_run
 returns-in-Ok-clause-whole_run g c = λ is zero. (c.in-Ok.ensures.replays is).runs
@@ -40,9 +40,11 @@ pub returns-in-Err-clause-whole_run : goal.returns-in-Err-clause-whole_run
 returns-in-Err-clause-whole_run g c = λ is zero. absurd (not_zero c.in-Err.stop (sym c.halt.ensures.status ∙ zero))
 
 pub returns-in-Ok-clause-whole_report : goal.returns-in-Ok-clause-whole_report
-returns-in-Ok-clause-whole_report g c = λ is input session whole spelled zero.
-    reports (g.S.Source.remaining c.args.source.now) (g.S.Source.remaining c.run.new.source) (seen_of c.run.new.sim) (g.K.Sink.contents c.args.sink.now) (g.K.Sink.contents c.run.new.sink) input session
-    (c.in-Ok.ensures.replays is).loaded (c.in-Ok.ensures.replays is).runs whole spelled
+returns-in-Ok-clause-whole_report g c = λ is input session whole spelled zero. (
+  (c.in-Ok.ensures.replays is).runs,
+  reports (g.S.Source.remaining c.args.source.now) (g.S.Source.remaining c.run.new.source) (seen_of c.run.new.sim) (g.K.Sink.contents c.args.sink.now) (g.K.Sink.contents c.run.new.sink) input session
+      (c.in-Ok.ensures.replays is).loaded (c.in-Ok.ensures.replays is).runs whole spelled,
+)
 
 pub returns-in-Err-clause-whole_report : goal.returns-in-Err-clause-whole_report
 returns-in-Err-clause-whole_report g c = λ is input session whole spelled zero. absurd (not_zero c.in-Err.stop (sym c.halt.ensures.status ∙ zero))
@@ -56,7 +58,7 @@ returns-in-Err-clause-events_left g c = λ is ten.
 
 pub returns-in-Err-clause-application_keeps_script : goal.returns-in-Err-clause-application_keeps_script
 returns-in-Err-clause-application_keeps_script g c = λ is within.
-    (c.in-Err.ensures.replays is).late_lines (is_late c.in-Err.stop (subst (λ (status : ℕ). Contains (0 ∷ 5 ∷ 6 ∷ 7 ∷ 8 ∷ 9 ∷ 10 ∷ []) status) c.halt.ensures.status within))
+    (c.in-Err.ensures.replays is).late_lines (is_late c.in-Err.stop (subst (λ (status : ℕ). Contains (0 ∷ 5 ∷ 6 ∷ 8 ∷ 9 ∷ 10 ∷ []) status) c.halt.ensures.status within))
 
 pub returns-in-Ok-clause-application_keeps_script : goal.returns-in-Ok-clause-application_keeps_script
 returns-in-Ok-clause-application_keeps_script g c = λ is within. (c.in-Ok.ensures.replays is).lines
@@ -164,7 +166,7 @@ pub returns-in-Ok-clause-policy_taken : goal.returns-in-Ok-clause-policy_taken
 returns-in-Ok-clause-policy_taken g c = λ port rounds is within. (c.in-Ok.ensures.serves port rounds is).taken
 
 pub returns-in-Err-clause-policy_taken : goal.returns-in-Err-clause-policy_taken
-returns-in-Err-clause-policy_taken g c = λ port rounds is within. (c.in-Err.ensures.serves port rounds is).taken (is_late c.in-Err.stop (subst (λ (status : ℕ). Contains (0 ∷ 5 ∷ 6 ∷ 7 ∷ 8 ∷ 9 ∷ 10 ∷ []) status) c.halt.ensures.status within))
+returns-in-Err-clause-policy_taken g c = λ port rounds is within. (c.in-Err.ensures.serves port rounds is).taken (is_late c.in-Err.stop (subst (λ (status : ℕ). Contains (0 ∷ 5 ∷ 6 ∷ 8 ∷ 9 ∷ 10 ∷ []) status) c.halt.ensures.status within))
 
 pub returns-in-Ok-clause-refused_policy_never_runs : goal.returns-in-Ok-clause-refused_policy_never_runs
 returns-in-Ok-clause-refused_policy_never_runs g c = λ port rounds is line. none_refused_policy (g.S.Source.remaining c.args.source.now) (g.S.Source.remaining c.run.new.source) _ line (c.in-Ok.ensures.serves port rounds is).taken
