@@ -3,7 +3,8 @@
 
 It adds an entry to each switch that joins. At a PACKET_IN it adds an entry for the frame's source, floods the frame as a packet, and
 then does what the last byte of that address says (HOW below; with any other byte it ends well). Its state is how many turns it has
-done; an entry has the number of its turn as cookie. It keeps its process number in FILE, so that it can be killed.
+done; an entry has the number of its turn as cookie. It keeps its process number in FILE, so that it can be killed. Where its switch is
+unknown it gives up, but for the frames of one address.
 """
 
 import os
@@ -11,11 +12,13 @@ import sys
 import time
 
 sys.path.insert(0, os.path.join(os.path.dirname(os.path.abspath(__file__)), "..", "sdk", "python"))
-from legosdn import App, Match, Output, Port
+from legosdn import App, Match, Output, Port, UnknownSwitch
 
 HOW = {0x02: "end", 0x03: "say garbage", 0x04: "say nothing", 0x05: "go on for ever", 0x06: "be killed", 0x07: "raise"}
 # These end well, behind one more packet: to a port that no switch has; to the controller, from another address.
 NOWHERE, BACK, OTHER = 0x08, 0x09, 0x0A
+# This one ends well also where its switch is unknown.
+RESIGNED = 0x0B
 
 
 class Misbehaving(App):
@@ -36,6 +39,14 @@ class Misbehaving(App):
     def on_packet_in(self, event):
         self.turns += 1
         source = event.data[6:12]
+        try:
+            self.send_on(event, source)
+        except UnknownSwitch:
+            if source[5] != RESIGNED:
+                raise
+        self.fail(event.dpid, HOW.get(source[5]))
+
+    def send_on(self, event, source):
         here = ":".join(f"{byte:02x}" for byte in source)
         self.add_flow(event.dpid, Match(dl_dst=here), [Output(event.in_port)], priority=20, cookie=self.turns)
         self.packet_out(event.dpid, [Output(Port.FLOOD)], event.data, in_port=event.in_port)
@@ -43,7 +54,6 @@ class Misbehaving(App):
             self.packet_out(event.dpid, [Output(9)], event.data)
         if source[5] == BACK:
             self.packet_out(event.dpid, [Output(Port.CONTROLLER)], event.data[:11] + bytes([OTHER]) + event.data[12:], in_port=3)
-        self.fail(event.dpid, HOW.get(source[5]))
 
     def fail(self, dpid, how):
         if how == "end":

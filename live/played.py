@@ -2,6 +2,7 @@
 
 import os
 import socket
+import struct
 import sys
 import threading
 import time
@@ -47,17 +48,19 @@ def read(link, size):
 
 class Switch(threading.Thread):
     """A switch with ports 1, 2 and 3. It answers by itself; `said` has what it was sent: (kind, entry) for each FLOW_MOD and (kind,
-    frame) for each PACKET_OUT, in order, and "BARRIER" for each barrier.
+    frame) for each PACKET_OUT, ("STATS", None) for each request of statistics, in order, and "BARRIER" for each barrier.
 
     table     priority and match of each entry, with its actions and cookie
     frames    (port, frame) for each frame that packets have sent out by a port, in order
     barriers  how many barriers it has answered: one when it joined, and one for each change and each packet
     cut_at    the link is cut where this many messages of this kind have come, in the place of the next barrier's reply
+    cut_by    how it is cut: it is ended, it is reset, or nothing is said any more
     """
 
-    def __init__(self, port, dpid, cut_at=None):
+    def __init__(self, port, dpid, cut_at=None, cut_by="end"):
         super().__init__(daemon=True)
-        self.dpid, self.table, self.said, self.frames, self.cut_at = dpid, {}, [], [], cut_at
+        self.dpid, self.table, self.said, self.frames = dpid, {}, [], []
+        self.cut_at, self.cut_by = cut_at, cut_by
         self.changed = threading.Condition()
         self.barriers = 0
         self.closed = False
@@ -83,6 +86,11 @@ class Switch(threading.Thread):
     def leave(self):
         self.link.shutdown(socket.SHUT_RDWR)
         self.link.close()
+
+    def is_closed_by_host(self):
+        """Whether the controller closes the connection of a switch that says nothing any more."""
+        self.link.settimeout(SECONDS)
+        return read(self.link, 1) is None
 
     # What the switch does
 
@@ -125,18 +133,25 @@ class Switch(threading.Thread):
             self.put_out(xid, message)
         elif isinstance(message, messages.BarrierRequest):
             if self.cut_at and sum(said[0] == self.cut_at[0] for said in self.said) >= self.cut_at[1]:
-                self.link.close()
+                self.cut()
                 return False
             self.said.append("BARRIER")
             self.send(messages.BarrierReply(), xid)
             self.barriers += 1
         elif isinstance(message, messages.StatsRequest):
+            self.said.append(("STATS", None))
             in_order = sorted(self.table.items(), key=lambda it: (-it[0][0], it[0][1].encode()))
             rows = b"".join(
                 FlowStats(match, actions, priority=priority, cookie=cookie).encode() for (priority, match), (actions, cookie) in in_order
             )
             self.send(messages.StatsReply(message.kind, rows), xid)
         return True
+
+    def cut(self):
+        if self.cut_by == "reset":
+            self.link.setsockopt(socket.SOL_SOCKET, socket.SO_LINGER, struct.pack("ii", 1, 0))
+        if self.cut_by != "silence":
+            self.link.close()
 
     def change(self, change):
         key = (change.priority, change.match)

@@ -1,7 +1,7 @@
 #!/usr/bin/env python3
-"""Plays switches to `legosdn run`: one that keeps the rules, and some that break them: live/smoke.py [PROGRAM]
+"""Plays switches to `legosdn run`: one that keeps the rules, and some that break them or are lost: live/smoke.py [PROGRAM]
 
-Needs Python alone. After each of those that break the rules the good one sends a frame, and its change has to come: so nobody else
+Needs Python alone. After each of those the good one sends a frame, and its change has to come: so nobody else
 was harmed. Takes about a minute and a half. PROGRAM is the built controller, by default crates/legosdn/out/legosdn; its application
 is live/pairs.py. Prints what each switch met and the report of the run. Ends with status 1 where something was not as it is to be.
 """
@@ -20,6 +20,8 @@ PROGRAM = sys.argv[1] if len(sys.argv) > 1 else os.path.join(TOP, "crates", "leg
 POLICY = f'[[app]]\nname = "app"\ncommand = ["/usr/bin/python3", "{TOP}/live/pairs.py"]\n'
 HELLO, ERROR, ECHO_REQUEST, ECHO_REPLY, FEATURES_REQUEST, FEATURES_REPLY = 0, 1, 2, 3, 5, 6
 PACKET_IN, FLOW_MOD, BARRIER_REQUEST, BARRIER_REPLY = 10, 14, 18, 19
+
+CUTS = 5
 
 failed = 0
 
@@ -134,29 +136,26 @@ class Run:
     def connects(self):
         return Switch(self.port)
 
-    def has(self, line):
-        """Waits until the report has this line."""
+    def has(self, line, times=1):
+        """Waits until so many lines of the report end so."""
         for _ in range(200):
-            if any(line in it for it in self.lines):
+            if sum(it.endswith(line) for it in self.lines) >= times:
                 return True
             time.sleep(0.05)
         return False
 
     def ends(self):
-        """The status, where it ends of its own; then the report."""
-        try:
-            status = self.process.wait(20)
-        except subprocess.TimeoutExpired:
-            status = None
-            self.process.kill()
-            self.process.wait()
+        """Ends it, and tells the report. Whether it had gone on up to then."""
+        went_on = self.process.poll() is None
+        self.process.kill()
+        self.process.wait()
         self.reader.join()
         print(f"the report has {len(self.lines)} lines; without the frames of the good one, and the switches 100 to 162:")
         calm = ("start app ready", "turn app done")
         for line in self.lines:
             if line not in calm and not re.search(r" packet_in | (join|leave) 1\d\d$", line):
                 print(f"    {line}")
-        return status
+        return went_on
 
 
 def strangers(run, good):
@@ -254,30 +253,47 @@ def rules(run):
     good.confirms()
     tell("the good one joins", run.has("join 7"))
     tell("    it is served", good.is_served() < 1000)
-    for part in (strangers, crowd, full, members, silence):
+    for part in (strangers, crowd, full, members, silence, mute):
         part(run, good)
-    # A link that fails within a change ends the run, so far.
-    mute = run.connects()
-    mute.greeted()
-    mute.send(features(10))
-    mute.until(BARRIER_REQUEST)
-    closed, seconds = mute.is_closed()
+    tell("    the run has gone on", run.ends())
+
+
+def mute(run, good):
+    """A switch that does not answer the barrier of its join is lost, without an event. It may join at the next try."""
+    other = run.connects()
+    other.greeted()
+    other.send(features(10))
+    other.until(BARRIER_REQUEST)
+    closed, seconds = other.is_closed()
     tell("one that does not answer a barrier: closed", closed, f" after {seconds:.0f} s")
-    status = run.ends()
-    tell("    the run ends with status 7", status == 7 and run.lines[-1] == "switch fault 10")
+    tell("    it is lost, and has not joined", run.has("lost 10") and not any(it.endswith("join 10") for it in run.lines))
+    tell("    the good one is served", good.is_served() < 1000)
+    again = run.connects().joins(10)
+    tell("    it joins at the next try", run.has("join 10"))
+    tell("        it is served", again.is_served() < 1000)
 
 
 def cut_off(run):
-    """A switch that is cut off in the middle of a change ends the run, so far."""
-    other, good = run.connects().joins(2), run.connects().joins(1)
-    tell("two switches join", run.has("join 1") and run.has("join 2"))
-    tell("    the other one is served", other.is_served() < 1000)
-    good.send(good.frame())
-    good.until(FLOW_MOD)
-    good.confirms()
-    good.until(FLOW_MOD)
-    good.link.close()
-    tell("a switch is cut off in the middle of a change: the run ends with status 7", run.ends() == 7 and run.lines[-1] == "switch fault 1")
+    """A switch that is cut off in the middle of a change, again and again: it is lost each time, and the run goes on."""
+    other = run.connects().joins(2)
+    tell("a switch joins", run.has("join 2"))
+    for count in range(1, CUTS + 1):
+        lone = run.connects().joins(1)
+        tell(f"another one joins, for time {count}", run.has("join 1", count))
+        lone.send(lone.frame())
+        lone.until(FLOW_MOD)
+        lone.confirms()
+        lone.until(FLOW_MOD)
+        lone.link.close()
+        tell("    it is cut off in the middle of a change, is lost and leaves", run.has("lost 1", count) and run.has("leave 1", count))
+        tell("    the other one is served", other.is_served() < 1000)
+    again = run.connects().joins(1)
+    tell("it joins once more", run.has("join 1", CUTS + 1))
+    tell("    it is served", again.is_served() < 1000)
+    tell("    the run has gone on", run.ends())
+    # The application gives up where its switch is unknown: the turn has failed, and what it had changed is gone with the switch.
+    ends = [run.lines[at : at + 3] for at, line in enumerate(run.lines) if line.startswith("turn app failed")]
+    tell("    each time a turn failed", ends == [["turn app failed closed", "lost 1", "start app ready"]] * CUTS)
 
 
 for part in (rules, cut_off):

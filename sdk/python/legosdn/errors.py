@@ -71,7 +71,10 @@ class OpenFlowError(LegoError):
 
 
 class UnknownSwitch(LegoError):
-    """A request was for a switch that is not joined; nothing was changed by it."""
+    """A request was for a switch that is not joined, and changed nothing; or the switch was lost while it was asked.
+
+    One that was lost leaves by an event to come, and is emptied when it joins again.
+    """
 
     def __init__(self, dpid: int) -> None:
         self.dpid = dpid

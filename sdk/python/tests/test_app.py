@@ -181,6 +181,31 @@ class Requests(unittest.TestCase):
         self.assertIsInstance(seen[1], UnknownSwitch)
         self.assertEqual(seen[1].dpid, 1)
 
+    def test_a_switch_that_is_lost_within_a_turn(self):
+        """One change is taken, and the next one finds its switch lost. The turn goes on, and the leave is the next event."""
+        app, seen = App(), []
+
+        @app.on("join")
+        def connect(event):
+            app.add_flow(1, Match(in_port=1), [Output(2)])
+            with self.assertRaises(UnknownSwitch) as lost:
+                app.add_flow(1, Match(in_port=2), [Output(2)])
+            seen.append(lost.exception.dpid)
+            app.barrier(2)
+
+        @app.on("leave")
+        def forget(event):
+            seen.append([it.port_no for it in event.ports])
+
+        with running(self, app) as host:
+            host.start()
+            host.ask(joined(1, 1, 2), message(1, flow_mod(in_port(1), OUT_2, priority=0x8000)))
+            host.ask(ANSWER_DONE, message(1, flow_mod(in_port(2), OUT_2, priority=0x8000)))
+            host.ask(framed(3, "03"), message(2, "01 12 0008 00000000"))
+            host.ask(ANSWER_DONE, DONE)
+            host.ask(event(2, 2, 1, port(1) + port(2)), DONE)
+        self.assertEqual(seen, [1, [1, 2]])
+
     def test_what_cannot_be_is_not_sent(self):
         """Each of these raises before a frame is given, so the turn has Done alone."""
         calls = [

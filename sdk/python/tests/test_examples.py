@@ -58,12 +58,16 @@ class Examples(unittest.TestCase):
             host.ask(ANSWER_DONE, done(both))
             front = event(8, 3, 1, f"01 0a 0020 00000000 00000007 0040 0002 00 00 {answer}")
             self.all_done(host, front, [pair], done(both))
-            self.all_done(host, event(9, 2, 1, port(1) + port(2)), [], done("{}"))
-            host.ask(packet_in(10, 1, G, reason=0), message(1, flooded))
+            # Where the switch is lost at its entry, nothing is sent behind it; its leave comes then.
+            host.ask(packet_in(9, 2, answer, reason=0), message(1, pair))
+            host.ask(framed(3, "03"), done(both))
+            self.all_done(host, event(10, 2, 1, port(1) + port(2)), [], done("{}"))
+            host.ask(packet_in(11, 1, G, reason=0), message(1, flooded))
             host.ask(framed(3, "03"), done(first))
             match = "in_port=2,dl_src=02:00:00:00:00:02,dl_dst=02:00:00:00:00:01"
             said = f"event 7: no entry for {match}: OFPET_FLOW_MOD_FAILED/OFPFMFC_ALL_TABLES_FULL (3,0)\n"
-            self.ends_well(program, said + "event 8: 14 of 64 bytes of a frame are here\nevent 10: switch 1 has left\n")
+            said += "event 8: 14 of 64 bytes of a frame are here\n"
+            self.ends_well(program, said + "event 9: switch 1 has left\nevent 11: switch 1 has left\n")
         with self.example("learning_switch") as program:
             program.host.start(framed(1, first.encode().hex()))
             self.all_done(program.host, packet_in(7, 2, answer, reason=0), [pair, sent], done(both))

@@ -1,12 +1,15 @@
 """A session in words, replayed by the program where it is built."""
 
+import contextlib
+import io
 import os
 import subprocess
 import sys
 import unittest
 
 import session
-from legosdn.rehearsal import join, packet_in, rehearse
+from legosdn import UnknownSwitch, messages
+from legosdn.rehearsal import join, leave, packet_in, rehearse
 
 from . import PYTHON, TOP
 
@@ -69,6 +72,24 @@ end 0 events 4
 """
 
 
+# The switch is lost at its barrier: calls 1 to 4 are its join, 5 to 7 the first packet, 8 is the entry between the two addresses.
+LOST = """\
+start app ready
+event 1 join 1
+turn app done
+event 2 packet_in 1
+turn app done
+out 1 42
+event 3 packet_in 1
+turn app done
+lost 1
+event 4 leave 1
+turn app done
+app app alive done 4 failed 0
+end 0 events 4
+"""
+
+
 @unittest.skipUnless(os.access(PROGRAM, os.X_OK), f"there is no program {os.path.relpath(PROGRAM, TOP)} yet")
 class Replay(unittest.TestCase):
     def check(self, words, report):
@@ -86,3 +107,15 @@ class Replay(unittest.TestCase):
         # The last frame meets its entry.
         frames.append((1, ASKED))
         self.check("\n".join([*front, "join 1", *(f"frame 1 port {by} {frame}" for by, frame in frames)]), LEARNT)
+
+    @unittest.skip("not played to the program yet")
+    def test_a_switch_that_is_lost_within_a_turn(self):
+        def answer(dpid, message):
+            return UnknownSwitch(dpid) if isinstance(message, messages.FlowMod) else None
+
+        events = [join(1, [1, 2]), packet_in(1, 1, ASKED), packet_in(1, 2, ANSWERED), leave(1, [1, 2])]
+        with contextlib.redirect_stderr(io.StringIO()) as said:
+            turns = rehearse(LearningSwitch(), events, answer)
+        self.assertEqual(said.getvalue(), "event 3: switch 1 has left\n")
+        front = ["---", "session 1", "switch 1 ports 1,2 room 4", "fault link 1 9", *(turn.line() for turn in turns)]
+        self.check("\n".join([*front, "join 1", f"frame 1 port 1 {ASKED}", f"frame 1 port 2 {ANSWERED}"]), LOST)

@@ -137,7 +137,7 @@ REPORT = [
 ]
 
 # Lines that `write` and `explain` leave alone.
-LEFT = ["---", "session 1", "session  1", "reply app  done", "switch 1 8", "join", "# add 1 any", "", "leave 1", "x"]
+LEFT = ["---", "session 1", "session  1", "reply app  done", "switch 1 8", "join", "# add 1 any", "", "leave 1", "x", "fault link 1 5", "lost 1"]
 
 
 class Lines(unittest.TestCase):
