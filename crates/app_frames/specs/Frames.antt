@@ -41,7 +41,7 @@ IsAppFrame frame = AppNumbers frame × AppFits frame
 -- a frame, and how many bytes of those that have come spell it
 pub record IsAppAtFront (frame : AppFrame) (size : ℕ) (bytes : List ℕ) : Type 0 where
   pub well_formed : IsAppFrame frame
-  pub spelled_so : app_bytes frame ≡ take size bytes
+  pub spelled_is : app_bytes frame ≡ take size bytes
   pub size_is : length (app_bytes frame) ≡ size
 
 -- ---- from the host
@@ -73,5 +73,5 @@ IsHostFrame frame = HostNumbers frame × HostFits frame
 -- a frame, and how many bytes of those that have come spell it
 pub record IsHostAtFront (frame : HostFrame) (size : ℕ) (bytes : List ℕ) : Type 0 where
   pub well_formed : IsHostFrame frame
-  pub spelled_so : host_bytes frame ≡ take size bytes
+  pub spelled_is : host_bytes frame ≡ take size bytes
   pub size_is : length (host_bytes frame) ≡ size

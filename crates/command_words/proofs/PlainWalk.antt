@@ -9,7 +9,7 @@ use Rattle.std.proofs.lemmas.Bool.{eqb-true}
 use Rattle.std.proofs.lemmas.List.{append-nil}
 use Rattle.clap.specs.Lexer.{long_of, long_of_rest, short_of, short_of_rest, strip_byte}
 use Rattle.clap.specs.Walk.{Held, Rule, Row, Text, Waiting, idle, positional, Walk, walked, nothing_held, to_positional, arg_by_index, word_met, value, trailing}
-use Rattle.clap.specs.Simple.{Shape, built, is_simple}
+use Rattle.clap.specs.Simple.{Shape, is_simple}
 use Rattle.clap.specs.Faults.{bundle_step_fault, flag_word_fault, flags_fault, turn_fault, walk_fault, word_fault, is_simple_and_free}
 use Rattle.clap.specs.Kinds.{Kinds, or_else}
 use Rattle.clap.specs.declared.builder.value_parser.ValueParser.TheVariants as vp

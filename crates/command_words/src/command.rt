@@ -4,6 +4,7 @@ ghost use Rattle.std.specs.Prelude.{◌≡◌, map, IfSome};
 ghost use Rattle.command_words.specs.Commands.{replay_with, run_with, command_with, command_named, usage_line, IsWithin};
 
 use crate::numbers::number;
+use of_types::limits::MOST_ROUNDS;
 
 /// What the program is asked to do.
 #[derive(Drop, Debug, Clone, Copy, PartialEq, Eq)]
@@ -49,7 +50,7 @@ fn run_with(arguments: &[&str]) -> Option<Command>
     match arguments {
         [port, rounds] => Some(Command::Run {
             port: number(port, 1, 65_535)? as u16,
-            rounds: number(rounds, 1, 1_000_000_000)?,
+            rounds: number(rounds, 1, MOST_ROUNDS)?,
         }),
         _ => None,
     }

@@ -4,7 +4,8 @@ ghost use Rattle.std.specs.Prelude.{◌≡◌, ◌≤◌, ◌^◌, IfSome, Match
 ghost use Rattle.std.specs.Char.{is_ascii_digit};
 ghost use Rattle.std.specs.List.{list_all};
 ghost use Rattle.std.specs.Str.Parse.{digits_value};
-ghost use Rattle.command_words.specs.Numbers.{leads_with_zero, is_numeral, number};
+ghost use Rattle.of_types.specs.Numerals.{leads_with_zero, is_numeral};
+ghost use Rattle.command_words.specs.Numbers.{number};
 
 /// Tells whether a word of two bytes or more begins with `0`.
 fn leads_with_zero(word: &[u8]) -> bool
@@ -24,7 +25,7 @@ fn all_digits(word: &[u8]) -> bool
 }
 
 /// Tells whether a word is a decimal number, without a leading zero but for `0` itself.
-#[tactic(auto, unfolding(crate::specs::Numbers::is_numeral))]
+#[tactic(auto, unfolding(of_types::specs::Numerals::is_numeral))]
 fn is_numeral(word: &[u8]) -> bool
     ensures { result ≡ is_numeral word.now }
 {

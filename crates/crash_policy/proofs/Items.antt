@@ -2,7 +2,7 @@
 use Rattle.std.proofs.Common.{◌≡◌, List, [], ◌∷◌, length, map, string_bytes, refl, ap, arith}
 use Rattle.std.specs.Map.{keys_of}
 use Rattle.toml.specs.declared.value.Value.{Value}
-use Rattle.toml.specs.View.{view, items_view, members_view}
+use Rattle.toml.specs.View.{items_view, members_view}
 use Rattle.toml.proofs.Views.{Entry}
 use Rattle.crash_policy.specs.Keys.{count_of, keys_in}
 

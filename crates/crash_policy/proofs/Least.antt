@@ -9,7 +9,7 @@ use Rattle.std.specs.String.{string_cmp}
 use Rattle.std.specs.Map.{keys_of}
 use Rattle.toml.specs.View.{members_view}
 use Rattle.toml.proofs.Views.{Entry}
-use Rattle.crash_policy.specs.declared.words.Place.{Place}
+use Rattle.crash_policy.specs.declared.words.Level.{Level}
 use Rattle.crash_policy.specs.Keys.{lesser, least_unknown, unless_unknown, is_known, known_keys}
 use Rattle.crash_policy.proofs.Items.{keys_in-view}
 use Rattle.crash_policy.specs.Ascending.{first_unknown}
@@ -39,7 +39,7 @@ least_unknown-ascending is_known (k ∷ ks) ascend =
     rw (more, first) refl
 
 -- the answer for the keys of a table, as its map has them
-pub known_keys-first : (at : Place) (es : List Entry) → IsStrictlySortedBy string_cmp (keys_of es)
+pub known_keys-first : (at : Level) (es : List Entry) → IsStrictlySortedBy string_cmp (keys_of es)
     → known_keys at (members_view es) ≡ unless_unknown (first_unknown (is_known at) (map string_bytes (keys_of es)))
 unfolding known_keys
 known_keys-first at es ascend =

@@ -9,8 +9,8 @@ use Rattle.crash_policy.specs.declared.policy_file.Policy.{Policy}
 use Rattle.crash_policy.specs.declared.policy_file.Policy.TheVariants as policy
 use Rattle.crash_policy.specs.declared.policy_file.Judge.{Judge}
 use Rattle.crash_policy.specs.declared.policy_file.Judge.TheVariants as judge
-use Rattle.crash_policy.specs.declared.words.Place.{Place}
-use Rattle.crash_policy.specs.declared.words.Place.TheVariants as place
+use Rattle.crash_policy.specs.declared.words.Level.{Level}
+use Rattle.crash_policy.specs.declared.words.Level.TheVariants as place
 use Rattle.crash_policy.specs.Faults.{Fault, unknown, missing, out_of_range}
 
 -- ---- words
@@ -61,12 +61,12 @@ unless_unknown None = Ok tt
 unless_unknown (Some key) = Err (unknown key)
 
 -- the keys that a place of the text may have
-abbrev pub is_known : Place → List ℕ → Bool
+abbrev pub is_known : Level → List ℕ → Bool
 is_known place.Top key = is_top_key key
 is_known place.App key = is_app_key key
 is_known place.Rules key = is_event_name key
 
-unfoldable pub known_keys : Place → Members → Result (Unit {0}) Fault
+unfoldable pub known_keys : Level → Members → Result (Unit {0}) Fault
 known_keys at ms = unless_unknown (least_unknown (is_known at) (keys_in ms))
 
 -- the key is there

@@ -2,7 +2,7 @@
 -- tests, or the value. All of this is our own.
 use Rattle.std.specs.Prelude.{if◌then◌else◌, List, [], ◌∷◌, ◌++◌, Result, Ok, Err}
 use Rattle.toml.specs.Data.{Members}
-use Rattle.crash_policy.specs.declared.words.Place.TheVariants as place
+use Rattle.crash_policy.specs.declared.words.Level.TheVariants as place
 use Rattle.crash_policy.specs.Policies.{AppValue, PolicyValue}
 use Rattle.crash_policy.specs.Faults.{Fault, double, ◌>>=◌}
 use Rattle.crash_policy.specs.Order.{is_taken}

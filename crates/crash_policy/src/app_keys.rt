@@ -11,7 +11,7 @@ use crate::limits::{DEFAULT_BUDGET, MOST_BUDGET, MOST_COMMAND_WORDS};
 use crate::members::{count, known_keys, member, needed, number_in, out_of_range};
 use crate::policy_fault::PolicyFault;
 use crate::policy_file::Policy;
-use crate::words::{Place, is_event_name, is_name, policy_named};
+use crate::words::{Level, is_event_name, is_name, policy_named};
 use std::alloc::{AllocError, Global};
 use toml::value::Array;
 use toml::{Table, Value};
@@ -22,7 +22,7 @@ pub(crate) fn known_in_rules(table: &Table) -> Result<(), PolicyFault>
     ensures { Gives (λ u. u) result (spec.rules_keys (table_view table.now)) }
 {
     match member(table, "rules") {
-        Some(Value::Table(inner)) => known_keys(inner, Place::Rules),
+        Some(Value::Table(inner)) => known_keys(inner, Level::Rules),
         _ => Ok(()),
     }
 }

@@ -16,7 +16,7 @@ use crate::members::known_keys;
 use crate::policy_fault::PolicyFault;
 use crate::policy_file::{AppRule, PolicyFile};
 use crate::top_keys::{app_tables, judge, needed_apps, quota};
-use crate::words::Place;
+use crate::words::Level;
 use indexmap::IndexMap;
 use std::alloc::{AllocError, Global};
 use toml::Table;
@@ -26,7 +26,7 @@ use toml::Table;
 fn app_keys(alloc: Global, table: &Table) -> Result<(), PolicyFault>
     ensures { Gives (λ u. u) result (spec.app_keys (table_view table.now)) }
 {
-    known_keys(table, Place::App)?;
+    known_keys(table, Level::App)?;
     known_in_rules(table)?;
     needed_name(alloc, table)
 }
@@ -66,7 +66,7 @@ fn app(alloc: Global, table: &Table) -> Result<AppRule, PolicyFault>
 fn top_keys(alloc: Global, table: &Table) -> Result<(), PolicyFault>
     ensures { Gives (λ u. u) result (spec.top_keys (table_view table.now)) }
 {
-    known_keys(table, Place::Top)?;
+    known_keys(table, Level::Top)?;
     needed_apps(alloc, table)
 }
 

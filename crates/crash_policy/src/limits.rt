@@ -1,5 +1,7 @@
 //! What a policy may ask for at most, and what holds where it says nothing (docs/POLICY.md).
 
+use of_types::limits::BUDGET;
+
 /// How many applications a policy has at most.
 pub const MOST_APPS: usize = 32;
 
@@ -13,4 +15,4 @@ pub const MOST_COMMAND_WORDS: usize = 16;
 pub const MOST_BUDGET: u32 = 100_000;
 
 /// How many frames a turn has at most where the policy does not say.
-pub const DEFAULT_BUDGET: u32 = 1_000;
+pub const DEFAULT_BUDGET: u32 = BUDGET;

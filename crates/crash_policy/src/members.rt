@@ -11,7 +11,7 @@ ghost use Rattle.crash_policy.specs.Keys.{is_known};
 ghost use Rattle.crash_policy.specs.Ascending.{first_unknown};
 
 use crate::policy_fault::PolicyFault;
-use crate::words::{Place, is_known, number_within};
+use crate::words::{Level, is_known, number_within};
 use std::alloc::Global;
 use toml::value::Array;
 use toml::{Table, Value};
@@ -34,7 +34,7 @@ pub(crate) fn out_of_range(alloc: Global, key: &str) -> PolicyFault
 }
 
 /// Finds the first key that the place may not have.
-fn first_unknown(table: &Table, place: Place) -> Option<&String>
+fn first_unknown(table: &Table, place: Level) -> Option<&String>
     ensures first { option_map (λ k. string_bytes k.now) result
         ≡ first_unknown (is_known place) (map string_bytes (keys table.now)) }
     ensures ascending { IsOrdered string_cmp table.now }
@@ -48,7 +48,7 @@ fn first_unknown(table: &Table, place: Place) -> Option<&String>
 }
 
 /// Checks that each key is one that the place may have. The least other one is the fault.
-pub(crate) fn known_keys(table: &Table, place: Place) -> Result<(), PolicyFault>
+pub(crate) fn known_keys(table: &Table, place: Level) -> Result<(), PolicyFault>
     ensures { Gives (λ u. u) result (spec.known_keys place (table_view table.now)) }
 {
     match first_unknown(table, place) {

@@ -7,9 +7,9 @@ ghost use Rattle.crash_policy.specs.Keys as spec;
 use crate::limits::MOST_NAME_BYTES;
 use crate::policy_file::{Judge, Policy};
 
-/// A place of a policy text that has keys.
+/// A level of a policy text that has keys.
 #[derive(Clone, Copy, Debug, PartialEq, Eq)]
-pub(crate) enum Place {
+pub(crate) enum Level {
     /// The whole text.
     Top,
     /// One application.
@@ -73,14 +73,14 @@ fn is_app_key(key: &str) -> bool
     )
 }
 
-/// Tells whether the place may have the key.
-pub(crate) fn is_known(place: Place, key: &str) -> bool
-    ensures { result ≡ spec.is_known place key.now }
+/// Tells whether the level may have the key.
+pub(crate) fn is_known(level: Level, key: &str) -> bool
+    ensures { result ≡ spec.is_known level key.now }
 {
-    match place {
-        Place::Top => is_top_key(key),
-        Place::App => is_app_key(key),
-        Place::Rules => is_event_name(key),
+    match level {
+        Level::Top => is_top_key(key),
+        Level::App => is_app_key(key),
+        Level::Rules => is_event_name(key),
     }
 }
 

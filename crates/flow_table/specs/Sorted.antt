@@ -1,6 +1,8 @@
 -- Lists whose items stand in the order of their places, each place once. The rows of a view and those of what entries have lost are
 -- such lists: a row's place is the number of its key. All of this is our own.
 use Rattle.std.specs.Prelude.{◌≡◌, ◌==◌, ℕ, ◌+◌, ◌<◌, ◌≤◌, not, List, [], ◌∷◌, length, filter, slice_index_or, Option, Some, None, Result, Ok, Err, nat_lt, if◌then◌else◌}
+use Rattle.std.proofs.Common.{zero, suc}
+use Rattle.of_types.specs.declared.port_desc.PortDesc.{PortDesc}
 use Rattle.of_match.specs.declared.key.Key.{Key}
 use Rattle.of_match.specs.Key.{key_number}
 use Rattle.flow_table.specs.declared.lost.Lost.{Lost}
@@ -52,3 +54,14 @@ AreRows rows = Ascends row_place 0 rows
 
 abbrev pub AreLostRows : List (Key × Lost) → Type 0
 AreLostRows lost = Ascends lost_place 0 lost
+
+-- ---- Ports by their numbers
+
+abbrev pub port_number : PortDesc → ℕ
+port_number p = p.port_no
+
+-- where the port of a number goes: the ports before it have lower ones, and the one there has none
+abbrev pub IsPortPlace : ℕ → List PortDesc → ℕ → Type 0
+IsPortPlace n [] i = i ≡ 0
+IsPortPlace n (p ∷ ps) zero = n ≤ p.port_no
+IsPortPlace n (p ∷ ps) (suc i) = (p.port_no < n) × IsPortPlace n ps i

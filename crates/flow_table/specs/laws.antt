@@ -1,5 +1,7 @@
 pub mod TableLaws
 pub mod ChangeLaws
+pub mod RefusalLaws
+pub mod PortLaws
 pub mod HitLaws
 pub mod ExpiryLaws
 pub mod MomentLaws

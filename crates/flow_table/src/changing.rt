@@ -6,11 +6,11 @@ ghost use Rattle.flow_table.specs.declared.entry.Entry.{Entry};
 ghost use Rattle.flow_table.specs.Table.{IsTable, with_entry};
 ghost use Rattle.flow_table.specs.Change.{is_delete, adds, deletes, modified, new_entry, notice, entries_after, notices_of, means, tells};
 
-use crate::copying::{copy_actions, copy_entry};
+use crate::copying::copy_entry;
 use crate::describing::{asks, is_deleted, is_described, is_modifying, key_of, position};
 use crate::entry::Entry;
 use crate::notice::{Notice, NoticeList};
-use of_action::ActionList;
+use of_action::{ActionList, copy_actions};
 use of_types::flows;
 use of_wire::FlowMod;
 use std::alloc::{AllocError, Global};

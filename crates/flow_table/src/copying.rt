@@ -1,27 +1,10 @@
-//! Copies of entries and of their actions.
+//! Copies of entries.
 
 ghost use Rattle.std.specs.Prelude.{◌≡◌, IfOk};
 
 use crate::entry::Entry;
-use of_action::{Action, ActionList};
+use of_action::copy_actions;
 use std::alloc::{AllocError, Global};
-
-fn copy_action(action: &Action) -> Result<Action, AllocError>
-    ensures { IfOk result (λ a. a ≡ action.now) }
-{
-    action.clone()
-}
-
-/// A copy of actions.
-pub(crate) fn copy_actions(alloc: Global, actions: &ActionList) -> Result<ActionList, AllocError>
-    ensures { IfOk result (λ copies. copies ≡ actions.now) }
-{
-    let mut copies = Vec::new(alloc);
-    for action in actions.as_slice() {
-        copies.push(copy_action(action)?)?;
-    }
-    Ok(ActionList::from_vec(copies))
-}
 
 /// A copy of an entry.
 pub(crate) fn copy_entry(alloc: Global, entry: &Entry) -> Result<Entry, AllocError>

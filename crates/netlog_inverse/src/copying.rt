@@ -1,28 +1,11 @@
-//! Copies of rows and of their actions.
+//! Copies of rows.
 
 ghost use Rattle.std.specs.Prelude.{◌≡◌, IfOk};
 
 use flow_table::ViewRow;
-use of_action::{Action, ActionList};
+use of_action::copy_actions;
 use of_stats::FlowRow;
 use std::alloc::{AllocError, Global};
-
-fn copy_action(action: &Action) -> Result<Action, AllocError>
-    ensures { IfOk result (λ a. a ≡ action.now) }
-{
-    action.clone()
-}
-
-/// Returns a copy of actions.
-pub(crate) fn copy_actions(alloc: Global, actions: &ActionList) -> Result<ActionList, AllocError>
-    ensures { IfOk result (λ copies. copies ≡ actions.now) }
-{
-    let mut copies = Vec::new(alloc);
-    for action in actions.as_slice() {
-        copies.push(copy_action(action)?)?;
-    }
-    Ok(ActionList::from_vec(copies))
-}
 
 /// Returns a copy of a row of a view.
 pub(crate) fn copy_row(alloc: Global, row: &ViewRow) -> Result<ViewRow, AllocError>

@@ -6,9 +6,8 @@ ghost use Rattle.of_wire.specs.declared.message.Message.TheVariants as messages;
 ghost use Rattle.netlog_inverse.specs.Plans.{IsShowable};
 ghost use Rattle.netlog_inverse.specs.Messages.{removal, standing_again, spelled_mod};
 
-use crate::copying::copy_actions;
 use flow_table::ViewRow;
-use of_action::ActionList;
+use of_action::{ActionList, copy_actions};
 use of_match::Key;
 use of_types::{ByteList, flows, ports};
 use of_wire::{FlowMod, Message, encode};

@@ -4,7 +4,7 @@ ghost use Rattle.std.specs.Prelude.{◌≡◌, ◌↔◌, ℕ, [], length, IfOk,
 ghost use Rattle.std.specs.Slice.Iter.{iter_rest};
 
 use crate::action::Action;
-use std::alloc::Global;
+use std::alloc::{AllocError, Global};
 use std::cmp::{Eq, PartialEq};
 use std::marker::Model;
 use std::slice;
@@ -105,4 +105,21 @@ pub fn outputs_to(list: &ActionList, port: u16) -> bool
     list.as_slice().iter().any(
         |action| matches!(action, Action::Output { port: to, .. } if *to == port),
     )
+}
+
+fn copy_action(action: &Action) -> Result<Action, AllocError>
+    ensures { IfOk result (λ a. a ≡ action.now) }
+{
+    action.clone()
+}
+
+/// Copies the actions of a list. `AllocError` where there is no memory for them.
+pub fn copy_actions(alloc: Global, list: &ActionList) -> Result<ActionList, AllocError>
+    ensures { IfOk result (λ copies. copies ≡ list.now) }
+{
+    let mut copies = Vec::new(alloc);
+    for action in list.as_slice() {
+        copies.push(copy_action(action)?)?;
+    }
+    Ok(ActionList::from_vec(copies))
 }

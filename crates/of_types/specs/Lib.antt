@@ -1,3 +1,4 @@
 pub mod Fields
 pub mod Layout
+pub mod Numerals
 pub mod laws

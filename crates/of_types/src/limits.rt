@@ -23,3 +23,9 @@ pub const MOST_PORTS: usize = 64;
 
 /// How many entries the table of a simulated switch takes at most.
 pub const MOST_ENTRIES: u32 = 4_096;
+
+/// How many rounds a run has at most; a round is a batch and the events that wait then.
+pub const MOST_ROUNDS: u64 = 1_000_000_000;
+
+/// How many frames an application may take for a turn, where nothing else is said.
+pub const BUDGET: u32 = 1_000;

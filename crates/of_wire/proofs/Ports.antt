@@ -1,14 +1,8 @@
 -- Ports read one after the other, as a loop does.
-use Rattle.std.proofs.Common.{◌≡◌, ℕ, suc, ◌+◌, ◌-◌, ◌*◌, ◌<◌, List, [], ◌∷◌, ◌++◌, drop, refl, sym, ap, ◌∙◌, append_assoc, arith}
+use Rattle.std.proofs.Common.{◌≡◌, ℕ, suc, ◌+◌, ◌-◌, ◌*◌, ◌<◌, List, [], ◌∷◌, ◌++◌, drop, sym, ap, ◌∙◌, append_assoc, arith}
 use Rattle.std.proofs.lemmas.List.{drop-drop}
 use Rattle.of_types.specs.declared.port_desc.PortDesc.{PortDesc}
 use Rattle.of_wire.specs.Reading.{port_of, ports_of}
-
-pub ports_begin : (count at : ℕ) (bytes : List ℕ) → ports_of (count - 0) (drop (at + 48 * 0) bytes) ≡ ports_of count (drop at bytes)
-ports_begin count at bytes =
-    let none : count - 0 ≡ count = omega arith in
-    let here : at + 48 * 0 ≡ at = omega arith in
-    rw (none, here) refl
 
 pub ports_go_on : (front : List PortDesc) (count i at : ℕ) (bytes : List ℕ) (total : List PortDesc) → i < count → front ++ ports_of (count - i) (drop (at + 48 * i) bytes) ≡ total
     → (front ++ port_of (drop (at + 48 * i) bytes) ∷ []) ++ ports_of (count - (i + 1)) (drop (at + 48 * (i + 1)) bytes) ≡ total

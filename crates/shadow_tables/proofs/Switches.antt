@@ -117,10 +117,6 @@ ports_change d i change value vs seen all now_all is same h step found t =
     let changes = Changes-set d (λ k. record k { ports = change k.ports }) (all_kept vs all) i x y (Ascends-all vs all 0 h) (found-all d vs all i step there) read refl refl (omega arith) in
     rw (t, set-all-ports vs all i nothing (change (get_or all i [])) step there.0) (subst (λ (xs : List Kept). Changes d (λ k. record k { ports = change k.ports }) xs (set (all_kept vs all) i y)) is changes)
 
-pub nothing_changes : (value : List Kept) (vs : List Lent) (all now_all : List (List PortDesc)) → all_kept vs all ≡ value → now_all ≡ all → Keeps value (all_kept vs now_all)
-nothing_changes value vs all now_all is same =
-    rw (same, is) (record { known = refl; room = λ e. omega arith })
-
 -- ---- A switch that leaves
 
 pub ports_there : (d i : ℕ) (value : List Kept) (vs seen : List Lent) (all : List (List PortDesc)) (ports : List PortDesc) → all_kept vs all ≡ value → seen ≡ vs → AreLent vs → length vs ≡ length all → IsFoundAt lent_place d seen (Ok i)

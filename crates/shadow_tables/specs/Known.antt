@@ -1,12 +1,11 @@
 -- What is known of the joined switches, and what each call makes of it. All of this is our own.
-use Rattle.std.specs.Prelude.{◌≡◌, ◌==◌, ℕ, ◌<◌, ◌≤◌, List, [], ◌∷◌, map, if◌then◌else◌}
-use Rattle.std.proofs.Common.{zero, suc}
+use Rattle.std.specs.Prelude.{◌==◌, ℕ, List, map, if◌then◌else◌}
 use Rattle.of_types.specs.declared.port_desc.PortDesc.{PortDesc}
 use Rattle.of_match.specs.declared.key.Key.{Key}
 use Rattle.of_match.specs.Key.{key_number}
 use Rattle.flow_table.specs.declared.view.ViewRow.{ViewRow}
 use Rattle.flow_table.specs.View.{TableView}
-use Rattle.flow_table.specs.Sorted.{with_item, without_place, row_place}
+use Rattle.flow_table.specs.Sorted.{with_item, without_place, row_place, port_number}
 
 -- a joined switch: the rows of its table in key order, as their owners asked for them, and its ports
 pub record Known : Type 0 where
@@ -43,17 +42,8 @@ drop_row key k = record k { rows = without_row key k.rows }
 -- ---- Ports (OpenFlow 1.0.0, 5.4.3 Port Status Message: ADD 0, DELETE 1, MODIFY 2). A port that is told of for the first time is put
 -- in by its number, whatever the reason.
 
-abbrev pub port_number : PortDesc → ℕ
-port_number p = p.port_no
-
 abbrev pub ports_after : ℕ → PortDesc → List PortDesc → List PortDesc
 ports_after reason port ports = if reason == 1 then without_place port_number port.port_no ports else with_item port_number port ports
-
--- where the port of a number goes: the ports before it have lower ones, and the one there has none
-abbrev pub IsPortPlace : ℕ → List PortDesc → ℕ → Type 0
-IsPortPlace n [] i = i ≡ 0
-IsPortPlace n (p ∷ ps) zero = n ≤ p.port_no
-IsPortPlace n (p ∷ ps) (suc i) = (p.port_no < n) × IsPortPlace n ps i
 
 -- the ports, the config of one of them set
 abbrev pub configured : ℕ → ℕ → PortDesc → PortDesc

@@ -1,3 +1,2 @@
 pub mod KeptLaws
-pub mod PortLaws
 pub mod InStepLaws

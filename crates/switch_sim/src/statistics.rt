@@ -22,7 +22,7 @@ use crate::port::Port;
 use crate::reply::spell;
 use flow_table::Entry;
 use match_overlap::subsumes;
-use of_action::{Action, ActionList, encode_list, size};
+use of_action::{Action, ActionList, copy_actions, encode_list, size};
 use of_match::Match;
 use of_stats::{
     FlowRow, Sum, TableRow, split_reply, write_flow_row, write_port_row, write_sum, write_table_row,
@@ -102,22 +102,6 @@ fn flow_row(alloc: Global, entry: &Entry, moment: u64) -> Result<FlowRow, AllocE
         bytes: entry.bytes,
         actions: copy_actions(alloc, &entry.actions)?,
     })
-}
-
-fn copy_action(action: &Action) -> Result<Action, AllocError>
-    ensures { IfOk result (λ copied. copied ≡ action.now) }
-{
-    action.clone()
-}
-
-fn copy_actions(alloc: Global, actions: &ActionList) -> Result<ActionList, AllocError>
-    ensures { IfOk result (λ copies. copies ≡ actions.now) }
-{
-    let mut copies = Vec::new(alloc);
-    for action in actions.as_slice() {
-        copies.push(copy_action(action)?)?;
-    }
-    Ok(ActionList::from_vec(copies))
 }
 
 /// Finds that the actions take as many bytes as their sizes say.

@@ -51,8 +51,8 @@ app_at_front bytes frame size fit e =
     let was = was_app read.kind (piece (size - 5) 5 bytes) frame (IsBytes-piece (size - 5) 5 bytes fit) (omega (arith, len, front.said, front.is_within)) read.body in
     let number : number_of_app (app_kind frame) ≡ number_at 1 4 bytes = ap number_of_app was.kind_is ∙ sym (number_of_app-app_kind_of (number_at 1 4 bytes) read.kind front.kind_is) in
     let same : framed (number_of_app (app_kind frame)) (app_body_bytes frame) ≡ take size bytes =
-    rw (number, was.spelled_so) (framed_from (Some longest) app_kind_of read.kind size bytes fit front) in
-    record { well_formed = was.well_formed; spelled_so = same; size_is = ap (λ (xs : List ℕ). length xs) same ∙ length-take-le size bytes front.whole }
+    rw (number, was.spelled_is) (framed_from (Some longest) app_kind_of read.kind size bytes fit front) in
+    record { well_formed = was.well_formed; spelled_is = same; size_is = ap (λ (xs : List ℕ). length xs) same ∙ length-take-le size bytes front.whole }
 
 -- a frame has 5 bytes at least, and 1,048,583 at most
 pub app_size : (bytes : List ℕ) (frame : AppFrame) (size : ℕ) → app_reading bytes ≡ Ok (Some (frame, size)) → (5 ≤ size) × (size ≤ 1048583) × (size ≤ length bytes)

@@ -2,6 +2,7 @@
 use Rattle.std.proofs.Common.{◌≡◌, ℕ, zero, suc, ◌+◌, ◌<◌, ◌≤◌, Bool, true, false, cond, eqb, ltb, leb, ◌&&◌, List, [], ◌∷◌, ◌++◌, length, drop, Option, Some, None, refl, sym, ap, subst, ◌∙◌, append_assoc, arith}
 use Rattle.std.specs.Prelude.{is_some, option_map}
 use Rattle.std.proofs.lemmas.Bool.{eqb-true, ltb-false, leb-true, le-ltb, le-leb, ne_eqb, and_parts, cond_both}
+use Rattle.std.proofs.lemmas.Option.{same_Some}
 use Rattle.std.proofs.lemmas.List.{take-append-drop, length-append, length-drop, append-nil, nil_from_length, drop-drop}
 use Rattle.of_types.specs.Fields.{number_at, number_bytes, piece, IsBytes}
 use Rattle.of_types.specs.laws.FieldLaws.{number_at-lt, number_at-drop, number_bytes-number_at, IsBytes-drop}
@@ -47,12 +48,9 @@ bind_some : {X Y : Type 0} (o : Option X) (f : X → Option Y) (y : Y) → (o >>
 bind_some (Some x) f y e = (x, refl, e)
 bind_some None f y e = absurd cc
 
-map_some : {X Y : Type 0} (f : X → Y) (o : Option X) (y : Y) → option_map f o ≡ Some y → (x : X) × (o ≡ Some x) × (f x ≡ y)
+pub map_some : {X Y : Type 0} (f : X → Y) (o : Option X) (y : Y) → option_map f o ≡ Some y → (x : X) × (o ≡ Some x) × (f x ≡ y)
 map_some f (Some x) y e = (x, refl, cc)
 map_some f None y e = absurd cc
-
-same_some : {X : Type 0} (x y : X) → Some x ≡ Some y → x ≡ y
-same_some x y e = cc
 
 -- ---- from an application
 
@@ -69,8 +67,8 @@ bit-flag_of : (byte : ℕ) (b : Bool) → flag_of byte ≡ Some b → byte ≡ b
 unfolding flag_of
 bit-flag_of byte b =
     let P : Option Bool → Type 0 = λ o. o ≡ Some b → byte ≡ bit b in
-    cond_both (eqb byte 0) _ _ P (λ t e. eqb-true byte 0 t ∙ ap bit (same_some false b e)) (λ n0.
-    cond_both (eqb byte 1) _ _ P (λ t e. eqb-true byte 1 t ∙ ap bit (same_some true b e)) (λ n1 e. absurd cc))
+    cond_both (eqb byte 0) _ _ P (λ t e. eqb-true byte 0 t ∙ ap bit (same_Some false b e)) (λ n0.
+    cond_both (eqb byte 1) _ _ P (λ t e. eqb-true byte 1 t ∙ ap bit (same_Some true b e)) (λ n1 e. absurd cc))
 
 message_spelled : (dpid : ℕ) (bytes : List ℕ) → IsAppFrame (Message dpid bytes) → message_of (app_body_bytes (Message dpid bytes)) ≡ Some (Message dpid bytes)
 unfolding message_of app_body_bytes
@@ -123,7 +121,7 @@ length_app_body frame is = length_body (app_fields frame) (app_tail frame) (app_
 pub record WasApp (kind : AppKind) (frame : AppFrame) (body : List ℕ) : Type 0 where
   pub kind_is : app_kind frame ≡ kind
   pub well_formed : IsAppFrame frame
-  pub spelled_so : app_body_bytes frame ≡ body
+  pub spelled_is : app_body_bytes frame ≡ body
 
 was_message : (body : List ℕ) (frame : AppFrame) → IsBytes body → message_of body ≡ Some frame → WasApp app.Message frame body
 unfolding message_of app_body_bytes
@@ -136,14 +134,14 @@ was_message body frame fit e =
     subst (λ (f : AppFrame). WasApp app.Message f body) a.1 (record {
       kind_is = refl;
       well_formed = (number_at-lt 8 0 body fit, (omega (arith, low, len), omega (arith, high, len)));
-      spelled_so = body_spelled (number 8 (number_at 8 0 body) ∷ []) body fit (omega (arith, low)) tt (refl, refl);
+      spelled_is = body_spelled (number 8 (number_at 8 0 body) ∷ []) body fit (omega (arith, low)) tt (refl, refl);
     })
 
 was_bare : (kind : AppKind) (bare_frame frame : AppFrame) (body : List ℕ) → app_kind bare_frame ≡ kind → IsAppFrame bare_frame → app_body_bytes bare_frame ≡ [] → bare bare_frame body ≡ Some frame → WasApp kind frame body
 was_bare kind bare_frame frame body kind_is is none e =
     let a = passed (eqb (length body) 0) bare_frame frame e in
     let empty : body ≡ [] = nil_from_length body (eqb-true _ _ a.0) in
-    subst (λ (f : AppFrame). WasApp kind f body) a.1 (record { kind_is = kind_is; well_formed = is; spelled_so = none ∙ sym empty })
+    subst (λ (f : AppFrame). WasApp kind f body) a.1 (record { kind_is = kind_is; well_formed = is; spelled_is = none ∙ sym empty })
 
 checkpoint_was : (has : Bool) (rest : List ℕ) (checkpoint : Option (List ℕ)) → checkpoint_of has rest ≡ Some checkpoint → (has ≡ is_some checkpoint) × ((stop : Bool) → rest ≡ app_tail (Done stop checkpoint))
 unfolding checkpoint_of
@@ -154,7 +152,7 @@ checkpoint_was false rest checkpoint e =
     subst (λ (c : Option (List ℕ)). (false ≡ is_some c) × ((stop : Bool) → rest ≡ app_tail (Done stop c))) a.1 (refl, λ stop. empty)
 checkpoint_was true rest checkpoint e =
     let some : Option (List ℕ) = Some rest in
-    subst (λ (c : Option (List ℕ)). (true ≡ is_some c) × ((stop : Bool) → rest ≡ app_tail (Done stop c))) (same_some some checkpoint e) (refl, λ stop. refl)
+    subst (λ (c : Option (List ℕ)). (true ≡ is_some c) × ((stop : Bool) → rest ≡ app_tail (Done stop c))) (same_Some some checkpoint e) (refl, λ stop. refl)
 
 done_fits : (stop : Bool) (checkpoint : Option (List ℕ)) → length (app_tail (Done stop checkpoint)) ≤ 1048576 → IsAppFrame (Done stop checkpoint)
 done_fits stop None le = (tt, tt)
@@ -173,10 +171,10 @@ was_done_with body frame stop has checkpoint fit short two stop_is has_is checkp
     let was = checkpoint_was has (drop 2 body) checkpoint checkpoint_is in
     let rest : drop 2 body ≡ app_tail (Done stop checkpoint) = was.1 stop in
     let tail : length (app_tail (Done stop checkpoint)) ≤ 1048576 = rw (← rest) (omega (arith, short, length-drop 2 body)) in
-    subst (λ (f : AppFrame). WasApp app.Done f body) (same_some (Done stop checkpoint) frame same) (record {
+    subst (λ (f : AppFrame). WasApp app.Done f body) (same_Some (Done stop checkpoint) frame same) (record {
       kind_is = refl;
       well_formed = done_fits stop checkpoint tail;
-      spelled_so = done_bytes stop checkpoint body fit two (bit-flag_of (number_at 1 0 body) stop stop_is) (bit-flag_of (number_at 1 1 body) has has_is ∙ ap bit was.0) rest;
+      spelled_is = done_bytes stop checkpoint body fit two (bit-flag_of (number_at 1 0 body) stop stop_is) (bit-flag_of (number_at 1 1 body) has has_is ∙ ap bit was.0) rest;
     })
 
 was_done : (body : List ℕ) (frame : AppFrame) → IsBytes body → length body ≤ 1048578 → done_of body ≡ Some frame → WasApp app.Done frame body
@@ -259,7 +257,7 @@ host_body-spelled (Answer answer) is = answer_spelled answer is
 pub record WasHost (kind : HostKind) (frame : HostFrame) (body : List ℕ) : Type 0 where
   pub kind_is : host_kind frame ≡ kind
   pub numbers : HostNumbers frame
-  pub spelled_so : host_body_bytes frame ≡ body
+  pub spelled_is : host_body_bytes frame ≡ body
 
 was_event : (body : List ℕ) (frame : HostFrame) → IsBytes body → event_of body ≡ Some frame → WasHost host.Event frame body
 unfolding event_of host_body_bytes
@@ -272,25 +270,25 @@ was_event body frame fit e =
     subst (λ (f : HostFrame). WasHost host.Event f body) m.2 (record {
       kind_is = refl;
       numbers = (number_at-lt 8 0 body fit, number_at-lt 8 8 body fit, number_at-lt 8 17 body fit);
-      spelled_so = body_spelled fields body fit (omega (arith, enough)) tt (refl, (refl, (kind, (refl, refl))));
+      spelled_is = body_spelled fields body fit (omega (arith, enough)) tt (refl, (refl, (kind, (refl, refl))));
     })
 
 -- what an answer that was read says
 record WasAnswer (code : ℕ) (answer : AnswerValue) (rest : List ℕ) : Type 0 where
   numbers : AnswerNumbers answer
-  spelled_so : spelled (answer_fields answer) ++ answer_tail answer ≡ number_bytes 1 code ++ rest
+  spelled_is : spelled (answer_fields answer) ++ answer_tail answer ≡ number_bytes 1 code ++ rest
 
 was_fine : (code : ℕ) (rest : List ℕ) (answer : AnswerValue) → code ≡ 0 → bare Fine rest ≡ Some answer → WasAnswer code answer rest
 was_fine code rest answer is e =
     let a = passed (eqb (length rest) 0) Fine answer e in
     let empty : rest ≡ [] = nil_from_length rest (eqb-true _ _ a.0) in
-    subst (λ (x : AnswerValue). WasAnswer code x rest) a.1 (record { numbers = tt; spelled_so = rw (is, empty) (append-nil (number_bytes 1 0 ++ [])) })
+    subst (λ (x : AnswerValue). WasAnswer code x rest) a.1 (record { numbers = tt; spelled_is = rw (is, empty) (append-nil (number_bytes 1 0 ++ [])) })
 
 was_unknown : (code : ℕ) (rest : List ℕ) (answer : AnswerValue) → code ≡ 3 → bare Unknown rest ≡ Some answer → WasAnswer code answer rest
 was_unknown code rest answer is e =
     let a = passed (eqb (length rest) 0) Unknown answer e in
     let empty : rest ≡ [] = nil_from_length rest (eqb-true _ _ a.0) in
-    subst (λ (x : AnswerValue). WasAnswer code x rest) a.1 (record { numbers = tt; spelled_so = rw (is, empty) (append-nil (number_bytes 1 3 ++ [])) })
+    subst (λ (x : AnswerValue). WasAnswer code x rest) a.1 (record { numbers = tt; spelled_is = rw (is, empty) (append-nil (number_bytes 1 3 ++ [])) })
 
 was_error : (code : ℕ) (rest : List ℕ) (answer : AnswerValue) → IsBytes rest → code ≡ 1 → cond (eqb (length rest) 4) (Some (Error (record { kind = number_at 2 0 rest; code = number_at 2 2 rest }))) None ≡ Some answer → WasAnswer code answer rest
 was_error code rest answer fit is e =
@@ -302,7 +300,7 @@ was_error code rest answer fit is e =
     let same : spelled fields ++ [] ≡ rest = sym (ap (λ (xs : List ℕ). spelled fields ++ xs) over) ∙ body_spelled fields rest fit (omega (arith, four)) tt (refl, (refl, refl)) in
     subst (λ (x : AnswerValue). WasAnswer code x rest) a.1 (record {
       numbers = (number_at-lt 2 0 rest fit, number_at-lt 2 2 rest fit);
-      spelled_so = rw is (append_assoc (number_bytes 1 1) (spelled fields) [] ∙ ap (λ (xs : List ℕ). number_bytes 1 1 ++ xs) same);
+      spelled_is = rw is (append_assoc (number_bytes 1 1) (spelled fields) [] ∙ ap (λ (xs : List ℕ). number_bytes 1 1 ++ xs) same);
     })
 
 was_statistics : (code : ℕ) (rest : List ℕ) (answer : AnswerValue) → IsBytes rest → code ≡ 2 → cond (ltb (length rest) 2) None (Some (Statistics (number_at 2 0 rest) (drop 2 rest))) ≡ Some answer → WasAnswer code answer rest
@@ -312,9 +310,9 @@ was_statistics code rest answer fit is e =
     let two : 2 ≤ length rest = ltb-false _ _ a.0 in
     let fields = number 2 (number_at 2 0 rest) ∷ [] in
     let same : spelled fields ++ drop 2 rest ≡ rest = body_spelled fields rest fit (omega (arith, two)) tt (refl, refl) in
-    subst (λ (x : AnswerValue). WasAnswer code x rest) (same_some made answer a.1) (record {
+    subst (λ (x : AnswerValue). WasAnswer code x rest) (same_Some made answer a.1) (record {
       numbers = number_at-lt 2 0 rest fit;
-      spelled_so = rw is (append_assoc (number_bytes 1 2) (spelled fields) (drop 2 rest) ∙ ap (λ (xs : List ℕ). number_bytes 1 2 ++ xs) same);
+      spelled_is = rw is (append_assoc (number_bytes 1 2) (spelled fields) (drop 2 rest) ∙ ap (λ (xs : List ℕ). number_bytes 1 2 ++ xs) same);
     })
 
 was_answer : (code : ℕ) (rest : List ℕ) (answer : AnswerValue) → IsBytes rest → answer_with code rest ≡ Some answer → WasAnswer code answer rest
@@ -337,7 +335,7 @@ was_answer_frame body frame fit e =
     subst (λ (f : HostFrame). WasHost host.Answer f body) m.2 (record {
       kind_is = refl;
       numbers = was.numbers;
-      spelled_so = was.spelled_so ∙ ap (λ (xs : List ℕ). xs ++ drop 1 body) code ∙ take-append-drop 1 body;
+      spelled_is = was.spelled_is ∙ ap (λ (xs : List ℕ). xs ++ drop 1 body) code ∙ take-append-drop 1 body;
     })
   where
     not_empty : (n : ℕ) → eqb n 0 ≡ false → 1 ≤ n
@@ -346,6 +344,6 @@ was_answer_frame body frame fit e =
 
 pub was_host : (kind : HostKind) (body : List ℕ) (frame : HostFrame) → IsBytes body → host_body kind body ≡ Some frame → WasHost kind frame body
 unfolding host_body host_body_bytes
-was_host host.Restore body frame fit e = subst (λ (f : HostFrame). WasHost host.Restore f body) (same_some (Restore body) frame e) (record { kind_is = refl; numbers = tt; spelled_so = refl })
+was_host host.Restore body frame fit e = subst (λ (f : HostFrame). WasHost host.Restore f body) (same_Some (Restore body) frame e) (record { kind_is = refl; numbers = tt; spelled_is = refl })
 was_host host.Event body frame fit e = was_event body frame fit e
 was_host host.Answer body frame fit e = was_answer_frame body frame fit e

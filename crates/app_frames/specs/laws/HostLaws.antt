@@ -40,10 +40,10 @@ host_at_front bytes frame size fit e =
     let was = was_host read.kind (piece (size - 5) 5 bytes) frame (IsBytes-piece (size - 5) 5 bytes fit) read.body in
     let number : number_of_host (host_kind frame) ≡ number_at 1 4 bytes = ap number_of_host was.kind_is ∙ sym (number_of_host-host_kind_of (number_at 1 4 bytes) read.kind front.kind_is) in
     let said = number_at-lt 4 0 bytes fit in
-    let fits : HostFits frame = omega (arith, length_host_body frame was.numbers, ap (λ (xs : List ℕ). length xs) was.spelled_so, len, front.said, said) in
+    let fits : HostFits frame = omega (arith, length_host_body frame was.numbers, ap (λ (xs : List ℕ). length xs) was.spelled_is, len, front.said, said) in
     let same : framed (number_of_host (host_kind frame)) (host_body_bytes frame) ≡ take size bytes =
-    rw (number, was.spelled_so) (framed_from None host_kind_of read.kind size bytes fit front) in
-    record { well_formed = (was.numbers, fits); spelled_so = same; size_is = ap (λ (xs : List ℕ). length xs) same ∙ length-take-le size bytes front.whole }
+    rw (number, was.spelled_is) (framed_from None host_kind_of read.kind size bytes fit front) in
+    record { well_formed = (was.numbers, fits); spelled_is = same; size_is = ap (λ (xs : List ℕ). length xs) same ∙ length-take-le size bytes front.whole }
 
 -- a frame has 5 bytes at least
 pub host_size : (bytes : List ℕ) (frame : HostFrame) (size : ℕ) → host_reading bytes ≡ Ok (Some (frame, size)) → (5 ≤ size) × (size ≤ length bytes)

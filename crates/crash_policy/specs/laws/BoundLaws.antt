@@ -7,7 +7,7 @@ use Rattle.std.proofs.lemmas.Bool.Decides.{nat_tests}
 use Rattle.toml.specs.Data.{Data, string, integer, float, boolean, datetime, array, table, Items, no_items, item, Members, get_member, as_table}
 use Rattle.crash_policy.specs.declared.policy_file.PolicyFile.{PolicyFile}
 use Rattle.crash_policy.specs.declared.policy_fault.PolicyFault.{PolicyFault}
-use Rattle.crash_policy.specs.declared.words.Place.TheVariants as place
+use Rattle.crash_policy.specs.declared.words.Level.TheVariants as place
 use Rattle.crash_policy.specs.Policies.{PolicyValue, default_app, policy_value}
 use Rattle.crash_policy.specs.Faults.{Fault, Gives, ◌>>=◌}
 use Rattle.crash_policy.specs.Keys.{ranged, count_of, tables_of, apps_items, apps_in, apps_answer, judge_answer, quota_answer, known_keys, needed_apps}

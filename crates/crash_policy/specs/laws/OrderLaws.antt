@@ -3,7 +3,7 @@ use Rattle.std.specs.Prelude.{◌≡◌, Bool, true, false, List, [], ◌∷◌,
 use Rattle.std.proofs.Common.{refl, sym, ap, ◌∙◌, append_assoc}
 use Rattle.std.proofs.lemmas.List.{append-nil}
 use Rattle.toml.specs.Data.{Members}
-use Rattle.crash_policy.specs.declared.words.Place.TheVariants as place
+use Rattle.crash_policy.specs.declared.words.Level.TheVariants as place
 use Rattle.crash_policy.specs.declared.policy_file.Policy.TheVariants as policy
 use Rattle.crash_policy.specs.declared.policy_file.Judge.TheVariants as judge
 use Rattle.crash_policy.specs.Policies.{AppValue, PolicyValue}

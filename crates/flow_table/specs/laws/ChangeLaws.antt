@@ -7,9 +7,9 @@ use Rattle.of_match.specs.Key.{key_number}
 use Rattle.match_overlap.specs.Relations.{is_subsuming}
 use Rattle.of_wire.specs.declared.bodies.FlowMod.{FlowMod}
 use Rattle.flow_table.specs.declared.entry.Entry.{Entry}
-use Rattle.flow_table.specs.Table.{place_of, has_key, IsTable, with_entry}
+use Rattle.flow_table.specs.Table.{TableState, place_of, has_key, IsTable, with_entry}
 use Rattle.flow_table.specs.laws.TableLaws.{IsOnlyAt, IsTable-with_entry, IsTable-filter, IsTable-map}
-use Rattle.flow_table.specs.Change.{key_in, is_strict, is_modify, is_delete, describes, sends_to, deletes, adds, asks_notice, modified, new_entry, refusal, notice, notices_of, entries_after, means, tells}
+use Rattle.flow_table.specs.Change.{key_in, is_strict, is_modify, is_delete, describes, sends_to, deletes, adds, asks_notice, modified, new_entry, refusal, notice, notices_of, entries_after, changed, means, tells}
 
 -- ---- A strict description
 
@@ -81,7 +81,7 @@ is_delete-rest m es known adding modifying =
 
 pub notices_of-kept : (now : ℕ) (m : FlowMod) (es : List Entry) → is_delete m ≡ false → notices_of now m es ≡ []
 unfolding notices_of
-notices_of-kept now m es not_so = cond-false (is_delete m) (map (notice 2 now) (filter (tells m) es)) [] not_so
+notices_of-kept now m es not_is = cond-false (is_delete m) (map (notice 2 now) (filter (tells m) es)) [] not_is
 
 pub notices_of-delete : (now : ℕ) (m : FlowMod) (es : List Entry) → is_delete m ≡ true → notices_of now m es ≡ map (notice 2 now) (filter (tells m) es)
 unfolding notices_of
@@ -94,14 +94,14 @@ entries_after-adds now serial m es does =
 
 pub entries_after-modify : (now serial : ℕ) (m : FlowMod) (es : List Entry) → adds m es ≡ false → is_modify m ≡ true → entries_after now serial m es ≡ map (modified m) es
 unfolding entries_after
-entries_after-modify now serial m es not_so does =
-    cond-false (adds m es) (with_entry (new_entry now serial m) es) (if is_modify m then map (modified m) es else filter (λ e. not (deletes m e)) es) not_so
+entries_after-modify now serial m es not_is does =
+    cond-false (adds m es) (with_entry (new_entry now serial m) es) (if is_modify m then map (modified m) es else filter (λ e. not (deletes m e)) es) not_is
     ∙ cond-true (is_modify m) (map (modified m) es) (filter (λ e. not (deletes m e)) es) does
 
 pub entries_after-delete : (now serial : ℕ) (m : FlowMod) (es : List Entry) → adds m es ≡ false → is_modify m ≡ false → entries_after now serial m es ≡ filter (λ e. not (deletes m e)) es
 unfolding entries_after
-entries_after-delete now serial m es not_so none =
-    cond-false (adds m es) (with_entry (new_entry now serial m) es) (if is_modify m then map (modified m) es else filter (λ e. not (deletes m e)) es) not_so
+entries_after-delete now serial m es not_is none =
+    cond-false (adds m es) (with_entry (new_entry now serial m) es) (if is_modify m then map (modified m) es else filter (λ e. not (deletes m e)) es) not_is
     ∙ cond-false (is_modify m) (map (modified m) es) (filter (λ e. not (deletes m e)) es) none
 
 pub refusal-delete : (cap : ℕ) (m : FlowMod) (es : List Entry) → is_delete m ≡ true → refusal cap m es ≡ None
@@ -116,3 +116,12 @@ refusal-delete cap m es does =
       | inr four ↦ let is : m.command ≡ 4 = eqb-true m.command 4 four in rw is refl
     ] in
     rw (known, adding) refl
+
+-- serials are counted upwards
+pub next-changed-le : (now : ℕ) (m : FlowMod) (t : TableState) → t.next ≤ (changed now m t).next
+unfolding changed
+next-changed-le now m t =
+    elim (cases_Bool (adds m t.entries)) [
+      | inl puts ↦ rw puts (omega arith)
+      | inr keeps ↦ rw keeps (omega arith)
+    ]

@@ -1,14 +1,11 @@
 -- What is shown of a table has its keys, actions and serials; so it is in key order too, and is looked up key by key.
 use Rattle.std.specs.Prelude.{◌≡◌, List, Option, Some, None, refl}
-use Rattle.std.specs.Option.{option_map}
 use Rattle.of_match.specs.declared.key.Key.{Key}
 use Rattle.of_action.specs.declared.action.Action.{Action}
 use Rattle.flow_table.specs.declared.entry.Entry.{Entry}
 use Rattle.flow_table.specs.declared.lost.Lost.{Lost}
 use Rattle.flow_table.specs.declared.view.ViewRow.{ViewRow}
-use Rattle.flow_table.specs.Table.{IsTable, place_of, entry_at}
-use Rattle.flow_table.specs.Corrected.{row_at, lost_at, asked_flags, with_lost, shown_entry, shown_entries}
-use Rattle.flow_table.specs.laws.TableLaws.{IsTable-map, entry_at-map}
+use Rattle.flow_table.specs.Corrected.{row_at, lost_at, asked_flags, with_lost, shown_entry}
 
 -- ---- One entry
 
@@ -46,12 +43,3 @@ unfolding shown_entry
 serial-shown_entry rows lost e = serial-with_lost (lost_at e.key lost) (record e { flags = asked_flags (row_at e.key rows) })
 
 -- ---- A table
-
-place-shown_entry : (rows : List ViewRow) (lost : List (Key × Lost)) (e : Entry) → place_of (shown_entry rows lost e) ≡ place_of e
-place-shown_entry rows lost e = rw (key-shown_entry rows lost e) refl
-
-pub IsTable-shown_entries : (rows : List ViewRow) (lost : List (Key × Lost)) (es : List Entry) → IsTable es → IsTable (shown_entries rows lost es)
-IsTable-shown_entries rows lost es is = IsTable-map (shown_entry rows lost) (place-shown_entry rows lost) es is
-
-pub entry_at-shown_entries : (rows : List ViewRow) (lost : List (Key × Lost)) (es : List Entry) (k : Key) → entry_at k (shown_entries rows lost es) ≡ option_map (shown_entry rows lost) (entry_at k es)
-entry_at-shown_entries rows lost es k = entry_at-map (shown_entry rows lost) (place-shown_entry rows lost) es k

@@ -1,5 +1,5 @@
 -- What tables that are lent show, where one of them is read, changed, put in or taken out.
-use Rattle.std.proofs.Common.{◌≡◌, ℕ, zero, suc, ◌+◌, ◌<◌, Bool, ◌||◌, List, [], ◌∷◌, ◌++◌, length, map, take, get_or, set, insert, remove, refl, sym, ap, ◌∙◌, subst}
+use Rattle.std.proofs.Common.{◌≡◌, ℕ, zero, suc, ◌+◌, ◌<◌, Bool, ◌||◌, List, [], ◌∷◌, ◌++◌, length, map, take, get_or, set, insert, refl, sym, ap, ◌∙◌, subst}
 use Rattle.std.specs.List.{list_any}
 use Rattle.std.proofs.lemmas.List.{get_or-map, map-set, length-map, map-append, take_more}
 use Rattle.flow_table.specs.declared.view.TableView.{TableView as Lent}
@@ -16,12 +16,6 @@ plains-insert [] zero v = refl
 plains-insert [] (suc i) v = refl
 plains-insert (w ∷ ws) zero v = refl
 plains-insert (w ∷ ws) (suc i) v = ap (λ (xs : List TableView). plain w ∷ xs) (plains-insert ws i v)
-
-pub plains-remove : (vs : List Lent) (i : ℕ) → plains (remove vs i) ≡ remove (plains vs) i
-plains-remove [] zero = refl
-plains-remove [] (suc i) = refl
-plains-remove (w ∷ ws) zero = refl
-plains-remove (w ∷ ws) (suc i) = ap (λ (xs : List TableView). plain w ∷ xs) (plains-remove ws i)
 
 -- a test that reads what is shown
 pub any-plains : (test : TableView → Bool) (vs : List Lent) → list_any (λ v. test (plain v)) vs ≡ list_any test (plains vs)

@@ -2,6 +2,7 @@
 use Rattle.std.proofs.Common.{◌≡◌, ◌≢◌, ◌==◌, ℕ, zero, suc, ◌+◌, ◌<◌, ◌≤◌, Bool, true, false, not, List, [], ◌∷◌, length, filter, get_or, set, Some, None, Ok, Err, if◌then◌else◌, refl, sym, ap, ◌∙◌, arith, inl, inr}
 use Rattle.std.proofs.lemmas.Bool.{cases_lt, cases_eq, cond-true, cond-false, not_from_true, not_from_false, ne_eqb, eq-eqb}
 use Rattle.std.proofs.lemmas.Bool.Decides.{nat_tests}
+use Rattle.std.proofs.lemmas.List.{get_or_default}
 use Rattle.std.specs.List.{insert, remove}
 use Rattle.std.specs.Cmp.{nat_cmp_is}
 use Rattle.std.specs.Ordering.{nat_cmp}
@@ -148,19 +149,6 @@ length-new place (y ∷ ys) x none =
 pub length-with_item-new : {X : Type 0} (place : X → ℕ) (xs : List X) (x : X) → at_place place (place x) xs ≡ None → length (with_item place x xs) ≡ length xs + 1
 length-with_item-new place xs x none = length-new place xs x none
 
--- one that takes the place of another is none more
-pub length-with_item-there : {X : Type 0} (place : X → ℕ) (xs : List X) (x y : X) (least : ℕ) → Ascends place least xs → at_place place (place x) xs ≡ Some y → length (with_item place x xs) ≡ length xs
-length-with_item-there place [] x y least h some = absurd cc
-length-with_item-there place (z ∷ zs) x y least h some =
-    elim (cases_lt (place x) (place z)) [
-      | inl lt ↦ let none = at_place-below place (z ∷ zs) (place x) (place z) (omega arith, h.1) lt in absurd cc
-      | inr ge ↦ elim (cases_lt (place z) (place x)) [
-        | inl gt ↦ rw (with_item-after place x z zs gt)
-            (omega (arith, length-with_item-there place zs x y (place z + 1) h.1 (sym (at_place-other place (place x) z zs (omega arith)) ∙ some)))
-        | inr le ↦ let same : place x ≡ place z = omega arith in rw (with_item-same place x z zs same) refl
-      ]
-    ]
-
 none-without : {X : Type 0} (place : X → ℕ) (n : ℕ) (xs : List X) → at_place place n xs ≡ None → without_place place n xs ≡ xs
 none-without place n [] none = refl
 none-without place n (x ∷ xs) none =
@@ -267,14 +255,9 @@ Around-below_middle place xs n low high middle h around within above = record {
   ];
 }
 
-any_default : {X : Type 0} (xs : List X) (i : ℕ) (d e : X) → i < length xs → get_or xs i d ≡ get_or xs i e
-any_default [] i d e within = absurd (omega arith)
-any_default (x ∷ xs) zero d e within = refl
-any_default (x ∷ xs) (suc i) d e within = any_default xs i d e (omega arith)
-
 -- what a read gives does not depend on what it gives past the end
 pub place-read : {X : Type 0} (place : X → ℕ) (xs : List X) (i : ℕ) (read : X) → i < length xs → read ≡ get_or xs i read → (x : X) → place (get_or xs i x) ≡ place read
-place-read place xs i read within is x = ap place (any_default xs i x read within ∙ sym is)
+place-read place xs i read within is x = ap place (get_or_default xs i x read within ∙ sym is)
 
 pub less_than : (x y : ℕ) → Less ≡ nat_cmp x y → x < y
 less_than x y e =

@@ -1,13 +1,15 @@
 -- What follows about tables: what an entry that is put in, a filter and a map do to the list.
 use Rattle.std.proofs.Common.{◌≡◌, ◌≢◌, ℕ, zero, suc, ◌+◌, ◌<◌, ◌≤◌, Bool, true, false, not, List, [], ◌∷◌, length, map, filter, take, drop, get_or, set, Option, Some, None, if◌then◌else◌, refl, sym, ap, ◌∙◌, arith, inl, inr}
-use Rattle.std.proofs.lemmas.Bool.{cases_lt, cases_eq, cond-true, cond-false, or_left, or_right, or_from, not_from_true, not_from_false, ne_eqb, cases_Bool}
+use Rattle.std.proofs.lemmas.Bool.{cases_lt, cases_eq, cond-true, cond-false, or_left, or_right, or_from, not_from_true, not_from_false, ne_eqb, eqb-true, cases_Bool}
 use Rattle.std.proofs.lemmas.Bool.Decides.{nat_tests}
+use Rattle.std.proofs.lemmas.List.{length-map, length-set, get_or_default}
+use Rattle.std.proofs.lemmas.List.Folds.{Any-from_list_any}
 use Rattle.std.specs.List.{insert, remove, list_any}
 use Rattle.std.specs.Option.{option_map}
 use Rattle.of_match.specs.declared.key.Key.{Key}
 use Rattle.of_match.specs.Key.{key_number}
 use Rattle.flow_table.specs.declared.entry.Entry.{Entry}
-use Rattle.flow_table.specs.Table.{place_of, has_key, entry_at, AscendsFrom, IsTable, Parts, with_entry}
+use Rattle.flow_table.specs.Table.{place_of, has_key, keys, entry_at, AscendsFrom, IsTable, Parts, with_entry}
 
 -- ---- Places rise along a table.
 
@@ -104,6 +106,31 @@ entry_at-same k f fs same = grind (arith, nat_tests)
 
 pub entry_at-other : (k : Key) (f : Entry) (fs : List Entry) → place_of f ≢ key_number k → entry_at k (f ∷ fs) ≡ entry_at k fs
 entry_at-other k f fs other = grind (arith, nat_tests)
+
+pub length-with_entry-new : (es : List Entry) (e : Entry) → entry_at e.key es ≡ None → length (with_entry e es) ≡ length es + 1
+length-with_entry-new [] e none = refl
+length-with_entry-new (f ∷ fs) e none =
+    elim (cases_lt (place_of e) (place_of f)) [
+      | inl lt ↦ rw (with_entry-before e f fs lt) (omega arith)
+      | inr ge ↦ elim (cases_lt (place_of f) (place_of e)) [
+        | inl gt ↦
+            let rest = length-with_entry-new fs e (sym (entry_at-other e.key f fs (omega arith)) ∙ none) in
+            rw (with_entry-after e f fs gt) (omega arith)
+        | inr le ↦ let same = entry_at-same e.key f fs (omega arith) in absurd cc
+      ]
+    ]
+
+-- an entry that takes the place of another one does not lengthen the table
+pub length-with_entry-there : (e : Entry) (es : List Entry) → IsTable es → list_any (has_key e.key) es ≡ true → length (with_entry e es) ≡ length es
+length-with_entry-there e es is there =
+    let (k, x, within, here, has) = Any-from_list_any (has_key e.key) es there in
+    let same : place_of x ≡ place_of e = eqb-true (place_of x) (place_of e) has in
+    let at : place_of (get_or es k e) ≡ place_of e = ap place_of (get_or_default es k e x within ∙ here) ∙ same in
+    ap length (with_entry-found es e 0 k is within at) ∙ length-set es k e
+
+-- tables of the same keys are equally long
+pub length-keys : (es fs : List Entry) → keys es ≡ keys fs → length es ≡ length fs
+length-keys es fs same = sym (length-map es (λ e. e.key)) ∙ ap length same ∙ length-map fs (λ e. e.key)
 
 -- ---- What is found at a key.
 

@@ -22,10 +22,10 @@ first_or-none : (a : Option Image) → first_or a None ≡ a
 first_or-none None = refl
 first_or-none (Some i) = refl
 
-first_at-takes : (d : ℕ) (k : Key) (l : Logged) (log : List Logged) → is_image_of d k l ≡ true → first_at d k (l ∷ log) ≡ Some l.image
+pub first_at-takes : (d : ℕ) (k : Key) (l : Logged) (log : List Logged) → is_image_of d k l ≡ true → first_at d k (l ∷ log) ≡ Some l.image
 first_at-takes d k l log is = rw is refl
 
-first_at-skips : (d : ℕ) (k : Key) (l : Logged) (log : List Logged) → is_image_of d k l ≡ false → first_at d k (l ∷ log) ≡ first_at d k log
+pub first_at-skips : (d : ℕ) (k : Key) (l : Logged) (log : List Logged) → is_image_of d k l ≡ false → first_at d k (l ∷ log) ≡ first_at d k log
 first_at-skips d k l log is = rw is refl
 
 pub first_at-append : (d : ℕ) (k : Key) (xs ys : List Logged) → first_at d k (xs ++ ys) ≡ first_or (first_at d k xs) (first_at d k ys)

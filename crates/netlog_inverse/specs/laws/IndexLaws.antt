@@ -1,17 +1,14 @@
 -- What follows about the index of a log: by it a key's image since a mark is found, and each change of the log is one of the index.
-use Rattle.std.proofs.Common.{◌≡◌, ◌≢◌, ◌==◌, ◌&&◌, ◌||◌, ℕ, zero, suc, ◌+◌, ◌-◌, ◌*◌, ◌^◌, ◌<◌, ◌≤◌, Bool, true, false, List, [], ◌∷◌, ◌++◌, length, get_or, drop, Option, Some, None, Ok, Err, refl, sym, ap, subst, ◌∙◌, arith, ◌⊎◌, inl, inr}
-use Rattle.std.proofs.Math.Nat.{mul-le-mul_right, pow-suc}
-use Rattle.std.proofs.lemmas.Bool.{cases_lt, cases_eq, cases_Bool, eq-eqb, eqb-true, and_parts, or_cases, or_right}
-use Rattle.std.proofs.lemmas.List.{append-nil, append_assoc, length-append}
+use Rattle.std.proofs.Common.{◌≡◌, ◌≢◌, ◌==◌, ◌&&◌, ℕ, zero, suc, ◌+◌, ◌-◌, ◌*◌, ◌^◌, ◌<◌, ◌≤◌, Bool, true, false, List, [], ◌∷◌, ◌++◌, length, get_or, drop, Option, Some, None, Ok, Err, refl, sym, ap, subst, ◌∙◌, arith, ◌⊎◌, inl, inr}
+use Rattle.std.proofs.Math.Nat.{mul-le-mul_right}
+use Rattle.std.proofs.lemmas.Bool.{cases_lt, cases_eq, cases_Bool, eq-eqb, eqb-true, and_parts, or_cases, or_left, or_right}
+use Rattle.std.proofs.lemmas.List.{append-nil, append_assoc, length-append, get_or_default}
 use Rattle.std.specs.List.{list_any, insert}
 use Rattle.std.specs.Option.{is_some}
 use Rattle.std.specs.Ordering.{nat_cmp, ordering_then}
 use Rattle.of_match.specs.declared.key.Key.{Key}
-use Rattle.of_match.specs.declared.flow_match.Match.{Match}
 use Rattle.of_match.specs.Key.{number, key_number}
-use Rattle.of_match.specs.laws.FieldsLaws.{AreBytes}
-use Rattle.of_match.specs.laws.KeyLaws.{digits-cmp}
-use Rattle.of_match.specs.laws.MatchLaws.{match-length, match-AreBytes}
+use Rattle.of_match.specs.laws.KeyLaws.{digits-cmp, match-number-lt}
 use Rattle.flow_table.specs.declared.lost.Lost.{Lost}
 use Rattle.flow_table.specs.declared.view.ViewRow.{ViewRow}
 use Rattle.flow_table.specs.Sorted.{Ascends, at_place, with_item, without_place, IsFoundAt}
@@ -34,16 +31,6 @@ digits-unique p q m n base hm hn same =
         | inr ge ↦ let e : p ≡ q = omega arith in (e, omega (arith, ap (λ k. k * base) e))
       ]
     ]
-
-number-lt : (bytes : List ℕ) → AreBytes bytes → number bytes < 256 ^ length bytes
-unfolding number
-number-lt [] h = omega arith
-number-lt (b ∷ bytes) h =
-    let more : b ≤ 255 = omega (arith, h.0) in
-    rw (pow-suc 256 (length bytes)) (omega (arith, mul-le-mul_right {m = b} {n = 255} (256 ^ length bytes) more, number-lt bytes h.1))
-
-match-number-lt : (m : Match) → number m.bytes < 256 ^ 40
-match-number-lt m = subst (λ k. number m.bytes < 256 ^ k) (match-length m) (number-lt m.bytes (match-AreBytes m))
 
 two_digits : (a b base : ℕ) → a ≤ 65535 → b < base → a * base + b < 65536 * base
 two_digits a b base ha hb = omega (arith, mul-le-mul_right {m = a} {n = 65535} base ha)
@@ -101,15 +88,10 @@ stands place n (x ∷ xs) d some =
           (suc j, omega arith, at)
     ]
 
-any_default : {X : Type 0} (xs : List X) (i : ℕ) (d e : X) → i < length xs → get_or xs i d ≡ get_or xs i e
-any_default [] i d e within = absurd (omega arith)
-any_default (x ∷ xs) zero d e within = refl
-any_default (x ∷ xs) (suc i) d e within = any_default xs i d e (omega arith)
-
 -- what stands at a position is found at its place
 found_there : (index : List Spot) (i : ℕ) (s : Spot) → Ascends rank 0 index → i < length index → at_place rank (rank (get_or index i s)) index ≡ Some (get_or index i s)
 found_there index i s h within =
-    at_place-found rank index (rank (get_or index i s)) 0 i s h (within, λ x. ap rank (any_default index i x s within))
+    at_place-found rank index (rank (get_or index i s)) 0 i s h (within, λ x. ap rank (get_or_default index i x s within))
 
 -- ---- The spots of a log
 
@@ -150,9 +132,6 @@ length-spots i (l ∷ log) = omega (arith, length-append (spot_at i l.dpid l.ima
 
 pub length-index : (log : List Logged) (index : List Spot) → IsIndex log index → length index ≤ length log
 length-index log index h = omega (arith, h.long, length-spots 0 log)
-
-pub IsIndex-nothing : IsIndex [] []
-IsIndex-nothing = record { in_order = tt; same = λ n. refl; long = refl }
 
 some_at : (s t : Spot) → Some s ≡ Some t → s.at ≡ t.at
 some_at s t is = ap (λ (o : Option Spot). at_in o) is
@@ -218,10 +197,6 @@ one_key d l k m row other lost more is of =
 
 key_is_of : (d : ℕ) (l : Logged) (k m : Key) (row other : Option ViewRow) (lost more : Option Lost) → l.image.put ≡ Row m other more → l.dpid ≡ d → key_number m ≡ key_number k → is_of d (Row k row lost) l ≡ true
 key_is_of d l k m row other lost more is a b = rw (is, eq-eqb l.dpid d a, eq-eqb (key_number m) (key_number k) b) refl
-
-or_left : (a b : Bool) → a ≡ true → (a || b) ≡ true
-or_left true b holds = refl
-or_left false b holds = absurd cc
 
 other_row : (d : ℕ) (l : Logged) (k : Key) (row : Option ViewRow) (lost : Option Lost) → is_one_place l.image.put (Row k row lost) ≡ false → is_of d (Row k row lost) l ≡ false
 other_row d l k row lost other = no_second (l.dpid == d) (is_one_place l.image.put (Row k row lost)) other
@@ -485,7 +460,7 @@ found-at-bound (x ∷ xs) n i h bound some =
       λ s.
           let above = bound.1.above i s (omega arith) inside in
           let under = rank-le index i j s h le within in
-          let there = ap rank (any_default index j s x within) in
+          let there = ap rank (get_or_default index j s x within) in
           omega arith,
     )
 

@@ -11,8 +11,9 @@ use Rattle.flow_table.specs.declared.entry.Entry.{Entry}
 use Rattle.flow_table.specs.declared.lost.Lost.{Lost}
 use Rattle.flow_table.specs.declared.view.ViewRow.{ViewRow}
 use Rattle.flow_table.specs.Table.{TableState, has_key, entry_at}
-use Rattle.flow_table.specs.Change.{adds, changed}
+use Rattle.flow_table.specs.Change.{changed}
 use Rattle.flow_table.specs.Undone.{undone}
+use Rattle.flow_table.specs.laws.ChangeLaws.{next-changed-le}
 use Rattle.undo_laws.specs.Log.{Inverse, Image as Said, Untouched, Absent, Gone, Acted, logged, undo, undo_one, merge, image_at, image_of, seen}
 use Rattle.undo_laws.specs.Removal.{without}
 use Rattle.undo_laws.specs.Same.{SameButSerials}
@@ -35,7 +36,7 @@ use Rattle.netlog_inverse.specs.Log.{mended, changed_at, with_lost_row}
 use Rattle.netlog_inverse.specs.Meaning.{entry_of, said, settled, is_at, is_image_of, first_at, first_or}
 use Rattle.netlog_inverse.specs.Restoring.{Says, IsSentFor}
 use Rattle.netlog_inverse.specs.Marks.{ImagesStand, SayMore, AreSetRight, IsFirstAt, IsLast}
-use Rattle.netlog_inverse.specs.laws.FirstLaws.{first_at-append}
+use Rattle.netlog_inverse.specs.laws.FirstLaws.{first_at-append, first_at-takes, first_at-skips}
 use Rattle.netlog_inverse.specs.laws.RestoringLaws.{given_back-same, is_gone-same}
 
 -- ---- One key
@@ -86,19 +87,11 @@ stand-restores now d same since earlier sent t test is h = undo-restores now ear
 
 -- ---- A change
 
-next-changed : (now : ℕ) (m : FlowMod) (t : TableState) → t.next ≤ (changed now m t).next
-unfolding changed
-next-changed now m t =
-    elim (cases_Bool (adds m t.entries)) [
-      | inl puts ↦ rw puts (omega arith)
-      | inr keeps ↦ rw keeps (omega arith)
-    ]
-
 pub stand-changed : (now d : ℕ) (since after : List Logged) (earlier : TableState) (m : FlowMod) (t : TableState) → SayMore now d since (logged m t.entries) after → ImagesStand now d earlier since t → ImagesStand now d earlier after (changed now m t)
 stand-changed now d since after earlier m t more h = record {
   was = h.was;
   serialed = IsSerialed-changed now m t h.serialed;
-  later = let rise = next-changed now m t in let le = h.later in omega arith;
+  later = let rise = next-changed-le now m t in let le = h.later in omega arith;
   keys = λ k.
       let i : Said = said now (first_at d k since) in
       let j : Said = image_of k (logged m t.entries) in
@@ -186,20 +179,14 @@ pub is-mended : (d : ℕ) (k : Key) (lost : Option Lost) (hard : ℕ) (stands : 
 unfolding mended
 is-mended d k lost hard stands l = rw (put-mended k lost l.image.put) refl
 
-pub takes : (d : ℕ) (k : Key) (l : Logged) (log : List Logged) → is_image_of d k l ≡ true → first_at d k (l ∷ log) ≡ Some l.image
-takes d k l log is = rw is refl
-
-pub skips : (d : ℕ) (k : Key) (l : Logged) (log : List Logged) → is_image_of d k l ≡ false → first_at d k (l ∷ log) ≡ first_at d k log
-skips d k l log is = rw is refl
-
 -- the first image of the key is the one that was set right
 pub first-mended : (d : ℕ) (k : Key) (lost : Option Lost) (hard : ℕ) (at : ℕ) (since : List Logged) → IsFirstAt d k at since
     → (l : Logged) × (first_at d k since ≡ Some l.image) × (first_at d k (changed_at at (mended lost hard false) since) ≡ Some (mended lost hard false l).image)
 first-mended d k lost hard at [] h = absurd h
-first-mended d k lost hard zero (l ∷ log) h = (l, takes d k l log h, takes d k (mended lost hard false l) log (is-mended d k lost hard false l ∙ h))
+first-mended d k lost hard zero (l ∷ log) h = (l, first_at-takes d k l log h, first_at-takes d k (mended lost hard false l) log (is-mended d k lost hard false l ∙ h))
 first-mended d k lost hard (suc at) (l ∷ log) h =
     let (m, was, is) = first-mended d k lost hard at log h.1 in
-    (m, skips d k l log h.0 ∙ was, skips d k l (changed_at at (mended lost hard false) log) h.0 ∙ is)
+    (m, first_at-skips d k l log h.0 ∙ was, first_at-skips d k l (changed_at at (mended lost hard false) log) h.0 ∙ is)
 
 -- two keys that one image is of have one number
 pub one-number : (d : ℕ) (k l : Key) (x : Logged) → is_image_of d k x ≡ true → is_image_of d l x ≡ true → key_number k ≡ key_number l
@@ -221,12 +208,12 @@ first-others d k l lost hard at [] h other = absurd h
 first-others d k l lost hard zero (x ∷ log) h other =
     elim (cases_Bool (is_image_of d l x)) [
       | inl here ↦ absurd (other (one-number d k l x h here))
-      | inr there ↦ skips d l (mended lost hard false x) log (is-mended d l lost hard false x ∙ there) ∙ sym (skips d l x log there)
+      | inr there ↦ first_at-skips d l (mended lost hard false x) log (is-mended d l lost hard false x ∙ there) ∙ sym (first_at-skips d l x log there)
     ]
 first-others d k l lost hard (suc at) (x ∷ log) h other =
     elim (cases_Bool (is_image_of d l x)) [
-      | inl here ↦ takes d l x (changed_at at (mended lost hard false) log) here ∙ sym (takes d l x log here)
-      | inr there ↦ skips d l x (changed_at at (mended lost hard false) log) there ∙ first-others d k l lost hard at log h.1 other ∙ sym (skips d l x log there)
+      | inl here ↦ first_at-takes d l x (changed_at at (mended lost hard false) log) here ∙ sym (first_at-takes d l x log here)
+      | inr there ↦ first_at-skips d l x (changed_at at (mended lost hard false) log) there ∙ first-others d k l lost hard at log h.1 other ∙ sym (first_at-skips d l x log there)
     ]
 
 -- keys of one number have the same first image

@@ -1,7 +1,7 @@
 -- What follows about plans that are logged: the images since each open mark stand for its table after the change, once those that had an
 -- entry stand which goes are set right; and a full table refuses an entry that is put back before another one is removed.
-use Rattle.std.proofs.Common.{◌≡◌, ◌≢◌, ◌==◌, ℕ, zero, suc, ◌+◌, ◌-◌, ◌<◌, ◌≤◌, Bool, false, not, ◌&&◌, List, [], ◌∷◌, ◌++◌, length, map, drop, Option, Some, None, refl, sym, ap, ap₂, ◌∙◌, arith, inl, inr}
-use Rattle.std.proofs.lemmas.Bool.{cases_Bool, cases_eq, cases_lt, eq-eqb, ne_eqb, le-leb}
+use Rattle.std.proofs.Common.{◌≡◌, ◌≢◌, ◌==◌, ℕ, zero, suc, ◌+◌, ◌-◌, ◌<◌, ◌≤◌, Bool, false, ◌&&◌, List, [], ◌∷◌, ◌++◌, length, map, drop, Option, Some, None, refl, sym, ap, ap₂, ◌∙◌, arith, inl, inr}
+use Rattle.std.proofs.lemmas.Bool.{cases_Bool, cases_eq, eq-eqb, ne_eqb, le-leb}
 use Rattle.std.specs.List.{list_any}
 use Rattle.of_match.specs.declared.key.Key.{Key}
 use Rattle.of_match.specs.Key.{key_number}
@@ -15,7 +15,7 @@ use Rattle.flow_table.specs.Errors.{all_tables_full}
 use Rattle.flow_table.specs.Table.{TableState, place_of, has_key, entry_at, with_entry}
 use Rattle.flow_table.specs.Change.{key_in, adds, clashes, is_full, refusal, changed}
 use Rattle.flow_table.specs.Corrected.{shown_entries, shown_table}
-use Rattle.flow_table.specs.laws.TableLaws.{with_entry-before, with_entry-after, entry_at-same, entry_at-other}
+use Rattle.flow_table.specs.laws.TableLaws.{length-with_entry-new}
 use Rattle.undo_laws.specs.Log.{Inverse, PutBack, Image as Said, Untouched, Gone, Acted, logged, old_entry, back, undo, undo_one, merge, image_at, image_of, seen}
 use Rattle.undo_laws.specs.Reverting.{IsAddition, Reverts, CanRevert}
 use Rattle.undo_laws.specs.Stands.{is_gone}
@@ -28,8 +28,8 @@ use Rattle.netlog_inverse.specs.Plans.{planned, going, missing}
 use Rattle.netlog_inverse.specs.Log.{logged_at, pushed, mended, changed_at}
 use Rattle.netlog_inverse.specs.Meaning.{entry_of, said, settled, is_at, is_image_of, first_at, first_or, IsView, Reports}
 use Rattle.netlog_inverse.specs.Marks.{ImagesStand, IsFirstAt, IsLast, IsSetRight, AreSetRightFor, IsImageAt}
-use Rattle.netlog_inverse.specs.laws.FirstLaws.{first-pushed}
-use Rattle.netlog_inverse.specs.laws.MarkLaws.{stand-changed, stays_first, one-number, takes, skips, is-mended, first-mended, first-others, first-number, said-gone}
+use Rattle.netlog_inverse.specs.laws.FirstLaws.{first-pushed, first_at-takes, first_at-skips}
+use Rattle.netlog_inverse.specs.laws.MarkLaws.{stand-changed, stays_first, one-number, is-mended, first-mended, first-others, first-number, said-gone}
 use Rattle.netlog_inverse.specs.laws.MeaningLaws.{said-planned}
 use Rattle.netlog_inverse.specs.laws.RestoringLaws.{settled-merge}
 
@@ -126,12 +126,12 @@ first-beside d k l lost hard at [] h other = absurd h
 first-beside d k l lost hard zero (x ∷ log) h other =
     elim (cases_Bool (is_image_of d l x)) [
       | inl here ↦ absurd (other (one-number d k l x h here))
-      | inr there ↦ skips d l (mended lost hard false x) log (is-mended d l lost hard false x ∙ there) ∙ sym (skips d l x log there)
+      | inr there ↦ first_at-skips d l (mended lost hard false x) log (is-mended d l lost hard false x ∙ there) ∙ sym (first_at-skips d l x log there)
     ]
 first-beside d k l lost hard (suc at) (x ∷ log) h other =
     elim (cases_Bool (is_image_of d l x)) [
-      | inl here ↦ takes d l x (changed_at at (mended lost hard false) log) here ∙ sym (takes d l x log here)
-      | inr there ↦ skips d l x (changed_at at (mended lost hard false) log) there ∙ first-beside d k l lost hard at log h other ∙ sym (skips d l x log there)
+      | inl here ↦ first_at-takes d l x (changed_at at (mended lost hard false) log) here ∙ sym (first_at-takes d l x log here)
+      | inr there ↦ first_at-skips d l x (changed_at at (mended lost hard false) log) there ∙ first-beside d k l lost hard at log h other ∙ sym (first_at-skips d l x log there)
     ]
 
 image-number : (d : ℕ) (k l : Key) (x : Logged) → key_number k ≡ key_number l → is_image_of d l x ≡ is_image_of d k x
@@ -148,15 +148,15 @@ first-later d k l lost hard first at [] h lt is = absurd h
 first-later d k l lost hard first zero (x ∷ log) h lt is = absurd (omega arith)
 first-later d k l lost hard zero (suc at) (x ∷ log) h lt is =
     elim (cases_Bool (is_image_of d l x)) [
-      | inl here ↦ takes d l x (changed_at at (mended lost hard false) log) here ∙ sym (takes d l x log here)
+      | inl here ↦ first_at-takes d l x (changed_at at (mended lost hard false) log) here ∙ sym (first_at-takes d l x log here)
       | inr there ↦
           let other : key_number k ≢ key_number l = λ same. let both = image-number d k l x same in absurd cc in
-          skips d l x (changed_at at (mended lost hard false) log) there ∙ first-beside d k l lost hard at log is other ∙ sym (skips d l x log there)
+          first_at-skips d l x (changed_at at (mended lost hard false) log) there ∙ first-beside d k l lost hard at log is other ∙ sym (first_at-skips d l x log there)
     ]
 first-later d k l lost hard (suc first) (suc at) (x ∷ log) h lt is =
     elim (cases_Bool (is_image_of d l x)) [
-      | inl here ↦ takes d l x (changed_at at (mended lost hard false) log) here ∙ sym (takes d l x log here)
-      | inr there ↦ skips d l x (changed_at at (mended lost hard false) log) there ∙ first-later d k l lost hard first at log h.1 (omega arith) is ∙ sym (skips d l x log there)
+      | inl here ↦ first_at-takes d l x (changed_at at (mended lost hard false) log) here ∙ sym (first_at-takes d l x log here)
+      | inr there ↦ first_at-skips d l x (changed_at at (mended lost hard false) log) there ∙ first-later d k l lost hard first at log h.1 (omega arith) is ∙ sym (first_at-skips d l x log there)
     ]
 
 nothing-logged : (k : Key) → image_of k [] ≡ Untouched
@@ -187,19 +187,6 @@ stand-planned now d mark outer m rs cache fs earlier t log set view reports none
 
 -- ---- A full table
 
-length-new : (es : List Entry) (e : Entry) → entry_at e.key es ≡ None → length (with_entry e es) ≡ length es + 1
-length-new [] e none = refl
-length-new (f ∷ fs) e none =
-    elim (cases_lt (place_of e) (place_of f)) [
-      | inl lt ↦ rw (with_entry-before e f fs lt) (omega arith)
-      | inr ge ↦ elim (cases_lt (place_of f) (place_of e)) [
-        | inl gt ↦
-            let rest = length-new fs e (sym (entry_at-other e.key f fs (omega arith)) ∙ none) in
-            rw (with_entry-after e f fs gt) (omega arith)
-        | inr le ↦ let same = entry_at-same e.key f fs (omega arith) in absurd cc
-      ]
-    ]
-
 none-has : (k : Key) (es : List Entry) → entry_at k es ≡ None → list_any (has_key k) es ≡ false
 none-has k [] none = refl
 none-has k (f ∷ fs) none =
@@ -226,6 +213,6 @@ last-reverts cap now e t can = can.2
 pub full-first : (cap now : ℕ) (e : Entry) (rest : List Inverse) (t : TableState) → cap ≤ length t.entries → entry_at e.key t.entries ≡ None → CanRevert cap now (rest ++ PutBack e ∷ []) t → ⊥
 full-first cap now e [] t full none can =
     let fits = last-reverts cap now e t can in
-    let long = length-new t.entries (back now t.next e) none in
+    let long = length-with_entry-new t.entries (back now t.next e) none in
     omega arith
 full-first cap now e (x ∷ rest) t full none can = full-first cap now e rest t full none can.0

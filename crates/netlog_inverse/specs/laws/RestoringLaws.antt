@@ -1,5 +1,5 @@
 -- What follows about what is sent for images: it gives the earlier table back.
-use Rattle.std.proofs.Common.{◌≡◌, ◌≢◌, ℕ, Bool, true, List, [], ◌++◌, map, Option, Some, None, refl, sym, ap, ap₂, ◌∙◌}
+use Rattle.std.proofs.Common.{◌≡◌, ℕ, Bool, true, List, [], ◌++◌, map, Option, None, refl, sym, ap, ap₂, ◌∙◌}
 use Rattle.std.specs.Option.{option_map}
 use Rattle.of_match.specs.declared.key.Key.{Key}
 use Rattle.of_action.specs.declared.action.Action.{Action}
@@ -20,11 +20,10 @@ use Rattle.undo_laws.specs.Serials.{IsSerialed}
 use Rattle.undo_laws.specs.Same.{SameButSerials}
 use Rattle.undo_laws.specs.Table.{IsTest}
 use Rattle.undo_laws.specs.laws.TableLaws.{Stands-alike, given_back-sent, is_gone-sent}
-use Rattle.netlog_inverse.specs.declared.image.Image.{Image}
 use Rattle.netlog_inverse.specs.declared.image.Logged.{Logged}
 use Rattle.netlog_inverse.specs.Plans.{planned, going, missing}
 use Rattle.netlog_inverse.specs.Log.{logged_at}
-use Rattle.netlog_inverse.specs.Meaning.{said, settled, first_at, first_or, IsView, Reports}
+use Rattle.netlog_inverse.specs.Meaning.{said, settled, first_at, IsView, Reports}
 use Rattle.netlog_inverse.specs.laws.MeaningLaws.{said-planned}
 use Rattle.netlog_inverse.specs.Restoring.{Says, IsSentFor}
 
@@ -97,18 +96,3 @@ Says-more now d since more after log newer says planned both k =
     both k ∙ settled-merge now a b ∙ ap₂ merge (says k) (planned k)
     ∙ sym (settled-merge now (image_of k log) (image_of k newer))
     ∙ ap (settled now) (sym (image_of-append k log newer))
-
--- an image that says anything stays the first one; what two say is what the first one says, unless an entry went whose actions had been
--- changed
-pub said-first_or : (now : ℕ) (a b : Option Image) → ((i : Image) → a ≡ Some i → said now a ≢ Untouched) → ((actions : List Action) (e : Entry) → said now a ≡ Acted actions → said now b ≢ Gone e) → ((actions : List Action) → said now a ≡ Acted actions → said now b ≢ Absent) → said now (first_or a b) ≡ merge (said now a) (said now b)
-said-first_or now None b says gone absent = refl
-said-first_or now (Some i) b says gone absent = merged (said now (Some i)) (said now b) (says i refl) gone absent
-  where
-    merged : (x y : Said) → x ≢ Untouched → ((actions : List Action) (e : Entry) → x ≡ Acted actions → y ≢ Gone e) → ((actions : List Action) → x ≡ Acted actions → y ≢ Absent) → x ≡ merge x y
-    merged Untouched y says gone absent = absurd (says refl)
-    merged Absent y says gone absent = refl
-    merged (Gone e) y says gone absent = refl
-    merged (Acted actions) Untouched says gone absent = refl
-    merged (Acted actions) Absent says gone absent = absurd (absent actions refl refl)
-    merged (Acted actions) (Gone e) says gone absent = absurd (gone actions e refl refl)
-    merged (Acted actions) (Acted later) says gone absent = refl

@@ -355,7 +355,7 @@ was_at_front bytes len fit e =
 
 pub record AreSpelled (actions : List Action) (bytes : List ℕ) : Type 0 where
   pub fit : AreActions actions
-  pub spelled_so : Spell actions bytes
+  pub spelled_is : Spell actions bytes
 
 abbrev read_as : List Action → Result (List Action) ActionFault
 read_as actions = Ok actions
@@ -366,7 +366,7 @@ same_value x y e = cc
 nothing_spelled : (bytes : List ℕ) (actions : List Action) → length bytes ≡ 0 → read_as [] ≡ read_as actions → AreSpelled actions bytes
 nothing_spelled bytes actions none e =
     let same : [] ≡ actions = same_value [] actions e in
-    subst (λ (xs : List Action). AreSpelled xs bytes) same (record { fit = tt; spelled_so = nil_from_length bytes none })
+    subst (λ (xs : List Action). AreSpelled xs bytes) same (record { fit = tt; spelled_is = nil_from_length bytes none })
 
 more_spelled : (steps place : ℕ) (bytes : List ℕ) (actions : List Action) → IsBytes bytes
     → ((later : ℕ) (rest : List ℕ) (others : List Action) → length rest ≤ steps → IsBytes rest → actions_from steps later rest ≡ Ok others → AreSpelled others rest)
@@ -383,11 +383,11 @@ more_spelled steps place bytes actions fit ih le e =
     let size = first.size in
     subst (λ (xs : List Action). AreSpelled xs bytes) made (record {
       fit = (first.fits, others.fit);
-      spelled_so = (
+      spelled_is = (
         omega (arith, within.within, size),
         (
           subst (λ (n : ℕ). IsLaidOut 0 (action_fields a.0.0) [] (take n bytes)) (sym size) first.laid,
-          subst (λ (n : ℕ). Spell b.0 (drop n bytes)) (sym size) others.spelled_so,
+          subst (λ (n : ℕ). Spell b.0 (drop n bytes)) (sym size) others.spelled_is,
         ),
       );
     })
@@ -418,7 +418,7 @@ actions_of-list_bytes actions fit = actions_of-Spell actions (list_bytes actions
 pub found_from_gives : (bytes : List ℕ) (r : Result (List Action) ActionFault) → IsBytes bytes → Gives (λ list. list) r (actions_of bytes) → IfOk r (λ list. AreActions list × Spell list bytes)
 found_from_gives bytes (Ok actions) fit given =
     let found = AreSpelled-actions_of bytes actions fit given in
-    (found.fit, found.spelled_so)
+    (found.fit, found.spelled_is)
 found_from_gives bytes (Err fault) fit given = tt
 
 pub length-Spell : (actions : List Action) (bytes : List ℕ) → Spell actions bytes → length bytes ≡ list_size actions
@@ -451,6 +451,6 @@ pub SameButPads-list_bytes : (bytes : List ℕ) (actions : List Action) → IsBy
 SameButPads-list_bytes bytes actions fit e =
     let found = AreSpelled-actions_of bytes actions fit e in
     record {
-      size = length-list_bytes actions found.fit ∙ sym (length-Spell actions bytes found.spelled_so);
-      places = λ i lt says. same_list_but_pads actions bytes i found.fit fit found.spelled_so lt says;
+      size = length-list_bytes actions found.fit ∙ sym (length-Spell actions bytes found.spelled_is);
+      places = λ i lt says. same_list_but_pads actions bytes i found.fit fit found.spelled_is lt says;
     }

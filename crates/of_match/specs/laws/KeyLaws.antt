@@ -69,7 +69,7 @@ number-cmp (x ∷ xs) (y ∷ ys) e hx hy =
     ∙ digits-cmp x y (number xs) (number ys) (256 ^ length xs) (number-lt xs hx.1) (rw same (number-lt ys hy.1))
     ∙ ap (ordering_then (nat_cmp x y)) (number-cmp xs ys same hx.1 hy.1)
 
-match-number-lt : (m : Match) → number m.bytes < 256 ^ 40
+pub match-number-lt : (m : Match) → number m.bytes < 256 ^ 40
 match-number-lt m = subst (λ k. number m.bytes < 256 ^ k) (match-length m) (number-lt m.bytes (match-AreBytes m))
 
 priority-cmp : (p q : ℕ) → p < 2 ^ 16 → q < 2 ^ 16 → nat_cmp (65535 - p) (65535 - q) ≡ nat_cmp q p

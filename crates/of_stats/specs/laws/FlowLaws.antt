@@ -129,7 +129,7 @@ rows_of-spelled rows bytes fit h = rows_from-spelled (length bytes) 0 rows bytes
 record WasRow (row : FlowRow) (len : ℕ) (bytes : List ℕ) : Type 0 where
   is : IsRow row
   size : row_size row ≡ len
-  spelled_so : SpellRow row (take len bytes)
+  spelled_is : SpellRow row (take len bytes)
 
 was_row_with : (actions : List Action) (len : ℕ) (bytes : List ℕ) → IsBytes bytes → IsRowLength len bytes → actions_of (drop 88 (take len bytes)) ≡ Ok actions → WasRow (row_with (take len bytes) actions) len bytes
 was_row_with actions len bytes fit known read =
@@ -137,7 +137,7 @@ was_row_with actions len bytes fit known read =
     let row_fit = IsBytes-take len bytes fit in
     let row_len : length row ≡ len = omega (arith, length-take len bytes, known.within) in
     let found = AreSpelled-actions_of (drop 88 row) actions (IsBytes-drop 88 row row_fit) read in
-    let size : 88 + list_size actions ≡ len = omega (arith, length-Spell actions (drop 88 row) found.spelled_so, length-drop 88 row, row_len, known.least) in
+    let size : 88 + list_size actions ≡ len = omega (arith, length-Spell actions (drop 88 row) found.spelled_is, length-drop 88 row, row_len, known.least) in
     let said : number_at 2 0 row ≡ len = number_at-take 2 0 len bytes (omega (arith, known.least)) ∙ known.said in
     record {
       is = record {
@@ -146,12 +146,12 @@ was_row_with actions len bytes fit known read =
         size = let small : number_at 2 0 row < 65536 = number_at-lt 2 0 row row_fit in omega (arith, size, said, small);
       };
       size = size;
-      spelled_so = record {
+      spelled_is = record {
         size = row_len ∙ sym size;
         said = said ∙ sym size;
         matching = refl;
         counts = (refl, (refl, (refl, (refl, (refl, (refl, (refl, refl)))))));
-        actions = found.spelled_so;
+        actions = found.spelled_is;
       };
     }
 
@@ -161,17 +161,17 @@ was_row row len bytes fit read =
 
 pub record WereRows (rows : List FlowRow) (bytes : List ℕ) : Type 0 where
   pub fit : AreRows rows
-  pub spelled_so : SpellRows rows bytes
+  pub spelled_is : SpellRows rows bytes
 
-abbrev read_as : List FlowRow → Result (List FlowRow) StatsFault
+abbrev pub read_as : List FlowRow → Result (List FlowRow) StatsFault
 read_as rows = Ok rows
 
-same_rows : (x y : List FlowRow) → read_as x ≡ read_as y → x ≡ y
+pub same_rows : (x y : List FlowRow) → read_as x ≡ read_as y → x ≡ y
 same_rows x y e = cc
 
 nothing_spelled : (bytes : List ℕ) (rows : List FlowRow) → length bytes ≡ 0 → read_as [] ≡ read_as rows → WereRows rows bytes
 nothing_spelled bytes rows none e =
-    subst (λ (xs : List FlowRow). WereRows xs bytes) (same_rows [] rows e) (record { fit = tt; spelled_so = nil_from_length bytes none })
+    subst (λ (xs : List FlowRow). WereRows xs bytes) (same_rows [] rows e) (record { fit = tt; spelled_is = nil_from_length bytes none })
 
 more_spelled : (steps place : ℕ) (bytes : List ℕ) (rows : List FlowRow) → IsBytes bytes
     → ((later : ℕ) (rest : List ℕ) (others : List FlowRow) → length rest ≤ steps → IsBytes rest → rows_from steps later rest ≡ Ok others → WereRows others rest)
@@ -186,9 +186,9 @@ more_spelled steps place bytes rows fit ih le e =
     let others = ih (place + len) (drop len bytes) b.0 (omega (arith, length-drop len bytes, known.least)) (IsBytes-drop len bytes fit) b.1 in
     subst (λ (xs : List FlowRow). WereRows xs bytes) (same_rows (a.0.0 ∷ b.0) rows b.2) (record {
       fit = (first.is, others.fit);
-      spelled_so = (
-        subst (λ (n : ℕ). SpellRow a.0.0 (take n bytes)) (sym first.size) first.spelled_so,
-        subst (λ (n : ℕ). SpellRows b.0 (drop n bytes)) (sym first.size) others.spelled_so,
+      spelled_is = (
+        subst (λ (n : ℕ). SpellRow a.0.0 (take n bytes)) (sym first.size) first.spelled_is,
+        subst (λ (n : ℕ). SpellRows b.0 (drop n bytes)) (sym first.size) others.spelled_is,
       );
     })
 
@@ -211,7 +211,7 @@ WereRows-rows_of bytes rows fit e = WereRows-from (length bytes) 0 bytes rows (o
 pub found_from_gives : (bytes : List ℕ) (r : Result (List FlowRow) StatsFault) → IsBytes bytes → Gives r (rows_of bytes) → IfOk r (λ rows. AreRows rows × SpellRows rows bytes)
 found_from_gives bytes (Ok rows) fit given =
     let found = WereRows-rows_of bytes rows fit given in
-    (found.fit, found.spelled_so)
+    (found.fit, found.spelled_is)
 found_from_gives bytes (Err fault) fit given = tt
 
 -- ---- one reading

@@ -69,7 +69,7 @@ record IsFront (kind : MessageKind) (bytes : List ℕ) : Type 0 where
   size : number_at 2 2 bytes ≡ length bytes
   has : has_length kind (length bytes) ≡ true
 
-guard_then : {A F : Type 0} (b : Bool) (fault : F) (r : Result A F) (x : A) → cond b r (Err fault) ≡ Ok x → (b ≡ true) × (r ≡ Ok x)
+pub guard_then : {A F : Type 0} (b : Bool) (fault : F) (r : Result A F) (x : A) → cond b r (Err fault) ≡ Ok x → (b ≡ true) × (r ≡ Ok x)
 guard_then true fault r x e = (refl, e)
 guard_then false fault r x e = absurd cc
 
@@ -367,7 +367,7 @@ unfolding message_size flow_mod_of
 flow_mod_was bytes fit has message e =
     let a = bind_ok (of_actions (actions_of (drop 72 bytes))) _ message e in
     let found = AreSpelled-actions_of (drop 72 bytes) a.0 (IsBytes-drop 72 bytes fit) (of_actions_ok (actions_of (drop 72 bytes)) a.0 a.1) in
-    let size = length-Spell a.0 (drop 72 bytes) found.spelled_so in
+    let size = length-Spell a.0 (drop 72 bytes) found.spelled_is in
     subst (λ (m : Message). WasSpelled kinds.FlowMod m bytes) (same_message _ message a.2) (record {
       kind_is = refl;
       size = omega (arith, size, all_but 72 bytes (leb-true _ _ has));
@@ -375,7 +375,7 @@ flow_mod_was bytes fit has message e =
       is_tail = found.fit;
       matching = refl;
       fields = (refl, (refl, (refl, (refl, (refl, (refl, (refl, (refl, refl))))))));
-      tail = found.spelled_so;
+      tail = found.spelled_is;
     })
 
 packet_out_was : (bytes : List ℕ) → IsBytes bytes → has_length kinds.PacketOut (length bytes) ≡ true → (message : Message) → packet_out_of bytes ≡ Ok message → WasSpelled kinds.PacketOut message bytes
@@ -386,7 +386,7 @@ packet_out_was bytes fit has message e =
     let within : 16 + len ≤ length bytes = ltb-false _ _ g.0 in
     let a = bind_ok (of_actions (actions_of (piece len 16 bytes))) _ message g.1 in
     let found = AreSpelled-actions_of (piece len 16 bytes) a.0 (IsBytes-piece len 16 bytes fit) (of_actions_ok (actions_of (piece len 16 bytes)) a.0 a.1) in
-    let size : len ≡ list_size a.0 = sym (length-piece len 16 bytes within) ∙ length-Spell a.0 (piece len 16 bytes) found.spelled_so in
+    let size : len ≡ list_size a.0 = sym (length-piece len 16 bytes within) ∙ length-Spell a.0 (piece len 16 bytes) found.spelled_is in
     subst (λ (m : Message). WasSpelled kinds.PacketOut m bytes) (same_message _ message a.2) (record {
       kind_is = refl;
       size = omega (arith, size, all_but (16 + len) bytes within);
@@ -394,7 +394,7 @@ packet_out_was bytes fit has message e =
       is_tail = found.fit;
       matching = tt;
       fields = (refl, (refl, (size, refl)));
-      tail = (subst (λ (n : ℕ). Spell a.0 (take n (drop 16 bytes))) size found.spelled_so, ap (λ (n : ℕ). drop n (drop 16 bytes)) (sym size) ∙ drop-drop len 16 bytes);
+      tail = (subst (λ (n : ℕ). Spell a.0 (take n (drop 16 bytes))) size found.spelled_is, ap (λ (n : ℕ). drop n (drop 16 bytes)) (sym size) ∙ drop-drop len 16 bytes);
     })
 
 body_was : (kind : MessageKind) (message : Message) (bytes : List ℕ) → IsBytes bytes → has_length kind (length bytes) ≡ true → body_of kind bytes ≡ Ok message → WasSpelled kind message bytes
@@ -427,7 +427,7 @@ body_was kinds.QueueGetConfigReply message bytes fit has e = subst (λ (m : Mess
 pub record IsRead (envelope : Envelope) (bytes : List ℕ) : Type 0 where
   pub xid : envelope.xid < 2 ^ 32
   pub message : IsMessage envelope.message
-  pub spelled_so : SpellMessage envelope.xid envelope.message bytes
+  pub spelled_is : SpellMessage envelope.xid envelope.message bytes
 
 read_as : (kind : MessageKind) (message : Message) (bytes : List ℕ) → IsBytes bytes → IsFront kind bytes → WasSpelled kind message bytes → IsRead (record { xid = number_at 4 4 bytes; message = message }) bytes
 read_as kind message bytes fit front was =
@@ -436,7 +436,7 @@ read_as kind message bytes fit front was =
     record {
       xid = number_at-lt 4 4 bytes fit;
       message = record { fields = was.fields_fit; tail = was.is_tail; size = subst (λ (n : ℕ). n < 65536) size (number_at-lt 2 2 bytes fit) };
-      spelled_so = record {
+      spelled_is = record {
         size = sym was.size;
         header = (front.version, (number, (size, (refl, refl))));
         matching = was.matching;
@@ -457,7 +457,7 @@ IsRead-reading_of bytes envelope fit e =
 pub found_from_Gives : (bytes : List ℕ) (r : Result Envelope WireFault) → IsBytes bytes → Gives r (reading_of bytes) → IfOk r (λ envelope. IsMessage envelope.message × SpellMessage envelope.xid envelope.message bytes)
 found_from_Gives bytes (Ok envelope) fit given =
     let read = IsRead-reading_of bytes envelope fit given in
-    (read.message, read.spelled_so)
+    (read.message, read.spelled_is)
 found_from_Gives bytes (Err fault) fit given = tt
 
 -- what was read is spelled anew: it is read again as it was

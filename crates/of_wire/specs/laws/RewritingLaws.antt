@@ -100,8 +100,8 @@ SameButIgnored-message_bytes bytes envelope fit e =
     let read = IsRead-reading_of bytes envelope fit e in
     let written = SpellMessage-message_bytes envelope.xid envelope.message read.xid read.message in
     record {
-      size = written.size ∙ sym read.spelled_so.size;
-      old_match = read.spelled_so.matching;
+      size = written.size ∙ sym read.spelled_is.size;
+      old_match = read.spelled_is.matching;
       new_match = written.matching;
-      places = λ i lt says. same_places envelope.xid envelope.message bytes i read.xid read.message fit read.spelled_so lt says;
+      places = λ i lt says. same_places envelope.xid envelope.message bytes i read.xid read.message fit read.spelled_is lt says;
     }

@@ -1,12 +1,9 @@
 -- What is kept of one switch is found and changed by itself.
 use Rattle.std.proofs.Common.{◌≡◌, ◌==◌, ℕ, zero, suc, ◌+◌, ◌<◌, ◌≤◌, List, [], ◌∷◌, length, get_or, set, Some, None, Ok, Err, if◌then◌else◌, refl, sym, ap, subst, ◌∙◌, arith, inl, inr}
 use Rattle.std.proofs.lemmas.Bool.{cases_eq, cond-true, cond-false, eq-eqb, ne_eqb}
-use Rattle.of_match.specs.declared.key.Key.{Key}
-use Rattle.flow_table.specs.declared.view.ViewRow.{ViewRow}
-use Rattle.flow_table.specs.Sorted.{Ascends, at_place, with_item, IsFoundAt, AreRows, row_place}
-use Rattle.flow_table.specs.Corrected.{row_at}
-use Rattle.flow_table.specs.laws.SortedLaws.{places-rise, with_item-found, at_place-with_item-same, at_place-with_item-other, at_place-found, at_place-absent, length-with_item-new, length-with_item-there, length-without_place}
-use Rattle.shadow_tables.specs.Known.{Known, changed_at, put_row, drop_row}
+use Rattle.flow_table.specs.Sorted.{Ascends, at_place, with_item, IsFoundAt}
+use Rattle.flow_table.specs.laws.SortedLaws.{places-rise, with_item-found, at_place-with_item-same, at_place-with_item-other, at_place-found, at_place-absent}
+use Rattle.shadow_tables.specs.Known.{Known, changed_at}
 use Rattle.shadow_tables.specs.Kept.{Kept, AreKept, kept_place, kept_at, ports_at, known, room_in, spare_at, KeepsRoom, Changes, Keeps}
 
 -- ---- One switch among others
@@ -79,24 +76,6 @@ spare-set d xs i x y h found is same =
     rw (sym (replaced d xs i y h found number), new) refl
 
 -- ---- What a change of rows does to the room for more
-
--- a row at a new key takes one place
-pub put_takes_one : (row : ViewRow) (x y : Kept) → row_at row.key x.known.rows ≡ None → y.known ≡ put_row row x.known → KeepsRoom x y → x.spare ≤ y.spare + 1
-put_takes_one row x y none new keeps =
-    let more : length y.known.rows ≡ length x.known.rows + 1 = ap (λ (k : Known). length k.rows) new ∙ length-with_item-new row_place x.known.rows row none in
-    omega arith
-
--- a row at a key that is there takes none
-pub put_takes_none : (row other : ViewRow) (x y : Kept) → AreRows x.known.rows → row_at row.key x.known.rows ≡ Some other → y.known ≡ put_row row x.known → KeepsRoom x y → x.spare ≤ y.spare
-put_takes_none row other x y h some new keeps =
-    let same : length y.known.rows ≡ length x.known.rows = ap (λ (k : Known). length k.rows) new ∙ length-with_item-there row_place x.known.rows row other 0 h some in
-    omega arith
-
--- a row that goes gives one back
-pub drop_gives_one : (key : Key) (row : ViewRow) (x y : Kept) → AreRows x.known.rows → row_at key x.known.rows ≡ Some row → y.known ≡ drop_row key x.known → KeepsRoom x y → x.spare + 1 ≤ y.spare
-drop_gives_one key row x y h some new keeps =
-    let less : length y.known.rows + 1 ≡ length x.known.rows = ap (λ (k : Known). length k.rows + 1) new ∙ length-without_place row_place _ x.known.rows row 0 h some in
-    omega arith
 
 -- ---- A switch that leaves
 

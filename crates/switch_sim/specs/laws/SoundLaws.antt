@@ -1,11 +1,10 @@
 -- What follows about sound switches: whatever reaches them, they stay so.
-use Rattle.std.proofs.Common.{◌≡◌, ◌==◌, ℕ, ◌≤◌, Bool, true, false, cond, not, nat_lt, nat_le, List, [], ◌∷◌, length, map, filter, get_or, Option, Some, None, if◌then◌else◌, refl, sym, ap, ◌∙◌, inl, inr, arith}
+use Rattle.std.proofs.Common.{◌≡◌, ◌==◌, ℕ, ◌≤◌, Bool, false, not, nat_lt, List, [], ◌∷◌, length, map, filter, Option, Some, None, if◌then◌else◌, refl, sym, ◌∙◌, arith}
 use Rattle.std.specs.Prelude.{All}
-use Rattle.std.specs.List.{list_any, Contains}
-use Rattle.std.proofs.lemmas.Bool.{cond_both, cond-false, eqb-true, ltb-false, leb-false, and_cases, not-false}
-use Rattle.std.proofs.lemmas.List.{length-map, length-set, get_or_default}
+use Rattle.std.specs.List.{Contains}
+use Rattle.std.proofs.lemmas.Bool.{cond_both, cond-false, ltb-false}
+use Rattle.std.proofs.lemmas.List.{length-map}
 use Rattle.std.proofs.lemmas.List.Elements.{All-map, All-filter, All-weaker, All-contains}
-use Rattle.std.proofs.lemmas.List.Folds.{Any-from_list_any}
 use Rattle.of_types.specs.declared.errors.OfError.{OfError}
 use Rattle.of_action.specs.declared.action.Action.{Action}
 use Rattle.of_action.specs.declared.action.Action.TheVariants.{Output, SetVlanVid, SetVlanPcp, StripVlan, SetDlSrc, SetDlDst, SetNwSrc, SetNwDst, SetNwTos, SetTpSrc, SetTpDst, Enqueue, Vendor}
@@ -14,24 +13,21 @@ use Rattle.of_match.specs.declared.packet_key.PacketKey.{PacketKey}
 use Rattle.of_wire.specs.declared.bodies.FlowMod.{FlowMod}
 use Rattle.frame_edit.specs.Edits.{AreEdits, IsEdit}
 use Rattle.flow_table.specs.declared.entry.Entry.{Entry}
-use Rattle.flow_table.specs.Table.{TableState, IsTable, place_of, has_key, with_entry, keys}
-use Rattle.flow_table.specs.laws.TableLaws.{with_entry-found, length-with_entry-le, length-filter-le}
-use Rattle.flow_table.specs.Change.{is_delete, is_modify, key_in, describes, adds, clashes, is_full, deletes, modified, new_entry, refusal, entries_after, changed}
+use Rattle.flow_table.specs.Table.{TableState, IsTable, with_entry}
+use Rattle.flow_table.specs.laws.TableLaws.{length-filter-le, length-keys}
+use Rattle.flow_table.specs.Change.{is_delete, is_modify, describes, adds, deletes, modified, new_entry, refusal, entries_after, changed}
 use Rattle.flow_table.specs.laws.ChangeLaws.{is_delete-adds, is_delete-modify}
 use Rattle.flow_table.specs.Hit.{best, counted, hit, hit_by, with_more, with_counts}
 use Rattle.flow_table.specs.laws.HitLaws.{keys-hit, Contains-best}
-use Rattle.flow_table.specs.Errors.{bad_len, buffer_unknown, flow_eperm, bad_command, overlap, all_tables_full}
+use Rattle.flow_table.specs.Errors.{bad_len, buffer_unknown, flow_eperm, bad_command}
 use Rattle.flow_table.specs.Expiry.{is_due, expire}
 use Rattle.flow_table.specs.laws.MomentLaws.{All-with_entry}
 use Rattle.flow_table.specs.Switch.{PortState}
-use Rattle.flow_table.specs.Refusals.{or_else, action_refusal, actions_refusal, flow_actions_refusal, flow_refusal, is_emergency, no_buffer, most_action_bytes}
+use Rattle.flow_table.specs.Refusals.{action_refusal, actions_refusal, flow_actions_refusal, flow_refusal, is_emergency, no_buffer, most_action_bytes}
+use Rattle.flow_table.specs.laws.RefusalLaws.{first_none, later_none, length-entries_after}
 use Rattle.switch_sim.specs.Sound.{IsEntryAt, IsSound}
 
 -- ---- Actions that are not refused are edits and outputs.
-
-first_none : (a b : Option OfError) → or_else a b ≡ None → (a ≡ None) × (b ≡ None)
-first_none None b none = (refl, none)
-first_none (Some e) b none = absurd cc
 
 IsEdit-action : (takes_table : Bool) (had : List ℕ) (a : Action) → action_refusal takes_table had a ≡ None → IsEdit a
 IsEdit-action takes_table had (Output port max_len) none = tt
@@ -59,10 +55,6 @@ AreEdits-actions takes_table had (a ∷ actions) none =
 record AreTaken (actions : List Action) : Type 0 where
   size : list_size actions ≤ most_action_bytes
   edits : AreEdits actions
-
-later_none : (b : Bool) (e : OfError) (o : Option OfError) → cond b (Some e) o ≡ None → (b ≡ false) × (o ≡ None)
-later_none true e o none = absurd cc
-later_none false e o none = (refl, none)
 
 AreTaken-actions : (had : List ℕ) (m : FlowMod) → flow_actions_refusal had m ≡ None → AreTaken m.actions
 unfolding flow_actions_refusal
@@ -105,40 +97,6 @@ All-entries_after had moment serial m es none all =
     (λ does. All-modified moment m es (AreTaken-flow had m none (is_delete-modify m does)) all)
     (λ _. All-filter (λ e. not (deletes m e)) (IsEntryAt moment) es all))
 
--- an entry that takes the place of another one does not lengthen the table
-length-replaced : (e : Entry) (es : List Entry) → IsTable es → list_any (has_key e.key) es ≡ true → length (with_entry e es) ≡ length es
-length-replaced e es is there =
-    let (k, x, within, here, has) = Any-from_list_any (has_key e.key) es there in
-    let same : place_of x ≡ place_of e = eqb-true (place_of x) (place_of e) has in
-    let at : place_of (get_or es k e) ≡ place_of e = ap place_of (get_or_default es k e x within ∙ here) ∙ same in
-    ap length (with_entry-found es e 0 k is within at) ∙ length-set es k e
-
-length-put : (cap serial moment : ℕ) (m : FlowMod) (es : List Entry) → IsTable es → length es ≤ cap → is_full cap m es ≡ false → length (with_entry (new_entry moment serial m) es) ≤ cap
-unfolding is_full new_entry
-length-put cap serial moment m es is few room =
-    elim (and_cases (not (list_any (has_key (key_in m)) es)) (nat_le cap (length es)) room) [
-      | inl there ↦ omega (arith, few, length-replaced (new_entry moment serial m) es is (not-false (list_any (has_key (key_in m)) es) there))
-      | inr some ↦ omega (arith, leb-false cap (length es) some, length-with_entry-le es (new_entry moment serial m))
-    ]
-
-not_full : (cap : ℕ) (m : FlowMod) (es : List Entry) → adds m es ≡ true → refusal cap m es ≡ None → is_full cap m es ≡ false
-unfolding refusal
-not_full cap m es puts none =
-    let full : Option OfError = if is_full cap m es then Some all_tables_full else None in
-    let rest : Option OfError = if clashes m es then Some overlap else full in
-    let known = later_none (nat_lt 4 m.command) bad_command (if not (adds m es) then None else rest) none in
-    let adding = sym (cond-false (not (adds m es)) None rest (ap not puts)) ∙ known.1 in
-    (later_none (is_full cap m es) all_tables_full None (later_none (clashes m es) overlap full adding).1).0
-
-length-entries_after : (cap moment serial : ℕ) (m : FlowMod) (es : List Entry) → IsTable es → length es ≤ cap → refusal cap m es ≡ None → length (entries_after moment serial m es) ≤ cap
-unfolding entries_after
-length-entries_after cap moment serial m es is few none =
-    cond_both (adds m es) (with_entry (new_entry moment serial m) es) (if is_modify m then map (modified m) es else filter (λ e. not (deletes m e)) es) (λ (xs : List Entry). length xs ≤ cap)
-    (λ puts. length-put cap serial moment m es is few (not_full cap m es puts none))
-    (λ _. cond_both (is_modify m) (map (modified m) es) (filter (λ e. not (deletes m e)) es) (λ (xs : List Entry). length xs ≤ cap)
-    (λ _. omega (arith, few, length-map es (modified m)))
-    (λ _. omega (arith, few, length-filter-le (λ e. not (deletes m e)) es)))
-
 pub IsSound-changed : (cap moment : ℕ) (had : List ℕ) (m : FlowMod) (t : TableState) (ports : List PortState) → IsTable t.entries → flow_refusal had m ≡ None → refusal cap m t.entries ≡ None
     → IsSound cap moment t.entries ports → IsSound cap moment (changed moment m t).entries ports
 unfolding changed
@@ -159,9 +117,6 @@ All-hit_by : (len moment : ℕ) (o : Option Entry) (es : List Entry) → ((e : E
 All-hit_by len moment None es there all = all
 All-hit_by len moment (Some e) es there all =
     All-with_entry (IsEntryAt moment) (counted len moment e) es (IsEntryAt-counted len moment e (All-contains (IsEntryAt moment) es e all (there e refl))) all
-
-length-keys : (es fs : List Entry) → keys es ≡ keys fs → length es ≡ length fs
-length-keys es fs same = sym (length-map es (λ e. e.key)) ∙ ap length same ∙ length-map fs (λ e. e.key)
 
 All-hit : (moment len : ℕ) (k : PacketKey) (es : List Entry) → All (IsEntryAt moment) es → All (IsEntryAt moment) (hit k len moment es)
 unfolding hit

@@ -13,15 +13,11 @@ use Rattle.flow_table.specs.Change.{unless_refused, refusal}
 use Rattle.flow_table.specs.Errors.{bad_stat, bad_len}
 use Rattle.flow_table.specs.Switch.{SwitchState, features_reply}
 use Rattle.flow_table.specs.Refusals.{or_else, flow_refusal, query_size, stats_refusal, message_refusal}
-use Rattle.flow_table.specs.Step.{after_taken, sent_by_taken, error_bytes, answered, after_message, sent_by_message}
+use Rattle.flow_table.specs.Step.{after_taken, sent_by_taken, answered, after_message, sent_by_message}
 use Rattle.switch_sim.specs.Words.{IsQuestion}
 use Rattle.switch_sim.specs.Words.{early_refusal}
 
 -- ---- A message that is refused, and one that is not
-
-pub refused_sent : (xid : ℕ) (m : Message) (s : SwitchState) (e : OfError) → message_refusal s m ≡ Some e → sent_by_message xid m s ≡ error_bytes xid m e ∷ []
-unfolding sent_by_message
-refused_sent xid m s e is = ap (answered xid m s) is
 
 pub refused_after : (m : Message) (s : SwitchState) (e : OfError) → message_refusal s m ≡ Some e → s ≡ after_message m s
 unfolding after_message

@@ -1,5 +1,5 @@
 -- What follows about logs that can be reverted: no inverse is refused, and each change keeps it so.
-use Rattle.std.proofs.Common.{◌≡◌, ◌≢◌, ◌==◌, ℕ, ◌+◌, ◌-◌, ◌%◌, ◌<◌, ◌≤◌, Bool, true, false, not, nat_lt, nat_le, List, [], ◌∷◌, ◌++◌, length, map, filter, All, Option, Some, None, IsSome, refl, sym, ap, ap₂, ◌∙◌, ◌⊎◌, arith, inl, inr}
+use Rattle.std.proofs.Common.{◌≡◌, ◌≢◌, ◌==◌, ℕ, ◌+◌, ◌-◌, ◌%◌, ◌<◌, ◌≤◌, Bool, true, false, not, nat_le, List, [], ◌∷◌, ◌++◌, length, map, filter, All, Option, Some, None, IsSome, refl, sym, ap, ap₂, ◌∙◌, ◌⊎◌, arith, inl, inr}
 use Rattle.std.proofs.lemmas.Bool.{ne_eqb, cases_lt, cases_eq, cases_Bool, and_right, and_cases, lt-leb, leb-false}
 use Rattle.std.proofs.lemmas.List.{append-nil, length-map}
 use Rattle.std.proofs.lemmas.List.Elements.{All-head, All-tail, All-weaker, All-filter, All-contains_itself}
@@ -13,12 +13,12 @@ use Rattle.of_types.specs.declared.errors.OfError.{OfError}
 use Rattle.of_wire.specs.declared.bodies.FlowMod.{FlowMod}
 use Rattle.flow_table.specs.declared.entry.Entry.{Entry}
 use Rattle.flow_table.specs.Table.{TableState, place_of, has_key, entry_at, AscendsFrom, IsTable, with_entry}
-use Rattle.flow_table.specs.laws.TableLaws.{IsTable-with_entry, with_entry-before, with_entry-after, length-with_entry-le, entry_at-same, entry_at-other, entry_at-below, entry_at-map, entry_at-with_entry-same, entry_at-with_entry-other}
-use Rattle.flow_table.specs.Errors.{bad_command, overlap, all_tables_full}
+use Rattle.flow_table.specs.laws.TableLaws.{IsTable-with_entry, length-with_entry-le, length-with_entry-new, entry_at-same, entry_at-other, entry_at-below, entry_at-map, entry_at-with_entry-same, entry_at-with_entry-other}
 use Rattle.flow_table.specs.Change.{key_in, is_strict, is_modify, describes, deletes, adds, checks_overlap, clashes, is_full, modified, new_entry, refusal, notices_of, entries_after, changed, change, means}
 use Rattle.flow_timeouts.specs.Timeouts.{end_of, first_end, deadline_of, remaining_of}
 use Rattle.flow_table.specs.Expiry.{deadline}
 use Rattle.flow_table.specs.laws.ChangeLaws.{notices_of-kept, describes-strict, list_any-strict, place_of-modified, entries_after-adds, entries_after-modify, entries_after-delete}
+use Rattle.flow_table.specs.laws.RefusalLaws.{not_full}
 use Rattle.undo_laws.specs.laws.LookupLaws.{cases_Option, entry_at-same_place, entry_at-contains}
 use Rattle.undo_laws.specs.laws.RemovalLaws.{removal-refusal, removal-changed}
 use Rattle.undo_laws.specs.Serials.{IsSerialed}
@@ -152,19 +152,6 @@ list_any-has_key k (f ∷ fs) =
     elim (cases_Bool (has_key k f)) [
       | inl has ↦ rw has refl
       | inr other ↦ rw other (list_any-has_key k fs)
-    ]
-
-length-with_entry-new : (es : List Entry) (e : Entry) → entry_at e.key es ≡ None → length (with_entry e es) ≡ length es + 1
-length-with_entry-new [] e none = refl
-length-with_entry-new (f ∷ fs) e none =
-    elim (cases_lt (place_of e) (place_of f)) [
-      | inl lt ↦ rw (with_entry-before e f fs lt) (omega arith)
-      | inr ge ↦ elim (cases_lt (place_of f) (place_of e)) [
-        | inl gt ↦
-            let rest = length-with_entry-new fs e (sym (entry_at-other e.key f fs (omega arith)) ∙ none) in
-            rw (with_entry-after e f fs gt) (omega arith)
-        | inr le ↦ let same = entry_at-same e.key f fs (omega arith) in absurd cc
-      ]
     ]
 
 addition-adds : (e : Entry) (m : FlowMod) (es : List Entry) → IsAddition e m → adds m es ≡ true
@@ -334,24 +321,6 @@ pub can-addition : (cap now : ℕ) (k : Key) (o : Option Entry) (t : TableState)
 can-addition cap now k None t fits before = (fits, tt, before)
 can-addition cap now k (Some e) t fits before = (fits, tt, before)
 
-none≢some : (e : OfError) → None ≢ Some e
-none≢some e is = absurd cc
-
--- an addition that is not refused has room
-has_room : (cap : ℕ) (m : FlowMod) (es : List Entry) → adds m es ≡ true → refusal cap m es ≡ None → is_full cap m es ≡ false
-unfolding refusal
-has_room cap m es puts taken =
-    elim (cases_Bool (is_full cap m es)) [
-      | inr room ↦ room
-      | inl full ↦ elim (cases_Bool (nat_lt 4 m.command)) [
-        | inl high ↦ absurd (none≢some bad_command (sym (rw high at taken)))
-        | inr low ↦ elim (cases_Bool (clashes m es)) [
-          | inl other ↦ absurd (none≢some overlap (sym (rw (low, puts, other) at taken)))
-          | inr clear ↦ absurd (none≢some all_tables_full (sym (rw (low, puts, clear, full) at taken)))
-        ]
-      ]
-    ]
-
 room-cases : (cap : ℕ) (m : FlowMod) (es : List Entry) → is_full cap m es ≡ false → (is_some (entry_at (key_in m) es) ≡ true) ⊎ (length es < cap)
 unfolding is_full
 room-cases cap m es room =
@@ -407,7 +376,7 @@ can-logged-addition cap now m t h fits taken puts =
     let u : TableState = changed now m t in
     let l : List Inverse = logged_addition (key_in m) (entry_at (key_in m) es) in
     let is : logged m es ≡ l = logged-addition m es puts in
-    let room = room-cases cap m es (has_room cap m es puts taken) in
+    let room = room-cases cap m es (not_full cap m es puts taken) in
     let entries = changed-entries now m t ∙ entries_after-adds now t.next m es puts in
     let after : length u.entries ≤ cap = rw entries (new-fits cap now t.next m es h.table fits room) in
     let same = length-same_keys (undo now (logged m es) u).entries es (IsSerialed-undo now (logged m es) u (IsSerialed-changed now m t h)).table h.table (SameKeys-logged now m t h) in

@@ -1,5 +1,5 @@
 -- What follows about logs that stand: nothing logged, one change logged, undo of a newer part, and undo of the whole.
-use Rattle.std.proofs.Common.{◌≡◌, ◌≢◌, ℕ, ◌+◌, ◌≤◌, Bool, true, false, not, if◌then◌else◌, List, [], ◌∷◌, ◌++◌, map, filter, Option, Some, None, refl, sym, ap, ◌∙◌, arith, inl, inr}
+use Rattle.std.proofs.Common.{◌≡◌, ◌≢◌, ℕ, ◌+◌, Bool, true, false, not, if◌then◌else◌, List, [], ◌∷◌, ◌++◌, map, filter, Option, Some, None, refl, sym, ap, ◌∙◌, arith, inl, inr}
 use Rattle.std.proofs.lemmas.Bool.{cases_eq, cases_Bool, cond-true, cond-false, eq-eqb, ne_eqb}
 use Rattle.std.proofs.lemmas.List.{append-nil, append_assoc}
 use Rattle.std.specs.Option.{option_map}
@@ -11,7 +11,7 @@ use Rattle.flow_table.specs.declared.entry.Entry.{Entry}
 use Rattle.flow_table.specs.Table.{TableState, place_of, has_key, entry_at, AscendsFrom, IsTable, with_entry}
 use Rattle.flow_table.specs.laws.TableLaws.{if_passes, IsTable-map, entry_at-same, entry_at-other, entry_at-below, entry_at-map, entry_at-filter, entry_at-with_entry-same, entry_at-with_entry-other, filter-skips, filter-takes}
 use Rattle.flow_table.specs.Change.{key_in, is_modify, describes, deletes, adds, modified, new_entry, refusal, changed, change, unless_refused}
-use Rattle.flow_table.specs.laws.ChangeLaws.{place_of-modified, entries_after-adds, entries_after-modify, entries_after-delete}
+use Rattle.flow_table.specs.laws.ChangeLaws.{place_of-modified, entries_after-adds, entries_after-modify, entries_after-delete, next-changed-le}
 use Rattle.flow_table.specs.Undone.{used_or, restored, undone}
 use Rattle.undo_laws.specs.laws.LookupLaws.{cases_Option, entry_at-same_place, entry_at-key_number, table_from_lookups}
 use Rattle.undo_laws.specs.Serials.{IsSerialed}
@@ -157,19 +157,11 @@ Changes-changed now k m t up =
 
 -- ---- One change logged
 
-next-changed : (now : ℕ) (m : FlowMod) (t : TableState) → t.next ≤ (changed now m t).next
-unfolding changed
-next-changed now m t =
-    elim (cases_Bool (adds m t.entries)) [
-      | inl puts ↦ rw puts (omega arith)
-      | inr keeps ↦ rw keeps (omega arith)
-    ]
-
 pub Stands-changed : (now : ℕ) (earlier : TableState) (log : List Inverse) (m : FlowMod) (t : TableState) → Stands now earlier log t → Stands now earlier (log ++ logged m t.entries) (changed now m t)
 Stands-changed now earlier log m t h = record {
   was = h.was;
   serialed = IsSerialed-changed now m t h.serialed;
-  later = let more = next-changed now m t in let le = h.later in omega arith;
+  later = let more = next-changed-le now m t in let le = h.later in omega arith;
   keys = λ k. rw (image_of-append k log (logged m t.entries))
       (Standing-changes now earlier.next t.next (entry_at k earlier.entries) (image_of k log) h.later (h.was.below k)
       (image_of k (logged m t.entries)) (entry_at k t.entries) (entry_at k (changed now m t).entries)

@@ -16,5 +16,5 @@ returns-clause-found c =
     found_from_Gives c.front_frame.result (app_reading c.args.bytes.now) (λ found. IsAppAtFront found.0 found.1 c.args.bytes.now) c.front_frame.ensures (λ found e. app_at_front c.args.bytes.now found.0 found.1 (λ i. omega (arith, c.type_inv.bytes i)) e)
 
 pub returns-clause-only : goal.returns-clause-only
-returns-clause-only c = λ frame more is spelled_so.
-    subst (λ read. Gives c.front_frame.result read) (ap app_reading spelled_so ∙ app_reading-app_bytes frame more is) c.front_frame.ensures
+returns-clause-only c = λ frame more is spelled_is.
+    subst (λ read. Gives c.front_frame.result read) (ap app_reading spelled_is ∙ app_reading-app_bytes frame more is) c.front_frame.ensures

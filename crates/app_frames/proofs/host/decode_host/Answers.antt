@@ -16,5 +16,5 @@ returns-clause-found c =
     found_from_Gives c.front_frame.result (host_reading c.args.bytes.now) (λ found. IsHostAtFront found.0 found.1 c.args.bytes.now) c.front_frame.ensures (λ found e. host_at_front c.args.bytes.now found.0 found.1 (λ i. omega (arith, c.type_inv.bytes i)) e)
 
 pub returns-clause-only : goal.returns-clause-only
-returns-clause-only c = λ frame more is spelled_so.
-    subst (λ read. Gives c.front_frame.result read) (ap host_reading spelled_so ∙ host_reading-host_bytes frame more is) c.front_frame.ensures
+returns-clause-only c = λ frame more is spelled_is.
+    subst (λ read. Gives c.front_frame.result read) (ap host_reading spelled_is ∙ host_reading-host_bytes frame more is) c.front_frame.ensures

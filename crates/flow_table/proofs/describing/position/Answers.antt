@@ -1,5 +1,6 @@
-use Rattle.std.proofs.Common.{◌≡◌, ℕ, zero, suc, [], ◌∷◌, refl, ◌+◌, ◌-◌, ◌/◌, ◌<◌, List, length, get_or, sym, ap, ◌∙◌, arith, inl, inr}
+use Rattle.std.proofs.Common.{◌≡◌, ℕ, ◌+◌, ◌-◌, ◌/◌, ◌<◌, List, length, get_or, sym, ap, ◌∙◌, arith, inl, inr}
 use Rattle.std.proofs.lemmas.Bool.{cases_lt}
+use Rattle.std.proofs.lemmas.List.{get_or_default}
 use Rattle.std.specs.Cmp.{nat_cmp_is}
 use Rattle.std.specs.Ordering.{nat_cmp}
 use Rattle.std.specs.declared.cmp.Ordering.TheVariants.{Less, Equal, Greater}
@@ -58,13 +59,8 @@ same_as x y e =
       ]
     ]
 
-any_default : (es : List Entry) (i : ℕ) (d e : Entry) → i < length es → get_or es i d ≡ get_or es i e
-any_default [] i d e within = absurd (omega arith)
-any_default (f ∷ fs) zero d e within = refl
-any_default (f ∷ fs) (suc i) d e within = any_default fs i d e (omega arith)
-
 place_at : (es : List Entry) (i : ℕ) (read : Entry) → i < length es → read ≡ get_or es i read → (e : Entry) → place_of (get_or es i e) ≡ place_of read
-place_at es i read within is e = ap place_of (any_default es i e read within ∙ sym is)
+place_at es i read within is e = ap place_of (get_or_default es i e read within ∙ sym is)
 
 pub loop-low-preserved-in-Less : goal.loop-low-preserved-in-Less
 loop-low-preserved-in-Less c =

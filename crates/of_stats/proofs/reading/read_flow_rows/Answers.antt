@@ -7,5 +7,5 @@ pub returns-clause-found : goal.returns-clause-found
 returns-clause-found c = found_from_gives c.args.body.now c.list_of.result (λ i. omega (arith, c.type_inv.body i)) c.list_of.ensures
 
 pub returns-clause-only : goal.returns-clause-only
-returns-clause-only c = λ rows fit spelled_so.
-    subst (λ read. Gives c.list_of.result read) (rows_of-spelled rows c.args.body.now fit spelled_so) c.list_of.ensures
+returns-clause-only c = λ rows fit spelled_is.
+    subst (λ read. Gives c.list_of.result read) (rows_of-spelled rows c.args.body.now fit spelled_is) c.list_of.ensures

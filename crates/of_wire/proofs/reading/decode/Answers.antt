@@ -8,5 +8,5 @@ pub returns-clause-found : goal.returns-clause-found
 returns-clause-found c = found_from_Gives c.args.bytes.now c.envelope.result (λ i. omega (arith, c.type_inv.bytes i)) c.envelope.ensures
 
 pub returns-clause-only : goal.returns-clause-only
-returns-clause-only c = λ xid message is spelled_so.
-    subst (λ read. Gives c.envelope.result read) (reading_of-SpellMessage xid message c.args.bytes.now is spelled_so) c.envelope.ensures
+returns-clause-only c = λ xid message is spelled_is.
+    subst (λ read. Gives c.envelope.result read) (reading_of-SpellMessage xid message c.args.bytes.now is spelled_is) c.envelope.ensures

@@ -1,9 +1,8 @@
 use Rattle.std.proofs.Common.{◌≡◌, ◌≢◌, ℕ, ◌<◌, List, length, get_or, set, sym, ◌∙◌, subst, arith}
 use Rattle.std.specs.List.{insert}
 use Rattle.of_types.specs.declared.port_desc.PortDesc.{PortDesc}
-use Rattle.flow_table.specs.Sorted.{with_item}
-use Rattle.shadow_tables.specs.Known.{port_number, IsPortPlace}
-use Rattle.shadow_tables.specs.laws.PortLaws.{port-found, port-absent, IsPortPlace-le}
+use Rattle.flow_table.specs.Sorted.{with_item, port_number, IsPortPlace}
+use Rattle.flow_table.specs.laws.PortLaws.{port-found, port-absent, IsPortPlace-le}
 use Rattle.shadow_tables.proofs.ports.put_port.Goals as goal
 
 pub insert-requires : goal.insert-requires

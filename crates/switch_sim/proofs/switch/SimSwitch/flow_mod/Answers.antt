@@ -2,7 +2,8 @@ use Rattle.std.proofs.Common.{◌≡◌, ◌∙◌, [], ◌∷◌, None, Some, s
 use Rattle.of_wire.specs.declared.message.Message.TheVariants.{FlowMod}
 use Rattle.flow_table.specs.Refusals.{message_refusal}
 use Rattle.flow_table.specs.Step.{after_taken, sent_by_taken, error_bytes, sent_by_message}
-use Rattle.switch_sim.specs.laws.StepLaws.{flow_mod_free, refused_sent, refused_after, taken_sent, taken_after, if_gives, on_ok}
+use Rattle.flow_table.specs.laws.RefusalLaws.{refused_sent}
+use Rattle.switch_sim.specs.laws.StepLaws.{flow_mod_free, refused_after, taken_sent, taken_after, if_gives, on_ok}
 use Rattle.switch_sim.proofs.switch.SimSwitch.flow_mod.Goals as goal
 
 pub returns-in-Ok-clause-sent : goal.returns-in-Ok-clause-sent

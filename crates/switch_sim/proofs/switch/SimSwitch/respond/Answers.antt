@@ -1,7 +1,8 @@
 use Rattle.std.proofs.Common.{◌≡◌, [], ◌∷◌, Some, sym}
 use Rattle.flow_table.specs.Refusals.{message_refusal}
 use Rattle.flow_table.specs.Step.{error_bytes, sent_by_message}
-use Rattle.switch_sim.specs.laws.StepLaws.{early_some, refused_sent, refused_after, if_gives, on_ok}
+use Rattle.flow_table.specs.laws.RefusalLaws.{refused_sent}
+use Rattle.switch_sim.specs.laws.StepLaws.{early_some, refused_after, if_gives, on_ok}
 use Rattle.switch_sim.proofs.switch.SimSwitch.respond.Goals as goal
 
 pub returns-in-Some-clause-sent : goal.returns-in-Some-clause-sent

@@ -1,5 +1,5 @@
 use Rattle.std.proofs.Common.{◌≡◌, take}
-use Rattle.switch_sim.proofs.statistics.copy_actions.Given as goal
+use Rattle.of_action.proofs.list.copy_actions.Given as goal
 
 abbrev pub invariant-loop-action : goal.invariant-loop-action
 invariant-loop-action l = l.copies.items ≡ take l.action-index l.action-items

@@ -1,13 +1,12 @@
--- The place of a port among others.
+-- What follows about ports in the order of their numbers: where a port goes, and the steps of a loop that looks for that place.
 use Rattle.std.specs.Prelude.{◌≡◌, ◌≢◌, ℕ, ◌+◌, ◌<◌, ◌≤◌, true, false, List, [], ◌∷◌, length, refl}
 use Rattle.std.specs.List.{insert}
 use Rattle.std.proofs.Common.{zero, suc, get_or, set, drop, sym, ap, ◌∙◌, eqb, ltb, subst, arith, eq-eqb}
 use Rattle.std.proofs.Math.Seq.{drop-cons}
 use Rattle.std.proofs.lemmas.Bool.{ne_eqb, lt-ltb, le-ltb}
-use Rattle.std.proofs.lemmas.List.{drop_all}
+use Rattle.std.proofs.lemmas.List.{drop_all, get_or_default}
 use Rattle.of_types.specs.declared.port_desc.PortDesc.{PortDesc}
-use Rattle.flow_table.specs.Sorted.{with_item}
-use Rattle.shadow_tables.specs.Known.{port_number, IsPortPlace}
+use Rattle.flow_table.specs.Sorted.{with_item, port_number, IsPortPlace}
 
 -- ---- Ports
 
@@ -73,13 +72,8 @@ port_end d vs i is before =
     let same : i + 0 ≡ length vs = omega arith in
     subst (IsPortPlace d vs) same (before 0 here)
 
-any_default : (vs : List PortDesc) (i : ℕ) (d e : PortDesc) → i < length vs → get_or vs i d ≡ get_or vs i e
-any_default [] i d e within = absurd (omega arith)
-any_default (v ∷ vs) zero d e within = refl
-any_default (v ∷ vs) (suc i) d e within = any_default vs i d e (omega arith)
-
 pub port_more_at : (n : ℕ) (vs : List PortDesc) (i : ℕ) (d : PortDesc) → i < length vs → (get_or vs i d).port_no < n → PortsBefore n vs i → PortsBefore n vs (i + 1)
-port_more_at n vs i d lt below before = port_more n vs i (get_or vs i d) lt (any_default vs i d (get_or vs i d) lt) below before
+port_more_at n vs i d lt below before = port_more n vs i (get_or vs i d) lt (get_or_default vs i d (get_or vs i d) lt) below before
 
 pub port_stop_at : (n : ℕ) (vs : List PortDesc) (i : ℕ) (d : PortDesc) → i < length vs → n ≤ (get_or vs i d).port_no → PortsBefore n vs i → IsPortPlace n vs i
-port_stop_at n vs i d lt le before = port_stop n vs i (get_or vs i d) lt (any_default vs i d (get_or vs i d) lt) le before
+port_stop_at n vs i d lt le before = port_stop n vs i (get_or vs i d) lt (get_or_default vs i d (get_or vs i d) lt) le before
