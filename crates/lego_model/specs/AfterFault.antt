@@ -36,7 +36,7 @@ use Rattle.lego_model.specs.Turns.{Outcome, Completed, Failed, Table, turn_of}
 pub record RefusesInverse (inverse got : List ℕ) : Type 0 where
   pub kind : number_at 1 1 got ≡ 1
   pub key : Key
-  pub inverse_so : inverse ≡ inverse_bytes (number_at 4 4 got) key
+  pub inverse_is : inverse ≡ inverse_bytes (number_at 4 4 got) key
 
 -- Bytes were got from it that are no message; an inverse that was sent to it was refused; too many messages came
 -- from it behind a barrier; or the world had no memory for a call of it.
@@ -115,7 +115,7 @@ IsCompleted (Failed cause) = ⊥
 -- given before and that was unread.
 pub record TurnDone {Own : Type 0} (old new : Seen Own) : Type 0 where
   pub event : List ℕ
-  pub event_so : is_event event ≡ true
+  pub event_is : is_event event ≡ true
   pub acts : List Act
   pub history : own_acts new ≡ own_acts old ++ Gave index event ∷ acts
   pub before : AtOnce index (journal old.history)

@@ -108,7 +108,7 @@ first_error dpid xid barrier acts = slice_get (filter_map (error_got (record { d
 -- It is the host's own answer, and no change was sent.
 pub record AnsweredByHost (bytes : List ℕ) (answer : Answer) (since : List Act) : Type 0 where
   pub rows : Option Rows
-  pub answer_so : host_answer rows bytes ≡ Some answer
+  pub answer_is : host_answer rows bytes ≡ Some answer
   pub none_sent : SendsNone since
 
 -- The message is a change: it was sent to its switch, and behind it a barrier, the barrier's reply came, and no other change was sent. The
@@ -120,8 +120,8 @@ pub record AnsweredBySwitch (dpid : ℕ) (bytes : List ℕ) (answer : Answer) (s
   pub change : is_change message ≡ true
   pub reached : ReachedAtOnce dpid (as_sent message) since
   pub error : Option OfError
-  pub error_so : error ≡ first_error dpid reached.xid reached.barrier (drop reached.sent since)
-  pub answer_so : answer ≡ answer_by error
+  pub error_is : error ≡ first_error dpid reached.xid reached.barrier (drop reached.sent since)
+  pub answer_is : answer ≡ answer_by error
 
 -- this act is the loss of the switch
 abbrev pub is_loss_of : ℕ → Act → Bool
@@ -130,7 +130,7 @@ is_loss_of dpid other = false
 
 -- The switch was lost.
 pub record AnsweredForLoss (dpid : ℕ) (answer : Answer) (since : List Act) : Type 0 where
-  pub answer_so : answer ≡ Unknown
+  pub answer_is : answer ≡ Unknown
   pub lost : list_any (is_loss_of dpid) since ≡ true
 
 -- the host answered, or the switch did, or the switch was lost
@@ -148,17 +148,17 @@ pub record Answers (frame : List ℕ) (s t : Before) : Type 0 where
   pub size : ℕ
   pub answer : Answer
   pub read : app_reading s.unread ≡ Ok (Some (frames.Message dpid bytes, size))
-  pub frame_so : frame ≡ answer_frame answer
+  pub frame_is : frame ≡ answer_frame answer
   pub at_once : AnsweredAtOnce dpid bytes answer s.since
-  pub then_so : t ≡ before (drop size s.unread) []
+  pub then_is : t ≡ before (drop size s.unread) []
 
 -- Any other frame asks for what comes next, and what it does not answer is passed over. Behind the end of its bytes only an Event is given.
 pub record AsksNext (frame : List ℕ) (s t : Before) : Type 0 where
   pub not_ended : is_event frame ≡ false → s.ended ≡ false
-  pub running_so : t.running ≡ true
+  pub running_is : t.running ≡ true
   pub passes : Passes s.unread t.unread
-  pub since_so : t.since ≡ []
-  pub ended_so : t.ended ≡ false
+  pub since_is : t.since ≡ []
+  pub ended_is : t.ended ≡ false
 
 -- ---- The dialogue
 

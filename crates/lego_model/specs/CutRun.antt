@@ -41,7 +41,7 @@ pub record Progress {Own : Type 0} (last : Seen Own) : Type 0 where
   pub number : ℕ
   pub begun_one : length begun ≤ 1
   pub at_most : number ≤ 1000
-  pub stimuli_so : stimuli_in last ≡ stimuli ++ begun
+  pub stimuli_is : stimuli_in last ≡ stimuli ++ begun
   pub losses : Losses
 
 -- the reference controller up to there
@@ -62,31 +62,31 @@ pub record StartLines {Own : Type 0} {last : Seen Own} (allows : List Place → 
   pub is_started : far.started ≡ true
   pub none_happened : stimuli_in last ≡ []
   pub none_dispatched : far.number ≡ 0
-  pub text_so : text ≡ []
-  pub more_so : text_of (reference_to allows far r) ≡ more
+  pub text_is : text ≡ []
+  pub more_is : text_of (reference_to allows far r) ≡ more
 
 -- at that of a switch that was lost at the stimulus that was begun last, behind the lines of all before it,
 pub record LossLines {Own : Type 0} {last : Seen Own} (allows : List Place → Bool) (far : Progress last) (text more : List ℕ) (r : Run) : Type 0 where
   pub alike : RunsAlike last (reference_to allows far r)
   pub is_begun : length far.begun ≡ 1
   pub none_dispatched : far.number ≡ 0
-  pub text_so : text_of (reference_so_far allows far.started far.stimuli [] 0 r) ≡ text
-  pub more_so : text_of (reference_to allows far r) ≡ text ++ more
+  pub text_is : text_of (reference_so_far allows far.started far.stimuli [] 0 r) ≡ text
+  pub more_is : text_of (reference_to allows far r) ≡ text ++ more
 
 -- at those of the event that was dispatched last, behind the lines of all before it,
 pub record EventLines {Own : Type 0} {last : Seen Own} (allows : List Place → Bool) (far : Progress last) (text more : List ℕ) (r : Run) : Type 0 where
   pub alike : RunsAlike last (reference_to allows far r)
   pub before : ℕ
   pub one_more : far.number ≡ before + 1
-  pub text_so : text_of (reference_so_far allows far.started far.stimuli far.begun before r) ≡ text
-  pub more_so : text_of (reference_to allows far r) ≡ text ++ more
+  pub text_is : text_of (reference_so_far allows far.started far.stimuli far.begun before r) ≡ text
+  pub more_is : text_of (reference_to allows far r) ≡ text ++ more
 
 -- or at the end of the report, where switches may be lost that are asked for their rows.
 pub record EndLines {Own : Type 0} {last : Seen Own} (allows : List Place → Bool) (far : Progress last) (text more : List ℕ) (r : Run) : Type 0 where
   pub alike : RunsAlike last (at_end (reference_to allows far r))
   pub none_left : (reference_to allows far r).queue ≡ []
-  pub text_so : text_of (reference_to allows far r) ≡ text
-  pub more_so : run_report names (reference_to allows far r) ≡ text ++ more
+  pub text_is : text_of (reference_to allows far r) ≡ text
+  pub more_is : run_report names (reference_to allows far r) ≡ text ++ more
 
 -- These lines were to be written, behind this text, which is all that was done before.
 pub record WasWriting {Own : Type 0} (allows : List Place → Bool) (last : Seen Own) (text more : List ℕ) (far : Progress last) (r : Run) : Type 0 where

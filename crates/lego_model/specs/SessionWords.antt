@@ -6,7 +6,8 @@ use Rattle.hex.specs.Hex.{decode_of}
 use Rattle.hex.specs.declared.error.FromHexError.{FromHexError}
 use Rattle.lego_model.specs.declared.session.SessionKind.{SessionKind}
 use Rattle.lego_model.specs.declared.session.SessionKind.TheVariants.{Number, Range, Hex, App}
-use Rattle.lego_model.specs.Words.{is_word, is_numeral, value_after}
+use Rattle.of_types.specs.Numerals.{is_numeral}
+use Rattle.lego_model.specs.Words.{is_word, value_after}
 
 -- the first of several results that is a fault stops the rest
 infixl 10 ◌>>=◌

@@ -59,8 +59,8 @@ pub record IsBadPart {Own : Type 0} (Tells : Type 0) (d : ℕ) (bytes : List ℕ
 pub record IsUnanswered {Own : Type 0} (Tells : Type 0) (d : ℕ) (sent reply : List ℕ) (old new : Seen Own) : Type 0 where
   pub xid : ℕ
   pub got : List (List ℕ)
-  pub sent_so : sent ≡ flows_request xid
-  pub reply_so : reply ≡ message_bytes (next_xid xid) BarrierReply
+  pub sent_is : sent ≡ flows_request xid
+  pub reply_is : reply ≡ message_bytes (next_xid xid) BarrierReply
   pub no_part : parts_in xid (came_for d xid got) ≡ []
   pub no_refusal : refusals_in xid (came_for d xid got) ≡ []
   pub told : Tells → Happened (rows_steps d xid got) old.history new.history
@@ -71,7 +71,7 @@ pub record IsUnanswered {Own : Type 0} (Tells : Type 0) (d : ℕ) (sent reply : 
 pub record IsErrorFor (sent got : List ℕ) : Type 0 where
   pub kind : number_at 1 1 got ≡ 1
   pub message : Message
-  pub sent_so : sent ≡ message_bytes (number_at 4 4 got) message
+  pub sent_is : sent ≡ message_bytes (number_at 4 4 got) message
 
 -- So many messages were got behind a barrier that was sent to the switch, and none of them is its reply (5.3.7 Barrier Message).
 pub record IsFlood {Own : Type 0} (Tells : Type 0) (d n : ℕ) (old new : Seen Own) : Type 0 where

@@ -44,7 +44,7 @@ inverse_bytes xid k = message_bytes xid (FlowMod (delete_strict k))
 pub record WasSent (d xid : ℕ) (key : Key) (steps : List WorldStep) : Type 0 where
   pub before : List WorldStep
   pub behind : List WorldStep
-  pub steps_so : steps ≡ before ++ (Acted (Sent d (inverse_bytes xid key)) ∷ behind)
+  pub steps_is : steps ≡ before ++ (Acted (Sent d (inverse_bytes xid key)) ∷ behind)
 
 -- ---- What a switch says to its inverses: each has its transaction id and its key, newest first.
 
@@ -73,13 +73,13 @@ EndsBy d bytes steps = (front : List WorldStep) × (steps ≡ front ++ Acted (Go
 pub record Refuses (d : ℕ) (sent : List (ℕ × Key)) (steps : List WorldStep) (inverse bytes : List ℕ) : Type 0 where
   pub key : Key
   pub of_key : key_refused sent bytes ≡ Some key
-  pub inverse_so : inverse ≡ inverse_bytes (number_at 4 4 bytes) key
+  pub inverse_is : inverse ≡ inverse_bytes (number_at 4 4 bytes) key
   pub awaited : Awaited
   pub of_switch : awaited.dpid ≡ d
   pub is_xid : awaited.barrier < 2 ^ 32
   pub got : List (List ℕ)
   pub before : AreBefore awaited sent got
-  pub steps_so : steps ≡ barrier_sent awaited ∷ (wait_steps awaited got ++ Acted (Got awaited.dpid bytes) ∷ [])
+  pub steps_is : steps ≡ barrier_sent awaited ∷ (wait_steps awaited got ++ Acted (Got awaited.dpid bytes) ∷ [])
 
 -- so many messages were got behind a barrier, and none of them is its reply
 pub record Overruns (d : ℕ) (steps : List WorldStep) : Type 0 where
@@ -89,7 +89,7 @@ pub record Overruns (d : ℕ) (steps : List WorldStep) : Type 0 where
   pub got : List (List ℕ)
   pub many : length got ≡ flood
   pub before_reply : AllByRecursion (λ b. is_reply (heard awaited b) ≡ false) got
-  pub steps_so : steps ≡ barrier_sent awaited ∷ wait_steps awaited got
+  pub steps_is : steps ≡ barrier_sent awaited ∷ wait_steps awaited got
 
 -- The bytes that are no message, or that refuse an inverse, were got last; or these calls are all that overran a wait.
 abbrev pub HasCause : ℕ → List (ℕ × Key) → List WorldStep → TxnFault → Type 0

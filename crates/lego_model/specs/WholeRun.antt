@@ -20,13 +20,13 @@ use Rattle.lego_model.specs.ReferenceRun.{text_of, reference_of, reference_said,
 pub record EndsAs {Own : Type 0} (seen : Seen Own) (contents now_contents : Option (List ℕ)) (events : ℕ) (r : Run) : Type 0 where
   pub alike : RunsAlike seen (at_end r)
   pub none_left : r.queue ≡ []
-  pub events_so : events ≡ r.events
+  pub events_is : events ≡ r.events
   pub report : now_contents ≡ append_known contents (run_report names r)
 
 -- So many events were left, as in this run of the reference controller, and the report has the lines of those that were dispatched.
 pub record LeavesAs {Own : Type 0} (seen : Seen Own) (contents now_contents : Option (List ℕ)) (left : ℕ) (r : Run) : Type 0 where
   pub alike : RunsAlike seen r
-  pub left_so : left ≡ length r.queue
+  pub left_is : left ≡ length r.queue
   pub report : now_contents ≡ append_known contents (text_of r)
 
 -- All was dispatched: the report is the reference controller's, whole. The journal is a dialogue with the application.

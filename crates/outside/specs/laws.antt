@@ -1,6 +1,7 @@
 pub mod SeenLaws
 pub mod StateLaws
 pub mod LinkLaws
+pub mod LinkKeptLaws
 pub mod CallLaws
 pub mod InOrderLaws
 pub mod QuiescenceLaws

@@ -29,8 +29,8 @@ either_way (Err e) P old new moved went kept at_moved at_old = subst P (sym kept
 pub at_place : (P : Option Link → Type 0) (d : ℕ) (held : List Held) (place : ℕ) (x : Held) → HasPlace d held place → P (Some (slice_index_or held place x).link) → P (link_of d (links_in held))
 at_place P d held place x has p = subst P (sym (link_of-held d held place x has)) p
 
-pub from_place : (P : Option Link → Type 0) (d : ℕ) (held : List Held) (place : ℕ) (x : Held) → HasPlace d held place → P (link_of d (links_in held)) → P (Some (slice_index_or held place x).link)
-from_place P d held place x has p = subst P (link_of-held d held place x has) p
+pub from_position : (P : Option Link → Type 0) (d : ℕ) (held : List Held) (place : ℕ) (x : Held) → HasPlace d held place → P (link_of d (links_in held)) → P (Some (slice_index_or held place x).link)
+from_position P d held place x has p = subst P (link_of-held d held place x has) p
 
 pub at_none : (P : Option Link → Type 0) (d : ℕ) (held : List Held) → HasNoPlace d held → P None → P (link_of d (links_in held))
 at_none P d held none p = subst P (sym (link_of-not_held d held none)) p

@@ -8,7 +8,7 @@ use Rattle.outside.specs.declared.item.Taken.{Taken}
 use Rattle.outside.specs.declared.item.Taken.TheVariants as gave
 use Rattle.sim_world.specs.declared.life.Giving.{Giving}
 use Rattle.sim_world.specs.declared.life.Giving.TheVariants.{Nothing, Start, Reply, Plain}
-use Rattle.sim_world.specs.declared.life.Place.{Place}
+use Rattle.sim_world.specs.declared.life.Position.{Position}
 use Rattle.sim_world.specs.declared.life.LifeCell.{LifeCell}
 use Rattle.sim_world.specs.Scripts.{Scripts, Life, fresh, lines_of, steps_of_start, plain_turn}
 
@@ -35,9 +35,9 @@ cut n (Bytes bytes ∷ steps) = Bytes (drop n bytes) ∷ steps
 cut n (Closed ∷ steps) = Closed ∷ steps
 cut n (Silent ∷ steps) = Silent ∷ steps
 
--- the steps from a place on
-unfoldable pub from_place : Place → List ScriptStep → List ScriptStep
-from_place at steps = cut at.offset (drop at.step steps)
+-- the steps from a position on
+unfoldable pub from_position : Position → List ScriptStep → List ScriptStep
+from_position at steps = cut at.offset (drop at.step steps)
 
 -- the first step is one of no bytes
 abbrev pub begins_empty : List ScriptStep → Bool
@@ -75,7 +75,7 @@ life_of_cell replies c = record {
   start_calls = c.start_calls;
   give_calls = c.give_calls;
   take_calls = c.take_calls;
-  left = from_place c.at (steps_given replies c.giving);
+  left = from_position c.at (steps_given replies c.giving);
 }
 
 -- the lines that it did not take stand behind its places, and it took no more lines than there were calls

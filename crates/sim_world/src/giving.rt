@@ -35,7 +35,7 @@ impl SimWorld {
         requires absent { is_declared dpid (given_of self.old).declared ≡ false }
         requires cap { cap ≤ 4096 }
         requires ports { length ports.now ≤ 64 }
-        requires ports_so { ArePortsFrom 1 ports.now }
+        requires ports_is { ArePortsFrom 1 ports.now }
         requires few { length (given_of self.old).declared < 64 }
         ensures ok { OnOk result (Gets (with_switch (record { dpid = dpid; cap = cap; ports = ports.now })) self.old self.new) }
         ensures seen { OnOk result (Begins (with_switch (record { dpid = dpid; cap = cap; ports = ports.now }) (seen_of self.old).given) (seen_of self.new)) }

@@ -1,4 +1,4 @@
-//! The life of one application, kept as places in the lines that it was given.
+//! The life of one application, kept as positions in the lines that it was given.
 
 ghost use Rattle.std.specs.Prelude.{◌≡◌, ℕ, ◌+◌, ◌-◌, ◌<◌, ◌≤◌, ◌^◌, ◌&&◌, ◌||◌, not, true, false, List, length, take, drop, min, IsTrue, is_some};
 ghost use Rattle.outside.specs.Calls.{IsTakenIn};
@@ -7,7 +7,7 @@ ghost use Rattle.outside.specs.declared.call.FailCall.{FailCall};
 ghost use Rattle.app_frames.specs.declared.script.ScriptStep.{ScriptStep};
 ghost use Rattle.sim_world.specs.Told.{is_told};
 ghost use Rattle.sim_world.specs.Scripts.{Scripts, passed, first_given, first_taken, given_of, left_of, taken_bytes, is_refused, next_start, start_reached, will_start, will_give, next_taken, after_start, after_gave, after_gone, after_take, after_end, fresh};
-ghost use Rattle.sim_world.specs.Lives.{IsCellOf, life_of_cell, from_place, begins_empty, took_of};
+ghost use Rattle.sim_world.specs.Lives.{IsCellOf, life_of_cell, from_position, begins_empty, took_of};
 
 use crate::scripts::ScriptLines;
 use crate::told::Told;
@@ -23,15 +23,15 @@ pub(crate) enum Giving {
     Nothing,
     /// What a start gives that ends so.
     Start(StartScript),
-    /// The turn of the line at this place.
+    /// The turn of the line at this position.
     Reply(usize),
     /// A turn for which there was no line any more.
     Plain,
 }
 
-/// A place in steps: how many steps were gone through, and how many bytes were taken of the one behind them.
+/// A position in steps: how many steps were gone through, and how many bytes were taken of the one behind them.
 #[derive(Clone, Copy, Debug, PartialEq, Eq)]
-pub(crate) struct Place {
+pub(crate) struct Position {
     pub(crate) step: usize,
     pub(crate) offset: usize,
 }
@@ -49,16 +49,16 @@ pub(crate) struct LifeCell {
     pub(crate) next_start: usize,
     pub(crate) next_reply: usize,
     pub(crate) giving: Giving,
-    pub(crate) at: Place,
+    pub(crate) at: Position,
 }
 
-/// The first place.
-const FIRST: Place = Place { step: 0, offset: 0 };
+/// The first position.
+const FIRST: Position = Position { step: 0, offset: 0 };
 
-/// Tells whether the step at a place has no byte left.
-#[tactic(auto, unfolding(crate::specs::Lives::from_place))]
-fn is_used_up(steps: &Steps<'_>, at: Place) -> bool
-    ensures same { result ≡ begins_empty (from_place at steps.now) }
+/// Tells whether the step at a position has no byte left.
+#[tactic(auto, unfolding(crate::specs::Lives::from_position))]
+fn is_used_up(steps: &Steps<'_>, at: Position) -> bool
+    ensures same { result ≡ begins_empty (from_position at steps.now) }
     ensures within { IsTrue result → at.step < length steps.now }
     ensures few { IsTrue result → at.step < 2 ^ 64 - 1 }
 {
@@ -72,14 +72,14 @@ fn is_used_up(steps: &Steps<'_>, at: Place) -> bool
     }
 }
 
-/// Returns the place behind the steps that have no byte left.
-fn pass(steps: &Steps<'_>, at: Place) -> Place
-    ensures passed { from_place result steps.now ≡ passed (from_place at steps.now) }
-    ensures begun { begins_empty (from_place result steps.now) ≡ false }
+/// Returns the position behind the steps that have no byte left.
+fn pass(steps: &Steps<'_>, at: Position) -> Position
+    ensures passed { from_position result steps.now ≡ passed (from_position at steps.now) }
+    ensures begun { begins_empty (from_position result steps.now) ≡ false }
 {
     let mut at = at;
     while is_used_up(steps, at) {
-        at = Place {
+        at = Position {
             step: at.step + 1,
             offset: 0,
         };
@@ -97,7 +97,7 @@ fn copy_front(bytes: &[u8], buf: &mut [u8]) -> usize
     count
 }
 
-/// Takes bytes of the step at a place.
+/// Takes bytes of the step at a position.
 fn take_bytes(bytes: &[u8], offset: usize, buf: &mut [u8]) -> usize
     requires { offset < length bytes.now }
     ensures count { result ≡ min (length buf.old) (length bytes.now - offset) }
@@ -106,19 +106,19 @@ fn take_bytes(bytes: &[u8], offset: usize, buf: &mut [u8]) -> usize
     copy_front(&bytes[offset..], buf)
 }
 
-/// Takes what comes first at a place where the step has a byte left, and the place behind it.
-#[tactic(auto, unfolding(crate::specs::Lives::from_place))]
-fn take_first(steps: &Steps<'_>, at: Place, buf: &mut [u8]) -> (Taken, Place)
+/// Takes what comes first at a position where the step has a byte left, and the position behind it.
+#[tactic(auto, unfolding(crate::specs::Lives::from_position))]
+fn take_first(steps: &Steps<'_>, at: Position, buf: &mut [u8]) -> (Taken, Position)
     requires room { 0 < length buf.old }
-    requires begun { begins_empty (from_place at steps.now) ≡ false }
-    ensures what { took_of result.0 buf.new ≡ first_given (length buf.old) (from_place at steps.now) }
-    ensures left { from_place result.1 steps.now ≡ first_taken (length (taken_bytes (took_of result.0 buf.new))) (from_place at steps.now) }
+    requires begun { begins_empty (from_position at steps.now) ≡ false }
+    ensures what { took_of result.0 buf.new ≡ first_given (length buf.old) (from_position at steps.now) }
+    ensures left { from_position result.1 steps.now ≡ first_taken (length (taken_bytes (took_of result.0 buf.new))) (from_position at steps.now) }
     ensures taken { IsTakenIn result.0 buf.new }
 {
     if at.step >= steps.len() {
         return (Taken::Closed, at);
     }
-    let behind = Place {
+    let behind = Position {
         step: at.step + 1,
         offset: 0,
     };
@@ -128,7 +128,7 @@ fn take_first(steps: &Steps<'_>, at: Place, buf: &mut [u8]) -> (Taken, Place)
             let offset = at.offset + count;
             (
                 Taken::Some(count),
-                Place {
+                Position {
                     step: at.step,
                     offset,
                 },
@@ -139,22 +139,22 @@ fn take_first(steps: &Steps<'_>, at: Place, buf: &mut [u8]) -> (Taken, Place)
     }
 }
 
-/// Takes what comes next from a place on, and the place behind it.
+/// Takes what comes next from a position on, and the position behind it.
 #[tactic(auto, unfolding(crate::specs::Scripts::given_of, crate::specs::Scripts::left_of))]
-fn take_next(steps: &Steps<'_>, at: Place, buf: &mut [u8]) -> (Taken, Place)
+fn take_next(steps: &Steps<'_>, at: Position, buf: &mut [u8]) -> (Taken, Position)
     requires { 0 < length buf.old }
-    ensures what { took_of result.0 buf.new ≡ given_of (length buf.old) (from_place at steps.now) }
-    ensures left { from_place result.1 steps.now ≡ left_of (length (taken_bytes (took_of result.0 buf.new))) (from_place at steps.now) }
+    ensures what { took_of result.0 buf.new ≡ given_of (length buf.old) (from_position at steps.now) }
+    ensures left { from_position result.1 steps.now ≡ left_of (length (taken_bytes (took_of result.0 buf.new))) (from_position at steps.now) }
     ensures taken { IsTakenIn result.0 buf.new }
 {
     take_first(steps, pass(steps, at), buf)
 }
 
-/// Tells how many bytes are taken at a place where the step has a byte left.
-#[tactic(auto, unfolding(crate::specs::Lives::from_place))]
-fn len_first(steps: &Steps<'_>, at: Place, room: usize) -> usize
-    requires { begins_empty (from_place at steps.now) ≡ false }
-    ensures { result ≡ length (taken_bytes (first_given room (from_place at steps.now))) }
+/// Tells how many bytes are taken at a position where the step has a byte left.
+#[tactic(auto, unfolding(crate::specs::Lives::from_position))]
+fn len_first(steps: &Steps<'_>, at: Position, room: usize) -> usize
+    requires { begins_empty (from_position at steps.now) ≡ false }
+    ensures { result ≡ length (taken_bytes (first_given room (from_position at steps.now))) }
 {
     if at.step >= steps.len() {
         return 0;
@@ -166,10 +166,10 @@ fn len_first(steps: &Steps<'_>, at: Place, room: usize) -> usize
     }
 }
 
-/// Tells how many bytes are taken from a place on.
+/// Tells how many bytes are taken from a position on.
 #[tactic(auto, unfolding(crate::specs::Scripts::given_of))]
-fn len_next(steps: &Steps<'_>, at: Place, room: usize) -> usize
-    ensures { result ≡ length (taken_bytes (given_of room (from_place at steps.now))) }
+fn len_next(steps: &Steps<'_>, at: Position, room: usize) -> usize
+    ensures { result ≡ length (taken_bytes (given_of room (from_position at steps.now))) }
 {
     len_first(steps, pass(steps, at), room)
 }
@@ -190,7 +190,7 @@ fn is_refused(start: StartScript) -> bool
 
 impl LifeCell {
     /// Returns the life of an application before anything happened to it; takes no memory.
-    #[tactic(auto, unfolding(crate::specs::Lives::life_of_cell, crate::specs::Lives::from_place, crate::specs::Lives::steps_given, crate::specs::Scripts::fresh,))]
+    #[tactic(auto, unfolding(crate::specs::Lives::life_of_cell, crate::specs::Lives::from_position, crate::specs::Lives::steps_given, crate::specs::Scripts::fresh,))]
     pub(crate) fn fresh(app: u32) -> LifeCell
         ensures app { result.app ≡ app }
         ensures life { (replies : List (ℕ × List ScriptStep)) → life_of_cell replies result ≡ fresh }
@@ -470,7 +470,7 @@ impl LifeCell {
     }
 
     /// Ends it.
-    #[tactic(auto, unfolding(crate::specs::Lives::life_of_cell, crate::specs::Lives::from_place, crate::specs::Lives::steps_given, crate::specs::Scripts::after_end,))]
+    #[tactic(auto, unfolding(crate::specs::Lives::life_of_cell, crate::specs::Lives::from_position, crate::specs::Lives::steps_given, crate::specs::Scripts::after_end,))]
     pub(crate) fn end(&mut self)
         ensures app { self.new.app ≡ self.old.app }
         ensures life { (replies : List (ℕ × List ScriptStep)) → life_of_cell replies self.new ≡ after_end (life_of_cell replies self.old) }

@@ -84,7 +84,7 @@ pub sends_none_both : (xs ys : List Act) → SendsNone xs → SendsNone ys → S
 sends_none_both xs ys first second = filter-append sends_change xs ys ∙ ap (λ (acts : List Act). acts ++ filter sends_change ys) first ∙ second
 
 pub host_since : (bytes : List ℕ) (answer : Answer) (xs ys : List Act) → SendsNone xs → AnsweredByHost bytes answer ys → AnsweredByHost bytes answer (xs ++ ys)
-host_since bytes answer xs ys none by = record { rows = by.rows; answer_so = by.answer_so; none_sent = sends_none_both xs ys none by.none_sent }
+host_since bytes answer xs ys none by = record { rows = by.rows; answer_is = by.answer_is; none_sent = sends_none_both xs ys none by.none_sent }
 
 -- ---- A change that reached its switch, behind acts that are none
 
@@ -130,8 +130,8 @@ switch_since dpid bytes answer xs ys none by = record {
   change = by.change;
   reached = reached_since dpid _ xs ys none by.reached;
   error = by.error;
-  error_so = by.error_so ∙ ap (λ (acts : List Act). first_error dpid by.reached.xid by.reached.barrier acts) (sym (drop_behind xs ys by.reached.sent));
-  answer_so = by.answer_so;
+  error_is = by.error_is ∙ ap (λ (acts : List Act). first_error dpid by.reached.xid by.reached.barrier acts) (sym (drop_behind xs ys by.reached.sent));
+  answer_is = by.answer_is;
 }
 
 -- ---- A switch that is lost
@@ -145,7 +145,7 @@ loss_behind dpid (x ∷ xs) ys lost = rw (loss_behind dpid xs ys lost) (or_true 
     or_true false = refl
 
 pub loss_since : (dpid : ℕ) (answer : Answer) (xs ys : List Act) → AnsweredForLoss dpid answer ys → AnsweredForLoss dpid answer (xs ++ ys)
-loss_since dpid answer xs ys by = record { answer_so = by.answer_so; lost = loss_behind dpid xs ys by.lost }
+loss_since dpid answer xs ys by = record { answer_is = by.answer_is; lost = loss_behind dpid xs ys by.lost }
 
 -- ---- A change that is fine
 
@@ -164,8 +164,8 @@ message_or other (Err fault) = other
 
 -- a change that was answered so reached its switch
 pub fine_reached : (dpid : ℕ) (bytes : List ℕ) (since : List Act) (xid : ℕ) (m : Change) → reading_of bytes ≡ Ok (enveloped xid (FlowMod m)) → AnsweredAtOnce dpid bytes Fine since → ReachedAtOnce dpid (as_sent (FlowMod m)) since
-fine_reached dpid bytes since xid m read (inl by) = absurd (fine_by_host by.rows bytes xid m read by.answer_so)
-fine_reached dpid bytes since xid m read (inr (inr by)) = absurd (not_unknown by.answer_so)
+fine_reached dpid bytes since xid m read (inl by) = absurd (fine_by_host by.rows bytes xid m read by.answer_is)
+fine_reached dpid bytes since xid m read (inr (inr by)) = absurd (not_unknown by.answer_is)
   where
     not_unknown : Fine ≡ Unknown → ⊥
     not_unknown is = absurd cc

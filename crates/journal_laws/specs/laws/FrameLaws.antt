@@ -1,11 +1,22 @@
--- Laws of frames to an application: an Event is one, and an answer and a checkpoint are none.
-use Rattle.std.specs.Prelude.{◌≡◌, ℕ, List, true, false, refl}
-use Rattle.of_types.specs.Fields.{number_bytes}
+-- Laws of frames to an application: their kind is their fifth byte; an Event tells an event, and an answer and a checkpoint tell none.
+use Rattle.std.specs.Prelude.{◌≡◌, ℕ, List, [], ◌∷◌, true, false, slice_index, refl}
+use Rattle.std.proofs.Common.{arith}
+use Rattle.of_types.specs.Fields.{number_at, number_bytes}
 use Rattle.app_frames.specs.declared.frame.Event.{Event}
 use Rattle.app_frames.specs.declared.frame.Answer.{Answer}
 use Rattle.app_frames.specs.Spelling.{framed, host_bytes}
 use Rattle.lego_model.specs.Journal.{is_event}
 use Rattle.lego_model.specs.Controller.{restore_frame, answer_frame, event_frame}
+
+-- a frame's kind, read as a number of one byte behind its four bytes of length, is that byte
+pub kind_byte : (bytes : List ℕ) → number_at 1 4 bytes ≡ slice_index bytes 4
+unfolding number_at
+kind_byte [] = refl
+kind_byte (a ∷ []) = refl
+kind_byte (a ∷ b ∷ []) = refl
+kind_byte (a ∷ b ∷ c ∷ []) = refl
+kind_byte (a ∷ b ∷ c ∷ d ∷ []) = refl
+kind_byte (a ∷ b ∷ c ∷ d ∷ e ∷ rest) = omega arith
 
 framed_event : (body : List ℕ) → is_event (framed 2 body) ≡ true
 unfolding framed number_bytes

@@ -85,8 +85,8 @@ attempts_longer (Sent d bytes ∷ acts) more none = ap (λ (r : List Act × List
 attempts_longer (Got d bytes ∷ acts) more none = ap (λ (r : List Act × List Attempt). (Got d bytes ∷ r.0, r.1)) (attempts_longer acts more none) ∙ longer_one more (Got d bytes) (in_attempts acts)
 attempts_longer (Lost d ∷ acts) more none = ap (λ (r : List Act × List Attempt). (Lost d ∷ r.0, r.1)) (attempts_longer acts more none) ∙ longer_one more (Lost d) (in_attempts acts)
 
-last_so : (acts more : List Act) → in_attempts more ≡ (more, []) → (in_attempts (acts ++ more)).1 ≡ last_longer more (in_attempts acts).1
-last_so acts more none = ap (λ (r : List Act × List Attempt). r.1) (attempts_longer acts more none) ∙ longer_last more (in_attempts acts)
+last_is : (acts more : List Act) → in_attempts more ≡ (more, []) → (in_attempts (acts ++ more)).1 ≡ last_longer more (in_attempts acts).1
+last_is acts more none = ap (λ (r : List Act × List Attempt). r.1) (attempts_longer acts more none) ∙ longer_last more (in_attempts acts)
 
 last_behind : (more : List Act) (before : List Attempt) (last : Attempt) → last_longer more (before ++ last ∷ []) ≡ before ++ record last { acts = last.acts ++ more } ∷ []
 last_behind more [] last = refl
@@ -116,10 +116,10 @@ turns_behind (Sent d bytes ∷ acts) more asked is = rw (turns_behind acts more 
 turns_behind (Got d bytes ∷ acts) more asked is = rw (turns_behind acts more asked is) refl
 turns_behind (Lost d ∷ acts) more asked is = rw (turns_behind acts more asked is) refl
 
-abbrev asked_so : Bool → List Act → Asked
-asked_so given acts = record { given = given; acts = acts }
+abbrev asked_is : Bool → List Act → Asked
+asked_is given acts = record { given = given; acts = acts }
 
-event_begins : (app : ℕ) (given : Bool) (frame : List ℕ) (more : List Act) → is_event frame ≡ true → Within app more → in_turns (event_act given app frame ∷ more) ≡ ([], asked_so given more ∷ [])
+event_begins : (app : ℕ) (given : Bool) (frame : List ℕ) (more : List Act) → is_event frame ≡ true → Within app more → in_turns (event_act given app frame ∷ more) ≡ ([], asked_is given more ∷ [])
 event_begins app true frame more event all = rw (event, turns_within app more all) refl
 event_begins app false frame more event all = rw (event, turns_within app more all) refl
 
@@ -166,17 +166,17 @@ turn_read app given frame acts more stood event all =
     let before = stood.before in
     let last = stood.last in
     let next = event_act given app frame ∷ more in
-    let asked = asked_so given more ∷ [] in
+    let asked = asked_is given more ∷ [] in
     let begins : in_turns next ≡ ([], asked) = event_begins app given frame more event all in
     let after : (in_attempts (acts ++ next)).1 ≡ before ++ last_with last next ∷ [] =
-    last_so acts next (event_within_attempt app given frame more all) ∙ ap (last_longer next) stood.attempts ∙ last_behind next before last in
+    last_is acts next (event_within_attempt app given frame more all) ∙ ap (last_longer next) stood.attempts ∙ last_behind next before last in
     record {
       starts = ap starts_by after ∙ map-append start_of before (last_with last next ∷ []) ∙ ap (λ (s : Start). starts_by before ++ s ∷ []) (start_with last next asked begins)
           ∙ sym (map-append start_of before (last ∷ [])) ∙ ap starts_by (sym stood.attempts);
       replies = ap replies_by after ∙ replies_behind before (last_with last next ∷ [])
           ∙ ap (λ (rs : List Reply). replies_by before ++ rs) (replies_one (last_with last next) stood.stands ∙ replies_with last next asked begins)
-          ∙ sym (append_assoc (replies_by before) (replies_at last) (reply_of (asked_so given more) ∷ []))
-          ∙ ap (λ (rs : List Reply). rs ++ reply_of (asked_so given more) ∷ [])
+          ∙ sym (append_assoc (replies_by before) (replies_at last) (reply_of (asked_is given more) ∷ []))
+          ∙ ap (λ (rs : List Reply). rs ++ reply_of (asked_is given more) ∷ [])
           (ap (λ (rs : List Reply). replies_by before ++ rs) (sym (replies_one last stood.stands)) ∙ sym (replies_behind before (last ∷ [])) ∙ ap replies_by (sym stood.attempts));
       life = record { before = before; last = last_with last next; attempts = after; stands = stood.stands };
     }
@@ -185,25 +185,25 @@ turn_read app given frame acts more stood event all =
 
 -- the same is read of both
 record AlikeRead (xs ys : List Act) : Type 0 where
-  pieces_so : pieces xs ≡ pieces ys
-  gone_so : any_gone xs ≡ any_gone ys
-  gave_so : filter gave xs ≡ filter gave ys
-  end_so : (before : End) → end_from before xs ≡ end_from before ys
+  pieces_is : pieces xs ≡ pieces ys
+  gone_is : any_gone xs ≡ any_gone ys
+  gave_is : filter gave xs ≡ filter gave ys
+  end_is : (before : End) → end_from before xs ≡ end_from before ys
 
 alike_refl : (xs : List Act) → AlikeRead xs xs
-alike_refl xs = record { pieces_so = refl; gone_so = refl; gave_so = refl; end_so = λ before. refl }
+alike_refl xs = record { pieces_is = refl; gone_is = refl; gave_is = refl; end_is = λ before. refl }
 
 alike_one : (act : Act) (xs ys : List Act) → AlikeRead xs ys → AlikeRead (act ∷ xs) (act ∷ ys)
 alike_one act xs ys a = record {
-  pieces_so = ap (cons_option (piece_of act)) a.pieces_so;
-  gone_so = ap (λ (b : Bool). if was_gone act then true else b) a.gone_so;
-  gave_so = ap (λ (acts : List Act). if gave act then act ∷ acts else acts) a.gave_so;
-  end_so = λ before. a.end_so (end_by before act);
+  pieces_is = ap (cons_option (piece_of act)) a.pieces_is;
+  gone_is = ap (λ (b : Bool). if was_gone act then true else b) a.gone_is;
+  gave_is = ap (λ (acts : List Act). if gave act then act ∷ acts else acts) a.gave_is;
+  end_is = λ before. a.end_is (end_by before act);
 }
 
-reply_alike : (given : Bool) (xs ys : List Act) → AlikeRead xs ys → reply_of (asked_so given xs) ≡ reply_of (asked_so given ys)
+reply_alike : (given : Bool) (xs ys : List Act) → AlikeRead xs ys → reply_of (asked_is given xs) ≡ reply_of (asked_is given ys)
 unfolding reply_of
-reply_alike true xs ys a = rw (a.pieces_so, a.gone_so, a.gave_so, a.end_so Untold) refl
+reply_alike true xs ys a = rw (a.pieces_is, a.gone_is, a.gave_is, a.end_is Untold) refl
 reply_alike false xs ys a = refl
 
 record AlikeTurns (xs ys : List Act) : Type 0 where
@@ -216,7 +216,7 @@ alike_turns_one act xs ys left right a = record {
   later = rw (left, right) a.later;
 }
 
-alike_asked : (given : Bool) (act : Act) (xs ys : List Act) → in_turns (act ∷ xs) ≡ ([], asked_so given (in_turns xs).0 ∷ (in_turns xs).1) → in_turns (act ∷ ys) ≡ ([], asked_so given (in_turns ys).0 ∷ (in_turns ys).1)
+alike_asked : (given : Bool) (act : Act) (xs ys : List Act) → in_turns (act ∷ xs) ≡ ([], asked_is given (in_turns xs).0 ∷ (in_turns xs).1) → in_turns (act ∷ ys) ≡ ([], asked_is given (in_turns ys).0 ∷ (in_turns ys).1)
     → AlikeTurns xs ys → AlikeTurns (act ∷ xs) (act ∷ ys)
 alike_asked given act xs ys left right a = record {
   first = rw (left, right) (alike_refl []);
@@ -224,7 +224,7 @@ alike_asked given act xs ys left right a = record {
 }
 
 turns_ended : (app : ℕ) (acts : List Act) → AlikeTurns (acts ++ Ended app ∷ []) acts
-turns_ended app [] = record { first = record { pieces_so = refl; gone_so = refl; gave_so = refl; end_so = λ before. refl }; later = refl }
+turns_ended app [] = record { first = record { pieces_is = refl; gone_is = refl; gave_is = refl; end_is = λ before. refl }; later = refl }
 turns_ended app (Gave to bytes ∷ acts) = elim (is_event bytes) as (λ t. is_event bytes ≡ t → AlikeTurns ((Gave to bytes ∷ acts) ++ Ended app ∷ []) (Gave to bytes ∷ acts)) [
   | true ↦ λ t. alike_asked true (Gave to bytes) (acts ++ Ended app ∷ []) acts (rw t refl) (rw t refl) (turns_ended app acts)
   | false ↦ λ t. alike_turns_one (Gave to bytes) (acts ++ Ended app ∷ []) acts (rw t refl) (rw t refl) (turns_ended app acts)
@@ -245,7 +245,7 @@ start_ended : (app : ℕ) (a : Attempt) → start_of (last_with a (Ended app ∷
 unfolding start_of
 start_ended app a =
     let alike = (turns_ended app a.acts).first in
-    rw (alike.pieces_so, alike.gone_so, alike.end_so Untold) refl
+    rw (alike.pieces_is, alike.gone_is, alike.end_is Untold) refl
 
 starts_ended : (app : ℕ) (tries : List Attempt) → starts_by (last_longer (Ended app ∷ []) tries) ≡ starts_by tries
 starts_ended app [] = refl
@@ -266,7 +266,7 @@ replies_ended app (a ∷ b ∷ bs) =
 
 pub end_read : (app : ℕ) (acts : List Act) → ReadsSame acts (acts ++ Ended app ∷ [])
 end_read app acts =
-    let after : (in_attempts (acts ++ Ended app ∷ [])).1 ≡ last_longer (Ended app ∷ []) (in_attempts acts).1 = last_so acts (Ended app ∷ []) refl in
+    let after : (in_attempts (acts ++ Ended app ∷ [])).1 ≡ last_longer (Ended app ∷ []) (in_attempts acts).1 = last_is acts (Ended app ∷ []) refl in
     record { starts = ap starts_by after ∙ starts_ended app (in_attempts acts).1; replies = ap replies_by after ∙ replies_ended app (in_attempts acts).1 }
 
 -- ---- An attempt
@@ -275,12 +275,12 @@ pub part_read : (app : ℕ) (ended : Bool) (acts : List Act) → ReadsSame acts 
 part_read app true acts = end_read app acts
 part_read app false acts = record { starts = ap starts_in (append-nil acts); replies = ap replies_in (append-nil acts) }
 
-abbrev attempt_so : Bool → List Act → Attempt
-attempt_so stands acts = record { stands = stands; acts = acts }
+abbrev attempt_is : Bool → List Act → Attempt
+attempt_is stands acts = record { stands = stands; acts = acts }
 
-started_read : (app : ℕ) (stands : Bool) (acts more : List Act) → Within app more → ReadsAttempt acts (acts ++ Started app stands ∷ more) (attempt_so stands more)
+started_read : (app : ℕ) (stands : Bool) (acts more : List Act) → Within app more → ReadsAttempt acts (acts ++ Started app stands ∷ more) (attempt_is stands more)
 started_read app stands acts more all =
-    let one = attempt_so stands more in
+    let one = attempt_is stands more in
     let after : (in_attempts (acts ++ Started app stands ∷ more)).1 ≡ (in_attempts acts).1 ++ one ∷ [] =
     ap (λ (r : List Act × List Attempt). r.1) (in_attempts-started acts app stands more)
     ∙ ap (λ (r : List Act × List Attempt). (in_attempts acts).1 ++ record { stands = stands; acts = r.0 } ∷ r.1) (attempts_within app more all) in
@@ -296,8 +296,8 @@ pub attempt_read : (app : ℕ) (ended stands : Bool) (acts more : List Act) → 
 attempt_read app ended stands acts more all =
     let first = part_read app ended acts in
     let next = started_read app stands (acts ++ end_acts ended app) more all in
-    subst (λ (whole : List Act). ReadsAttempt acts whole (attempt_so stands more)) (append_assoc acts (end_acts ended app) (Started app stands ∷ more)) (record {
-      starts = next.starts ∙ ap (λ (ss : List Start). ss ++ start_of (attempt_so stands more) ∷ []) first.starts;
+    subst (λ (whole : List Act). ReadsAttempt acts whole (attempt_is stands more)) (append_assoc acts (end_acts ended app) (Started app stands ∷ more)) (record {
+      starts = next.starts ∙ ap (λ (ss : List Start). ss ++ start_of (attempt_is stands more) ∷ []) first.starts;
       replies = next.replies ∙ first.replies;
       life = next.life;
     })

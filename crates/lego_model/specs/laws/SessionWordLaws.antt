@@ -7,7 +7,8 @@ use Rattle.hex.specs.Hex.{decode_of}
 use Rattle.hex.proofs.HexLemmas.{decode_of-ok}
 use Rattle.lego_model.specs.declared.session.SessionKind.{SessionKind}
 use Rattle.lego_model.specs.declared.session.SessionKind.TheVariants.{Number, Range, Switch}
-use Rattle.lego_model.specs.Words.{is_word, is_numeral, value_after}
+use Rattle.of_types.specs.Numerals.{is_numeral}
+use Rattle.lego_model.specs.Words.{is_word, value_after}
 use Rattle.lego_model.specs.SessionWords.{◌>>=◌, unless, a_number, last_number, digits_read, is_sized, some_bytes, ascends, is_port, are_ports, values_of, listed_ports, some_ports, place_among, an_app}
 use Rattle.app_frames.specs.declared.script.ScriptStep.{ScriptStep}
 use Rattle.lego_model.specs.SessionSteps.{step_of, steps_of}

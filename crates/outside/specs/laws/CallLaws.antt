@@ -113,10 +113,10 @@ Receives-conforming {d = d} {old = old} {new = new} {buf = buf} n told call keep
     (Conforming-rest old new (Acted (Got d (take n buf)) ∷ []) call.given (call.told told).history keeps).0
 
 -- Where nothing is upcoming and no stimulus is begun, the only item that may come without one is End, after the last stimulus.
-nothing_next : (step : WorldStep) (s : State) → upcoming s ≡ [] → IsNext step s → ⊥
+pub nothing_next : (step : WorldStep) (s : State) → upcoming s ≡ [] → IsNext step s → ⊥
 nothing_next step s none next = let h = rw none at next in cc
 
-no_idle : (s : State) → s.begun ≡ false → IsIdle s → ⊥
+pub no_idle : (s : State) → s.begun ≡ false → IsIdle s → ⊥
 no_idle s rests idle = cc (idle.0, rests)
 
 pub MayStep-at_rest : (declared : List Declared) (item : Item) (buf : List ℕ) (s : State) → s.begun ≡ false → upcoming s ≡ [] → MayStep declared (item_step item buf) s

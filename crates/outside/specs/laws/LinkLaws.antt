@@ -56,15 +56,15 @@ sent_waits bytes None = sym (none_sent (reading_of bytes))
     none_sent (Err fault) = refl
 sent_waits bytes (Some l) = refl
 
-keeps_sent : (bytes : List ℕ) → KeepsDeclared (link_sent bytes)
+pub keeps_sent : (bytes : List ℕ) → KeepsDeclared (link_sent bytes)
 unfolding link_sent
 keeps_sent bytes l = refl
 
-keeps_got : KeepsDeclared link_got
+pub keeps_got : KeepsDeclared link_got
 unfolding link_got
 keeps_got l = refl
 
-keeps_told : KeepsDeclared link_told
+pub keeps_told : KeepsDeclared link_told
 unfolding link_told
 keeps_told l = refl
 

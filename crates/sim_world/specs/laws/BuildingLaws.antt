@@ -20,8 +20,9 @@ use Rattle.outside.specs.Seen.{Given, is_declared}
 use Rattle.outside.specs.State.{Link, State, at_first, state, but_marks, after_steps, is_link_call, fails_of, link_at_first, link_of, with_link, moment_after}
 use Rattle.outside.specs.Conforming.{AreDeclaredFrom, MayDeclare, IsWorldStim}
 use Rattle.outside.specs.declared.step.WorldStep.{WorldStep}
+use Rattle.outside.specs.laws.LinkKeptLaws.{declared_in-with_link}
 use Rattle.sim_world.specs.Links.{IsDue, fails_at, insert_link}
-use Rattle.sim_world.specs.laws.LinksLaws.{declared_in-with_link, is_declared-link_of}
+use Rattle.sim_world.specs.laws.LinksLaws.{is_declared-link_of}
 use Rattle.sim_world.specs.laws.LinkStepLaws.{AreStanding}
 use Rattle.sim_world.specs.Tally.{last_count, LinkCounts, TallyState, IsTally, CountsFor, counts_of, count_at, none_of, no_counts}
 use Rattle.sim_world.specs.Told.{without_links}

@@ -19,14 +19,14 @@ use Rattle.outside.specs.State.{event_number}
 use Rattle.outside.specs.declared.item.Taken.{Taken}
 use Rattle.outside.specs.declared.item.Taken.TheVariants as gave
 use Rattle.outside.specs.declared.step.WorldStep.TheVariants.{TookInto}
-use Rattle.sim_world.specs.declared.life.Place.{Place}
+use Rattle.sim_world.specs.declared.life.Position.{Position}
 use Rattle.app_frames.specs.declared.script.StartScript.{StartScript}
 use Rattle.outside.specs.declared.call.FailCall.{FailCall}
 use Rattle.sim_world.specs.declared.life.Giving.{Giving}
 use Rattle.sim_world.specs.declared.life.Giving.TheVariants.{Start}
 use Rattle.sim_world.specs.declared.life.LifeCell.{LifeCell}
 use Rattle.sim_world.specs.Scripts.{Scripts, Life, passed, first_given, first_taken, taken_bytes, lines_of, start_or_ready, turn_or_plain, steps_of_start, next_start, next_turn, after_start, after_gave, start_reached, is_refused}
-use Rattle.sim_world.specs.Lives.{cut, from_place, begins_empty, steps_of_line, steps_given, IsGivingIn, IsNextLine, Follows, life_of_cell, IsCellOf, took_of}
+use Rattle.sim_world.specs.Lives.{cut, from_position, begins_empty, steps_of_line, steps_given, IsGivingIn, IsNextLine, Follows, life_of_cell, IsCellOf, took_of}
 
 -- ---- Elements and rests
 
@@ -57,22 +57,22 @@ cut-zero (Bytes bytes ∷ steps) = refl
 cut-zero (Closed ∷ steps) = refl
 cut-zero (Silent ∷ steps) = refl
 
-pub from_place-bytes : (steps : List ScriptStep) (at : Place) (bytes : List ℕ) → slice_get steps at.step ≡ Some (Bytes bytes) → from_place at steps ≡ Bytes (drop at.offset bytes) ∷ drop (at.step + 1) steps
-unfolding from_place
-from_place-bytes steps at bytes is = ap (cut at.offset) (drop-at steps at.step (Bytes bytes) is)
+pub from_position-bytes : (steps : List ScriptStep) (at : Position) (bytes : List ℕ) → slice_get steps at.step ≡ Some (Bytes bytes) → from_position at steps ≡ Bytes (drop at.offset bytes) ∷ drop (at.step + 1) steps
+unfolding from_position
+from_position-bytes steps at bytes is = ap (cut at.offset) (drop-at steps at.step (Bytes bytes) is)
 
-pub from_place-closed : (steps : List ScriptStep) (at : Place) → slice_get steps at.step ≡ Some Closed → from_place at steps ≡ Closed ∷ drop (at.step + 1) steps
-unfolding from_place
-from_place-closed steps at is = ap (cut at.offset) (drop-at steps at.step Closed is)
+pub from_position-closed : (steps : List ScriptStep) (at : Position) → slice_get steps at.step ≡ Some Closed → from_position at steps ≡ Closed ∷ drop (at.step + 1) steps
+unfolding from_position
+from_position-closed steps at is = ap (cut at.offset) (drop-at steps at.step Closed is)
 
-pub from_place-silent : (steps : List ScriptStep) (at : Place) → slice_get steps at.step ≡ Some Silent → from_place at steps ≡ Silent ∷ drop (at.step + 1) steps
-unfolding from_place
-from_place-silent steps at is = ap (cut at.offset) (drop-at steps at.step Silent is)
+pub from_position-silent : (steps : List ScriptStep) (at : Position) → slice_get steps at.step ≡ Some Silent → from_position at steps ≡ Silent ∷ drop (at.step + 1) steps
+unfolding from_position
+from_position-silent steps at is = ap (cut at.offset) (drop-at steps at.step Silent is)
 
 -- the place at the front of a step
-pub from_place-front : (steps : List ScriptStep) (step : ℕ) → from_place (record { step = step; offset = 0 }) steps ≡ drop step steps
-unfolding from_place
-from_place-front steps step = cut-zero (drop step steps)
+pub from_position-front : (steps : List ScriptStep) (step : ℕ) → from_position (record { step = step; offset = 0 }) steps ≡ drop step steps
+unfolding from_position
+from_position-front steps step = cut-zero (drop step steps)
 
 -- a step has no byte left where as many were taken as it has
 pub begins_empty-bytes : (bytes : List ℕ) (n : ℕ) (steps : List ScriptStep) → begins_empty (Bytes (drop n bytes) ∷ steps) ≡ leb (length bytes) n
@@ -95,39 +95,39 @@ cut-rest n (Closed ∷ steps) = refl
 cut-rest n (Silent ∷ steps) = refl
 
 -- where a step has no byte left, the place behind it does as well
-pub passed-next : (steps : List ScriptStep) (at : Place) → begins_empty (from_place at steps) ≡ true → passed (from_place at steps) ≡ passed (from_place (record { step = at.step + 1; offset = 0 }) steps)
-unfolding from_place
+pub passed-next : (steps : List ScriptStep) (at : Position) → begins_empty (from_position at steps) ≡ true → passed (from_position at steps) ≡ passed (from_position (record { step = at.step + 1; offset = 0 }) steps)
+unfolding from_position
 passed-next steps at empty =
-    passed-first (from_place at steps) empty
+    passed-first (from_position at steps) empty
     ∙ ap passed (cut-rest at.offset (drop at.step steps) ∙ sym (drop-next steps at.step) ∙ sym (cut-zero (drop (at.step + 1) steps)))
 
 -- ---- What is taken at a place
 
 -- a step that begins a place which has a byte left
-pub offset_within : (steps : List ScriptStep) (at : Place) (bytes : List ℕ) → slice_get steps at.step ≡ Some (Bytes bytes) → begins_empty (from_place at steps) ≡ false → at.offset < length bytes
+pub offset_within : (steps : List ScriptStep) (at : Position) (bytes : List ℕ) → slice_get steps at.step ≡ Some (Bytes bytes) → begins_empty (from_position at steps) ≡ false → at.offset < length bytes
 offset_within steps at bytes is begun =
-    leb-false (length bytes) at.offset (sym (begins_empty-bytes bytes at.offset (drop (at.step + 1) steps)) ∙ sym (ap begins_empty (from_place-bytes steps at bytes is)) ∙ begun)
+    leb-false (length bytes) at.offset (sym (begins_empty-bytes bytes at.offset (drop (at.step + 1) steps)) ∙ sym (ap begins_empty (from_position-bytes steps at bytes is)) ∙ begun)
 
-pub bytes_empty : (steps : List ScriptStep) (at : Place) (bytes : List ℕ) → slice_get steps at.step ≡ Some (Bytes bytes) → leb (length bytes) at.offset ≡ begins_empty (from_place at steps)
-bytes_empty steps at bytes is = sym (ap begins_empty (from_place-bytes steps at bytes is) ∙ begins_empty-bytes bytes at.offset (drop (at.step + 1) steps))
+pub bytes_empty : (steps : List ScriptStep) (at : Position) (bytes : List ℕ) → slice_get steps at.step ≡ Some (Bytes bytes) → leb (length bytes) at.offset ≡ begins_empty (from_position at steps)
+bytes_empty steps at bytes is = sym (ap begins_empty (from_position-bytes steps at bytes is) ∙ begins_empty-bytes bytes at.offset (drop (at.step + 1) steps))
 
-pub bytes_given : (steps : List ScriptStep) (at : Place) (bytes : List ℕ) (room : ℕ) → slice_get steps at.step ≡ Some (Bytes bytes) → first_given room (from_place at steps) ≡ took.Bytes (take room (drop at.offset bytes))
-bytes_given steps at bytes room is = ap (first_given room) (from_place-bytes steps at bytes is)
+pub bytes_given : (steps : List ScriptStep) (at : Position) (bytes : List ℕ) (room : ℕ) → slice_get steps at.step ≡ Some (Bytes bytes) → first_given room (from_position at steps) ≡ took.Bytes (take room (drop at.offset bytes))
+bytes_given steps at bytes room is = ap (first_given room) (from_position-bytes steps at bytes is)
 
-pub bytes_count : (steps : List ScriptStep) (at : Place) (bytes : List ℕ) (room : ℕ) → slice_get steps at.step ≡ Some (Bytes bytes) → min room (length bytes - at.offset) ≡ length (taken_bytes (first_given room (from_place at steps)))
+pub bytes_count : (steps : List ScriptStep) (at : Position) (bytes : List ℕ) (room : ℕ) → slice_get steps at.step ≡ Some (Bytes bytes) → min room (length bytes - at.offset) ≡ length (taken_bytes (first_given room (from_position at steps)))
 bytes_count steps at bytes room is =
     ap (λ (n : ℕ). min room n) (sym (length-drop at.offset bytes))
     ∙ sym (length-take room (drop at.offset bytes))
     ∙ sym (ap (λ (what : TookWhat). length (taken_bytes what)) (bytes_given steps at bytes room is))
 
 -- what is left where so many bytes were taken, which stand in the front of a buffer
-pub bytes_left : (steps : List ScriptStep) (at : Place) (bytes buf : List ℕ) (count : ℕ) → slice_get steps at.step ≡ Some (Bytes bytes) → count ≤ length buf
-    → from_place (record { step = at.step; offset = at.offset + count }) steps ≡ first_taken (length (take count buf)) (from_place at steps)
+pub bytes_left : (steps : List ScriptStep) (at : Position) (bytes buf : List ℕ) (count : ℕ) → slice_get steps at.step ≡ Some (Bytes bytes) → count ≤ length buf
+    → from_position (record { step = at.step; offset = at.offset + count }) steps ≡ first_taken (length (take count buf)) (from_position at steps)
 bytes_left steps at bytes buf count is few =
-    from_place-bytes steps (record { step = at.step; offset = at.offset + count }) bytes is
+    from_position-bytes steps (record { step = at.step; offset = at.offset + count }) bytes is
     ∙ ap (λ (bs : List ℕ). Bytes bs ∷ drop (at.step + 1) steps) (sym (drop-drop count at.offset bytes))
     ∙ ap (λ (n : ℕ). Bytes (drop n (drop at.offset bytes)) ∷ drop (at.step + 1) steps) (sym (length-take-le count buf few))
-    ∙ sym (ap (first_taken (length (take count buf))) (from_place-bytes steps at bytes is))
+    ∙ sym (ap (first_taken (length (take count buf))) (from_position-bytes steps at bytes is))
 
 -- some bytes are taken, and as many as there is room for
 pub some_taken : (count room left : ℕ) → count ≡ min room left → 0 < room → 0 < left → (1 ≤ count) × (count ≤ room)
@@ -138,11 +138,11 @@ some_taken count room left is some more =
     ]
 
 -- a step without bytes leaves what stands behind it
-pub closed_left : (steps : List ScriptStep) (at : Place) → slice_get steps at.step ≡ Some Closed → from_place (record { step = at.step + 1; offset = 0 }) steps ≡ first_taken 0 (from_place at steps)
-closed_left steps at is = from_place-front steps (at.step + 1) ∙ sym (ap (first_taken 0) (from_place-closed steps at is))
+pub closed_left : (steps : List ScriptStep) (at : Position) → slice_get steps at.step ≡ Some Closed → from_position (record { step = at.step + 1; offset = 0 }) steps ≡ first_taken 0 (from_position at steps)
+closed_left steps at is = from_position-front steps (at.step + 1) ∙ sym (ap (first_taken 0) (from_position-closed steps at is))
 
-pub silent_left : (steps : List ScriptStep) (at : Place) → slice_get steps at.step ≡ Some Silent → from_place (record { step = at.step + 1; offset = 0 }) steps ≡ first_taken 0 (from_place at steps)
-silent_left steps at is = from_place-front steps (at.step + 1) ∙ sym (ap (first_taken 0) (from_place-silent steps at is))
+pub silent_left : (steps : List ScriptStep) (at : Position) → slice_get steps at.step ≡ Some Silent → from_position (record { step = at.step + 1; offset = 0 }) steps ≡ first_taken 0 (from_position at steps)
+silent_left steps at is = from_position-front steps (at.step + 1) ∙ sym (ap (first_taken 0) (from_position-silent steps at is))
 
 -- ---- Events
 
@@ -226,10 +226,10 @@ pub lines-taken : {A : Type 0} → (app count from next : ℕ) (lines : List (�
 lines-taken app count from next lines left follows =
     drop-next (lines_of app lines) count ∙ ap (drop 1) left ∙ sym follows.rest
 
-pub from_first : (steps : List ScriptStep) → from_place (record { step = 0; offset = 0 }) steps ≡ steps
-from_first steps = from_place-front steps 0
+pub from_first : (steps : List ScriptStep) → from_position (record { step = 0; offset = 0 }) steps ≡ steps
+from_first steps = from_position-front steps 0
 
-pub IsCellOf-start : (own : Scripts) (c : LifeCell) (running : Bool) (next : ℕ) (giving : Giving) (at : Place) → IsCellOf own c → Follows c.app c.next_start next own.starts → IsGivingIn own.replies giving
+pub IsCellOf-start : (own : Scripts) (c : LifeCell) (running : Bool) (next : ℕ) (giving : Giving) (at : Position) → IsCellOf own c → Follows c.app c.next_start next own.starts → IsGivingIn own.replies giving
     → IsCellOf own (record c { running = running; starts = c.starts + 1; start_calls = c.start_calls + 1; next_start = next; giving = giving; at = at })
 IsCellOf-start own c running next giving at is follows given = record {
   starts_left = lines-taken c.app c.starts c.next_start next own.starts is.starts_left follows;
@@ -241,7 +241,7 @@ IsCellOf-start own c running next giving at is follows given = record {
   few_replies = is.few_replies;
 }
 
-pub IsCellOf-turn : (own : Scripts) (c : LifeCell) (next : ℕ) (giving : Giving) (at : Place) → IsCellOf own c → Follows c.app c.next_reply next own.replies → IsGivingIn own.replies giving
+pub IsCellOf-turn : (own : Scripts) (c : LifeCell) (next : ℕ) (giving : Giving) (at : Position) → IsCellOf own c → Follows c.app c.next_reply next own.replies → IsGivingIn own.replies giving
     → IsCellOf own (record c { replies = c.replies + 1; give_calls = c.give_calls + 1; next_reply = next; giving = giving; at = at })
 IsCellOf-turn own c next giving at is follows given = record {
   starts_left = is.starts_left;

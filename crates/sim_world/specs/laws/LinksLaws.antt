@@ -6,7 +6,6 @@ use Rattle.std.proofs.Common.{zero, suc, sym, ap, ◌∙◌, subst, arith, lengt
 use Rattle.std.proofs.lemmas.Bool.{eq-eqb, eqb-false, ne_eqb, ltb-true, ltb-false, cond_both, cond-false}
 use Rattle.std.proofs.Math.Seq.{map-set_same}
 use Rattle.std.proofs.lemmas.List.{length-map}
-use Rattle.of_types.specs.declared.journal.Stimulus.{Stimulus}
 use Rattle.of_types.specs.declared.journal.Stimulus.TheVariants.{Advance}
 use Rattle.of_types.specs.declared.journal.WorldStim.{WorldStim}
 use Rattle.of_types.specs.declared.journal.WorldStim.TheVariants.{Join, Leave, At, Of}
@@ -15,7 +14,6 @@ use Rattle.outside.specs.declared.step.WorldStep.{WorldStep}
 use Rattle.outside.specs.declared.step.WorldStep.TheVariants.{From}
 use Rattle.outside.specs.State.{Link, State, link_of, with_link, links_after, join_due, due_of, stimulus_sends, link_stimulated, is_joined, after_stim, upcoming, link_joined, link_left, switch_of, waits_in, declared_in}
 use Rattle.outside.specs.Seen.{is_declared}
-use Rattle.outside.specs.laws.LinkLaws.{KeepsDeclared}
 use Rattle.outside.specs.Conforming.{AreDeclaredFrom}
 use Rattle.sim_world.specs.Links.{Held, links_in, waiting_in, insert_link, AreLinks, HasPlace, HasNoPlace, WaitsFirst, NoneWaits, IsReady, AreReady, insert_held, due_in, IsPlaceOf}
 
@@ -42,20 +40,6 @@ All-link_of P d (l ∷ ls) all =
     cond_both (l.declared.dpid == d) (Some l) (link_of d ls) (λ (o : Option Link). IfSome o P) (λ _. all.0) (λ _. All-link_of P d ls all.1)
 
 -- ---- What was declared
-
-pub declared_in-with_link : (d : ℕ) (change : Link → Link) → KeepsDeclared change → (ls : List Link) → declared_in (with_link d change ls) ≡ declared_in ls
-declared_in-with_link d change keeps [] = refl
-declared_in-with_link d change keeps (l ∷ ls) =
-    cond_both (l.declared.dpid == d) (change l ∷ ls) (l ∷ with_link d change ls) (λ (ms : List Link). declared_in ms ≡ l.declared ∷ declared_in ls)
-    (λ _. ap (λ (e : Declared). e ∷ declared_in ls) (keeps l)) (λ _. ap (λ (es : List Declared). l.declared ∷ es) (declared_in-with_link d change keeps ls))
-
-pub declared_in-map : (change : Link → Link) → KeepsDeclared change → (ls : List Link) → declared_in (map change ls) ≡ declared_in ls
-declared_in-map change keeps [] = refl
-declared_in-map change keeps (l ∷ ls) = rw (keeps l, declared_in-map change keeps ls) refl
-
-pub keeps_stimulated : (x : Stimulus) → KeepsDeclared (link_stimulated x)
-unfolding link_stimulated
-keeps_stimulated x l = refl
 
 -- who has the same declarations is in order where the other is
 pub AreLinks-same : (old new : List Link) → declared_in new ≡ declared_in old → AreLinks old → AreLinks new

@@ -16,6 +16,7 @@ use Rattle.outside.specs.State.{Link, State, but_marks, after_step, after_act, a
 use Rattle.outside.specs.Calls.{item_step, next_steps, IsIdle, IsOver}
 use Rattle.outside.specs.Conforming.{IsWorldStim, MayStep, MayAct}
 use Rattle.outside.specs.InOrder.{MayCome}
+use Rattle.outside.specs.laws.CallLaws.{no_idle}
 use Rattle.sim_world.specs.Tally.{tally_short}
 use Rattle.sim_world.specs.Links.{IsDue, StandsAt, waiting_in}
 use Rattle.sim_world.specs.laws.LinksLaws.{few_upcoming}
@@ -70,9 +71,6 @@ Next_told old new item buf untold tells = record {
   due = tt;
 }
 
-not_idle_at_end : (s : State) → s.begun ≡ false → IsIdle s → ⊥
-not_idle_at_end s rests idle = false≢true (sym rests ∙ idle.0)
-
 abbrev is_the_end : Item → Bool
 is_the_end items.End = true
 is_the_end other = false
@@ -87,7 +85,7 @@ Next_end old new buf untold rests none moves = record {
   to_come = tt;
   moves = moves;
   item = tt;
-  idle = (λ is. absurd (end_is_no_idle is), λ idle. absurd (not_idle_at_end old.state rests idle));
+  idle = (λ is. absurd (end_is_no_idle is), λ idle. absurd (no_idle old.state rests idle));
   over = (λ is. (rests, none), λ over. refl);
   word = ((rests, none), tt);
   told = (untold, tt);

@@ -151,9 +151,9 @@ started_runs : (b running : Bool) (l m : Life) → m.running ≡ true → l.runn
 started_runs true running l m starts same = starts
 started_runs false running l m starts same = same
 
-stays_so : (b running : Bool) (l m : Life) → m.running ≡ l.running → l.running ≡ running → (if b then m else l).running ≡ running
-stays_so true running l m stays same = stays ∙ same
-stays_so false running l m stays same = same
+stays_is : (b running : Bool) (l m : Life) → m.running ≡ l.running → l.running ≡ running → (if b then m else l).running ≡ running
+stays_is true running l m stays same = stays ∙ same
+stays_is false running l m stays same = same
 
 ended_runs : (b running : Bool) (l m : Life) → m.running ≡ false → l.running ≡ running → (if b then m else l).running ≡ (not b && running)
 ended_runs true running l m ends same = ends
@@ -191,9 +191,9 @@ running-act own fails app (Started a true) l s same =
     started_runs (a == app) (is_running app s) l (after_start own fails app true l) refl same
     ∙ or_swapped (a == app) (is_running app s)
     ∙ sym (list_any-append (λ (x : ℕ). x == app) s.running (a ∷ []))
-running-act own fails app (Started a false) l s same = stays_so (a == app) (is_running app s) l (after_start own fails app false l) refl same
-running-act own fails app (Gave a bytes) l s same = stays_so (a == app) (is_running app s) l (after_gave own app (is_some (event_number bytes)) l) (running-gave own app (is_some (event_number bytes)) l) same
-running-act own fails app (Gone a bytes) l s same = stays_so (a == app) (is_running app s) l (after_gone l) refl same
+running-act own fails app (Started a false) l s same = stays_is (a == app) (is_running app s) l (after_start own fails app false l) refl same
+running-act own fails app (Gave a bytes) l s same = stays_is (a == app) (is_running app s) l (after_gave own app (is_some (event_number bytes)) l) (running-gave own app (is_some (event_number bytes)) l) same
+running-act own fails app (Gone a bytes) l s same = stays_is (a == app) (is_running app s) l (after_gone l) refl same
 running-act own fails app (Ended a) l s same =
     ended_runs (a == app) (is_running app s) l (after_end l) refl same
     ∙ sym (any-filter_same (λ (x : ℕ). x == app) (λ (x : ℕ). not (x == a)) (not (a == app)) (λ x is. same_test x a app is) s.running)
@@ -207,7 +207,7 @@ running-act own fails app (Lost d) l s same = same
 pub running-step : (own : Scripts) (fails : List FailCall) (app : ℕ) (step : WorldStep) (l : Life) (s : State) → l.running ≡ is_running app s → (life_after own fails app step l).running ≡ is_running app (after_step step s)
 unfolding life_after after_step after_take
 running-step own fails app (Acted act) l s same = running-act own fails app act l s same
-running-step own fails app (TookInto a what room) l s same = stays_so (a == app) (is_running app s) l (after_take fails app what l) refl same
+running-step own fails app (TookInto a what room) l s same = stays_is (a == app) (is_running app s) l (after_take fails app what l) refl same
 running-step own fails app (From d bytes) l s same = same
 running-step own fails app (Joined d bytes) l s same = same
 running-step own fails app (Left d) l s same = same

@@ -1,10 +1,9 @@
 -- Laws of a simulated world: that the marks of quiescent points steer nothing, that what was declared stays, and that a call which does
 -- what a step says leaves a world that stands.
-use Rattle.std.specs.Prelude.{◌≡◌, ◌==◌, ℕ, Bool, true, false, List, [], ◌∷◌, ◌++◌, map, refl, if◌then◌else◌}
+use Rattle.std.specs.Prelude.{◌≡◌, ℕ, List, [], ◌∷◌, ◌++◌, refl}
 use Rattle.std.proofs.Common.{sym, ap, ◌∙◌, subst, append_assoc}
 use Rattle.of_types.specs.declared.journal.Act.{Act}
 use Rattle.of_types.specs.declared.journal.Act.TheVariants.{Stim, Started, Gave, Gone, Took, Ended, Sent, Got, Lost}
-use Rattle.of_types.specs.declared.journal.Stimulus.TheVariants.{Advance}
 use Rattle.of_types.specs.declared.journal.WorldStim.{WorldStim}
 use Rattle.of_types.specs.declared.journal.WorldStim.TheVariants.{Join, Leave, At, Of}
 use Rattle.flow_table.specs.Switch.{Declared}
@@ -12,12 +11,12 @@ use Rattle.outside.specs.declared.call.FailCall.{FailCall}
 use Rattle.outside.specs.declared.step.WorldStep.{WorldStep}
 use Rattle.outside.specs.declared.step.WorldStep.TheVariants.{Acted, TookInto, From, Joined, Left, Moment, Idle, End, Opened, NotOpened, NextFailed, SendLost, RecvLost, SendFailed, RecvFailed}
 use Rattle.outside.specs.Seen.{Given}
-use Rattle.outside.specs.State.{Link, State, at_first, with_link, link_joined, link_left, link_stimulated, link_sent, link_got, link_told, link_lost, link_failed, after_stim, after_act, after_step, after_steps, state, but_marks, switch_of, waits_of, upcoming, link_fails}
+use Rattle.outside.specs.State.{State, at_first, after_stim, after_step, after_steps, state, but_marks, switch_of, waits_of, upcoming, link_fails}
 use Rattle.outside.specs.laws.StateLaws.{after_steps-append, but_marks-step}
-use Rattle.outside.specs.laws.LinkLaws.{KeepsDeclared}
 use Rattle.outside.specs.Conforming.{MayBegin, MayAct, MayStep}
 use Rattle.outside.specs.InOrder.{MayCome, MayComeAll}
 use Rattle.outside.specs.laws.InOrderLaws.{come-append}
+use Rattle.outside.specs.laws.LinkKeptLaws.{steps-declared}
 use Rattle.sim_world.specs.Tally.{TallyState, CountsFor}
 use Rattle.sim_world.specs.Told.{without_links}
 use Rattle.sim_world.specs.Lives.{life_in}
@@ -237,59 +236,9 @@ AreAsTold-append fails n (x ∷ xs) ys s front rest = (front.0, AreAsTold-append
 
 -- ---- What was declared stays
 
-with_one : (d : ℕ) (change : Link → Link) (l : Link) (ls : List Link) → (change l).declared ≡ l.declared → map (λ x. x.declared) (with_link d change ls) ≡ map (λ x. x.declared) ls
-    → (b : Bool) → map (λ x. x.declared) (if b then change l ∷ ls else l ∷ with_link d change ls) ≡ l.declared ∷ map (λ x. x.declared) ls
-with_one d change l ls same rest true = ap (λ x. x ∷ map (λ (y : Link). y.declared) ls) same
-with_one d change l ls same rest false = ap (λ xs. l.declared ∷ xs) rest
-
-keeps : (d : ℕ) (change : Link → Link) → KeepsDeclared change → (ls : List Link) → map (λ l. l.declared) (with_link d change ls) ≡ map (λ l. l.declared) ls
-keeps d change same [] = refl
-keeps d change same (l ∷ ls) = with_one d change l ls (same l) (keeps d change same ls) (l.declared.dpid == d)
-
-keeps_all : (change : Link → Link) → KeepsDeclared change → (ls : List Link) → map (λ l. l.declared) (map change ls) ≡ map (λ l. l.declared) ls
-keeps_all change same [] = refl
-keeps_all change same (l ∷ ls) = rw (same l, keeps_all change same ls) refl
-
-stim_keeps : (x : WorldStim) (s : State) → all_declared (after_stim x s) ≡ all_declared s
-unfolding all_declared after_stim link_joined link_left link_stimulated
-stim_keeps (Join d) s = keeps d (link_joined s.moment) (λ l. refl) s.links
-stim_keeps (Leave d) s = keeps d link_left (λ l. refl) s.links
-stim_keeps (At t) s = keeps_all (link_stimulated (Advance t)) (λ l. refl) s.links
-stim_keeps (Of d x) s = keeps d (link_stimulated x) (λ l. refl) s.links
-
-act_keeps : (act : Act) (s : State) → all_declared (after_act act s) ≡ all_declared s
-unfolding all_declared after_act link_sent link_got link_lost
-act_keeps (Stim x) s = stim_keeps x s
-act_keeps (Started app ok) s = refl
-act_keeps (Gave app bytes) s = refl
-act_keeps (Gone app bytes) s = refl
-act_keeps (Took app what) s = refl
-act_keeps (Ended app) s = refl
-act_keeps (Sent d bytes) s = keeps d (link_sent bytes) (λ l. refl) s.links
-act_keeps (Got d bytes) s = keeps d link_got (λ l. refl) s.links
-act_keeps (Lost d) s = keeps d link_lost (λ l. refl) s.links
-
-step_keeps : (step : WorldStep) (s : State) → all_declared (after_step step s) ≡ all_declared s
-unfolding all_declared after_step link_told link_lost link_failed
-step_keeps (Acted act) s = act_keeps act s
-step_keeps (TookInto app what room) s = refl
-step_keeps (From d bytes) s = keeps d link_told (λ l. refl) s.links
-step_keeps (Joined d bytes) s = refl
-step_keeps (Left d) s = refl
-step_keeps (Moment t) s = refl
-step_keeps Idle s = refl
-step_keeps End s = refl
-step_keeps Opened s = refl
-step_keeps NotOpened s = refl
-step_keeps NextFailed s = refl
-step_keeps (SendLost d) s = keeps d link_lost (λ l. refl) s.links
-step_keeps (RecvLost d) s = keeps d link_lost (λ l. refl) s.links
-step_keeps (SendFailed d) s = keeps d link_failed (λ l. refl) s.links
-step_keeps (RecvFailed d) s = keeps d link_failed (λ l. refl) s.links
-
 pub declared-stays : (steps : List WorldStep) (s : State) → all_declared (after_steps steps s) ≡ all_declared s
-declared-stays [] s = refl
-declared-stays (step ∷ steps) s = declared-stays steps (after_step step s) ∙ step_keeps step s
+unfolding all_declared
+declared-stays steps s = steps-declared steps s
 
 -- ---- Applications
 

@@ -1,7 +1,7 @@
 use Rattle.std.proofs.Common.{sym, ◌∙◌, ap, arith, Some, length}
 use Rattle.session_lists.specs.Steps.{step_of}
 use Rattle.sim_world.specs.Scripts.{first_given, taken_bytes}
-use Rattle.sim_world.specs.laws.LifeLaws.{offset_within, bytes_count, from_place-closed, from_place-silent}
+use Rattle.sim_world.specs.laws.LifeLaws.{offset_within, bytes_count, from_position-closed, from_position-silent}
 use Rattle.sim_world.proofs.life.len_first.Goals as goal
 
 pub overflow_sub-bytes : goal.overflow_sub-bytes
@@ -14,8 +14,8 @@ returns-in-Bytes c =
 
 pub returns-in-Closed : goal.returns-in-Closed
 returns-in-Closed c =
-    sym (ap (λ steps. length (taken_bytes (first_given c.args.room steps))) (from_place-closed c.args.steps.now c.args.at (c.get.ensures ∙ ap (λ step. Some (step_of step)) c.in-Closed.is)))
+    sym (ap (λ steps. length (taken_bytes (first_given c.args.room steps))) (from_position-closed c.args.steps.now c.args.at (c.get.ensures ∙ ap (λ step. Some (step_of step)) c.in-Closed.is)))
 
 pub returns-in-Silent : goal.returns-in-Silent
 returns-in-Silent c =
-    sym (ap (λ steps. length (taken_bytes (first_given c.args.room steps))) (from_place-silent c.args.steps.now c.args.at (c.get.ensures ∙ ap (λ step. Some (step_of step)) c.in-Silent.is)))
+    sym (ap (λ steps. length (taken_bytes (first_given c.args.room steps))) (from_position-silent c.args.steps.now c.args.at (c.get.ensures ∙ ap (λ step. Some (step_of step)) c.in-Silent.is)))

@@ -3,7 +3,7 @@ use Rattle.std.proofs.Math.Nat.{min-le_left}
 use Rattle.of_types.specs.declared.journal.TookWhat.TheVariants as took
 use Rattle.session_lists.specs.Steps.{step_of}
 use Rattle.sim_world.specs.Scripts.{first_given}
-use Rattle.sim_world.specs.laws.LifeLaws.{offset_within, some_taken, bytes_given, bytes_left, closed_left, silent_left, from_place-closed, from_place-silent}
+use Rattle.sim_world.specs.laws.LifeLaws.{offset_within, some_taken, bytes_given, bytes_left, closed_left, silent_left, from_position-closed, from_position-silent}
 use Rattle.sim_world.proofs.life.take_first.Goals as goal
 
 pub take_bytes-count-requires : goal.take_bytes-count-requires
@@ -30,14 +30,14 @@ returns-in-Bytes-clause-taken c =
 
 pub returns-in-Closed-clause-what : goal.returns-in-Closed-clause-what
 returns-in-Closed-clause-what c =
-    sym (ap (first_given (length c.args.buf.now)) (from_place-closed c.args.steps.now c.args.at (c.get.ensures ∙ ap (λ step. Some (step_of step)) c.in-Closed.is)))
+    sym (ap (first_given (length c.args.buf.now)) (from_position-closed c.args.steps.now c.args.at (c.get.ensures ∙ ap (λ step. Some (step_of step)) c.in-Closed.is)))
 
 pub returns-in-Closed-clause-left : goal.returns-in-Closed-clause-left
 returns-in-Closed-clause-left c = closed_left c.args.steps.now c.args.at (c.get.ensures ∙ ap (λ step. Some (step_of step)) c.in-Closed.is)
 
 pub returns-in-Silent-clause-what : goal.returns-in-Silent-clause-what
 returns-in-Silent-clause-what c =
-    sym (ap (first_given (length c.args.buf.now)) (from_place-silent c.args.steps.now c.args.at (c.get.ensures ∙ ap (λ step. Some (step_of step)) c.in-Silent.is)))
+    sym (ap (first_given (length c.args.buf.now)) (from_position-silent c.args.steps.now c.args.at (c.get.ensures ∙ ap (λ step. Some (step_of step)) c.in-Silent.is)))
 
 pub returns-in-Silent-clause-left : goal.returns-in-Silent-clause-left
 returns-in-Silent-clause-left c = silent_left c.args.steps.now c.args.at (c.get.ensures ∙ ap (λ step. Some (step_of step)) c.in-Silent.is)

@@ -3,12 +3,12 @@ use Rattle.std.proofs.Common.{Option}
 use Rattle.outside.specs.State.{Link, link_failed}
 use Rattle.sim_world.specs.Links.{MayCall}
 use Rattle.sim_world.specs.laws.LinksLaws.{links_in-changed, declared_in-set, with_link-not_held}
-use Rattle.sim_world.proofs.Places.{from_place}
+use Rattle.sim_world.proofs.Places.{from_position}
 use Rattle.sim_world.proofs.links.fail.Goals as goal
 
 pub fail-requires : goal.fail-requires
 fail-requires c =
-    let may = from_place (λ (o : Option Link). IfSome o MayCall) c.args.dpid c.args.links.now c.in-Some.place c.index-links-place.result c.in-Some.ensures c.requires in
+    let may = from_position (λ (o : Option Link). IfSome o MayCall) c.args.dpid c.args.links.now c.in-Some.place c.index-links-place.result c.in-Some.ensures c.requires in
     may.calls
 
 pub returns-in-Some-clause-failed : goal.returns-in-Some-clause-failed

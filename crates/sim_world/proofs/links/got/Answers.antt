@@ -3,7 +3,7 @@ use Rattle.std.specs.Prelude.{slice_get}
 use Rattle.outside.specs.State.{Link, waits_in, link_got}
 use Rattle.sim_world.specs.Links.{MayCall}
 use Rattle.sim_world.specs.laws.LinksLaws.{links_in-changed, links_in-kept, declared_in-set}
-use Rattle.sim_world.proofs.Places.{if_some, if_none, at_place, from_place, at_none}
+use Rattle.sim_world.proofs.Places.{if_some, if_none, at_place, from_position, at_none}
 use Rattle.std.proofs.Common.{Option}
 use Rattle.sim_world.proofs.links.got.Goals as goal
 
@@ -13,7 +13,7 @@ returns-in_err-place-clause-none c =
 
 pub got-requires : goal.got-requires
 got-requires c =
-    from_place (λ (o : Option Link). IfSome o MayCall) c.args.dpid c.args.links.now c.in_ok-place.place c.index-links-place.result c.in_ok-place.ensures c.requires
+    from_position (λ (o : Option Link). IfSome o MayCall) c.args.dpid c.args.links.now c.in_ok-place.place c.index-links-place.result c.in_ok-place.ensures c.requires
 
 pub returns-clause-message : goal.returns-clause-message
 returns-clause-message c =

@@ -1,14 +1,14 @@
 use Rattle.std.proofs.Common.{◌≡◌, ◌<◌, ◌-◌, ◌^◌, false, IfSome, refl, sym, ap, ◌∙◌, subst}
 use Rattle.outside.specs.State.{Link, is_failing, fails_in}
 use Rattle.sim_world.specs.Links.{Held, MayCall}
-use Rattle.sim_world.proofs.Places.{at_place, from_place, at_none}
+use Rattle.sim_world.proofs.Places.{at_place, from_position, at_none}
 use Rattle.std.proofs.Common.{Option}
 use Rattle.sim_world.proofs.links.is_failing.Goals as goal
 
 pub is_failing-requires : goal.is_failing-requires
 is_failing-requires c =
     let x = c.index-links-place.result in
-    let may = from_place (λ (o : Option Link). IfSome o MayCall) c.args.dpid c.args.links.now c.in-Some.place x c.in-Some.ensures c.requires in
+    let may = from_position (λ (o : Option Link). IfSome o MayCall) c.args.dpid c.args.links.now c.in-Some.place x c.in-Some.ensures c.requires in
     subst (λ (h : Held). h.link.calls < 2 ^ 64 - 1) (sym c.index-links-place.is) may.calls
 
 pub returns-in-None : goal.returns-in-None

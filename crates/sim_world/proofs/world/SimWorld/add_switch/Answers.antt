@@ -11,7 +11,7 @@ pub invariant_of-self : goal.invariant_of-self
 invariant_of-self c =
     let now = c.args.self.now in
     let d : Declared = record { dpid = c.args.dpid; cap = c.args.cap; ports = c.args.ports.now } in
-    let one : MayDeclare d = record { number = omega arith; ports = c.requires.ports_so; few = c.requires.ports } in
+    let one : MayDeclare d = record { number = omega arith; ports = c.requires.ports_is; few = c.requires.ports } in
     let may = MayBeGiven-stands now c.requires.new (subst Stands c.self.view_is c.self.invariant.stands) in
     built Keeps c.add_switch.result (with_switch d) now c.self.inside.parts c.add_switch.new.self c.self.view_is Keeps-new c.self.invariant
     (MayBeGiven-switch (given_of now) d may c.requires.number c.requires.cap one c.requires.absent)
