@@ -24,9 +24,6 @@ pub record Closed (d : ℕ) (es : List (ℕ × ℕ)) (old bytes : List ℕ) (at 
   pub below : to ≤ at
   pub left : sizes (drop i es) + at ≡ length bytes
 
-pub closed_none : (d : ℕ) (es : List (ℕ × ℕ)) (bytes : List ℕ) → sizes es ≡ length bytes → Closed d es bytes bytes 0 0 0
-closed_none d es bytes is = record { parts = refl; below = omega arith; left = omega (arith, is) }
-
 next_left : (d : ℕ) (es : List (ℕ × ℕ)) (bytes : List ℕ) (i : ℕ) → i < length es
     → bytes_left d (drop i es) bytes ≡ bytes_left d (entry_at es i ∷ drop (i + 1) es) bytes
 next_left d es bytes i lt = rw add-one (ap (λ (fs : List (ℕ × ℕ)). bytes_left d fs bytes) (drop-cons es i (0, 0) lt))

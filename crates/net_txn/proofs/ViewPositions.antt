@@ -3,7 +3,7 @@ use Rattle.std.proofs.Common.{◌≡◌, ◌==◌, ℕ, zero, suc, ◌+◌, ◌<
 use Rattle.std.proofs.Math.Seq.{drop-cons}
 use Rattle.std.proofs.Math.Seq.{map-set_same}
 use Rattle.std.proofs.Math.Bool.{or-false}
-use Rattle.std.proofs.lemmas.Bool.{eqb-true, eq-eqb}
+use Rattle.std.proofs.lemmas.Bool.{eqb-true, eq-eqb, or_cases}
 use Rattle.std.proofs.lemmas.List.{drop_all, length-map, take_more, reverse-append}
 use Rattle.of_match.specs.Key.{key_number}
 use Rattle.flow_table.specs.declared.view.ViewRow.{ViewRow}
@@ -96,15 +96,11 @@ viewed_last : (d : ℕ) (vs : List Lent) (v : Lent) → is_viewed d (plains (vs 
 viewed_last d [] v = or-false (v.dpid == d)
 viewed_last d (w ∷ ws) v = ap (λ (later : Bool). w.dpid == d || later) (viewed_last d ws v) ∙ or_one_more (w.dpid == d) (is_viewed d (plains ws)) (v.dpid == d)
 
-one_of : (a b : Bool) → (a || b) ≡ true → (a ≡ true) ⊎ (b ≡ true)
-one_of true b is = inl refl
-one_of false b is = inr is
-
 -- a switch among the views up to one stands before it, or is its switch
 pub viewed_more : (d : ℕ) (vs : List Lent) (i : ℕ) (v : Lent) → i < length vs → v ≡ get_or vs i v → is_viewed d (plains (take (i + 1) vs)) ≡ true → (is_viewed d (plains (take i vs)) ≡ true) ⊎ (v.dpid ≡ d)
 viewed_more d vs i v within is viewed =
     let either : (is_viewed d (plains (take i vs)) || (v.dpid == d)) ≡ true = sym (ap (λ (ws : List Lent). is_viewed d (plains ws)) (taken vs i v within is) ∙ viewed_last d (take i vs) v) ∙ viewed in
-    elim (one_of (is_viewed d (plains (take i vs))) (v.dpid == d) either) [
+    elim (or_cases (is_viewed d (plains (take i vs))) (v.dpid == d) either) [
       | inl before ↦ inl before
       | inr here ↦ inr (eqb-true v.dpid d here)
     ]

@@ -65,7 +65,7 @@ pub record Asked {Own : Type 0} (Tells : Type 0) (d : ℕ) (m : Change) (old new
   pub is_xid : (1 ≤ net.xid) × (net.xid < 2 ^ 32)
   pub refusal : Option Refusal
   pub waits : Waits Tells (awaited_from d net.xid) (change_sent d net.xid m ∷ barrier_sent (awaited_from d net.xid) ∷ []) old new net.kept now_net.kept refusal
-  pub answer_so : answer ≡ answer_by (error_in refusal)
+  pub answer_is : answer ≡ answer_by (error_in refusal)
   pub views : now_net.views ≡ views_by refusal d m net.views
   pub log : now_net.log ≡ log_by refusal d m net.log
   pub xid : now_net.xid ≡ next_xid (next_xid net.xid)
@@ -106,7 +106,7 @@ pub record InFlight {Own : Type 0} (Tells : Type 0) (d : ℕ) (m : Change) (log 
   pub is_xid : net.xid < 2 ^ 32
   pub said : BreaksOff Tells (awaited_from d net.xid) (message_bytes net.xid (as_sent (FlowMod m)) ∷ []) old new net.kept now_net.kept halt
   pub views : (now_net.views ≡ net.views) ⊎ (now_net.views ≡ with_rows d (rows_after m) net.views)
-  pub log_so : now_net.log ≡ log
+  pub log_is : now_net.log ≡ log
   pub kept : KeptMore d net.kept now_net.kept
 
 -- How the switches stand then, in a world that tells: the one moved as by the change, or not at all.

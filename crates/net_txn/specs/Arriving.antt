@@ -1,6 +1,6 @@
 -- What the host makes of a message that came of itself: an event, or none; and what it then knows (OpenFlow 1.0.0, 5.4 Asynchronous
 -- Messages and 5.5.2 Echo Request). Which messages are events is our own choice.
-use Rattle.std.specs.Prelude.{◌≡◌, ◌==◌, ◌⊎◌, ℕ, ◌<◌, ◌≤◌, Bool, false, not, ◌&&◌, List, [], ◌∷◌, ◌++◌, filter, Option, Some, None, Result, IsErr, IsOkAnd, IfOk, IfErr, OnErr, nat_lt, if◌then◌else◌}
+use Rattle.std.specs.Prelude.{◌≡◌, ◌==◌, ◌⊎◌, ℕ, Bool, false, not, ◌&&◌, List, [], ◌∷◌, ◌++◌, filter, Option, Some, None, Result, IsErr, IsOkAnd, IfOk, IfErr, OnErr, if◌then◌else◌}
 use Rattle.std.specs.List.{list_any}
 use Rattle.std.proofs.Common.{zero, suc}
 use Rattle.of_types.specs.Fields.{number_bytes}
@@ -16,6 +16,7 @@ use Rattle.of_wire.specs.Reading.{reading_of}
 use Rattle.of_wire.specs.Spelling.{message_bytes}
 use Rattle.flow_table.specs.declared.view.ViewRow.{ViewRow}
 use Rattle.flow_table.specs.View.{TableView}
+use Rattle.flow_table.specs.Sorted.{with_item, port_number}
 use Rattle.flow_table.specs.Change.{asks_notice}
 use Rattle.app_frames.specs.declared.frame.Event.{Event}
 use Rattle.app_frames.specs.declared.frame.EventKind.{EventKind}
@@ -57,17 +58,7 @@ without_key k rows = filter (λ r. not (key_number r.key == key_number k)) rows
 
 -- a port in its place by number, in place of one with its number
 abbrev pub with_port : PortDesc → List PortDesc → List PortDesc
-with_port p [] = p ∷ []
-with_port p (q ∷ qs) =
-    if nat_lt p.port_no q.port_no then p ∷ q ∷ qs
-    else if p.port_no == q.port_no then p ∷ qs
-    else q ∷ with_port p qs
-
--- where the port of a number goes: the ports before it have lower ones
-abbrev pub IsPortPlace : ℕ → List PortDesc → ℕ → Type 0
-IsPortPlace n [] i = i ≡ 0
-IsPortPlace n (p ∷ ps) zero = n ≤ p.port_no
-IsPortPlace n (p ∷ ps) (suc i) = (p.port_no < n) × IsPortPlace n ps i
+with_port p ps = with_item port_number p ps
 
 abbrev pub ports_after : Status → List PortDesc → List PortDesc
 ports_after s ports = if s.reason == 1 then filter (λ p. not (p.port_no == s.port.port_no)) ports else with_port s.port ports
@@ -119,8 +110,8 @@ IsArrivalCause d frame old new NoMemory = Unit {0}
 
 -- what a message that is read becomes
 pub record Becomes {Own : Type 0} (Tells : Type 0) (d xid : ℕ) (m : Message) (old new : Seen Own) (net now_net : NetState) (event : Option Event) : Type 0 where
-  pub event_so : event ≡ event_of d net.views m
-  pub net_so : now_net ≡ net_after d m net
+  pub event_is : event ≡ event_of d net.views m
+  pub net_is : now_net ≡ net_after d m net
   pub told : Tells → new.history ≡ old.history ++ arrival_steps d xid m
 
 abbrev pub IsEcho : Message → Type 0
@@ -132,7 +123,7 @@ pub record ArrivesLost {Own : Type 0} (Tells : Type 0) (d : ℕ) (m : Message) (
   pub request : m ≡ EchoRequest payload
   pub is_lost : IsLost Tells d [] old new
   pub read : Tells → MessagesSince old new
-  pub net_so : now_net ≡ lost_net d net
+  pub net_is : now_net ≡ lost_net d net
   pub no_event : event ≡ None
 
 -- why it was not taken in: it is an ECHO_REQUEST that could not be answered, or memory ran out

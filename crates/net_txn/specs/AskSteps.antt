@@ -45,13 +45,13 @@ own_rows s = map (flow_row s.moment) s.table.entries
 -- The rows are those that the bytes of the switch's own rows spell, and the same where these have a spelling; nothing of the switch
 -- waits, no switch moves, and nothing is kept.
 pub record RowsInStep {Own : Type 0} (d : ℕ) (s : SwitchState) (old new : Seen Own) (kept now_kept : List (ℕ × List ℕ)) (rows : List FlowRow) : Type 0 where
-  pub rows_so : rows_of (rows_bytes (own_rows s)) ≡ Ok rows
+  pub rows_is : rows_of (rows_bytes (own_rows s)) ≡ Ok rows
   pub same_rows : AreRows (own_rows s) → rows ≡ own_rows s
   pub waits : waits_of d (state new) ≡ []
   pub stays : switch_of d (state new) ≡ Some s
   pub others : (e : ℕ) → e ≢ d → switch_of e (state new) ≡ switch_of e (state old)
   pub others_wait : (e : ℕ) → e ≢ d → waits_of e (state new) ≡ waits_of e (state old)
-  pub kept_so : now_kept ≡ kept
+  pub kept_is : now_kept ≡ kept
 
 -- Memory ran out; what the switch sent is at fault only where its own rows have no spelling.
 abbrev pub IsAskFault : ℕ → SwitchState → TxnFault → Type 0

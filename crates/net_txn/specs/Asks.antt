@@ -38,7 +38,7 @@ pub record AreRowsOf (messages : List (List ℕ)) (rows : List FlowRow) : Type 0
   pub kind : (part_at 0 (all_parts messages)).0 ≡ 1
   pub read : rows_of (joined (all_parts messages)) ≡ Ok rows
   pub fit : AreRows rows
-  pub spelled_so : SpellRows rows (joined (all_parts messages))
+  pub spelled_is : SpellRows rows (joined (all_parts messages))
 
 -- of parts, one at least; memory may be wanting at any time
 abbrev pub IsPartsFault : ℕ → List (List ℕ) → TxnFault → Type 0
@@ -64,14 +64,14 @@ IsRepliesFault d request reply parts refusals (Flooded of n) = ⊥
 pub record Answered {Own : Type 0} (Tells : Type 0) (d xid : ℕ) (old new : Seen Own) (kept now_kept came : List (ℕ × List ℕ)) : Type 0 where
   pub refusal : Option Refusal
   pub waits : Waits Tells (asked_from d xid) (request_sent d xid ∷ barrier_sent (asked_from d xid) ∷ []) old new [] came refusal
-  pub kept_so : now_kept ≡ kept ++ others_in xid came
+  pub kept_is : now_kept ≡ kept ++ others_in xid came
 
 -- no ERROR answered, and the rows are those of the parts
 pub record GivesRows {Own : Type 0} (Tells : Type 0) (d xid : ℕ) (old new : Seen Own) (kept now_kept : List (ℕ × List ℕ)) (rows : List FlowRow) : Type 0 where
   pub came : List (ℕ × List ℕ)
   pub answered : Answered Tells d xid old new kept now_kept came
   pub no_refusal : refusals_in xid came ≡ []
-  pub rows_so : AreRowsOf (parts_in xid came) rows
+  pub rows_is : AreRowsOf (parts_in xid came) rows
 
 -- a fault of the wait, or of what came
 abbrev pub IsAskCause : {Own : Type 0} → Type 0 → ℕ → ℕ → Seen Own → Seen Own → List (ℕ × List ℕ) → List (ℕ × List ℕ) → TxnFault → Type 0
@@ -93,7 +93,7 @@ pub record AsksJoined {Own : Type 0} (Tells : Type 0) (d : ℕ) (old new : Seen 
 -- the switch was lost
 pub record AsksLost {Own : Type 0} (Tells : Type 0) (d : ℕ) (old new : Seen Own) (net now_net : NetState) : Type 0 where
   pub is_lost : IsLost Tells d [] old new
-  pub net_so : now_net ≡ record (lost_net d net) { xid = now_net.xid }
+  pub net_is : now_net ≡ record (lost_net d net) { xid = now_net.xid }
 
 abbrev pub AsksSo : {Own : Type 0} → Type 0 → ℕ → Seen Own → Seen Own → NetState → NetState → Result (Option (List FlowRow)) TxnFault → Type 0
 AsksSo Tells d old new net now_net (Ok (Some rows)) = AsksJoined Tells d old new net now_net (Ok rows)

@@ -63,8 +63,3 @@ IsPlain NoMemory = Unit {0}
 IsPlain (SwitchBroke of bytes) = ⊥
 IsPlain (Diverged of sent got) = ⊥
 IsPlain (Flooded of n) = ⊥
-
--- or the link failed
-abbrev pub IsPlainHalt : Halt → Type 0
-IsPlainHalt Lost = Unit {0}
-IsPlainHalt (Fault fault) = IsPlain fault

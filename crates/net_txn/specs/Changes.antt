@@ -18,7 +18,7 @@ use Rattle.net_txn.specs.Losing.{IsLost, lost_net}
 use Rattle.lego_model.specs.History.{lost_of}
 use Rattle.net_txn.specs.Views.{rows_at, is_viewed}
 use Rattle.net_txn.specs.Net.{NetState}
-use Rattle.net_txn.specs.Agreement.{Reaches, Steps}
+use Rattle.net_txn.specs.ChangeSteps.{Reaches, Steps}
 pub use Rattle.net_txn.specs.Answering.{answer_of_host, error_in, views_by, log_by, change_sent, Asked, Unsent, log_in_flight, CutOff, Stopped, BreaksOff, InFlight, MayMove, IfGivenUp, held_after, ByHost}
 
 -- No switch was lost. A packet is held, and the same switches have views. The host's own answer is exactly that; else the switch answers.
@@ -45,7 +45,7 @@ pub record ChangesJoined {Own : Type 0} (Tells : Type 0) (d : ℕ) (bytes : List
 pub record ChangesLost {Own : Type 0} (Tells : Type 0) (d : ℕ) (old new : Seen Own) (net now_net : NetState) : Type 0 where
   pub viewed : is_viewed d net.views ≡ true
   pub is_lost : IsLost Tells d [] old new
-  pub net_so : now_net ≡ record (lost_net d net) { xid = now_net.xid }
+  pub net_is : now_net ≡ record (lost_net d net) { xid = now_net.xid }
 
 -- The message is answered, or its switch is lost and it is answered by Unknown. Moment and room stay, and each fault has its cause. The calls are those of links
 -- alone, and in place where the world tells in order and the switch is joined; after Ok all bytes that came were messages.

@@ -71,7 +71,7 @@ pub record Joins {Own : Type 0} (Tells : Type 0) (d : ℕ) (ports : List PortDes
 -- it was lost: it is not joined, and has no Leave event
 pub record JoinsNot {Own : Type 0} (Tells : Type 0) (d : ℕ) (old new : Seen Own) (net now_net : NetState) : Type 0 where
   pub is_lost : IsLost Tells d [] old new
-  pub net_so : now_net ≡ record net { xid = now_net.xid; kept = filter (λ m. not (m.0 == d)) net.kept }
+  pub net_is : now_net ≡ record net { xid = now_net.xid; kept = filter (λ m. not (m.0 == d)) net.kept }
 
 abbrev pub JoinsOrNot : {Own : Type 0} → Type 0 → ℕ → List PortDesc → Bool → Seen Own → Seen Own → NetState → NetState → Type 0
 JoinsOrNot Tells d ports true old new net now_net = Joins Tells d ports old new net now_net

@@ -11,7 +11,7 @@ use Rattle.net_txn.specs.declared.halt.Halt.{Halt}
 use Rattle.net_txn.specs.Losing.{WaitHalts}
 use Rattle.net_txn.specs.Joining.{greeted_from, greeting, DoesNotJoin}
 use Rattle.net_txn.specs.Net.{NetState}
-use Rattle.net_txn.specs.Agreement.{Agrees}
+use Rattle.net_txn.specs.ChangeSteps.{Agrees}
 
 -- ---- It did not join
 

@@ -15,7 +15,7 @@ pub mod Making
 pub mod Changes
 pub mod Releases
 pub mod ReleaseSteps
-pub mod Agreement
+pub mod ChangeSteps
 pub mod Undos
 pub mod Said
 pub mod Asks

@@ -41,7 +41,7 @@ pub record GoesOut {Own : Type 0} (d : ℕ) (packets : List Held) (old new : See
   pub steps : List WorldStep
   pub history : new.history ≡ old.history ++ steps
   pub lost : losses (journal steps) ≡ d ∷ []
-  pub released_so : released (journal steps) ≡ packets
+  pub released_is : released (journal steps) ≡ packets
   pub out : switch_of d (state new) ≡ None
   pub waits : waits_of d (state new) ≡ []
   pub others : (e : ℕ) → e ≢ d → switch_of e (state new) ≡ switch_of e (state old)

@@ -25,7 +25,7 @@ pub record LosesSo {Own : Type 0} (Tells : Type 0) (d : ℕ) (log : List Logged)
   pub is_lost : IsLost Tells d [] old new
   pub read : Tells → MessagesSince old new
   pub views : now_net.views ≡ net.views
-  pub log_so : now_net.log ≡ log
+  pub log_is : now_net.log ≡ log
   pub kept : KeptMore d net.kept now_net.kept
 
 -- with this log
@@ -58,7 +58,7 @@ pub record MakesJoined {Own : Type 0} (Tells : Type 0) (d : ℕ) (m : Change) (o
 pub record MakesLost {Own : Type 0} (Tells : Type 0) (d : ℕ) (old new : Seen Own) (net now_net : NetState) : Type 0 where
   pub is_lost : IsLost Tells d [] old new
   pub read : Tells → MessagesSince old new
-  pub net_so : now_net ≡ record (lost_net d net) { xid = now_net.xid }
+  pub net_is : now_net ≡ record (lost_net d net) { xid = now_net.xid }
 
 pub record Makes {Own : Type 0} (Tells : Type 0) (d : ℕ) (m : Change) (old new : Seen Own) (net now_net : NetState) (result : Result Answer TxnFault) : Type 0 where
   pub speaks : Speaks Tells d old new

@@ -98,26 +98,26 @@ PacketStops Tells d xid packet old new fault = ((new ≡ old) × (fault ≡ NoMe
 -- ---- What became of what came
 
 -- what came before the reply was taken in
-pub record SettlesIn {Own : Type 0} (Tells : Type 0) (a : Awaited) (old new : Seen Own) (net now_net : NetState) (queue now_queue : List Event) : Type 0 where
+pub record TakenBeforeReply {Own : Type 0} (Tells : Type 0) (a : Awaited) (old new : Seen Own) (net now_net : NetState) (queue now_queue : List Event) : Type 0 where
   pub came : List (ℕ × List ℕ)
   pub passed : BarrierPassed Tells a old new came
   pub taken : (now_net, now_queue) ≡ takes_all came (net, queue)
   pub stays : StaysSo [] net now_net
 
 -- the switch was lost
-pub record SettlesLost {Own : Type 0} (Tells : Type 0) (a : Awaited) (old new : Seen Own) (net now_net : NetState) (queue now_queue : List Event) : Type 0 where
+pub record LostBeforeReply {Own : Type 0} (Tells : Type 0) (a : Awaited) (old new : Seen Own) (net now_net : NetState) (queue now_queue : List Event) : Type 0 where
   pub broke : BarrierBroke Tells a old new Lost
-  pub net_so : now_net ≡ lost_net a.dpid net
-  pub queue_so : now_queue ≡ queue
+  pub net_is : now_net ≡ lost_net a.dpid net
+  pub queue_is : now_queue ≡ queue
 
 -- a fault
-pub record SettlesNot {Own : Type 0} (Tells : Type 0) (a : Awaited) (old new : Seen Own) (net now_net : NetState) (fault : TxnFault) : Type 0 where
+pub record StopsBeforeReply {Own : Type 0} (Tells : Type 0) (a : Awaited) (old new : Seen Own) (net now_net : NetState) (fault : TxnFault) : Type 0 where
   pub stops : BarrierStops Tells a old new (Fault fault)
   pub stays : StaysSo [] net now_net
 
-abbrev pub Settles : {Own : Type 0} → Type 0 → Awaited → Seen Own → Seen Own → NetState → NetState → List Event → List Event → Result (Unit {0}) TxnFault → Type 0
-Settles Tells a old new net now_net queue now_queue result =
-    MatchResult result (λ _. SettlesIn Tells a old new net now_net queue now_queue ⊎ SettlesLost Tells a old new net now_net queue now_queue) (SettlesNot Tells a old new net now_net)
+abbrev pub TakesUntilReply : {Own : Type 0} → Type 0 → Awaited → Seen Own → Seen Own → NetState → NetState → List Event → List Event → Result (Unit {0}) TxnFault → Type 0
+TakesUntilReply Tells a old new net now_net queue now_queue result =
+    MatchResult result (λ _. TakenBeforeReply Tells a old new net now_net queue now_queue ⊎ LostBeforeReply Tells a old new net now_net queue now_queue) (StopsBeforeReply Tells a old new net now_net)
 
 -- the packets that were sent: this one, or none
 abbrev pub sent_by : Bool → Held → List Held
@@ -145,7 +145,7 @@ pub record ReleasedFront {Own : Type 0} (Tells : Type 0) (front : List Held) (ol
   pub read : Tells → MessagesSince old new
   pub sent : List Held
   pub all : ReleasesAll Tells front sent old new net now_net queue now_queue
-  pub sizes_so : sizes ≡ map size_of sent
+  pub sizes_is : sizes ≡ map size_of sent
 
 -- one is released, and noted where it was sent
 abbrev pub ReleasesNoted : {Own : Type 0} → Type 0 → Held → Seen Own → Seen Own → NetState → NetState → List Event → List Event → List (ℕ × ℕ) → List (ℕ × ℕ) → Result (Unit {0}) TxnFault → Type 0
@@ -161,7 +161,7 @@ pub record StopsBehind {Own : Type 0} (Tells : Type 0) (held : List Held) (old n
   pub front : List Held
   pub broken : Held
   pub rest : List Held
-  pub held_so : held ≡ front ++ broken ∷ rest
+  pub held_is : held ≡ front ++ broken ∷ rest
   pub sent : List Held
   pub mid : Seen Own
   pub mid_net : NetState

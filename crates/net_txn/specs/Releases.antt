@@ -71,15 +71,15 @@ pub record PacketInStep {Own : Type 0} (d : ℕ) (packet : Packet) (s : SwitchSt
   pub waits : waits_of d (state new) ≡ []
   pub others : (e : ℕ) → e ≢ d → switch_of e (state new) ≡ switch_of e (state old)
   pub others_wait : (e : ℕ) → e ≢ d → waits_of e (state new) ≡ waits_of e (state old)
-  pub net_so : now_net ≡ record net { xid = now_net.xid }
-  pub queue_so : now_queue ≡ queue ++ events_of d (sent_by_message 0 (PacketOut packet) s)
+  pub net_is : now_net ≡ record net { xid = now_net.xid }
+  pub queue_is : now_queue ≡ queue ++ events_of d (sent_by_message 0 (PacketOut packet) s)
 
 -- The history goes on by steps that release these packets and lose no switch, and each switch moves by those that are sent to it, and by
 -- nothing else.
 pub record MovesBy {Own : Type 0} (packets : List Held) (old new : Seen Own) : Type 0 where
   pub steps : List WorldStep
   pub history : new.history ≡ old.history ++ steps
-  pub released_so : released (journal steps) ≡ packets
+  pub released_is : released (journal steps) ≡ packets
   pub unlost : losses (journal steps) ≡ []
   pub moved : (e : ℕ) → switch_of e (state new) ≡ option_map (after_packets e packets) (switch_of e (state old))
 
@@ -100,8 +100,8 @@ pub record SendsPacket {Own : Type 0} (Tells : Type 0) (held : Held) (old new : 
 pub record PassesOver {Own : Type 0} (held : Held) (old new : Seen Own) (net now_net : NetState) (queue now_queue : List Event) : Type 0 where
   pub unviewed : is_viewed held.0 net.views ≡ false
   pub seen : new ≡ old
-  pub net_so : now_net ≡ net
-  pub queue_so : now_queue ≡ queue
+  pub net_is : now_net ≡ net
+  pub queue_is : now_queue ≡ queue
 
 -- Its switch was lost, before the packet was sent, or behind it: nothing of it becomes an event, and nothing else changes of what the host keeps
 -- but the transaction id.
@@ -109,8 +109,8 @@ pub record LosesPacket {Own : Type 0} (Tells : Type 0) (sent : List Held) (held 
   pub continues : Continues Tells old new
   pub viewed : is_viewed held.0 net.views ≡ true
   pub is_lost : IsLost Tells held.0 sent old new
-  pub net_so : now_net ≡ record (lost_net held.0 net) { xid = now_net.xid }
-  pub queue_so : now_queue ≡ queue
+  pub net_is : now_net ≡ record (lost_net held.0 net) { xid = now_net.xid }
+  pub queue_is : now_queue ≡ queue
 
 -- what becomes of one packet, with the packets that were sent: itself, or none
 abbrev pub ReleasesOne : {Own : Type 0} → Type 0 → Held → List Held → Seen Own → Seen Own → NetState → NetState → List Event → List Event → Type 0
@@ -159,14 +159,14 @@ committed start net = record net { log = take start net.log; held = [] }
 pub record Released {Own : Type 0} (Tells : Type 0) (start : ℕ) (old new : Seen Own) (net now_net : NetState) (queue now_queue : List Event) (answer : List (ℕ × ℕ)) : Type 0 where
   pub sent : List Held
   pub all : ReleasesAll Tells net.held sent old new (committed start net) now_net queue now_queue
-  pub answer_so : answer ≡ map (λ h. (h.0, length h.1.payload)) sent
+  pub answer_is : answer ≡ map (λ h. (h.0, length h.1.payload)) sent
 
 -- the release stopped behind some packets
 pub record StopsRelease {Own : Type 0} (Tells : Type 0) (start : ℕ) (old new : Seen Own) (net : NetState) (queue : List Event) (fault : TxnFault) : Type 0 where
   pub front : List Held
   pub broken : Held
   pub rest : List Held
-  pub held_so : net.held ≡ front ++ broken ∷ rest
+  pub held_is : net.held ≡ front ++ broken ∷ rest
   pub sent : List Held
   pub mid : Seen Own
   pub mid_net : NetState
@@ -176,10 +176,10 @@ pub record StopsRelease {Own : Type 0} (Tells : Type 0) (start : ℕ) (old new :
 
 -- no memory was left before the release, and the transaction was undone
 pub record UndoneForMemory {Own : Type 0} (Tells : Type 0) (start : ℕ) (old new : Seen Own) (net now_net : NetState) (queue now_queue : List Event) (fault : TxnFault) : Type 0 where
-  pub fault_so : fault ≡ NoMemory
+  pub fault_is : fault ≡ NoMemory
   pub result : Result (Unit {0}) TxnFault
   pub undoes : Undoes Tells start old new net now_net result
-  pub queue_so : now_queue ≡ queue
+  pub queue_is : now_queue ≡ queue
 
 -- Its changes stay, and what was held is released; or the release stopped, and its changes stay all the same; or no memory was left before it,
 -- and it was undone. It goes on past the loss of a switch with the others. The calls are those of links alone, and in place where the world tells

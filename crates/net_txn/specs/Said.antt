@@ -157,8 +157,8 @@ wait_said a got = flat_map (heard_said a) got
 pub record Treats {Own : Type 0} (Tells : Type 0) (a : Awaited) (storage : Storage) (bytes : List ℕ) (old new : Seen Own) (kept now_kept : List (ℕ × List ℕ)) (answer now_answer : Option Refusal) (ended : Bool) : Type 0 where
   pub ends : ended ≡ is_reply (heard a bytes)
   pub calls : Calls Tells a.dpid (said_by a.dpid (heard a bytes) bytes) old new
-  pub kept_so : KeptAs storage kept (kept_by a.dpid (heard a bytes) bytes) now_kept
-  pub answer_so : now_answer ≡ first_of answer (refusal_in (heard a bytes))
+  pub kept_is : KeptAs storage kept (kept_by a.dpid (heard a bytes) bytes) now_kept
+  pub answer_is : now_answer ≡ first_of answer (refusal_in (heard a bytes))
 
 -- it was not: the answer could not be sent, or no memory was left to keep it
 abbrev pub IsUntreated : Storage → Trouble → Type 0
@@ -168,7 +168,7 @@ IsUntreated storage trouble = IsOfLink trouble
 pub record TreatsNot {Own : Type 0} (Tells : Type 0) (a : Awaited) (storage : Storage) (old new : Seen Own) (kept now_kept : List (ℕ × List ℕ)) (t : Trouble) : Type 0 where
   pub why : IsUntreated storage t
   pub calls : Calls Tells a.dpid (unsaid a.dpid t) old new
-  pub kept_so : now_kept ≡ kept
+  pub kept_is : now_kept ≡ kept
 
 -- messages before the reply to a barrier, none of which refuses an inverse
 pub record AreHeard (a : Awaited) (sent : List (ℕ × Key)) (got : List (List ℕ)) : Type 0 where
@@ -197,15 +197,15 @@ pub record HearsNext {Own : Type 0} (Tells : Type 0) (a : Awaited) (storage : St
   pub read : IsRead bytes
   pub unrefused : key_refused sent bytes ≡ None
   pub ends : ended ≡ is_reply (heard a bytes)
-  pub kept_so : KeptAs storage kept (kept_by a.dpid (heard a bytes) bytes) now_kept
-  pub answer_so : now_answer ≡ first_of answer (refusal_in (heard a bytes))
+  pub kept_is : KeptAs storage kept (kept_by a.dpid (heard a bytes) bytes) now_kept
+  pub answer_is : now_answer ≡ first_of answer (refusal_in (heard a bytes))
   pub calls : Calls Tells a.dpid (heard_said a bytes) old new
 
 pub record HearsLast {Own : Type 0} (Tells : Type 0) (a : Awaited) (storage : Storage) (sent : List (ℕ × Key)) (old new : Seen Own) (kept now_kept : List (ℕ × List ℕ)) (buf : List ℕ) (t : Trouble) : Type 0 where
   pub by : Option (List ℕ)
   pub why : IsBreak sent storage 0 by t buf
   pub calls : Calls Tells a.dpid (last_said a.dpid by t buf) old new
-  pub kept_so : now_kept ≡ kept
+  pub kept_is : now_kept ≡ kept
 
 -- ---- A wait
 
@@ -214,8 +214,8 @@ pub record WaitsOn {Own : Type 0} (Tells : Type 0) (a : Awaited) (storage : Stor
   pub got : List (List ℕ)
   pub count : length got ≡ n
   pub before : AreHeard a sent got
-  pub kept_so : KeptAs storage kept (kept_of a got) now_kept
-  pub answer_so : answer ≡ answer_of a got
+  pub kept_is : KeptAs storage kept (kept_of a got) now_kept
+  pub answer_is : answer ≡ answer_of a got
   pub calls : Calls Tells a.dpid (wait_said a got) old new
 
 -- messages that are sent before a wait
@@ -233,8 +233,8 @@ pub record Replied {Own : Type 0} (Tells : Type 0) (a : Awaited) (frames : List 
   pub got : List (List ℕ)
   pub few : length got ≤ 65535
   pub before : AreHeard a sent got
-  pub kept_so : KeptAs storage kept (kept_of a got) now_kept
-  pub answer_so : answer ≡ answer_of a got
+  pub kept_is : KeptAs storage kept (kept_of a got) now_kept
+  pub answer_is : answer ≡ answer_of a got
   pub calls : Calls Tells a.dpid (frames_said a.dpid frames ++ (wait_said a got ++ reply_heard a ∷ [])) old new
 
 -- The messages were sent, and the wait failed.
@@ -242,7 +242,7 @@ pub record Unreplied {Own : Type 0} (Tells : Type 0) (a : Awaited) (frames : Lis
   pub is_xid : a.barrier < 2 ^ 32
   pub got : List (List ℕ)
   pub before : AreHeard a sent got
-  pub kept_so : KeptAs storage kept (kept_of a got) now_kept
+  pub kept_is : KeptAs storage kept (kept_of a got) now_kept
   pub by : Option (List ℕ)
   pub why : IsBreak sent storage (length got) by t buf
   pub calls : Calls Tells a.dpid (frames_said a.dpid frames ++ (wait_said a got ++ last_said a.dpid by t buf)) old new
@@ -251,10 +251,10 @@ pub record Unreplied {Own : Type 0} (Tells : Type 0) (a : Awaited) (frames : Lis
 pub record Unsent {Own : Type 0} (Tells : Type 0) (d : ℕ) (frames : List (List ℕ)) (old new : Seen Own) (kept now_kept : List (ℕ × List ℕ)) (t : Trouble) : Type 0 where
   pub first : List (List ℕ)
   pub rest : List (List ℕ)
-  pub frames_so : frames ≡ first ++ rest
+  pub frames_is : frames ≡ first ++ rest
   pub why : IsOfLink t
   pub calls : Calls Tells d (frames_said d first ++ unsaid d t) old new
-  pub kept_so : now_kept ≡ kept
+  pub kept_is : now_kept ≡ kept
 
 abbrev pub Breaks : {Own : Type 0} → Type 0 → Awaited → List (List ℕ) → Storage → List (ℕ × Key) → Seen Own → Seen Own → List (ℕ × List ℕ) → List (ℕ × List ℕ) → List ℕ → Trouble → Type 0
 Breaks Tells a frames storage sent old new kept now_kept buf t = Unsent Tells a.dpid frames old new kept now_kept t ⊎ Unreplied Tells a frames storage sent old new kept now_kept buf t
@@ -276,7 +276,7 @@ pub record SaysNot {Own : Type 0} (Tells : Type 0) (d : ℕ) (old new : Seen Own
   pub buf : List ℕ
   pub why : IsOfLink trouble
   pub calls : Calls Tells d (unsaid d trouble) old new
-  pub halt_so : IsHaltBy d trouble buf halt
+  pub halt_is : IsHaltBy d trouble buf halt
 
 abbrev pub SaysTo : {Own T : Type 0} → Type 0 → ℕ → List ℕ → Seen Own → Seen Own → Result T Halt → Type 0
 SaysTo Tells d frame old new result = MatchResult result (λ x. Calls Tells d (Says d frame ∷ []) old new) (SaysNot Tells d old new)
@@ -286,7 +286,7 @@ pub record BreaksBy {Own : Type 0} (Tells : Type 0) (a : Awaited) (frames : List
   pub trouble : Trouble
   pub buf : List ℕ
   pub breaks : Breaks Tells a frames Growing [] old new kept now_kept buf trouble
-  pub halt_so : IsHaltBy a.dpid trouble buf halt
+  pub halt_is : IsHaltBy a.dpid trouble buf halt
 
 -- Messages are sent, then a barrier, and its reply is awaited.
 abbrev pub Talks : {Own : Type 0} → Type 0 → Awaited → List (List ℕ) → Seen Own → Seen Own → List (ℕ × List ℕ) → List (ℕ × List ℕ) → Result (Option Refusal) Halt → Type 0

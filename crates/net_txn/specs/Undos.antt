@@ -101,7 +101,7 @@ pub record Fails {Own : Type 0} (Tells : Type 0) (d : ℕ) (sent : List (ℕ × 
 -- a barrier whose reply was got, at most 65,535 messages before it
 pub record AwaitsReplies {Own : Type 0} (Tells : Type 0) (a : Awaited) (front : List WorldStep) (sent : List (ℕ × Key)) (old new : Seen Own) (kept now_kept : List (ℕ × List ℕ)) : Type 0 where
   pub got : List (List ℕ)
-  pub kept_so : KeptWhereFit kept (kept_of a got) now_kept
+  pub kept_is : KeptWhereFit kept (kept_of a got) now_kept
   pub few : length got ≤ 65535
   pub before : AreBefore a sent got
   pub moves : Moves Tells a.dpid (front ++ (wait_steps a got ++ reply_got a ∷ [])) old new
@@ -263,7 +263,7 @@ switches_of views = reverse (map (λ v. v.dpid) views)
 pub record EndsByBarriers (switches : List ℕ) (parts : List (ℕ × Part)) : Type 0 where
   pub last : List (ℕ × Part)
   pub front : List (ℕ × Part)
-  pub parts_so : parts ≡ last ++ front
+  pub parts_is : parts ≡ last ++ front
   pub no_inverse : sent_in last ≡ []
   pub in_order : IsThinned (map (λ p. p.0) last) switches
   pub each : (d : ℕ) → list_any (λ c. c == d) switches ≡ true → is_stuck (parts_of d parts) ≡ false → (inverses_of (parts_of d parts) ≡ []) ⊎ (list_any (λ p. p.0 == d) last ≡ true)
@@ -335,8 +335,8 @@ pub record Further {Own : Type 0} (Tells : Type 0) (views : List TableView) (old
   pub parts : List (ℕ × Part)
   pub undoing : Undoing Tells views old new kept now_kept xid now_xid switches reverted parts
   pub few : (d : ℕ) → since_of (parts_of d parts) < 4096
-  pub fault_so : fault ≡ first_fault parts
-  pub ports_so : now_ports ≡ ports_lost (lost_parts parts) ports
+  pub fault_is : fault ≡ first_fault parts
+  pub ports_is : now_ports ≡ ports_lost (lost_parts parts) ports
 
 -- the fault of a switch, where it is not lost
 abbrev pub fault_by : Halt → Option TxnFault
@@ -371,8 +371,8 @@ pub record Pending {Own : Type 0} (Tells : Type 0) (views : List TableView) (old
   pub undoing : Undoing Tells views old new kept now_kept xid now_xid switches reverted parts
   pub few : (c : ℕ) → c ≢ d → since_of (parts_of c parts) < 4096
   pub free : is_stuck (parts_of d parts) ≡ false
-  pub fault_so : fault ≡ first_fault parts
-  pub ports_so : now_ports ≡ ports_lost (lost_parts parts) ports
+  pub fault_is : fault ≡ first_fault parts
+  pub ports_is : now_ports ≡ ports_lost (lost_parts parts) ports
 
 -- the switch was lost
 abbrev pub was_lost : List Logged → ℕ → Bool
@@ -408,12 +408,12 @@ pub record UndoesLog {Own : Type 0} (Tells : Type 0) (views now_views : List Tab
   pub fault : Option TxnFault
   pub reverted : List Logged
   pub all_kept : List (ℕ × List ℕ)
-  pub result_so : result ≡ ended_by fault
+  pub result_is : result ≡ ended_by fault
   pub further : Further Tells views old new kept all_kept ports now_ports xid now_xid (switches_of views) reverted fault
   pub barred : (d : ℕ) → is_viewed d views ≡ true → HasPassedBarrier d reverted
   pub same : map key_logged reverted ≡ keys
-  pub views_so : now_views ≡ filter (λ v. not (was_lost reverted v.dpid)) (without_keys keys views)
-  pub kept_so : now_kept ≡ filter (λ m. not (was_lost reverted m.0)) all_kept
+  pub views_is : now_views ≡ filter (λ v. not (was_lost reverted v.dpid)) (without_keys keys views)
+  pub kept_is : now_kept ≡ filter (λ m. not (was_lost reverted m.0)) all_kept
 
 -- the switch is joined and did not fail
 abbrev pub is_served : List TableView → List (ℕ × Part) → ℕ → Bool
@@ -424,7 +424,7 @@ is_served views parts d = is_viewed d views && not (is_stuck (parts_of d parts))
 pub record IsRevertedOn (known : Bool) (d : ℕ) (old new : Counts) (keys : List Key) (parts : List Part) : Type 0 where
   pub unknown : known ≡ false → parts ≡ []
   pub run : IsRun old new d parts
-  pub keys_so : known ≡ true → is_stuck parts ≡ false → map (λ p. p.1) (inverses_of parts) ≡ keys
+  pub keys_is : known ≡ true → is_stuck parts ≡ false → map (λ p. p.1) (inverses_of parts) ≡ keys
   pub barred : known ≡ true → is_stuck parts ≡ false → since_of parts ≡ 0
 
 -- ---- What it leaves of each switch
@@ -482,13 +482,13 @@ pub record Undoes {Own : Type 0} (Tells : Type 0) (start : ℕ) (old new : Seen 
   pub order : IsThinned (sent_in parts) (map key_logged (drop start net.log))
   pub whole_order : filter (λ p. is_served net.views parts p.0) (sent_in parts) ≡ filter (λ p. is_served net.views parts p.0) (map key_logged (drop start net.log))
   pub last : EndsByBarriers (switches_of net.views) parts
-  pub result_so : result ≡ ended_by (first_fault parts)
+  pub result_is : result ≡ ended_by (first_fault parts)
   pub read : IsOk result → Tells → MessagesSince old new
   pub none_failed : IsOk result → (d : ℕ) → is_stuck (parts_of d parts) ≡ is_lost_in d parts
   -- what was kept before the switches that were lost went
   pub kept : List (ℕ × List ℕ)
   pub keeps : Keeps net.kept parts kept
-  pub net_so : now_net ≡ lose_all (lost_parts parts) (record (undone_net start net) { xid = next_free net.xid parts; kept = kept; room = now_net.room })
+  pub net_is : now_net ≡ lose_all (lost_parts parts) (record (undone_net start net) { xid = next_free net.xid parts; kept = kept; room = now_net.room })
   pub room : (net.room ≤ now_net.room + 1) × (IsOk result → now_net.room ≡ net.room)
   pub others : (d : ℕ) → Tells → is_viewed d net.views ≡ false → SameSwitch d (state old) (state new)
   pub lost_out : (d : ℕ) → Tells → AreJoined net.views (state old) → is_lost_in d parts ≡ true → (switch_of d (state new) ≡ None) × (waits_of d (state new) ≡ [])

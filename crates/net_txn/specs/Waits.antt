@@ -39,8 +39,8 @@ pub record Hears {Own : Type 0} (Tells : Type 0) (a : Awaited) (front behind : L
   pub continues : Continues Tells old new
   pub read : AllByRecursion IsRead got
   pub before_reply : AllByRecursion (λ b. is_reply (heard a b) ≡ false) got
-  pub kept_so : now_kept ≡ kept ++ kept_of a got
-  pub answer_so : answer ≡ answer_of a got
+  pub kept_is : now_kept ≡ kept ++ kept_of a got
+  pub answer_is : answer ≡ answer_of a got
   pub told : Tells → new.history ≡ old.history ++ (front ++ (wait_steps a got ++ behind))
 
 -- A wait that ended by the reply, at most 65,535 messages behind the steps before.

@@ -7,7 +7,6 @@ pub mod SentLaws
 pub mod JoiningLaws
 pub mod LeavingLaws
 pub mod OrderLaws
-pub mod PortLaws
 pub mod KnownLaws
 pub mod ChangeLaws
 pub mod RowLaws
@@ -51,7 +50,7 @@ pub mod LinkStepLaws
 pub mod LinkStrayLaws
 pub mod UndoLinkLaws
 pub mod ReadLaws
-pub mod JoinedLaws
+pub mod LinkPresenceLaws
 pub mod AbreastLaws
 pub mod UndoWithoutStraysLaws
 pub mod UndoStrayLaws

@@ -10,7 +10,7 @@ use lego_model::TxnFault;
 use outside::World;
 
 /// Returns a position of the log, its end where it is past it.
-fn place_in(log: &[Logged], start: usize) -> usize
+fn within_log(log: &[Logged], start: usize) -> usize
     ensures within { result ≤ length log.now }
     ensures front { take result log.now ≡ take start log.now }
     ensures rest { drop result log.now ≡ drop start log.now }
@@ -30,7 +30,7 @@ impl Net {
         ensures { Undoes W.Tells start (W.seen world.old) (W.seen world.new) self.old self.new result }
     {
         self.held.clear();
-        let from = place_in(&self.log, start);
+        let from = within_log(&self.log, start);
         undo_log(
             world,
             self.alloc,

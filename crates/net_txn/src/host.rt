@@ -12,12 +12,10 @@ use crate::rows::would_touch;
 use app_frames::Answer;
 use flow_table::ViewRow;
 use of_action::{Action, ActionKind, size};
+use of_types::limits::MOST_ACTION_BYTES;
 use of_types::{OfError, errors, flows, stats};
 use of_wire::{FlowMod, Message, PacketOut, Stats, WireFault, decode};
 use std::alloc::{AllocError, Global};
-
-/// The most bytes of actions that a row of flow statistics can show.
-const MOST_ACTION_BYTES: usize = 65_432;
 
 /// What the host makes of a message.
 #[derive(Drop, Debug)]
@@ -63,7 +61,7 @@ fn refuse_actions(m: &FlowMod) -> Option<OfError>
 fn refuse_flow(m: &FlowMod) -> Option<OfError>
     ensures { result ≡ flow_mod_refused m.now }
 {
-    if m.flags / flows::EMERG % 2 == 1 {
+    if flows::is_emergency(m.flags) {
         Some(errors::FLOW_EPERM)
     } else if m.command > flows::DELETE_STRICT {
         Some(errors::FLOW_BAD_COMMAND)

@@ -9,7 +9,7 @@
 #![tactic(auto)]
 
 mod abort;
-mod arrived;
+mod arriving;
 mod change;
 mod exchange;
 mod greeting;

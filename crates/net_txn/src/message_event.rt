@@ -47,7 +47,7 @@ pub(crate) fn removed_key(flow: &FlowRemoved) -> Key
 fn is_asking(key: &Key, row: &ViewRow) -> bool
     ensures { result ≡ (key_number row.now.key == key_number key.now && asks_notice row.now.flags) }
 {
-    is_same(&row.key, key) && row.flags % 2 == 1
+    is_same(&row.key, key) && flows::sends_flow_removed(row.flags)
 }
 
 fn has_asking(key: &Key, rows: &[ViewRow]) -> bool

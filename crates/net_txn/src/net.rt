@@ -13,13 +13,11 @@ use crate::queue::MessageQueue;
 use crate::room::Room;
 use flow_table::TableView;
 use lego_model::Awaited;
+use of_types::limits::MOST_MESSAGE_BYTES;
 use of_types::{ByteList, Dpid, Xid};
 use of_wire::PacketOut;
 use std::alloc::{AllocError, Global};
 use std::marker::Model;
-
-/// How many bytes a message has at most.
-const MOST_MESSAGE: usize = 65_535;
 
 /// What the host keeps of its switches: their tables as the owner sees them, their ports, what undoes the changes of
 /// the open transaction, the packets that it holds back, and the messages that came while something else was awaited.
@@ -91,7 +89,7 @@ impl Net {
     {
         Ok(Net {
             alloc,
-            buf: vec![in alloc; 0; MOST_MESSAGE]?,
+            buf: vec![in alloc; 0; MOST_MESSAGE_BYTES]?,
             views: Vec::new(alloc),
             ports: PortTable::new(alloc),
             log: Vec::new(alloc),

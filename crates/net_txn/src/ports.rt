@@ -2,7 +2,8 @@
 
 ghost use Rattle.std.specs.Prelude.{◌≡◌, ◌≢◌, ◌==◌, ◌<◌, true, false, not, filter, length, slice_index_or, OnOk, OnErr};
 ghost use Rattle.of_types.specs.declared.port_desc.PortDesc.{PortDesc};
-ghost use Rattle.net_txn.specs.Arriving.{with_port, IsPortPlace, ports_after};
+ghost use Rattle.flow_table.specs.Sorted.{IsPortPlace};
+ghost use Rattle.net_txn.specs.Arriving.{with_port, ports_after};
 
 use of_types::{Dpid, PortDesc, PortNo};
 use of_wire::{PortList, PortStatus};

@@ -13,7 +13,7 @@ ghost use Rattle.net_txn.specs.Net.{logged_by};
 use crate::logged::{Logged, undoing};
 use crate::rows::key_of;
 use flow_table::ViewRow;
-use of_action::{Action, ActionList};
+use of_action::copy_actions;
 use of_types::{ByteList, Dpid, Xid, flows};
 use of_wire::{FlowMod, Message, encode};
 use std::alloc::{AllocError, Global};
@@ -33,22 +33,6 @@ fn is_deleting(m: &FlowMod) -> bool
     m.command == flows::DELETE || m.command == flows::DELETE_STRICT
 }
 
-fn copy_action(action: &Action) -> Result<Action, AllocError>
-    ensures { IfOk result (λ a. a ≡ action.now) }
-{
-    action.clone()
-}
-
-fn copy_actions(alloc: Global, actions: &ActionList) -> Result<ActionList, AllocError>
-    ensures { IfOk result (λ copies. copies ≡ actions.now) }
-{
-    let mut copies = Vec::new(alloc);
-    for action in actions.as_slice() {
-        copies.push(copy_action(action)?)?;
-    }
-    Ok(ActionList::from_vec(copies))
-}
-
 /// Returns the row that an addition adds.
 fn row_of(alloc: Global, m: &FlowMod) -> Result<ViewRow, AllocError>
     ensures { IfOk result (λ r. r ≡ row_in m.now) }
@@ -60,7 +44,7 @@ fn row_of(alloc: Global, m: &FlowMod) -> Result<ViewRow, AllocError>
         cookie: m.cookie,
         idle: m.idle,
         hard: m.hard,
-        flags: m.flags % 2,
+        flags: flows::kept_flags(m.flags),
     })
 }
 

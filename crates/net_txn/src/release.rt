@@ -7,7 +7,7 @@ ghost use Rattle.of_wire.specs.Spelling.{message_bytes};
 ghost use Rattle.of_wire.specs.Grammar.{IsMessage};
 ghost use Rattle.outside.specs.Calls.{most_message};
 ghost use Rattle.net_txn.specs.Releases.{packet_awaited, takes_read, takes_all, Commits};
-ghost use Rattle.net_txn.specs.ReleaseSteps.{StaysSo, PacketSent, PacketUnsent, BarrierPassed, BarrierStops, Settles, ReleasesPacket, ReleasesNoted, ReleasedFront, StopsBehind};
+ghost use Rattle.net_txn.specs.ReleaseSteps.{StaysSo, PacketSent, PacketUnsent, BarrierPassed, BarrierStops, TakesUntilReply, ReleasesPacket, ReleasesNoted, ReleasedFront, StopsBehind};
 
 use crate::exchange::{pass, say};
 use crate::halt::Halt;
@@ -159,13 +159,13 @@ fn release_all<W: World>(
 impl Net {
     /// Waits for the reply to the barrier behind a packet, and takes in what comes before it; the switch is lost where its
     /// link fails.
-    fn settle<W: World>(
+    fn take_until_reply<W: World>(
         &mut self,
         world: &mut W,
         queue: &mut EventQueue,
         awaited: &Awaited,
     ) -> Result<(), TxnFault>
-        ensures { Settles W.Tells awaited.now (W.seen world.old) (W.seen world.new) self.old self.new queue.old queue.new result }
+        ensures { TakesUntilReply W.Tells awaited.now (W.seen world.old) (W.seen world.new) self.old self.new queue.old queue.new result }
     {
         match await_behind(world, self.alloc, &mut self.buf, &mut self.came, awaited) {
             Ok(came) => Ok(take_all(self, queue, came)?),
@@ -196,7 +196,7 @@ impl Net {
         self.xid = following(following(xid));
         match send_packet(world, self.alloc, dpid, xid, packet) {
             Ok(()) => {
-                self.settle(world, queue, &await_packet(dpid, xid))?;
+                self.take_until_reply(world, queue, &await_packet(dpid, xid))?;
                 Ok(true)
             }
             Err(Halt::Lost) => {

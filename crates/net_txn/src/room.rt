@@ -8,12 +8,10 @@ use crate::port_table::PortTable;
 use crate::trouble::Trouble;
 use crate::wait::FLOOD;
 use lego_model::TxnFault;
+use of_types::limits::MOST_MESSAGE_BYTES;
 use of_types::{ByteList, Dpid};
 use std::alloc::{AllocError, Global};
 use std::marker::Model;
-
-/// How many bytes a message has at most.
-const MOST_MESSAGE: usize = 65_535;
 
 /// Room for the bytes of one fault.
 #[derive(Drop, Debug)]
@@ -37,7 +35,7 @@ impl Room {
     pub(crate) fn new(alloc: Global) -> Result<Room, AllocError> {
         Ok(Room {
             sent: vec![in alloc; 0; INVERSE]?,
-            got: vec![in alloc; 0; MOST_MESSAGE]?,
+            got: vec![in alloc; 0; MOST_MESSAGE_BYTES]?,
         })
     }
 

@@ -123,7 +123,7 @@ fn has_deleted(m: &FlowMod, rows: &[ViewRow]) -> bool
 fn would_clash(m: &FlowMod, rows: &[ViewRow]) -> bool
     ensures { result ≡ would_clash m.now (rows_of_view rows.now) }
 {
-    m.flags / flows::CHECK_OVERLAP % 2 == 1 && has_overlap(&key_of(m), rows)
+    flows::checks_overlap(m.flags) && has_overlap(&key_of(m), rows)
 }
 
 /// Tells whether an ADD would replace a row.

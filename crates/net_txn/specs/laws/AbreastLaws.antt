@@ -37,7 +37,7 @@ use Rattle.lego_model.specs.Packets.{Held}
 use Rattle.lego_model.specs.History.{lost_of}
 use Rattle.net_txn.specs.laws.ViewLaws.{viewed}
 use Rattle.net_txn.specs.Abreast.{Abreast}
-use Rattle.net_txn.specs.laws.JoinedLaws.{LeavesSo, lost_by_all, stays_in, stays-none, stays-then, step_leaves, steps_leave, losses_by}
+use Rattle.net_txn.specs.laws.LinkPresenceLaws.{LeavesSo, lost_by_all, stays_in, stays-none, stays-then, step_leaves, steps_leave, losses_by}
 use Rattle.net_txn.specs.laws.LostLaws.{losses_then}
 
 -- ---- Steps of links alone
@@ -192,14 +192,14 @@ pub changes_abreast : {Own : Type 0} {Tells : Type 0} {d : ℕ} {bytes : List �
 changes_abreast {d = d} {net = net} {now_net = now_net} c told abreast =
     elim c.answered [
       | inl j ↦ abreast-by net now_net c.continues (c.links told) (j.losses told) (λ e. viewed e now_net.views ∙ j.switches e ∙ sym (viewed e net.views)) abreast
-      | inr l ↦ abreast-out net now_net [] c.continues (c.links told) (l.2.is_lost.out told (viewed_joined abreast d l.2.viewed)) (ap (λ (n : NetState). n.views) l.2.net_so) abreast
+      | inr l ↦ abreast-out net now_net [] c.continues (c.links told) (l.2.is_lost.out told (viewed_joined abreast d l.2.viewed)) (ap (λ (n : NetState). n.views) l.2.net_is) abreast
     ]
 
 pub undoes_abreast : {Own : Type 0} {Tells : Type 0} {start : ℕ} {old new : Seen Own} {net now_net : NetState} {result : Result (Unit {0}) TxnFault} → Undoes Tells start old new net now_net result → Tells → Abreast old net → Abreast new now_net
 undoes_abreast {start = start} {net = net} {now_net = now_net} u told abreast =
     let lost = lost_parts u.parts in
     abreast-lost net now_net lost u.continues (u.links told) (u.losses told (viewed_joined abreast))
-    (λ e. ap (λ (n : NetState). is_viewed e n.views) u.net_so ∙ lose_all-viewed e lost _ ∙ ap (stays_in e lost) (without_keys-viewed e (map key_logged (drop start net.log)) net.views)) abreast
+    (λ e. ap (λ (n : NetState). is_viewed e n.views) u.net_is ∙ lose_all-viewed e lost _ ∙ ap (stays_in e lost) (without_keys-viewed e (map key_logged (drop start net.log)) net.views)) abreast
 
 pub commits_abreast : {Own : Type 0} {Tells : Type 0} {start : ℕ} {old new : Seen Own} {net now_net : NetState} {queue now_queue : List Event} {result : Result (List (ℕ × ℕ)) TxnFault} → Commits Tells start old new net now_net queue now_queue result → Tells → Abreast old net → Abreast new now_net
 commits_abreast {net = net} {now_net = now_net} c told abreast = abreast-lost net now_net c.lost c.continues (c.links told) (c.losses told (viewed_joined abreast)) c.switches abreast
@@ -234,9 +234,9 @@ became_abreast : {Own : Type 0} {Tells : Type 0} {d xid : ℕ} {m : Message} {ol
     → Becomes Tells d xid m old new net now_net event ⊎ ArrivesLost Tells d m old new net now_net event → Abreast new now_net
 became_abreast {d = d} {xid = xid} {m = m} {old = old} {new = new} {net = net} {now_net = now_net} later links told abreast joined (inl b) =
     abreast-by net now_net later links (losses_then old new (arrival_steps d xid m) (b.told told) ∙ ap (λ (ds : List ℕ). lost_of old ++ ds) (arrival_none_lost d xid m) ∙ append-nil (lost_of old))
-    (λ e. ap (λ (n : NetState). is_viewed e n.views) b.net_so ∙ arrival_viewed d e m net) abreast
+    (λ e. ap (λ (n : NetState). is_viewed e n.views) b.net_is ∙ arrival_viewed d e m net) abreast
 became_abreast {d = d} {net = net} {now_net = now_net} later links told abreast joined (inr l) =
-    abreast-out net now_net [] later links (l.is_lost.out told (viewed_joined abreast d joined)) (ap (λ (n : NetState). n.views) l.net_so) abreast
+    abreast-out net now_net [] later links (l.is_lost.out told (viewed_joined abreast d joined)) (ap (λ (n : NetState). n.views) l.net_is) abreast
 
 read_abreast : {Own : Type 0} {Tells : Type 0} {old new : Seen Own} {net now_net : NetState} (d : ℕ) (event : Option Event) (r : Result Envelope WireFault) → Continues Tells old new → LinkSteps old new → Tells → Abreast old net → is_viewed d net.views ≡ true
     → IsOkAnd r (λ x. Becomes Tells d x.xid x.message old new net now_net event ⊎ ArrivesLost Tells d x.message old new net now_net event) → Abreast new now_net

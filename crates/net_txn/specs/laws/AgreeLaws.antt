@@ -13,7 +13,7 @@ use Rattle.flow_table.specs.Switch.{SwitchState}
 use Rattle.lego_model.specs.Answers.{Rows, rows_of_table, rows_of_view}
 use Rattle.outside.specs.Seen.{Seen}
 use Rattle.outside.specs.State.{state, switch_of, waits_of}
-use Rattle.outside.specs.laws.StateLaws.{Conforming-rest}
+use Rattle.outside.specs.laws.StateLaws.{Conforming-rest, state-append}
 use Rattle.outside.specs.Conforming.{Conforming}
 use Rattle.undo_laws.specs.Removal.{without}
 use Rattle.lego_model.specs.declared.fault.TxnFault.{TxnFault}
@@ -21,12 +21,13 @@ use Rattle.net_txn.specs.Views.{rows_at, with_rows, is_viewed}
 use Rattle.net_txn.specs.laws.ViewLaws.{rows_at-same, rows_at-other, with_rows-none}
 pub use Rattle.net_txn.specs.laws.ViewLaws.{viewed}
 use Rattle.net_txn.specs.Arriving.{without_key}
-use Rattle.net_txn.specs.Agreement.{Agrees}
+use Rattle.net_txn.specs.ChangeSteps.{Agrees}
 use Rattle.net_txn.specs.laws.NoticeLaws.{with_entries}
 use Rattle.net_txn.specs.Undos.{Part, Inverse, BarrierPassed, Stuck, steps_of, parts_of, is_stuck, without_keys, keys_of, first_fault_of, ended_by, IsRevertedOn, AgreesAgain}
-use Rattle.net_txn.specs.laws.RestoreLaws.{entries_left, keys_reverted, left_all, state_after, others_stay}
+use Rattle.net_txn.specs.laws.RestoreLaws.{entries_left, keys_reverted, left_all, others_stay}
 use Rattle.net_txn.specs.laws.TableBackLaws.{table_left}
 use Rattle.net_txn.specs.laws.InStepLaws.{shown_by, some_rows}
+use Rattle.app_frames.specs.laws.BodyLaws.{map_some}
 
 -- ---- Keys and actions without a key
 
@@ -54,7 +55,7 @@ swap_if p q x xs true false is_p is_q rest = rw is_q rest
 swap_if p q x xs false true is_p is_q rest = rw is_p rest
 swap_if p q x xs false false is_p is_q rest = rest
 
-swap : {X : Type 0} (p q : X → Bool) (xs : List X) → filter p (filter q xs) ≡ filter q (filter p xs)
+pub swap : {X : Type 0} (p q : X → Bool) (xs : List X) → filter p (filter q xs) ≡ filter q (filter p xs)
 swap p q [] = refl
 swap p q (x ∷ xs) = swap_if p q x xs (p x) (q x) refl refl (swap p q xs)
 
@@ -121,13 +122,6 @@ none_from : {X Y : Type 0} (f : X → Y) (o : Option X) → option_map f o ≡ N
 none_from f None is = refl
 none_from f (Some x) is = absurd cc
 
-same_value : (x y : Rows) → Some x ≡ Some y → x ≡ y
-same_value x y e = cc
-
-some_from : {X : Type 0} (f : X → Rows) (o : Option X) (y : Rows) → option_map f o ≡ Some y → (x : X) × (o ≡ Some x) × (f x ≡ y)
-some_from f None y is = absurd cc
-some_from f (Some x) y is = (x, refl, same_value (f x) y is)
-
 -- of view and table alone
 table_agrees_by : {Own : Type 0} (old new : Seen Own) (d : ℕ) (views now_views : List TableView) (all : List (ℕ × Key)) (parts : List (ℕ × Part)) (o : Option SwitchState) → new.given ≡ old.given → new.history ≡ old.history ++ steps_of parts
     → ((c : ℕ) → IsRevertedOn (is_viewed c views) c old.counts new.counts (keys_of c all) (parts_of c parts)) → rows_at d now_views ≡ rows_at d (without_keys all views) → is_stuck (parts_of d parts) ≡ false
@@ -139,15 +133,15 @@ table_agrees_by old new d views now_views all parts None given told each lost fr
     let gone : rows_at d now_views ≡ None = lost ∙ none_without d all views no_rows in
     rw (gone, same.0, is) refl
 table_agrees_by old new d views now_views all parts (Some s) given told each lost free before is =
-    let there = some_from rows_of_view (rows_at d views) (shown_by s) (before ∙ ap (option_map shown_by) is) in
+    let there = map_some rows_of_view (rows_at d views) (shown_by s) (before ∙ ap (option_map shown_by) is) in
     let rows = there.0 in
     let known : is_viewed d views ≡ true = viewed d views ∙ ap is_some there.1 in
     let keys = keys_of d all in
-    let after = state_after old new (steps_of parts) given told in
+    let after = state-append old new (steps_of parts) given told in
     let now : switch_of d (state new) ≡ Some (with_entries (entries_left (parts_of d parts) s.table.entries) s) = ap (switch_of d) after ∙ table_left old.counts new.counts d s parts (state old) (λ c. (each c).run) free is in
     let shown : rows_at d now_views ≡ Some (rows_without keys rows) = lost ∙ some_without d all views rows there.1 in
     let same : rows_of_view (rows_without keys rows) ≡ rows_of_table (entries_left (parts_of d parts) s.table.entries) =
-    shown_without keys rows ∙ ap (first_to_last keys) there.2 ∙ either_way keys (shown_by s) ∙ ap (λ (ks : List Key). last_to_first ks (shown_by s)) (sym ((each d).keys_so known free)) ∙ sym (table_left_rows (parts_of d parts) s.table.entries) in
+    shown_without keys rows ∙ ap (first_to_last keys) there.2 ∙ either_way keys (shown_by s) ∙ ap (λ (ks : List Key). last_to_first ks (shown_by s)) (sym ((each d).keys_is known free)) ∙ sym (table_left_rows (parts_of d parts) s.table.entries) in
     rw (shown, now) (ap some_rows same)
 
 pub table_agrees : {Own : Type 0} (old new : Seen Own) (d : ℕ) (views now_views : List TableView) (all : List (ℕ × Key)) (parts : List (ℕ × Part)) → new.given ≡ old.given → new.history ≡ old.history ++ steps_of parts
@@ -164,11 +158,11 @@ none_waits_by old new d views all parts None given told each keeps free none bef
     let unknown : is_viewed d views ≡ false = viewed d views ∙ ap is_some no_rows in
     (others_stay old new d parts given told (λ c. (each c).run) ((each d).unknown unknown)).1 ∙ none
 none_waits_by old new d views all parts (Some s) given told each keeps free none before is =
-    let there = some_from rows_of_view (rows_at d views) (shown_by s) (before ∙ ap (option_map shown_by) is) in
+    let there = map_some rows_of_view (rows_at d views) (shown_by s) (before ∙ ap (option_map shown_by) is) in
     let known : is_viewed d views ≡ true = viewed d views ∙ ap is_some there.1 in
     let may = Conforming-rest old new (steps_of parts) given told keeps in
     let l = left_all old.given.declared old.counts new.counts d s parts (state old) (λ c. (each c).run) free may is none in
-    ap (waits_of d) (state_after old new (steps_of parts) given told) ∙ l.barred ((each d).barred known free)
+    ap (waits_of d) (state-append old new (steps_of parts) given told) ∙ l.barred ((each d).barred known free)
 
 pub agrees : {Own : Type 0} (old new : Seen Own) (d : ℕ) (views now_views : List TableView) (all : List (ℕ × Key)) (parts : List (ℕ × Part)) → new.given ≡ old.given → new.history ≡ old.history ++ steps_of parts
     → ((c : ℕ) → IsRevertedOn (is_viewed c views) c old.counts new.counts (keys_of c all) (parts_of c parts)) → rows_at d now_views ≡ rows_at d (without_keys all views) → Conforming new → is_stuck (parts_of d parts) ≡ false → waits_of d (state old) ≡ []

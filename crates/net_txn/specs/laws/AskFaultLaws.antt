@@ -34,7 +34,6 @@ use Rattle.net_txn.specs.Net.{NetState}
 use Rattle.net_txn.specs.Losing.{lost_net, WaitHalts}
 use Rattle.net_txn.specs.Said.{frames_said, barrier_of, Replied, BreaksBy}
 use Rattle.net_txn.specs.laws.AskLaws.{no_flood_of}
-use Rattle.net_txn.specs.laws.JoiningFaultLaws.{forgets_more}
 use Rattle.net_txn.specs.laws.LostLaws.{packets_said, breaks_halts, replied_none_lost, waits_none_lost}
 use Rattle.net_txn.specs.laws.ReadLaws.{waits_read}
 use Rattle.net_txn.specs.laws.TalkLaws.{speaks_on, speaks_links, speaks_place}
@@ -44,6 +43,7 @@ use Rattle.net_txn.specs.laws.TableBoundLaws.{table_few}
 use Rattle.net_txn.specs.laws.FloodLaws.{IsGotAlone, few_got, ends_read}
 use Rattle.net_txn.specs.AskSteps.{own_rows, IsAskFault, AskHalts, AsksFrom, AskSteps}
 use Rattle.net_txn.specs.laws.AskStepLaws.{asking, IsMessage-asking, own_parts, own_replies, small_own, selected_all, joined_own, after_both, both_sent, AskedInStep, asked_in_step, own_read, rows_in_step}
+use Rattle.net_txn.specs.laws.ChangeLaws.{forget_kept}
 
 -- ---- A reply of flows is whole, and has no more parts than rows, but one at least.
 
@@ -261,7 +261,7 @@ asks_lost d xid old new net now_kept asks = record {
   read = λ ok told. asks.answer.1 told;
   asks = record {
     is_lost = asks.answer.0;
-    net_so = ap (λ (k : List (ℕ × List ℕ)). record (lost_net d net) { xid = xid; kept = k }) (forgets_more d net.kept now_kept asks.kept_more);
+    net_is = ap (λ (k : List (ℕ × List ℕ)). record (lost_net d net) { xid = xid; kept = k }) (forget_kept d net.kept now_kept asks.kept_more);
   };
 }
 

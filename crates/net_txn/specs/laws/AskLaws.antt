@@ -1,7 +1,7 @@
 -- Laws of what comes of a request.
 use Rattle.std.specs.Prelude.{◌≡◌, ◌==◌, ℕ, ◌≤◌, ◌<◌, Bool, true, false, ◌&&◌, ◌||◌, nat_le, List, [], ◌∷◌, ◌++◌, length, take, map, All, Option, Result, Ok, Err, IfOk, IfErr, OnOk, OnErr, MatchResult, if◌then◌else◌, refl}
 use Rattle.std.proofs.Common.{get_or, inr, sym, ap, subst, ◌∙◌, arith}
-use Rattle.std.proofs.lemmas.Bool.{eqb-true, leb-true}
+use Rattle.std.proofs.lemmas.Bool.{eqb-true, leb-true, and_parts}
 use Rattle.std.proofs.lemmas.List.{length-map, map-append, take-map}
 use Rattle.std.proofs.lemmas.List.Elements.{All-nil, All-cons, All-append}
 use Rattle.std.proofs.lemmas.Option.{slice_get-get_or}
@@ -26,23 +26,19 @@ use Rattle.net_txn.specs.laws.ChangeLaws.{kept_for}
 use Rattle.net_txn.specs.Asks.{others_in, AreRowsOf, IsPartsFault, IsRepliesFault, Answered, GivesRows, IsAskCause}
 use Rattle.lego_model.specs.FlowQueries.{flows_request, request_sent, asked_from, is_about, part_in, parts_in, refusals_in, part_of, all_parts, WhyBroken}
 
-both_true : (a b : Bool) → (a && b) ≡ true → (a ≡ true) × (b ≡ true)
-both_true true b h = (refl, h)
-both_true false b h = absurd cc
-
 abbrev pub IsLong : List ℕ → Type 0
 IsLong bytes = 12 ≤ length bytes
 
 long_about : (xid kind : ℕ) (bytes : List ℕ) → is_about xid kind bytes ≡ true → IsLong bytes
 unfolding is_about
-long_about xid kind bytes is = leb-true _ _ (both_true (nat_le 12 (length bytes)) (number_at 4 4 bytes == xid && number_at 1 1 bytes == kind) is).0
+long_about xid kind bytes is = leb-true _ _ (and_parts (nat_le 12 (length bytes)) (number_at 4 4 bytes == xid && number_at 1 1 bytes == kind) is).0
 
 -- a message has one type
 pub part_refuses_not : (xid : ℕ) (bytes : List ℕ) → is_about xid 17 bytes ≡ true → is_about xid 1 bytes ≡ false
 unfolding is_about
 part_refuses_not xid bytes is =
-    let about = both_true (nat_le 12 (length bytes)) (number_at 4 4 bytes == xid && number_at 1 1 bytes == 17) is in
-    let id = both_true (number_at 4 4 bytes == xid) (number_at 1 1 bytes == 17) about.1 in
+    let about = and_parts (nat_le 12 (length bytes)) (number_at 4 4 bytes == xid && number_at 1 1 bytes == 17) is in
+    let id = and_parts (number_at 4 4 bytes == xid) (number_at 1 1 bytes == 17) about.1 in
     let kind : number_at 1 1 bytes ≡ 17 = eqb-true _ _ id.1 in
     rw (about.0, id.0, kind) refl
 
@@ -109,7 +105,7 @@ answer_by_replies d xid old new kept now_kept came parts refusals request barrie
   came = came;
   answered = answered;
   no_refusal = sym refusals_are ∙ none;
-  rows_so = subst (λ (ps : List (List ℕ)). AreRowsOf ps rows) parts_are ok;
+  rows_is = subst (λ (ps : List (List ℕ)). AreRowsOf ps rows) parts_are ok;
 }
 answer_by_replies d xid old new kept now_kept came parts refusals request barrier (Err fault) answered parts_are refusals_are request_is barrier_is ok none err =
     let e1 = subst (λ (ps : List (List ℕ)). IsRepliesFault d request (message_bytes barrier BarrierReply) ps refusals fault) parts_are err in

@@ -1,5 +1,5 @@
 -- Where a world keeps its word, a switch that is asked for its rows tells them, and all stays as it was.
-use Rattle.std.specs.Prelude.{◌≡◌, ◌≢◌, ℕ, ◌^◌, ◌<◌, false, List, [], ◌∷◌, ◌++◌, length, drop, map, Some, None, Result, Ok, refl, filter, true}
+use Rattle.std.specs.Prelude.{◌≡◌, ◌≢◌, ℕ, ◌^◌, ◌<◌, false, List, [], ◌∷◌, ◌++◌, length, drop, map, Some, None, Ok, refl, filter, true}
 use Rattle.std.specs.List.{AllByRecursion, concat, flat_map}
 use Rattle.std.proofs.Common.{sym, ap, ◌∙◌, subst, arith}
 use Rattle.std.proofs.lemmas.List.{append-nil}
@@ -23,10 +23,9 @@ use Rattle.of_wire.specs.Stats.{flow_query_fields}
 use Rattle.of_wire.specs.Grammar.{IsMessage}
 use Rattle.of_wire.specs.laws.ReadingLaws.{reading_of-message_bytes}
 use Rattle.of_stats.specs.declared.flow_row.FlowRow.{FlowRow}
-use Rattle.of_stats.specs.declared.fault.StatsFault.{StatsFault}
 use Rattle.of_stats.specs.Flows.{row_bytes, rows_bytes, AreRows}
 use Rattle.of_stats.specs.Reading.{rows_of}
-use Rattle.of_stats.specs.laws.FlowLaws.{rows_of-spelled, SpellRows-rows_bytes}
+use Rattle.of_stats.specs.laws.FlowLaws.{rows_of-spelled, SpellRows-rows_bytes, same_rows as equal_rows}
 use Rattle.of_stats.specs.Parts.{Part, joined}
 use Rattle.flow_table.specs.declared.entry.Entry.{Entry}
 use Rattle.flow_table.specs.Switch.{Declared, SwitchState}
@@ -241,7 +240,7 @@ pub record AskedInStep {Own : Type 0} (d xid : ℕ) (s : SwitchState) (old new :
   pub stays : switch_of d (state new) ≡ Some s
   pub others : (e : ℕ) → e ≢ d → switch_of e (state new) ≡ switch_of e (state old)
   pub others_wait : (e : ℕ) → e ≢ d → waits_of e (state new) ≡ waits_of e (state old)
-  pub kept_so : now_kept ≡ kept
+  pub kept_is : now_kept ≡ kept
 
 pub asked_in_step : {Own : Type 0} {Tells : Type 0} (d xid : ℕ) (s : SwitchState) (old new : Seen Own) (kept now_kept came : List (ℕ × List ℕ)) → xid < 2 ^ 32 → Tells → Answered Tells d xid old new kept now_kept came
     → Conforming new → switch_of d (state old) ≡ Some s → waits_of d (state old) ≡ [] → AskedInStep d xid s old new kept now_kept came
@@ -260,7 +259,7 @@ asked_in_step d xid s old new kept now_kept came lt told answered keeps is none 
     let got_is : w.got ≡ parts = parts_alone old.given.declared a xid (own_parts s) w.got mid lt small fit sent.waits may.1.1 w.hears.before_reply in
     let got_steps : wait_steps a w.got ++ reply_got a ∷ [] ≡ gots d (parts ++ reply ∷ []) = ap (λ (gs : List (List ℕ)). wait_steps a gs ++ reply_got a ∷ []) got_is ∙ part_steps a xid (own_parts s) lt small fit in
     let now : state new ≡ after_steps (gots d (parts ++ reply ∷ [])) mid = after ∙ ap (λ (xs : List WorldStep). after_steps xs mid) got_steps in
-    let came_is : came ≡ map (of_switch d) parts = w.hears.kept_so ∙ ap (kept_of a) got_is ∙ came_parts a xid (own_parts s) lt small fit in
+    let came_is : came ≡ map (of_switch d) parts = w.hears.kept_is ∙ ap (kept_of a) got_is ∙ came_parts a xid (own_parts s) lt small fit in
     let there : parts_in xid came ≡ parts = ap (parts_in xid) came_is ∙ parts_there d xid (own_parts s) lt fit in
     record {
       parts = there;
@@ -270,16 +269,10 @@ asked_in_step d xid s old new kept now_kept came lt told answered keeps is none 
       stays = ap (switch_of d) now ∙ gots_switch d (parts ++ reply ∷ []) mid ∙ sent.switch;
       others = λ e other. ap (switch_of e) now ∙ gots_other d e (parts ++ reply ∷ []) mid other ∙ sent.others e other;
       others_wait = λ e other. ap (waits_of e) now ∙ gots_other_waits d e (parts ++ reply ∷ []) mid other ∙ sent.others_wait e other;
-      kept_so = answered.kept_so ∙ ap (λ (ms : List (ℕ × List ℕ)). kept ++ others_in xid ms) came_is ∙ ap (λ (ms : List (ℕ × List ℕ)). kept ++ ms) (no_others d xid (own_parts s) lt fit) ∙ append-nil kept;
+      kept_is = answered.kept_is ∙ ap (λ (ms : List (ℕ × List ℕ)). kept ++ others_in xid ms) came_is ∙ ap (λ (ms : List (ℕ × List ℕ)). kept ++ ms) (no_others d xid (own_parts s) lt fit) ∙ append-nil kept;
     }
 
 -- ---- The rows
-
-abbrev read_as : List FlowRow → Result (List FlowRow) StatsFault
-read_as rows = Ok rows
-
-same_value : (x y : List FlowRow) → read_as x ≡ read_as y → x ≡ y
-same_value x y e = cc
 
 -- where the switch's own rows have a spelling, their bytes are read as they are
 pub own_read : (s : SwitchState) → AreRows (own_rows s) → rows_of (rows_bytes (own_rows s)) ≡ Ok (own_rows s)
@@ -290,13 +283,13 @@ pub rows_in_step : {Own : Type 0} {Tells : Type 0} (d xid : ℕ) (s : SwitchStat
 rows_in_step d xid s old new kept now_kept rows lt told gives keeps is none =
     let in_step = asked_in_step d xid s old new kept now_kept gives.came lt told gives.answered keeps is none in
     let said : joined (all_parts (parts_in xid gives.came)) ≡ rows_bytes (own_rows s) = ap joined in_step.said ∙ joined_own s in
-    let read : rows_of (rows_bytes (own_rows s)) ≡ Ok rows = ap rows_of (sym said) ∙ gives.rows_so.read in
+    let read : rows_of (rows_bytes (own_rows s)) ≡ Ok rows = ap rows_of (sym said) ∙ gives.rows_is.read in
     record {
-      rows_so = read;
-      same_rows = λ fits. same_value rows (own_rows s) (sym read ∙ own_read s fits);
+      rows_is = read;
+      same_rows = λ fits. equal_rows rows (own_rows s) (sym read ∙ own_read s fits);
       waits = in_step.waits;
       stays = in_step.stays;
       others = in_step.others;
       others_wait = in_step.others_wait;
-      kept_so = in_step.kept_so;
+      kept_is = in_step.kept_is;
     }

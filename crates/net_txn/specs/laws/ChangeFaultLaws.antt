@@ -10,6 +10,7 @@ use Rattle.of_wire.specs.Grammar.{enveloped}
 use Rattle.flow_table.specs.Switch.{SwitchState}
 use Rattle.flow_table.specs.Refusals.{message_refusal}
 use Rattle.flow_table.specs.Step.{sent_by_message, error_bytes}
+use Rattle.flow_table.specs.laws.RefusalLaws.{refused_sent}
 use Rattle.lego_model.specs.Answers.{rows_of_table, as_sent, would_touch}
 use Rattle.outside.specs.Seen.{Seen, Continues}
 use Rattle.outside.specs.State.{state, switch_of, waits_of}
@@ -27,8 +28,9 @@ use Rattle.net_txn.specs.laws.RowLaws.{sent}
 use Rattle.net_txn.specs.laws.HeardLaws.{IsSmall, small_refusal, next_xid-lt, heard-error}
 use Rattle.net_txn.specs.laws.FloodLaws.{IsGotAlone, few_got, ends_read}
 use Rattle.net_txn.specs.Answering.{answer_of_host, change_sent, IfGivenUp}
-use Rattle.net_txn.specs.Agreement.{Agrees}
-use Rattle.net_txn.specs.laws.InStepLaws.{after_both, both_sent, refused_sends, taken_sends, small_of, passed, some_from, shown_by}
+use Rattle.net_txn.specs.ChangeSteps.{Agrees}
+use Rattle.net_txn.specs.laws.InStepLaws.{after_both, both_sent, taken_sends, small_of, passed, shown_by}
+use Rattle.app_frames.specs.laws.BodyLaws.{map_some}
 
 -- ---- A change sends one message at most, an ERROR.
 
@@ -44,13 +46,13 @@ one_sent d xid m s lt none None is = subst (IsOne d xid) (sym (taken_sends xid m
 one_sent d xid m s lt none (Some e) is =
     let small = small_of e (subst IsSmall is (small_refusal s (sent m))) in
     let refused : heard (awaited_from d xid) (error_bytes xid (as_sent (FlowMod m)) e) ≡ Refused (record { xid = xid; error = e }) = heard-error d xid (as_sent (FlowMod m)) e lt small in
-    subst (IsOne d xid) (sym (refused_sends xid (as_sent (FlowMod m)) s e is)) (record { few = omega arith; alone = (rw refused refl, tt) })
+    subst (IsOne d xid) (sym (refused_sent xid (as_sent (FlowMod m)) s e is)) (record { few = omega arith; alone = (rw refused refl, tt) })
 
 not_flooded : {Own : Type 0} {Tells : Type 0} (d : ℕ) (bytes : List ℕ) (old new : Seen Own) (net : NetState) (n : ℕ) (m : Change) (xid : ℕ) → Tells → IfGivenUp Tells d m old new net (Fault (Flooded d n))
     → answer_of_host d bytes net ≡ None → reading_of bytes ≡ Ok (enveloped xid (FlowMod m)) → Conforming new → waits_of d (state old) ≡ [] → Agrees d net.views (state old) → ⊥
 not_flooded d bytes old new net n m xid told given host read keeps waits agrees =
     let p = passed d bytes m net xid host read in
-    let joined = some_from shown_by (switch_of d (state old)) p.rows (sym agrees ∙ p.known) in
+    let joined = map_some shown_by (switch_of d (state old)) p.rows (sym agrees ∙ p.known) in
     let s = joined.0 in
     let none_touched : would_touch m (shown_by s) ≡ false = ap (would_touch m) joined.2 ∙ p.touches_none in
     let a = awaited_from d net.xid in

@@ -74,16 +74,16 @@ change_none d xid m small is = rw (reading_of-as_sent xid m small is) refl
 pub halts_then : {Own : Type 0} {Tells : Type 0} (d : ℕ) (m : Change) (log : List Logged) (net now_net : NetState) (a : Awaited) (frame : List ℕ) (kept : List (ℕ × List ℕ)) (old new : Seen Own) (halt : Halt) → a ≡ awaited_from d net.xid → frame ≡ change_bytes a.first m
     → kept ≡ net.kept → IsMessage (FlowMod m) → net.xid < 2 ^ 32 → now_net.views ≡ net.views → now_net.log ≡ log → KeptMore d net.kept now_net.kept → BreaksBy Tells a ((frame ∷ []) ++ barrier_of a ∷ []) old new kept now_net.kept halt
     → Halts Tells d m log old new net now_net halt
-halts_then {Tells = Tells} d m log net now_net a frame kept old new Lost is spelled same message small views log_so more b =
+halts_then {Tells = Tells} d m log net now_net a frame kept old new Lost is spelled same message small views log_is more b =
     let c = broke_by d m net a frame kept now_net.kept old new Lost is spelled same b in
     let h = breaks_halts (change_bytes net.xid m ∷ []) Lost (next_xid-lt net.xid small) (change_none d net.xid m small message) c in
-    record { is_lost = h.0; read = h.1; views = views; log_so = log_so; kept = more }
-halts_then d m log net now_net a frame kept old new (Fault fault) is spelled same message small views log_so more b = inr (record {
+    record { is_lost = h.0; read = h.1; views = views; log_is = log_is; kept = more }
+halts_then d m log net now_net a frame kept old new (Fault fault) is spelled same message small views log_is more b = inr (record {
   message = message;
   is_xid = small;
   said = inl (broke_by d m net a frame kept now_net.kept old new (Fault fault) is spelled same b);
   views = inl views;
-  log_so = log_so;
+  log_is = log_is;
   kept = more;
 })
 
@@ -93,7 +93,7 @@ flight_none_lost d m log old new net now_net fault flight told =
     let a = awaited_from d net.xid in
     let frames = change_bytes net.xid m ∷ barrier_of a ∷ [] in
     elim flight.said [
-      | inl broke ↦ breaks_none_lost a frames broke.buf broke.trouble (fault_is_none d broke.trouble broke.buf fault broke.halt_so) broke.breaks told
+      | inl broke ↦ breaks_none_lost a frames broke.buf broke.trouble (fault_is_none d broke.trouble broke.buf fault broke.halt_is) broke.breaks told
       | inr replied ↦ replied_none_lost a frames replied told
     ]
 
@@ -216,7 +216,7 @@ breaks_move : {Own : Type 0} {Tells : Type 0} (d xid : ℕ) (m : Change) (old ne
     → Breaks Tells (awaited_from d xid) (change_bytes xid m ∷ barrier_of (awaited_from d xid) ∷ []) Growing [] old new kept now_kept buf trouble → MayMove d (as_sent (FlowMod m)) (state old) (state new)
 breaks_move d xid m old new kept now_kept buf trouble told small is none (inl u) =
     moves_by d (as_sent (FlowMod m)) (frames_said d u.first ++ unsaid d trouble) old new told u.calls
-    (front_moves d xid m small is u.first (unsaid d trouble) (front_of_two (change_bytes xid m) (barrier_of (awaited_from d xid)) u.first u.rest u.frames_so) (stays_unsaid d trouble none))
+    (front_moves d xid m small is u.first (unsaid d trouble) (front_of_two (change_bytes xid m) (barrier_of (awaited_from d xid)) u.first u.rest u.frames_is) (stays_unsaid d trouble none))
 breaks_move d xid m old new kept now_kept buf trouble told small is none (inr u) =
     let a = awaited_from d xid in
     let frames = change_bytes xid m ∷ barrier_of a ∷ [] in
@@ -229,7 +229,7 @@ pub flight_moves : {Own : Type 0} {Tells : Type 0} (d : ℕ) (m : Change) (log :
 flight_moves d m log old new net now_net fault told flight =
     let a = awaited_from d net.xid in
     elim flight.said [
-      | inl broke ↦ breaks_move d net.xid m old new net.kept now_net.kept broke.buf broke.trouble told flight.is_xid flight.message (fault_is_none d broke.trouble broke.buf fault broke.halt_so) broke.breaks
+      | inl broke ↦ breaks_move d net.xid m old new net.kept now_net.kept broke.buf broke.trouble told flight.is_xid flight.message (fault_is_none d broke.trouble broke.buf fault broke.halt_is) broke.breaks
       | inr replied ↦
           (let frames = change_bytes net.xid m ∷ barrier_of a ∷ [] in
           let last = wait_said a replied.got ++ reply_heard a ∷ [] in

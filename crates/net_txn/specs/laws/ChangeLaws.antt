@@ -1,5 +1,5 @@
 -- Laws of changes: how the pieces of one make the whole.
-use Rattle.std.specs.Prelude.{◌≡◌, ◌⊎◌, ℕ, ◌^◌, ◌<◌, Bool, true, List, [], ◌∷◌, ◌++◌, Option, Some, None, Result, Ok, Err, MatchResult, IfErr, IsSome, length, map, filter, not, ◌==◌, take, false, refl}
+use Rattle.std.specs.Prelude.{◌≡◌, ◌⊎◌, ℕ, ◌^◌, ◌<◌, Bool, true, List, [], ◌∷◌, ◌++◌, Option, Some, None, Result, Ok, Err, MatchResult, IfErr, IsSome, length, map, filter, not, ◌==◌, take, refl}
 use Rattle.std.specs.Option.{is_some}
 use Rattle.std.proofs.Common.{sym, ap, ◌∙◌, subst, inl, inr, arith}
 use Rattle.std.proofs.lemmas.List.{take_all, take_at, append-nil}
@@ -247,16 +247,16 @@ made_switches : {Own : Type 0} (Tells : Type 0) (d e : ℕ) (m : Change) (old ne
 made_switches Tells d e m old new net now_net (Ok answer) asked = ap (has_rows e) asked.views ∙ judged_switches asked.refusal d e m net.views
 made_switches Tells d e m old new net now_net (Err fault) stopped = stopped_switches d e m old new net now_net stopped
 
-stopped_so : {Own : Type 0} (Tells : Type 0) (d : ℕ) (m : Change) (old new : Seen Own) (net now_net : NetState) (result : Result Answer TxnFault) → Judged Tells d m old new net now_net result
+stopped_is : {Own : Type 0} (Tells : Type 0) (d : ℕ) (m : Change) (old new : Seen Own) (net now_net : NetState) (result : Result Answer TxnFault) → Judged Tells d m old new net now_net result
     → MatchResult result (Asked Tells d m old new net now_net) (λ f. Stopped d m old new net now_net)
-stopped_so Tells d m old new net now_net (Ok answer) does = does
-stopped_so Tells d m old new net now_net (Err f) (inl unsent) = inl unsent
-stopped_so Tells d m old new net now_net (Err f) (inr flight) = inr (record { views = flight.views; log = flight.log_so; kept = flight.kept })
+stopped_is Tells d m old new net now_net (Ok answer) does = does
+stopped_is Tells d m old new net now_net (Err f) (inl unsent) = inl unsent
+stopped_is Tells d m old new net now_net (Err f) (inr flight) = inr (record { views = flight.views; log = flight.log_is; kept = flight.kept })
 
-in_flight_so : {Own : Type 0} (Tells : Type 0) (d : ℕ) (m : Change) (old new : Seen Own) (net now_net : NetState) (result : Result Answer TxnFault) → Judged Tells d m old new net now_net result
+in_flight_is : {Own : Type 0} (Tells : Type 0) (d : ℕ) (m : Change) (old new : Seen Own) (net now_net : NetState) (result : Result Answer TxnFault) → Judged Tells d m old new net now_net result
     → IfErr result (λ f. Unsent old new net now_net ⊎ InFlight Tells d m (log_in_flight d m net.views net.log) old new net now_net (Fault f))
-in_flight_so Tells d m old new net now_net (Ok answer) does = tt
-in_flight_so Tells d m old new net now_net (Err f) does = does
+in_flight_is Tells d m old new net now_net (Ok answer) does = tt
+in_flight_is Tells d m old new net now_net (Err f) does = does
 
 no_packet : (d xid : ℕ) (m : Change) (bytes : List ℕ) (answer : Answer) → reading_of bytes ≡ Ok (enveloped xid (FlowMod m)) → [] ≡ holds d bytes answer
 unfolding holds
@@ -280,7 +280,7 @@ cut_flight d m old new net mid n fault longer known (inr flight) = inr (record {
   is_xid = flight.is_xid;
   said = flight.said;
   views = flight.views;
-  log_so = cut_log d m net.log mid.log n longer flight.log_so ∙ sym (rw known refl);
+  log_is = cut_log d m net.log mid.log n longer flight.log_is ∙ sym (rw known refl);
   kept = flight.kept;
 })
 
@@ -296,23 +296,11 @@ forgotten Tells d m old new net mid now n known (Err Lost) forgot longer row sam
       is_lost = made.is_lost;
       read = made.read;
       views = made.views;
-      log_so = cut_log d m net.log mid.log n longer made.log_so;
+      log_is = cut_log d m net.log mid.log n longer made.log_is;
       kept = made.kept;
     })
 forgotten Tells d m old new net mid now n known (Err (Fault fault)) forgot longer row same made =
     subst (λ (x : NetState). Unsent old new net x ⊎ InFlight Tells d m (log_in_flight d m net.views net.log) old new net x (Fault fault)) (sym same) (cut_flight d m old new net mid n fault longer (sym row ∙ forgot) made)
-
-with_log : {Own : Type 0} {Tells : Type 0} (d : ℕ) (m : Change) (log more : List Logged) (old new : Seen Own) (net mid : NetState) (fault : TxnFault) → log ≡ more
-    → Unsent old new net mid ⊎ InFlight Tells d m log old new net mid (Fault fault) → Unsent old new net mid ⊎ InFlight Tells d m more old new net mid (Fault fault)
-with_log {Tells = Tells} d m log more old new net mid fault same made = subst (λ (l : List Logged). Unsent old new net mid ⊎ InFlight Tells d m l old new net mid (Fault fault)) same made
-
-pub not_forgotten : {Own : Type 0} (Tells : Type 0) (d : ℕ) (m : Change) (old new : Seen Own) (net mid : NetState) (known : Bool) (result : Result Answer Halt) → forgets known result ≡ false → known ≡ is_row_at d (key_in m) net.views
-    → MatchResult result (Asked Tells d m old new net mid) (Halts Tells d m (with_logged (logged_by d m) net.log) old new net mid) → Forgetting Tells d m old new net mid result
-not_forgotten Tells d m old new net mid known (Ok answer) kept row made = made
-not_forgotten Tells d m old new net mid known (Err Lost) kept row made = absurd cc
-not_forgotten Tells d m old new net mid known (Err (Fault fault)) kept row made =
-    let none : is_row_at d (key_in m) net.views ≡ false = sym row ∙ kept in
-    with_log d m (with_logged (logged_by d m) net.log) (log_in_flight d m net.views net.log) old new net mid fault (sym (rw none refl)) made
 
 -- ---- A switch that is lost leaves
 
@@ -335,7 +323,7 @@ unfolding left_of
 lost_after {d = d} net mid stays l =
     ap (λ (n : NetState). lost_net d n) stays
     ∙ ap (λ (vs : List TableView). left_of d net vs mid.log mid.xid (filter (λ m. not (m.0 == d)) mid.kept)) l.views
-    ∙ ap (λ (log : List Logged). left_of d net net.views log mid.xid (filter (λ m. not (m.0 == d)) mid.kept)) l.log_so
+    ∙ ap (λ (log : List Logged). left_of d net net.views log mid.xid (filter (λ m. not (m.0 == d)) mid.kept)) l.log_is
     ∙ ap (λ (kept : List (ℕ × List ℕ)). left_of d net net.views net.log mid.xid kept) (forget_kept d net.kept mid.kept l.kept)
 
 pub makes_lost : {Own : Type 0} {Tells : Type 0} {d : ℕ} {old new : Seen Own} (net mid now : NetState) → StaysBut net mid → LosesSo Tells d net.log old new net mid → now ≡ lost_net d mid → MakesLost Tells d old new net now
@@ -344,7 +332,7 @@ makes_lost {Tells = Tells} {d = d} {old = old} {new = new} net mid now stays l g
     record {
       is_lost = l.is_lost;
       read = l.read;
-      net_so = same ∙ ap (λ (x : ℕ). record (lost_net d net) { xid = x }) (sym (ap (λ (n : NetState). n.xid) same));
+      net_is = same ∙ ap (λ (x : ℕ). record (lost_net d net) { xid = x }) (sym (ap (λ (n : NetState). n.xid) same));
     }
 
 -- ---- The whole
@@ -360,30 +348,30 @@ judged_losses d m old new net now_net (Err fault) (inl unsent) told = ap (λ (s 
 judged_losses d m old new net now_net (Err fault) (inr flight) told = flight_none_lost d m (log_in_flight d m net.views net.log) old new net now_net fault flight told
 
 module _ {Own : Type 0} (Tells : Type 0) (d : ℕ) (bytes : List ℕ) (old new : Seen Own) (net now_net : NetState) (result : Result Answer TxnFault) (xid : ℕ) (m : Change) (none : answer_of_host d bytes net ≡ None) (read : reading_of bytes ≡ Ok (enveloped xid (FlowMod m))) where
-  answers_so : Judged Tells d m old new net now_net result → AnswersSo Tells d bytes old new net now_net result
-  answers_so judged other n _ again =
-      subst (λ (x : Change). MatchResult result (Asked Tells d x old new net now_net) (λ f. Stopped d x old new net now_net)) (same_change xid other m n (sym read ∙ again)) (stopped_so Tells d m old new net now_net result judged)
+  answers_is : Judged Tells d m old new net now_net result → AnswersSo Tells d bytes old new net now_net result
+  answers_is judged other n _ again =
+      subst (λ (x : Change). MatchResult result (Asked Tells d x old new net now_net) (λ f. Stopped d x old new net now_net)) (same_change xid other m n (sym read ∙ again)) (stopped_is Tells d m old new net now_net result judged)
 
-  flooded_so : IfErr result (λ fault. IfGivenUp Tells d m old new net (Fault fault)) → IfAsked d bytes net (λ x. IfErr result (λ fault. IfGivenUp Tells d x old new net (Fault fault)))
-  flooded_so f other n _ again = subst (λ (x : Change). IfErr result (λ fault. IfGivenUp Tells d x old new net (Fault fault))) (same_change xid other m n (sym read ∙ again)) f
+  flooded_is : IfErr result (λ fault. IfGivenUp Tells d m old new net (Fault fault)) → IfAsked d bytes net (λ x. IfErr result (λ fault. IfGivenUp Tells d x old new net (Fault fault)))
+  flooded_is f other n _ again = subst (λ (x : Change). IfErr result (λ fault. IfGivenUp Tells d x old new net (Fault fault))) (same_change xid other m n (sym read ∙ again)) f
 
   changes_joined : Continues Tells old new → IfErr result (IsCause Tells d old new) → MakesJoined Tells d m old new net now_net result → ChangesJoined Tells d bytes old new net now_net result
   changes_joined continues cause j = record {
-    switches = λ e. made_switches Tells d e m old new net now_net result (stopped_so Tells d m old new net now_net result j.judged);
+    switches = λ e. made_switches Tells d e m old new net now_net result (stopped_is Tells d m old new net now_net result j.judged);
     ports = ap (λ (n : NetState). n.ports) j.stays;
     left = ap (λ (n : NetState). n.left) j.stays;
     held = ap (λ (n : NetState). n.held) j.stays ∙ nothing_held d bytes xid m result net.held read;
     by_host = λ answer h. absurd (no_answer answer (sym h ∙ none));
-    by_switch = answers_so j.judged;
-    flooded = flooded_so j.flooded;
-    in_flight = λ other n _ again. in_flight_so Tells d n old new net now_net result (subst (λ (x : Change). Judged Tells d x old new net now_net result) (same_change xid other m n (sym read ∙ again)) j.judged);
-    reached = reaches d bytes old new net now_net result (answers_so j.judged);
-    in_step = steps d bytes old new net now_net result continues cause (answers_so j.judged) (flooded_so j.flooded);
+    by_switch = answers_is j.judged;
+    flooded = flooded_is j.flooded;
+    in_flight = λ other n _ again. in_flight_is Tells d n old new net now_net result (subst (λ (x : Change). Judged Tells d x old new net now_net result) (same_change xid other m n (sym read ∙ again)) j.judged);
+    reached = reaches d bytes old new net now_net result (answers_is j.judged);
+    in_step = steps d bytes old new net now_net result continues cause (answers_is j.judged) (flooded_is j.flooded);
     losses = judged_losses d m old new net now_net result j.judged;
   }
 
   changes_lost : MakesLost Tells d old new net now_net → ChangesLost Tells d old new net now_net
-  changes_lost l = record { viewed = viewed d net.views ∙ some_is_some (rows_at d net.views) (host_known d bytes net none); is_lost = l.is_lost; net_so = l.net_so }
+  changes_lost l = record { viewed = viewed d net.views ∙ some_is_some (rows_at d net.views) (host_known d bytes net none); is_lost = l.is_lost; net_is = l.net_is }
 
   pub Changes-by_switch : Makes Tells d m old new net now_net result → Changes Tells d bytes old new net now_net result
   Changes-by_switch makes = record {
@@ -391,11 +379,11 @@ module _ {Own : Type 0} (Tells : Type 0) (d : ℕ) (bytes : List ℕ) (old new :
     links = speaks_links makes.speaks;
     no_strays = λ told keeps joined. speaks_place makes.speaks told keeps (joined (host_known d bytes net none));
     read = λ ok told. elim makes.made [
-      | inl j ↦ asked_read Tells d m old new net now_net result (stopped_so Tells d m old new net now_net result j.judged) ok told
+      | inl j ↦ asked_read Tells d m old new net now_net result (stopped_is Tells d m old new net now_net result j.judged) ok told
       | inr l ↦ l.1.read told
     ];
     cause = makes.cause;
-    moment = elim makes.made [ inl j ↦ ap (λ (n : NetState). n.moment) j.stays | inr l ↦ ap (λ (n : NetState). n.moment) l.1.net_so ];
-    room = elim makes.made [ inl j ↦ ap (λ (n : NetState). n.room) j.stays | inr l ↦ ap (λ (n : NetState). n.room) l.1.net_so ];
+    moment = elim makes.made [ inl j ↦ ap (λ (n : NetState). n.moment) j.stays | inr l ↦ ap (λ (n : NetState). n.moment) l.1.net_is ];
+    room = elim makes.made [ inl j ↦ ap (λ (n : NetState). n.room) j.stays | inr l ↦ ap (λ (n : NetState). n.room) l.1.net_is ];
     answered = elim makes.made [ inl j ↦ inl (changes_joined (speaks_on makes.speaks) makes.cause j) | inr l ↦ inr (none, l.0, changes_lost l.1) ];
   }

@@ -11,7 +11,7 @@ use Rattle.net_txn.specs.declared.halt.Halt.TheVariants.{Fault}
 use Rattle.net_txn.specs.Causes.{IsCause}
 use Rattle.net_txn.specs.Net.{NetState}
 use Rattle.net_txn.specs.Answering.{answer_of_host, Asked, Stopped, IfGivenUp}
-use Rattle.net_txn.specs.Agreement.{Reaches, Steps}
+use Rattle.net_txn.specs.ChangeSteps.{Reaches, Steps}
 use Rattle.net_txn.specs.laws.InStepLaws.{in_step}
 use Rattle.net_txn.specs.laws.ChangeFaultLaws.{change_fault}
 use Rattle.net_txn.specs.laws.ReachedLaws.{reached}

@@ -65,22 +65,22 @@ untreated_breaks sent storage bytes troubles.Full buf is = is
 -- what a message is to the wait was done
 pub treats_by : {Own : Type 0} {Tells : Type 0} {a : Awaited} {storage : Storage} {bytes : List ℕ} {old new : Seen Own} {kept now_kept : List (ℕ × List ℕ)} {answer now_answer : Option Refusal} {ended : Bool} (h : Heard) → heard a bytes ≡ h → ended ≡ is_reply h
     → Calls Tells a.dpid (said_by a.dpid h bytes) old new → KeptAs storage kept (kept_by a.dpid h bytes) now_kept → now_answer ≡ first_of answer (refusal_in h) → Treats Tells a storage bytes old new kept now_kept answer now_answer ended
-treats_by {Tells = Tells} {a = a} {storage = storage} {bytes = bytes} {old = old} {new = new} {kept = kept} {now_kept = now_kept} {answer = answer} {now_answer = now_answer} h is ends calls kept_so answer_so = record {
+treats_by {Tells = Tells} {a = a} {storage = storage} {bytes = bytes} {old = old} {new = new} {kept = kept} {now_kept = now_kept} {answer = answer} {now_answer = now_answer} h is ends calls kept_is answer_is = record {
   ends = ends ∙ ap is_reply (sym is);
   calls = subst (λ (x : Heard). Calls Tells a.dpid (said_by a.dpid x bytes) old new) (sym is) calls;
-  kept_so = subst (λ (x : Heard). KeptAs storage kept (kept_by a.dpid x bytes) now_kept) (sym is) kept_so;
-  answer_so = answer_so ∙ ap (λ (x : Heard). first_of answer (refusal_in x)) (sym is);
+  kept_is = subst (λ (x : Heard). KeptAs storage kept (kept_by a.dpid x bytes) now_kept) (sym is) kept_is;
+  answer_is = answer_is ∙ ap (λ (x : Heard). first_of answer (refusal_in x)) (sym is);
 }
 
 -- none came
 pub hears_none : {Own : Type 0} {Tells : Type 0} {a : Awaited} {old new : Seen Own} (storage : Storage) (sent : List (ℕ × Key)) (buf : List ℕ) (kept : List (ℕ × List ℕ)) (t : Trouble)
     → (IsOfHearing t × Calls Tells a.dpid (unheard a.dpid t buf) old new) → HearsLast Tells a storage sent old new kept kept buf t
-hears_none storage sent buf kept t h = record { by = None; why = unheard_by sent storage t buf h.0; calls = h.1; kept_so = refl }
+hears_none storage sent buf kept t h = record { by = None; why = unheard_by sent storage t buf h.0; calls = h.1; kept_is = refl }
 
 -- one refused an inverse
 pub hears_refusal : {Own : Type 0} {Tells : Type 0} {a : Awaited} {old new : Seen Own} {buf : List ℕ} {n : ℕ} (storage : Storage) (sent : List (ℕ × Key)) (kept : List (ℕ × List ℕ)) (key : Key) (xid : ℕ)
     → HearsMessage Tells a.dpid old new buf n → Some key ≡ key_refused sent (take n buf) → xid ≡ number_at 4 4 (take n buf) → HearsLast Tells a storage sent old new kept kept buf (troubles.Refused key xid n)
-hears_refusal {buf = buf} {n = n} storage sent kept key xid h refused is = record { by = Some (take n buf); why = (h.read, (refl, sym refused, is)); calls = h.calls; kept_so = refl }
+hears_refusal {buf = buf} {n = n} storage sent kept key xid h refused is = record { by = Some (take n buf); why = (h.read, (refl, sym refused, is)); calls = h.calls; kept_is = refl }
 
 -- one was treated, or not
 pub hears_then : {Own : Type 0} {Tells : Type 0} {old mid : Seen Own} {buf : List ℕ} {n : ℕ} (a : Awaited) (new : Seen Own) (storage : Storage) (sent : List (ℕ × Key)) (kept now_kept : List (ℕ × List ℕ)) (answer now_answer : Option Refusal) (result : Result Bool Trouble)
@@ -92,15 +92,15 @@ hears_then {buf = buf} {n = n} a new storage sent kept now_kept answer now_answe
   read = h.read;
   unrefused = sym unrefused;
   ends = treated.ends;
-  kept_so = treated.kept_so;
-  answer_so = treated.answer_so;
+  kept_is = treated.kept_is;
+  answer_is = treated.answer_is;
   calls = Calls-then h.calls treated.calls;
 }
 hears_then {buf = buf} {n = n} a new storage sent kept now_kept answer now_answer (Err t) h unrefused now_buf treated = record {
   by = Some (take n buf);
   why = (h.read, untreated_breaks sent storage (take n buf) t now_buf treated.why);
   calls = Calls-then h.calls treated.calls;
-  kept_so = treated.kept_so;
+  kept_is = treated.kept_is;
 }
 
 -- ---- A wait
@@ -110,8 +110,8 @@ none_yet {Tells = Tells} a storage sent seen kept = record {
   got = [];
   count = refl;
   before = record { read = tt; before_reply = tt; unrefused = tt };
-  kept_so = none_kept storage kept;
-  answer_so = refl;
+  kept_is = none_kept storage kept;
+  answer_is = refl;
   calls = Calls-none Tells a.dpid seen;
 }
 
@@ -127,9 +127,9 @@ one_more {a = a} {storage = storage} {sent = sent} {kept = kept} {kept1 = kept1}
         before_reply = all_two (λ x. is_reply (heard a x) ≡ false) w.got (b ∷ []) w.before.before_reply (sym h.ends, tt);
         unrefused = all_two (λ x. key_refused sent x ≡ None) w.got (b ∷ []) w.before.unrefused (h.unrefused, tt);
       };
-      kept_so = subst (λ (ms : List (ℕ × List ℕ)). KeptAs storage kept ms kept2) (flat_map_more (λ x. kept_by a.dpid (heard a x) x) [] w.got b)
-          (kept_then storage (kept_of a w.got) (kept_by a.dpid (heard a b) b) kept kept1 kept2 w.kept_so h.kept_so);
-      answer_so = h.answer_so ∙ ap (λ (o : Option Refusal). first_of o (refusal_in (heard a b))) w.answer_so ∙ sym (answer_more a w.got b);
+      kept_is = subst (λ (ms : List (ℕ × List ℕ)). KeptAs storage kept ms kept2) (flat_map_more (λ x. kept_by a.dpid (heard a x) x) [] w.got b)
+          (kept_then storage (kept_of a w.got) (kept_by a.dpid (heard a b) b) kept kept1 kept2 w.kept_is h.kept_is);
+      answer_is = h.answer_is ∙ ap (λ (o : Option Refusal). first_of o (refusal_in (heard a b))) w.answer_is ∙ sym (answer_more a w.got b);
       calls = Calls-same (flat_map_more (heard_said a) [] w.got b) (Calls-then w.calls h.calls);
     }
 
@@ -144,13 +144,13 @@ pub replied : {Own : Type 0} {Tells : Type 0} {a : Awaited} {storage : Storage} 
 replied {a = a} {storage = storage} {kept = kept} {kept1 = kept1} {kept2 = kept2} {answer1 = answer1} w few h =
     let b = h.bytes in
     let is : heard a b ≡ Reply = is_Reply (heard a b) (sym h.ends) in
-    let kept_same : kept2 ≡ kept1 = kept_none storage kept1 kept2 (subst (λ (x : Heard). KeptAs storage kept1 (kept_by a.dpid x b) kept2) is h.kept_so) in
+    let kept_same : kept2 ≡ kept1 = kept_none storage kept1 kept2 (subst (λ (x : Heard). KeptAs storage kept1 (kept_by a.dpid x b) kept2) is h.kept_is) in
     record {
       got = w.got;
       few = omega (arith, w.count, few);
       before = w.before;
-      kept_so = subst (λ (k : List (ℕ × List ℕ)). KeptAs storage kept (kept_of a w.got) k) (sym kept_same) w.kept_so;
-      answer_so = h.answer_so ∙ ap (λ (x : Heard). first_of answer1 (refusal_in x)) is ∙ first_of_none answer1 ∙ w.answer_so;
+      kept_is = subst (λ (k : List (ℕ × List ℕ)). KeptAs storage kept (kept_of a w.got) k) (sym kept_same) w.kept_is;
+      answer_is = h.answer_is ∙ ap (λ (x : Heard). first_of answer1 (refusal_in x)) is ∙ first_of_none answer1 ∙ w.answer_is;
       calls = Calls-then w.calls (Calls-same (reply_said a b (sym h.ends)) h.calls);
     }
 
@@ -170,7 +170,7 @@ unreplied {a = a} {storage = storage} {sent = sent} {kept = kept} {buf = buf} {t
   is_xid = small;
   got = w.got;
   before = w.before;
-  kept_so = subst (λ (k : List (ℕ × List ℕ)). KeptAs storage kept (kept_of a w.got) k) (sym h.kept_so) w.kept_so;
+  kept_is = subst (λ (k : List (ℕ × List ℕ)). KeptAs storage kept (kept_of a w.got) k) (sym h.kept_is) w.kept_is;
   by = h.by;
   why = later_break sent storage (length w.got) h.by t buf h.why;
   calls = Calls-then w.calls h.calls;
@@ -183,7 +183,7 @@ flooded {a = a} buf small many w = inr (record {
   is_xid = small;
   got = w.got;
   before = w.before;
-  kept_so = w.kept_so;
+  kept_is = w.kept_is;
   by = None;
   why = w.count ∙ many;
   calls = Calls-same (sym (append-nil (wait_said a w.got))) w.calls;
@@ -194,23 +194,23 @@ flooded {a = a} buf small many w = inr (record {
 -- the first one could not be sent
 pub unsent : {Own : Type 0} {Tells : Type 0} {a : Awaited} {old new : Seen Own} (frames : List (List ℕ)) (storage : Storage) (sent : List (ℕ × Key)) (kept : List (ℕ × List ℕ)) (buf : List ℕ) (t : Trouble)
     → (IsOfLink t × Calls Tells a.dpid (unsaid a.dpid t) old new) → Breaks Tells a frames storage sent old new kept kept buf t
-unsent frames storage sent kept buf t s = inl (record { first = []; rest = frames; frames_so = refl; why = s.0; calls = s.1; kept_so = refl })
+unsent frames storage sent kept buf t s = inl (record { first = []; rest = frames; frames_is = refl; why = s.0; calls = s.1; kept_is = refl })
 
 pub replied_behind : {Own : Type 0} {Tells : Type 0} {a : Awaited} {frames : List (List ℕ)} {storage : Storage} {sent : List (ℕ × Key)} {old mid new : Seen Own} {kept now_kept : List (ℕ × List ℕ)} {answer : Option Refusal} (frame : List ℕ)
     → Calls Tells a.dpid (Says a.dpid frame ∷ []) old mid → Replied Tells a frames storage sent mid new kept now_kept answer → Replied Tells a (frame ∷ frames) storage sent old new kept now_kept answer
-replied_behind frame before r = record { got = r.got; few = r.few; before = r.before; kept_so = r.kept_so; answer_so = r.answer_so; calls = Calls-then before r.calls }
+replied_behind frame before r = record { got = r.got; few = r.few; before = r.before; kept_is = r.kept_is; answer_is = r.answer_is; calls = Calls-then before r.calls }
 
 pub breaks_behind : {Own : Type 0} {Tells : Type 0} {a : Awaited} {frames : List (List ℕ)} {storage : Storage} {sent : List (ℕ × Key)} {old mid new : Seen Own} {kept now_kept : List (ℕ × List ℕ)} {buf : List ℕ} {t : Trouble} (frame : List ℕ)
     → Calls Tells a.dpid (Says a.dpid frame ∷ []) old mid → Breaks Tells a frames storage sent mid new kept now_kept buf t → Breaks Tells a (frame ∷ frames) storage sent old new kept now_kept buf t
 breaks_behind frame before (inl u) = inl (record {
   first = frame ∷ u.first;
   rest = u.rest;
-  frames_so = ap (λ (fs : List (List ℕ)). frame ∷ fs) u.frames_so;
+  frames_is = ap (λ (fs : List (List ℕ)). frame ∷ fs) u.frames_is;
   why = u.why;
   calls = Calls-then before u.calls;
-  kept_so = u.kept_so;
+  kept_is = u.kept_is;
 })
-breaks_behind frame before (inr u) = inr (record { is_xid = u.is_xid; got = u.got; before = u.before; kept_so = u.kept_so; by = u.by; why = u.why; calls = Calls-then before u.calls })
+breaks_behind frame before (inr u) = inr (record { is_xid = u.is_xid; got = u.got; before = u.before; kept_is = u.kept_is; by = u.by; why = u.why; calls = Calls-then before u.calls })
 
 -- a message was sent before
 pub behind : {Own : Type 0} {Tells : Type 0} {old mid : Seen Own} (a : Awaited) (frames : List (List ℕ)) (storage : Storage) (sent : List (ℕ × Key)) (new : Seen Own) (kept now_kept : List (ℕ × List ℕ)) (buf : List ℕ) (frame : List ℕ) (result : Result (Option Refusal) Trouble)

@@ -41,11 +41,11 @@ none_more xs ps = sym (ports_lost-append xs [] ps)
 -- ---- Steps of an undo
 
 pub Further-none : {Own : Type 0} (Tells : Type 0) (views : List TableView) (seen : Seen Own) (kept : List (ℕ × List ℕ)) (ps : PortLists) (x : ℕ) → Further Tells views seen seen kept kept ps ps x x [] [] None
-Further-none Tells views seen kept ps x = record { parts = []; undoing = Undoing-none Tells views seen kept x; few = λ d. omega arith; fault_so = refl; ports_so = refl }
+Further-none Tells views seen kept ps x = record { parts = []; undoing = Undoing-none Tells views seen kept x; few = λ d. omega arith; fault_is = refl; ports_is = refl }
 
 pub Further-skipped : {Own : Type 0} {Tells : Type 0} {views : List TableView} {base now : Seen Own} {kept kept1 : List (ℕ × List ℕ)} {ps qs : PortLists} {x y : ℕ} {switches : List ℕ} {reverted : List Logged} {fault : Option TxnFault} (e : Logged)
     → Further Tells views base now kept kept1 ps qs x y switches reverted fault → (is_viewed e.dpid views ≡ true → (progress_of e.dpid reverted).failed ≡ true) → e.progress.failed ≡ true → e.progress.lost ≡ (progress_of e.dpid reverted).lost → Further Tells views base now kept kept1 ps qs x y switches (e ∷ reverted) fault
-Further-skipped e f failed is out = record { parts = f.parts; undoing = Undoing-skipped e f.undoing failed is out; few = f.few; fault_so = f.fault_so; ports_so = f.ports_so }
+Further-skipped e f failed is out = record { parts = f.parts; undoing = Undoing-skipped e f.undoing failed is out; few = f.few; fault_is = f.fault_is; ports_is = f.ports_is }
 
 -- a switch that is joined and has not failed
 pub Pending-of : {Own : Type 0} {Tells : Type 0} {views : List TableView} {base now : Seen Own} {kept kept1 : List (ℕ × List ℕ)} {ps qs : PortLists} {x y : ℕ} {switches : List ℕ} {reverted : List Logged} {fault : Option TxnFault} (d : ℕ)
@@ -55,8 +55,8 @@ Pending-of d f known unfailed = record {
   undoing = f.undoing;
   few = λ c other. f.few c;
   free = sym ((f.undoing.stands d).stuck known) ∙ unfailed;
-  fault_so = f.fault_so;
-  ports_so = f.ports_so;
+  fault_is = f.fault_is;
+  ports_is = f.ports_is;
 }
 
 -- its inverses are few
@@ -66,8 +66,8 @@ Further-of d p known few = record {
   parts = p.parts;
   undoing = p.undoing;
   few = λ c. elim (cases_eq c d) [ inl same ↦ subst (λ (n : ℕ). since_of (parts_of n p.parts) < 4096) (sym same) mine | inr other ↦ p.few c other ];
-  fault_so = p.fault_so;
-  ports_so = p.ports_so;
+  fault_is = p.fault_is;
+  ports_is = p.ports_is;
 }
   where
     mine : since_of (parts_of d p.parts) < 4096
@@ -89,8 +89,8 @@ Further-inverse {Tells = Tells} {views = views} {base = base} {now = now} {next 
           (Stands-inverse (is_viewed d views) d base.counts now.counts next.counts (parts_of d f.parts) reverted e f.undoing.continues.none_fell m.continues.none_fell s known free can few is well stays since) (λ t joined. tt) refl (inl (ap (λ (n : ℕ). (n, e.key)) (sym is), f.undoing.order)) (ends_none ((d, Inverse e.progress.xid e.key) ∷ f.parts));
       few = λ c other. rw (ne_eqb d c (λ same. other (sym same))) (f.few c);
       free = rw (eq-eqb d d refl) refl;
-      fault_so = f.fault_so ∙ sym (first_or_none (first_fault f.parts));
-      ports_so = f.ports_so ∙ none_more (lost_parts f.parts) ps;
+      fault_is = f.fault_is ∙ sym (first_or_none (first_fault f.parts));
+      ports_is = f.ports_is ∙ none_more (lost_parts f.parts) ps;
     }
 
 -- its barrier was answered
@@ -104,10 +104,10 @@ Further-barred {views = views} {base = base} {now = now} {next = next} {ps = ps}
       parts = (d, BarrierPassed y t.got) ∷ p.parts;
       undoing = Undoing-part d (BarrierPassed y t.got) later p.undoing t.moves refl others
           (Stands-barred (is_viewed d views) d y base.counts now.counts next.counts (parts_of d p.parts) reverted later t.got p.undoing.continues.none_fell t.moves.continues.none_fell s known p.free (record { is_xid = lt; few = t.few; before = before }) unfailed stays none same)
-          (λ told joined. tt) t.kept_so (rw kept_log p.undoing.order) (ends_more d (BarrierPassed y t.got) switches more p.parts refl step p.undoing.ends);
+          (λ told joined. tt) t.kept_is (rw kept_log p.undoing.order) (ends_more d (BarrierPassed y t.got) switches more p.parts refl step p.undoing.ends);
       few = λ c. elim (cases_eq c d) [ inl mine ↦ rw (eq-eqb d c (sym mine)) (omega arith) | inr other ↦ rw (ne_eqb d c (λ is. other (sym is))) (p.few c other) ];
-      fault_so = p.fault_so ∙ sym (first_or_none (first_fault p.parts));
-      ports_so = p.ports_so ∙ none_more (lost_parts p.parts) ps;
+      fault_is = p.fault_is ∙ sym (first_or_none (first_fault p.parts));
+      ports_is = p.ports_is ∙ none_more (lost_parts p.parts) ps;
     }
 
 -- it failed, or was lost
@@ -142,8 +142,8 @@ Further-stuck {Tells = Tells} {views = views} {base = base} {now = now} {next = 
           (λ told joined. f.loses told (joined_still d p.undoing p.free told (joined d known)))
           some (thinned (sent_in p.parts) p.undoing.order) (ends_more d part switches more p.parts refl step p.undoing.ends);
       few = λ c. elim (cases_eq c d) [ inl mine ↦ rw (eq-eqb d c (sym mine)) (omega arith) | inr other ↦ rw (ne_eqb d c (λ is. other (sym is))) (p.few c other) ];
-      fault_so = ap (λ (o : Option TxnFault). first_fault_of o (fault_by halt)) p.fault_so ∙ ap (λ (o : Option TxnFault). first_fault_of (first_fault p.parts) o) (sym (first_of_stuck d y halt f.steps));
-      ports_so = ap (ports_by d halt) p.ports_so ∙ sym (ports_of_stuck d y halt f.steps (ports_lost (lost_parts p.parts) ps)) ∙ sym (ports_lost-append (lost_parts p.parts) (lost_in d part) ps);
+      fault_is = ap (λ (o : Option TxnFault). first_fault_of o (fault_by halt)) p.fault_is ∙ ap (λ (o : Option TxnFault). first_fault_of (first_fault p.parts) o) (sym (first_of_stuck d y halt f.steps));
+      ports_is = ap (ports_by d halt) p.ports_is ∙ sym (ports_of_stuck d y halt f.steps (ports_lost (lost_parts p.parts) ps)) ∙ sym (ports_lost-append (lost_parts p.parts) (lost_in d part) ps);
     }
 
 -- ---- Room

@@ -9,13 +9,13 @@ use Rattle.net_txn.specs.declared.trouble.Trouble.TheVariants as troubles
 use Rattle.net_txn.specs.Causes.{halt_by}
 use Rattle.net_txn.specs.Said.{IsHaltBy}
 
-pub halt_so : (d : ℕ) (t : Trouble) (buf : List ℕ) (halt : Halt) → halt ≡ halt_by d t buf → IsHaltBy d t buf halt
-halt_so d troubles.Link buf halt is = is
-halt_so d (troubles.Broke n) buf halt is = inl is
-halt_so d (troubles.Refused k x n) buf halt is = inl is
-halt_so d troubles.Flooded buf halt is = inl is
-halt_so d troubles.Short buf halt is = inl is
-halt_so d troubles.Full buf halt is = inl is
+pub halt_is : (d : ℕ) (t : Trouble) (buf : List ℕ) (halt : Halt) → halt ≡ halt_by d t buf → IsHaltBy d t buf halt
+halt_is d troubles.Link buf halt is = is
+halt_is d (troubles.Broke n) buf halt is = inl is
+halt_is d (troubles.Refused k x n) buf halt is = inl is
+halt_is d troubles.Flooded buf halt is = inl is
+halt_is d troubles.Short buf halt is = inl is
+halt_is d troubles.Full buf halt is = inl is
 
 pub halt_short : (d : ℕ) (t : Trouble) (buf : List ℕ) → (t ≡ troubles.Link → ⊥) → IsHaltBy d t buf (Fault NoMemory)
 halt_short d troubles.Link buf other = absurd (other refl)

@@ -104,7 +104,7 @@ small_refusal s m = small_or (flow_refusal s.had m) (refusal s.declared.cap m s.
 
 -- ---- The error
 
-IsMessage-error : (xid : ℕ) (m : Message) (e : OfError) → (e.kind < 256 ^ 2) × (e.code < 256 ^ 2) → IsMessage (Error e.kind e.code (take 64 (message_bytes xid m)))
+pub IsMessage-error : (xid : ℕ) (m : Message) (e : OfError) → (e.kind < 256 ^ 2) × (e.code < 256 ^ 2) → IsMessage (Error e.kind e.code (take 64 (message_bytes xid m)))
 unfolding message_size
 IsMessage-error xid m e small = record {
   fields = (small.0, (small.1, tt));

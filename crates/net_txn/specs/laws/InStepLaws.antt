@@ -19,7 +19,9 @@ use Rattle.flow_table.specs.Table.{TableState}
 use Rattle.flow_table.specs.Switch.{Declared, SwitchState}
 use Rattle.flow_table.specs.Refusals.{or_else, message_refusal}
 use Rattle.flow_table.specs.Step.{after_taken, after_message, sent_by_taken, sent_by_message, error_bytes}
+use Rattle.flow_table.specs.laws.RefusalLaws.{refused_sent}
 use Rattle.app_frames.specs.declared.frame.Answer.{Answer}
+use Rattle.app_frames.specs.laws.BodyLaws.{map_some}
 use Rattle.lego_model.specs.Answers.{Rows, rows_of_table, rows_of_view, as_sent, would_touch, flow_mod_refused, not_yet, refused_or, host_refusal, host_answer, answer_by, switch_answer}
 use Rattle.outside.specs.declared.step.WorldStep.{WorldStep}
 use Rattle.outside.specs.Seen.{Seen}
@@ -39,7 +41,7 @@ use Rattle.net_txn.specs.laws.RowLaws.{sent, known_command, rows_agree, no_notic
 use Rattle.net_txn.specs.laws.HeardLaws.{IsMessage-barrier, IsSmall, small_refusal, next_xid-lt, heard-error}
 use Rattle.net_txn.specs.laws.StepLaws.{told_switch, told_waits, barrier_sends, barrier_stays, gots, gots_switch, gots_other, gots_other_waits, gots_empty, got_rest, reply_alone, error_alone}
 use Rattle.net_txn.specs.Answering.{known_rows, answer_of_host, error_in, views_by, change_sent, Asked}
-use Rattle.net_txn.specs.Agreement.{Agrees, InStep}
+use Rattle.net_txn.specs.ChangeSteps.{Agrees, InStep}
 
 -- ---- Before the messages that were got: the change and the barrier were sent.
 
@@ -74,10 +76,6 @@ both_sent d xid m s t read small is none =
     some_switch x = Some x
 
 -- ---- What the switch sends for a change that the host let pass
-
-pub refused_sends : (xid : ℕ) (m : Message) (s : SwitchState) (e : OfError) → message_refusal s m ≡ Some e → sent_by_message xid m s ≡ error_bytes xid m e ∷ []
-unfolding sent_by_message
-refused_sends xid m s e is = rw is refl
 
 refused_stays : (m : Message) (s : SwitchState) (e : OfError) → message_refusal s m ≡ Some e → after_message m s ≡ s
 unfolding after_message
@@ -136,7 +134,7 @@ reverted_by declared d xid m s got before mid after lt sending none before_reply
     let r : Refusal = record { xid = xid; error = e } in
     let small = small_of e (subst IsSmall refusal (small_refusal s (sent m))) in
     let refused : heard a error ≡ Refused r = heard-error d xid (as_sent (FlowMod m)) e lt small in
-    let waits : waits_of d mid ≡ error ∷ reply_to xid ∷ [] = sending.waits ∙ ap (λ (ws : List (List ℕ)). ws ++ reply_to xid ∷ []) (refused_sends xid (as_sent (FlowMod m)) s e refusal) in
+    let waits : waits_of d mid ≡ error ∷ reply_to xid ∷ [] = sending.waits ∙ ap (λ (ws : List (List ℕ)). ws ++ reply_to xid ∷ []) (refused_sent xid (as_sent (FlowMod m)) s e refusal) in
     let got_is : got ≡ error ∷ [] = error_alone declared a error r got mid waits refused may before_reply in
     let steps : wait_steps a got ++ reply_got a ∷ [] ≡ gots d (error ∷ reply_to xid ∷ []) = ap (λ (gs : List (List ℕ)). wait_steps a gs ++ reply_got a ∷ []) got_is ∙ got_rest a error r [] refused in
     let answer : error_in (answer_of a (error ∷ [])) ≡ Some e = rw refused refl in
@@ -169,13 +167,6 @@ pub passed : (d : ℕ) (bytes : List ℕ) (m : Change) (net : NetState) (xid : �
 passed d bytes m net xid host read = passed_by d bytes m net.views xid (known_rows d net.views) refl host read
 
 -- ---- The view
-
-same_value : {Y : Type 0} (p q : Y) → Some p ≡ Some q → p ≡ q
-same_value p q e = cc
-
-pub some_from : {X Y : Type 0} (f : X → Y) (o : Option X) (y : Y) → option_map f o ≡ Some y → (x : X) × (o ≡ Some x) × (f x ≡ y)
-some_from f None y is = absurd cc
-some_from f (Some x) y is = (x, refl, same_value (f x) y is)
 
 entries_then : (m : Change) (s : SwitchState) (now : ℕ) → (changed now (sent m) s.table).entries ≡ entries_after now s.table.next (sent m) s.table.entries
 unfolding changed
@@ -212,9 +203,9 @@ pub in_step : {Own : Type 0} {Tells : Type 0} (d : ℕ) (bytes : List ℕ) (old 
 unfolding switch_answer
 in_step d bytes old new net now_net answer m xid told asked host read keeps waits agrees =
     let p = passed d bytes m net xid host read in
-    let joined = some_from shown_by (switch_of d (state old)) p.rows (sym agrees ∙ p.known) in
+    let joined = map_some shown_by (switch_of d (state old)) p.rows (sym agrees ∙ p.known) in
     let s = joined.0 in
-    let seen = some_from rows_of_view (rows_at d net.views) p.rows p.known in
+    let seen = map_some rows_of_view (rows_at d net.views) p.rows p.known in
     let rows = seen.0 in
     let none_touched : would_touch m (shown_by s) ≡ false = ap (would_touch m) joined.2 ∙ p.touches_none in
     let hears = asked.waits.hears in
@@ -224,17 +215,17 @@ in_step d bytes old new net now_net answer m xid told asked host read keeps wait
     let sending = both_sent d net.xid m s (state old) (reading_of-as_sent net.xid m asked.is_xid.1 asked.message) (next_xid-lt net.xid asked.is_xid.1) joined.1 waits in
     let reverted = reverted_by old.given.declared d net.xid m s asked.waits.got (state old) (after_both d net.xid m (state old)) (state new) asked.is_xid.1 sending none_touched hears.before_reply may.1.1 after
     (message_refusal s (as_sent (FlowMod m))) refl in
-    let refused : error_in asked.refusal ≡ message_refusal s (as_sent (FlowMod m)) = ap error_in hears.answer_so ∙ reverted.refused in
+    let refused : error_in asked.refusal ≡ message_refusal s (as_sent (FlowMod m)) = ap error_in hears.answer_is ∙ reverted.refused in
     let shown : rows_of_view rows ≡ shown_by s = seen.2 ∙ sym joined.2 in
     let there : rows_at d now_net.views ≡ Some (rows_by asked.refusal m rows) = ap (rows_at d) asked.views ∙ views_at asked.refusal d m net.views rows seen.1 in
     let same = agreed m s rows asked.refusal refused shown p.command (ap (would_touch m) seen.2 ∙ p.touches_none) in
     record {
-      answer_so = rw joined.1 (asked.answer_so ∙ ap answer_by refused);
+      answer_is = rw joined.1 (asked.answer_is ∙ ap answer_by refused);
       moved = rw joined.1 reverted.switch;
       waits = reverted.waits;
       others = reverted.others;
       others_wait = reverted.others_wait;
-      kept = hears.kept_so ∙ ap (λ (more : List (ℕ × List ℕ)). net.kept ++ more) reverted.none_kept ∙ append-nil net.kept;
+      kept = hears.kept_is ∙ ap (λ (more : List (ℕ × List ℕ)). net.kept ++ more) reverted.none_kept ∙ append-nil net.kept;
       agrees = rw (there, reverted.switch) (ap (λ (r : Rows). some_rows r) same);
       others_agree = λ e other before. ap (λ (v : Option (List ViewRow)). option_map rows_of_view v) (ap (rows_at e) asked.views ∙ views_other asked.refusal d e m net.views other) ∙ before ∙ ap (λ (o : Option SwitchState). option_map shown_by o) (sym (reverted.others e other));
     }

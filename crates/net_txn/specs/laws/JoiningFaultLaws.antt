@@ -1,11 +1,7 @@
 -- How a switch fails to join; and that where a world keeps its word, it gives no cause for a fault.
-use Rattle.std.specs.Prelude.{◌≡◌, ◌==◌, ℕ, ◌^◌, ◌<◌, Bool, true, false, not, List, [], ◌∷◌, ◌++◌, length, map, filter, Option, Some, None, Result, Ok, Err, IfOk, IfErr, refl}
+use Rattle.std.specs.Prelude.{◌≡◌, ◌==◌, ℕ, ◌^◌, ◌<◌, not, List, [], ◌∷◌, ◌++◌, length, filter, Option, Some, None, refl}
 use Rattle.std.specs.List.{AllByRecursion}
-use Rattle.std.proofs.Common.{sym, ap, ◌∙◌, subst, arith}
-use Rattle.std.proofs.lemmas.Bool.{eq-eqb}
-use Rattle.std.proofs.lemmas.List.{append-nil}
-use Rattle.std.proofs.lemmas.List.Elements.{filter-append}
-use Rattle.of_types.specs.declared.port_desc.PortDesc.{PortDesc}
+use Rattle.std.proofs.Common.{ap, ◌∙◌, subst, arith}
 use Rattle.of_types.specs.declared.journal.Act.TheVariants.{Sent}
 use Rattle.of_wire.specs.declared.message.Message.TheVariants.{FlowMod, SetConfig}
 use Rattle.of_wire.specs.Spelling.{message_bytes}
@@ -19,7 +15,7 @@ use Rattle.lego_model.specs.declared.fault.TxnFault.{TxnFault}
 use Rattle.lego_model.specs.declared.fault.TxnFault.TheVariants.{SwitchBroke, Diverged, Flooded, NoMemory}
 use Rattle.lego_model.specs.declared.wait.Awaited.{Awaited}
 use Rattle.net_txn.specs.Causes.{IsCause, IsPlain}
-use Rattle.net_txn.specs.Waits.{Waits, Floods, IfFlooded, KeptMore}
+use Rattle.net_txn.specs.Waits.{Waits, Floods, IfFlooded}
 use Rattle.lego_model.specs.declared.wait.Refusal.{Refusal}
 use Rattle.lego_model.specs.BarrierWaits.{wait_steps, barrier_sent, next_xid}
 use Rattle.flow_table.specs.View.{TableView}
@@ -35,9 +31,10 @@ use Rattle.net_txn.specs.declared.queue.Storage.TheVariants.{Growing}
 use Rattle.net_txn.specs.Said.{frames_said, barrier_of, Replied, BreaksBy}
 use Rattle.net_txn.specs.laws.HeardLaws.{next_xid-lt}
 use Rattle.net_txn.specs.laws.LostLaws.{packets_said, breaks_halts, replied_none_lost}
-use Rattle.net_txn.specs.Joining.{delete_all, greeted_from, greeting, JoinsOrNot, DoesNotJoin}
-use Rattle.net_txn.specs.JoiningSteps.{JoinHalts, JoinSteps}
-use Rattle.net_txn.specs.laws.JoiningStepLaws.{are_read, after_all, greeted, greeted_none, none_first, in_step_of}
+use Rattle.net_txn.specs.Joining.{delete_all, greeted_from, greeting, DoesNotJoin}
+use Rattle.net_txn.specs.JoiningSteps.{JoinHalts}
+use Rattle.net_txn.specs.laws.JoiningStepLaws.{are_read, after_all, greeted, greeted_none, none_first}
+use Rattle.net_txn.specs.laws.ChangeLaws.{forget_kept}
 
 -- ---- From the call on
 
@@ -98,23 +95,7 @@ join_plain d xid old new (Diverged of sent got) lt told later keeps none f cause
 join_plain d xid old new (Flooded of n) lt told later keeps none f cause = not_flooded d xid old new (switch_of d (state old)) lt told keeps none refl f
 join_plain d xid old new NoMemory lt told later keeps none f cause = tt
 
--- ---- The whole
-
-pub join_steps : {Own : Type 0} {Tells : Type 0} (d : ℕ) (ports : List PortDesc) (old new : Seen Own) (net now_net : NetState) (result : Result Bool TxnFault) → net.xid < 2 ^ 32 → Continues Tells old new
-    → IfOk result (λ joined. JoinsOrNot Tells d ports joined old new net now_net) → IfErr result (IsCause Tells d old new) → IfErr result (IfFlooded Tells (greeted_from d net.xid) (greeting d net.xid) old new)
-    → JoinSteps Tells d old new net now_net result
-join_steps d ports old new net now_net (Ok true) lt later joins cause f told keeps none = in_step_of d ports old new net now_net (switch_of d (state old)) lt told joins keeps none refl
-join_steps d ports old new net now_net (Ok false) lt later joins cause f told keeps none = tt
-join_steps d ports old new net now_net (Err fault) lt later joins cause f told keeps none = join_plain d net.xid old new fault lt told later keeps none f cause
-
 -- ---- Where memory ran out
-
--- before anything was sent
-pub short_before : {Own : Type 0} (Tells : Type 0) (d : ℕ) (seen : Seen Own) (net now_net : NetState) → now_net.views ≡ net.views → now_net.ports ≡ net.ports → now_net.kept ≡ net.kept → JoinHalts Tells d seen seen net now_net (Fault NoMemory)
-short_before Tells d seen net now_net views known kept = record {
-  not_joined = record { views = views; known = known; kept = ([], kept ∙ sym (append-nil net.kept)) };
-  halts = (tt, tt, λ told. refl);
-}
 
 -- behind the reply
 pub short_behind : {Own : Type 0} {Tells : Type 0} (d : ℕ) (a : Awaited) (frames : List (List ℕ)) (old new : Seen Own) (net now_net : NetState) (kept now_kept : List (ℕ × List ℕ)) (answer : Option Refusal) → Replied Tells a frames Growing [] old new kept now_kept answer → DoesNotJoin d net now_net
@@ -123,23 +104,10 @@ short_behind d a frames old new net now_net kept now_kept answer r not = record 
 
 -- ---- What the host keeps where it was lost
 
--- the messages of the switch go that were kept meanwhile
-abbrev goes : ℕ → ℕ × List ℕ → Bool
-goes d m = not (m.0 == d)
-
-none_stays : (d : ℕ) (bs : List (List ℕ)) → filter (goes d) (map (λ b. (d, b)) bs) ≡ []
-none_stays d [] = refl
-none_stays d (b ∷ bs) = rw (eq-eqb d d refl) (none_stays d bs)
-
-pub forgets_more : (d : ℕ) (kept now_kept : List (ℕ × List ℕ)) → KeptMore d kept now_kept → filter (λ m. not (m.0 == d)) now_kept ≡ filter (λ m. not (m.0 == d)) kept
-forgets_more d kept now_kept more =
-    let behind = map (λ b. (d, b)) more.0 in
-    ap (filter (goes d)) more.1 ∙ filter-append (goes d) kept behind ∙ ap (λ (ms : List (ℕ × List ℕ)). filter (goes d) kept ++ ms) (none_stays d more.0) ∙ append-nil (filter (goes d) kept)
-
 pub not_joined : (d : ℕ) (net mid : NetState) (kept : List (ℕ × List ℕ)) → mid ≡ record net { views = mid.views; ports = mid.ports; xid = mid.xid; kept = mid.kept } → DoesNotJoin d net mid → kept ≡ filter (λ m. not (m.0 == d)) mid.kept
     → record mid { kept = kept } ≡ record net { xid = mid.xid; kept = filter (λ m. not (m.0 == d)) net.kept }
 not_joined d net mid kept stays not is =
     ap (λ (n : NetState). record n { kept = kept }) stays
     ∙ ap (λ (vs : List TableView). record net { views = vs; ports = mid.ports; xid = mid.xid; kept = kept }) not.views
     ∙ ap (λ (ps : List KnownPorts). record net { ports = ps; xid = mid.xid; kept = kept }) not.known
-    ∙ ap (λ (k : List (ℕ × List ℕ)). record net { xid = mid.xid; kept = k }) (is ∙ forgets_more d net.kept mid.kept not.kept)
+    ∙ ap (λ (k : List (ℕ × List ℕ)). record net { xid = mid.xid; kept = k }) (is ∙ forget_kept d net.kept mid.kept not.kept)

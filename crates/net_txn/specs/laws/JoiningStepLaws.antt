@@ -270,7 +270,7 @@ in_step_of d ports old new net now_net (Some s) lt told joins keeps none is =
       waits = ap (waits_of d) after ∙ p.waits;
       others = there;
       others_wait = λ e other. ap (waits_of e) after ∙ (same e other).1;
-      kept = w.hears.kept_so ∙ ap (λ (more : List (ℕ × List ℕ)). net.kept ++ more) p.none_kept ∙ append-nil net.kept;
+      kept = w.hears.kept_is ∙ ap (λ (more : List (ℕ × List ℕ)). net.kept ++ more) p.none_kept ∙ append-nil net.kept;
       agrees = rw (joins.views, rows_at-with_view d net.views, switch) refl;
       others_agree = λ e other before. ap (λ (v : Option (List ViewRow)). option_map rows_of_view v) (ap (rows_at e) joins.views ∙ rows_at-with_view-other d e net.views other) ∙ before
           ∙ ap (λ (x : Option SwitchState). option_map shown_by x) (sym (there e other));

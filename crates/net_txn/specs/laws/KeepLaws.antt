@@ -91,7 +91,7 @@ ready_older p older t ready d = none_or_ready p older t d (ready d)
 
 -- a switch that is not joined has no parts
 pub ready_all : (views : List TableView) (parts : List (ℕ × Part)) (t : State) → ((d : ℕ) → is_viewed d views ≡ false → parts_of d parts ≡ []) → ((d : ℕ) → is_viewed d views ≡ true → StandsReady d t) → AreReady parts t
-ready_all views parts t unknown ready d = elim (cases_Bool (is_viewed d views)) [ inl known ↦ inr (ready d known) | inr not_so ↦ inl (unknown d not_so) ]
+ready_all views parts t unknown ready d = elim (cases_Bool (is_viewed d views)) [ inl known ↦ inr (ready d known) | inr not_is ↦ inl (unknown d not_is) ]
 
 -- ---- The whole
 

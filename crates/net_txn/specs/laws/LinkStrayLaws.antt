@@ -86,9 +86,9 @@ joined_sent d bytes s joined = ap (λ (o : Option SwitchState). is_some o) (swit
 pub joined_got : (d : ℕ) (bytes : List ℕ) (s : State) → is_joined d s ≡ true → is_joined d (after_step (Acted (Got d bytes)) s) ≡ true
 joined_got d bytes s joined = ap (λ (o : Option SwitchState). is_some o) (switch_of-got d bytes s) ∙ joined
 
-some_switch : (o : Option SwitchState) → is_some o ≡ true → (s : SwitchState) × (o ≡ Some s)
-some_switch None some = absurd cc
-some_switch (Some s) some = (s, refl)
+pub switch_there : (o : Option SwitchState) → is_some o ≡ true → (s : SwitchState) × (o ≡ Some s)
+switch_there None some = absurd cc
+switch_there (Some s) some = (s, refl)
 
 -- ---- The reply waits
 
@@ -104,7 +104,7 @@ awaits_waiting a s w =
 pub awaits_barrier : (a : Awaited) (s : State) → a.barrier < 2 ^ 32 → is_joined a.dpid s ≡ true → Awaits a (after_step (barrier_sent a) s)
 awaits_barrier a s small joined =
     let bytes = message_bytes a.barrier BarrierRequest in
-    let here = some_switch (switch_of a.dpid s) joined in
+    let here = switch_there (switch_of a.dpid s) joined in
     record {
       joined = joined_sent a.dpid bytes s joined;
       before = waits_of a.dpid s;
@@ -147,9 +147,9 @@ pub awaits_wait : (declared : List Declared) (a : Awaited) (got : List (List ℕ
 awaits_wait declared a [] s may other w = w
 awaits_wait declared a (b ∷ bs) s may other w =
     let first = first_not declared a b _ w.before w.behind s may other.0 w.waits w.joined in
-    let heard_so = awaits_by a (heard a b) b (after_step (Acted (Got a.dpid b)) s) first in
+    let heard_is = awaits_by a (heard a b) b (after_step (Acted (Got a.dpid b)) s) first in
     subst (λ (t : State). Awaits a t) (sym (after_steps-append (heard_steps a b) (wait_steps a bs) s))
-    (awaits_wait declared a bs (after_steps (heard_steps a b) s) (come_rest declared (heard_steps a b) (wait_steps a bs) s may) other.1 heard_so)
+    (awaits_wait declared a bs (after_steps (heard_steps a b) s) (come_rest declared (heard_steps a b) (wait_steps a bs) s may) other.1 heard_is)
 
 -- a barrier whose reply was got
 pub sure_settled : (a : Awaited) (got : List (List ℕ)) → AllByRecursion IsSure (barrier_sent a ∷ (wait_steps a got ++ reply_got a ∷ []))

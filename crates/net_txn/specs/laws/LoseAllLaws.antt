@@ -53,8 +53,8 @@ abbrev ports_in : NetState → PortLists
 ports_in net = record { known = net.ports; left = net.left }
 
 -- the views, ports and messages without those of the switches that were lost
-abbrev pub lost_so : List ℕ → NetState → NetState
-lost_so lost net = record net {
+abbrev pub lost_is : List ℕ → NetState → NetState
+lost_is lost net = record net {
   views = filter (λ v. not (is_among v.dpid lost)) net.views;
   ports = (ports_lost lost (ports_in net)).known;
   kept = filter (λ m. not (is_among m.0 lost)) net.kept;
@@ -68,7 +68,7 @@ one_more : (net : NetState) (views more_views : List TableView) (kept more_kept 
     → record net { views = views; ports = p.known; kept = kept; left = p.left } ≡ record net { views = more_views; ports = p.known; kept = more_kept; left = p.left }
 one_more net views more_views kept more_kept p same_views same_kept = rw (same_views, same_kept) refl
 
-pub lose_all-so : (lost : List ℕ) (net : NetState) → lose_all lost net ≡ lost_so lost net
+pub lose_all-so : (lost : List ℕ) (net : NetState) → lose_all lost net ≡ lost_is lost net
 lose_all-so [] net = none_lost net (filter (λ v. true) net.views) (filter (λ m. true) net.kept) (keep_all net.views) (keep_all net.kept)
 lose_all-so (d ∷ ds) net =
     lose_all-so ds (lost_net d net)
@@ -100,9 +100,6 @@ abbrev gone : List Logged → List Logged → ℕ → Bool
 gone all [] d = false
 gone all (e ∷ es) d = (was_lost all e.dpid && (d == e.dpid)) || gone all es d
 
-more_gone : (all : List Logged) (e : Logged) (es : List Logged) (d : ℕ) (b : Bool) → was_lost all e.dpid ≡ true → (not (d == e.dpid) && not (gone all es d)) ≡ not ((was_lost all e.dpid && (d == e.dpid)) || gone all es d)
-more_gone all e es d b lost = rw lost (neither (d == e.dpid) (gone all es d))
-
 views_here : (all : List Logged) (e : Logged) (es : List Logged) (vs : List TableView) (b : Bool) → was_lost all e.dpid ≡ b → ((ws : List TableView) → views_left all es ws ≡ filter (λ v. not (gone all es v.dpid)) ws)
     → views_left all es (if b then filter (λ v. not (v.dpid == e.dpid)) vs else vs) ≡ filter (λ v. not ((b && (v.dpid == e.dpid)) || gone all es v.dpid)) vs
 views_here all e es vs true lost rest =
@@ -130,21 +127,21 @@ abbrev in_log : ℕ → List Logged → Bool
 in_log d [] = false
 in_log d (e ∷ es) = (e.dpid == d) || in_log d es
 
-both_so : (a b c : Bool) → ((c && a) || (b && c)) ≡ ((a || b) && c)
-both_so true b true = refl
-both_so true true false = refl
-both_so true false false = refl
-both_so false b true = last b
+both_is : (a b c : Bool) → ((c && a) || (b && c)) ≡ ((a || b) && c)
+both_is true b true = refl
+both_is true true false = refl
+both_is true false false = refl
+both_is false b true = last b
   where
     last : (b : Bool) → (b && true) ≡ (b && true)
     last b = refl
-both_so false true false = refl
-both_so false false false = refl
+both_is false true false = refl
+both_is false false false = refl
 
 gone_here : (all : List Logged) (e : Logged) (es : List Logged) (d : ℕ) (here : Bool) → (e.dpid == d) ≡ here → gone all es d ≡ (in_log d es && was_lost all d) → ((was_lost all e.dpid && (d == e.dpid)) || gone all es d) ≡ ((here || in_log d es) && was_lost all d)
 gone_here all e es d true is rest =
     ap (λ (b : Bool). (was_lost all e.dpid && b) || gone all es d) (turned d e.dpid ∙ is) ∙ ap (λ (n : ℕ). (was_lost all n && true) || gone all es d) (eqb-true e.dpid d is)
-    ∙ ap (λ (b : Bool). (was_lost all d && true) || b) rest ∙ both_so true (in_log d es) (was_lost all d)
+    ∙ ap (λ (b : Bool). (was_lost all d && true) || b) rest ∙ both_is true (in_log d es) (was_lost all d)
 gone_here all e es d false is rest =
     ap (λ (b : Bool). (was_lost all e.dpid && b) || gone all es d) (turned d e.dpid ∙ is) ∙ none (was_lost all e.dpid) (gone all es d) ∙ rest
   where
@@ -152,9 +149,9 @@ gone_here all e es d false is rest =
     none true b = refl
     none false b = refl
 
-gone_so : (all es : List Logged) (d : ℕ) → gone all es d ≡ (in_log d es && was_lost all d)
-gone_so all [] d = refl
-gone_so all (e ∷ es) d = gone_here all e es d (e.dpid == d) refl (gone_so all es d)
+gone_is : (all es : List Logged) (d : ℕ) → gone all es d ≡ (in_log d es && was_lost all d)
+gone_is all [] d = refl
+gone_is all (e ∷ es) d = gone_here all e es d (e.dpid == d) refl (gone_is all es d)
 
 in_if_lost : (d : ℕ) (e : Logged) (es : List Logged) (here : Bool) → (e.dpid == d) ≡ here → was_lost es d ≡ (in_log d es && was_lost es d) → was_lost (e ∷ es) d ≡ ((here || in_log d es) && was_lost (e ∷ es) d)
 in_if_lost d e es true is rest = refl
@@ -167,7 +164,7 @@ lost_logged d [] = refl
 lost_logged d (e ∷ es) = in_if_lost d e es (e.dpid == d) refl (lost_logged d es)
 
 gone_lost : (all : List Logged) (d : ℕ) → not (gone all all d) ≡ not (was_lost all d)
-gone_lost all d = ap not (gone_so all all d ∙ sym (lost_logged d all))
+gone_lost all d = ap not (gone_is all all d ∙ sym (lost_logged d all))
 
 pub views_without : (all : List Logged) (vs : List TableView) → views_left all all vs ≡ filter (λ v. not (was_lost all v.dpid)) vs
 views_without all vs = views_gone all all vs ∙ filter_agree (λ v. not (gone all all v.dpid)) (λ v. not (was_lost all v.dpid)) (λ v. gone_lost all v.dpid) vs

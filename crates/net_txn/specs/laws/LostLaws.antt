@@ -44,7 +44,7 @@ use Rattle.net_txn.specs.Said.{Said, Says, Hears, HearsNoise, CannotSay, CannotH
 use Rattle.lego_model.specs.declared.wait.Refusal.{Refusal}
 use Rattle.net_txn.specs.laws.EchoLaws.{echo_reply-reading}
 use Rattle.net_txn.specs.laws.HeardLaws.{IsMessage-barrier}
-use Rattle.net_txn.specs.laws.JoinedLaws.{losses_by, lost_none_all, loses-append}
+use Rattle.net_txn.specs.laws.LinkPresenceLaws.{losses_by, lost_none_all, loses-append}
 use Rattle.net_txn.specs.laws.PartLaws.{steps_other}
 use Rattle.net_txn.specs.laws.SaidLaws.{all_two, all_behind, is_fine, AreFine, fine_append, fine_none_lost, fine_frames, fine_wait, said_links, wait_none_lost, Calls-same, Calls-moves}
 use Rattle.net_txn.specs.laws.TalkLaws.{front_steps, talks_cause, talks_flooded}
@@ -202,7 +202,7 @@ goes_out {old = old} {new = new} d front last fine failed c told joined =
       history = history;
       lost = ap (λ (s : List WorldStep). losses (journal s)) two ∙ ap (λ (acts : List Act). losses acts) (journal-append first (steps_in true last)) ∙ losses_two (journal first) (journal (steps_in true last))
           ∙ ap (λ (ds : List ℕ). ds ++ losses (journal (steps_in true last))) (losses_by first (said_links true front) ∙ lost_none_all first (fine_none_lost true front fine)) ∙ failed_lost d last failed;
-      released_so = said_released true said ∙ packets_append front (last ∷ []) ∙ ap (λ (ps : List Held). packets_said front ++ ps) (failed_none d last failed) ∙ append-nil (packets_said front);
+      released_is = said_released true said ∙ packets_append front (last ∷ []) ∙ ap (λ (ps : List Held). packets_said front ++ ps) (failed_none d last failed) ∙ append-nil (packets_said front);
       out = ap (λ (s : State). switch_of d s) after ∙ failed_out d last mid failed;
       waits = ap (λ (s : State). waits_of d s) after ∙ failed_waits d last mid failed;
       others = λ e other. ap (λ (s : State). switch_of e s) (state-append old new steps c.continues.given history) ∙ (others e other).0;
@@ -345,24 +345,24 @@ fine_last d (Some b) t buf none = (refl, fine_unsaid d t none)
 
 -- ---- A message that could not be sent
 
-short_so : (d : ℕ) (t : Trouble) (buf : List ℕ) (fault : TxnFault) → IsOfLink t → IsHaltBy d t buf (Fault fault) → fault ≡ NoMemory
-short_so d troubles.Link buf fault why is = absurd cc
-short_so d (troubles.Broke n) buf fault why is = absurd why
-short_so d (troubles.Refused k x n) buf fault why is = absurd why
-short_so d troubles.Flooded buf fault why is = absurd why
-short_so d troubles.Short buf fault why is = one is
+short_is : (d : ℕ) (t : Trouble) (buf : List ℕ) (fault : TxnFault) → IsOfLink t → IsHaltBy d t buf (Fault fault) → fault ≡ NoMemory
+short_is d troubles.Link buf fault why is = absurd cc
+short_is d (troubles.Broke n) buf fault why is = absurd why
+short_is d (troubles.Refused k x n) buf fault why is = absurd why
+short_is d troubles.Flooded buf fault why is = absurd why
+short_is d troubles.Short buf fault why is = one is
   where
     one : (Fault fault ≡ Fault NoMemory) ⊎ (Fault fault ≡ Fault NoMemory) → fault ≡ NoMemory
     one (inl same) = cc
     one (inr same) = cc
-short_so d troubles.Full buf fault why is = absurd why
+short_is d troubles.Full buf fault why is = absurd why
 
 pub says_halts : {Own : Type 0} {Tells : Type 0} {d : ℕ} {old new : Seen Own} (halt : Halt) → SaysNot Tells d old new halt → SaysHalt Tells d old new halt
 says_halts {Tells = Tells} {d = d} {old = old} {new = new} Lost s =
-    let c = subst (λ (t : Trouble). Calls Tells d (unsaid d t) old new) (lost_is_link d s.trouble s.buf s.halt_so) s.calls in
+    let c = subst (λ (t : Trouble). Calls Tells d (unsaid d t) old new) (lost_is_link d s.trouble s.buf s.halt_is) s.calls in
     (is_lost d [] [] (CannotSay d) tt refl packets_none c, Calls-read (CannotSay d ∷ []) c (tt, tt))
 says_halts {d = d} {old = old} {new = new} (Fault fault) s =
-    (short_so d s.trouble s.buf fault s.why s.halt_so, losses_none (unsaid d s.trouble) old new s.calls (fine_unsaid d s.trouble (fault_is_none d s.trouble s.buf fault s.halt_so)))
+    (short_is d s.trouble s.buf fault s.why s.halt_is, losses_none (unsaid d s.trouble) old new s.calls (fine_unsaid d s.trouble (fault_is_none d s.trouble s.buf fault s.halt_is)))
 
 -- ---- A wait that failed
 
@@ -418,7 +418,7 @@ pub breaks_lost : {Own : Type 0} {Tells : Type 0} {old new : Seen Own} {kept now
 breaks_lost a frames buf none (inl u) =
     let d = a.dpid in
     let xs = frames_said d u.first in (
-      is_lost d [] xs (CannotSay d) (fine_frames d u.first) refl (front_none d frames u.first u.rest u.frames_so none) u.calls,
+      is_lost d [] xs (CannotSay d) (fine_frames d u.first) refl (front_none d frames u.first u.rest u.frames_is none) u.calls,
       Calls-read (xs ++ CannotSay d ∷ []) u.calls (all_two IsReadSaid xs (CannotSay d ∷ []) (frames_read d u.first) (tt, tt)),
     )
 breaks_lost a frames buf none (inr u) = unreplied_lost a frames u.got u.by buf (length u.got) none u.before.read u.why u.calls
@@ -442,11 +442,11 @@ pub breaks_halts : {Own : Type 0} {Tells : Type 0} {a : Awaited} {old new : Seen
 breaks_halts {Tells = Tells} {a = a} {old = old} {new = new} {kept = kept} {now_kept = now_kept} first Lost small none b =
     let frames = first ++ barrier_of a ∷ [] in
     breaks_lost a frames b.buf (both_none a first small none)
-    (subst (λ (t : Trouble). Breaks Tells a frames Growing [] old new kept now_kept b.buf t) (lost_is_link a.dpid b.trouble b.buf b.halt_so) b.breaks)
+    (subst (λ (t : Trouble). Breaks Tells a frames Growing [] old new kept now_kept b.buf t) (lost_is_link a.dpid b.trouble b.buf b.halt_is) b.breaks)
 breaks_halts {a = a} first (Fault fault) small none b = (
   talks_cause a.dpid first (Fault fault) refl b,
   talks_flooded first (Fault fault) b,
-  breaks_none_lost a (first ++ barrier_of a ∷ []) b.buf b.trouble (fault_is_none a.dpid b.trouble b.buf fault b.halt_so) b.breaks,
+  breaks_none_lost a (first ++ barrier_of a ∷ []) b.buf b.trouble (fault_is_none a.dpid b.trouble b.buf fault b.halt_is) b.breaks,
 )
 
 pub replied_none_lost : {Own : Type 0} {Tells : Type 0} {old new : Seen Own} {kept now_kept : List (ℕ × List ℕ)} {answer : Option Refusal} (a : Awaited) (frames : List (List ℕ)) → Replied Tells a frames Growing [] old new kept now_kept answer → Tells → lost_of new ≡ lost_of old

@@ -1,6 +1,6 @@
 -- Each switch that is lost in an undo is lost once, and one that is not stuck is not lost; and a part that failed has the cause of its fault.
 use Rattle.std.proofs.Common.{◌≡◌, ◌≢◌, ◌==◌, ℕ, Bool, true, false, ◌||◌, List, [], ◌∷◌, ◌++◌, Some, refl, sym, ap, ap₂, ◌∙◌, subst, inl, inr, true≢false}
-use Rattle.std.proofs.lemmas.Bool.{cases_Bool, eq-eqb, ne_eqb}
+use Rattle.std.proofs.lemmas.Bool.{cases_Bool, eq-eqb, ne_eqb, or_parts}
 use Rattle.std.proofs.lemmas.List.{append-nil}
 use Rattle.std.proofs.lemmas.List.Folds.{list_any-append}
 use Rattle.of_match.specs.declared.key.Key.{Key}
@@ -13,13 +13,9 @@ use Rattle.net_txn.specs.Undos.{Part, Inverse, BarrierPassed, Stuck, IsFaultOf, 
 
 -- ---- Which numbers are in a list
 
-neither : (a b : Bool) → (a || b) ≡ false → (a ≡ false) × (b ≡ false)
-neither true b h = absurd (true≢false h)
-neither false b h = (refl, h)
-
 pub not_first : (d e : ℕ) (ds : List ℕ) → is_among e (d ∷ ds) ≡ false → (e ≢ d) × (is_among e ds ≡ false)
 not_first d e ds none =
-    let n = neither (d == e) (is_among e ds) none in
+    let n = or_parts (d == e) (is_among e ds) none in
     (λ same. true≢false (sym (eq-eqb d e (sym same)) ∙ n.0), n.1)
 
 pub among-append : (e : ℕ) (ds es : List ℕ) → is_among e (ds ++ es) ≡ (is_among e ds || is_among e es)
@@ -112,7 +108,7 @@ lost-distinct old new (p ∷ older) runs =
 
 pub record FaultyPart (d : ℕ) (sent : List (ℕ × Key)) (old new : Counts) (p : Part) (fault : TxnFault) : Type 0 where
   pub steps : List WorldStep
-  pub steps_so : part_steps d p ≡ steps
+  pub steps_is : part_steps d p ≡ steps
   pub cause : IsFaultOf d sent old new steps fault
 
 pub faulty : (d : ℕ) (old new : Counts) (p : Part) (older : List Part) (fault : TxnFault) → IsRun old new d (p ∷ older) → fault_in p ≡ Some fault → FaultyPart d (inverses_of older) old new p fault
@@ -121,7 +117,7 @@ faulty d old new (BarrierPassed xid got) older fault run is = absurd cc
 faulty d old new (Stuck xid Lost steps) older fault run is = absurd cc
 faulty d old new (Stuck xid (Fault why) steps) older fault run is = record {
   steps = steps;
-  steps_so = refl;
+  steps_is = refl;
   cause = subst (λ (f : TxnFault). IsFaultOf d (inverses_of older) old new steps f) (one_fault why fault is) run.0.cause;
 }
   where

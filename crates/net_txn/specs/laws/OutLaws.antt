@@ -7,7 +7,7 @@ use Rattle.outside.specs.declared.step.WorldStep.{WorldStep}
 use Rattle.outside.specs.Seen.{Counts, Seen, journal}
 use Rattle.outside.specs.State.{State, after_steps, state, switch_of, waits_of}
 use Rattle.outside.specs.laws.SeenLaws.{journal-append}
-use Rattle.outside.specs.laws.StateLaws.{after_steps-append}
+use Rattle.outside.specs.laws.StateLaws.{after_steps-append, state-append}
 use Rattle.lego_model.specs.Journal.{losses}
 use Rattle.lego_model.specs.History.{lost_of}
 use Rattle.lego_model.specs.declared.fault.TxnFault.{TxnFault}
@@ -16,14 +16,14 @@ use Rattle.net_txn.specs.Losing.{is_among}
 use Rattle.net_txn.specs.Undos.{alone, Part, Inverse, BarrierPassed, Stuck, part_steps, steps_of, parts_of, is_stuck, is_out, lost_in, lost_parts, LosesIn, AreLostBy, fault_in, first_fault, ended_by, IsRun}
 use Rattle.net_txn.specs.laws.LostLaws.{losses_two, losses_then}
 use Rattle.net_txn.specs.laws.LostPartLaws.{among-append, or_false, lost-other, free-among}
-use Rattle.net_txn.specs.laws.RestoreLaws.{AllRun, runs_here, runs_older, older_free, state_after, part_of}
+use Rattle.net_txn.specs.laws.RestoreLaws.{AllRun, runs_here, runs_older, older_free, part_of}
 use Rattle.net_txn.specs.laws.PartLaws.{steps_other}
-use Rattle.net_txn.specs.laws.JoinedLaws.{losses_by, lost_none_all}
+use Rattle.net_txn.specs.laws.LinkPresenceLaws.{losses_by, lost_none_all}
 use Rattle.net_txn.specs.laws.SaidLaws.{wait_none_lost}
 use Rattle.net_txn.specs.laws.LinkStepLaws.{links_append, wait_links}
 use Rattle.net_txn.specs.laws.AgreeLaws.{both_none, no_fault}
 use Rattle.lego_model.specs.BarrierWaits.{wait_steps, barrier_sent, reply_got}
-use Rattle.net_txn.specs.laws.JoinedLaws.{loses-append}
+use Rattle.net_txn.specs.laws.LinkPresenceLaws.{loses-append}
 
 -- ---- Which they are
 
@@ -128,4 +128,4 @@ parts_out old new d (p ∷ older) t run so is =
 pub undo_out : {Own : Type 0} (old new : Seen Own) (d : ℕ) (parts : List (ℕ × Part)) → new.given ≡ old.given → new.history ≡ old.history ++ steps_of parts → AllRun old.counts new.counts parts → AreLostBy parts → is_among d (lost_parts parts) ≡ true
     → (switch_of d (state new) ≡ None) × (waits_of d (state new) ≡ [])
 undo_out old new d parts given told run so lost =
-    subst (IsOut d) (sym (state_after old new (steps_of parts) given told)) (parts_out old.counts new.counts d parts (state old) run so (sym (among_out old.counts new.counts d parts run) ∙ lost))
+    subst (IsOut d) (sym (state-append old new (steps_of parts) given told)) (parts_out old.counts new.counts d parts (state old) run so (sym (among_out old.counts new.counts d parts run) ∙ lost))

@@ -5,7 +5,7 @@ use Rattle.std.specs.List.{AllByRecursion, flat_map, cons_option}
 use Rattle.std.specs.Str.{bytes_eq}
 use Rattle.std.proofs.Common.{sym, ap, ◌∙◌, subst, append_assoc, inl, inr, arith}
 use Rattle.std.proofs.lemmas.Bool.{cases_Bool, le-leb}
-use Rattle.std.proofs.lemmas.List.{append-nil, length-take}
+use Rattle.std.proofs.lemmas.List.{append-nil}
 use Rattle.std.proofs.lemmas.Slice.Eq.{bytes_eq-Decides}
 use Rattle.of_types.specs.Fields.{number_at, number_bytes}
 use Rattle.of_types.specs.declared.errors.OfError.{OfError}
@@ -18,8 +18,8 @@ use Rattle.of_wire.specs.declared.fault.WireFault.{WireFault}
 use Rattle.of_wire.specs.declared.fault.WireFault.TheVariants.{BadVersion, BadLength}
 use Rattle.of_wire.specs.Kinds.{kind_of_number}
 use Rattle.of_wire.specs.Reading.{has_length, front_of, body_of, reading_of}
-use Rattle.of_wire.specs.Spelling.{message_size, message_bytes}
-use Rattle.of_wire.specs.Grammar.{IsMessage, enveloped}
+use Rattle.of_wire.specs.Spelling.{message_bytes}
+use Rattle.of_wire.specs.Grammar.{enveloped}
 use Rattle.of_wire.specs.laws.ReadingLaws.{reading_of-message_bytes}
 use Rattle.of_wire.specs.laws.SpellingLaws.{SpellMessage-message_bytes}
 use Rattle.flow_table.specs.declared.entry.Entry.{Entry}
@@ -34,8 +34,9 @@ use Rattle.lego_model.specs.declared.wait.Heard.TheVariants.{Other}
 use Rattle.lego_model.specs.BarrierWaits.{next_xid, is_awaited, heard}
 use Rattle.lego_model.specs.Events.{two_bytes, event_of_read, events_of}
 use Rattle.net_txn.specs.Releases.{Knows, packet_awaited, or_none, takes_read, takes_all}
-use Rattle.net_txn.specs.laws.HeardLaws.{IsSmall, known_small, small_actions}
+use Rattle.net_txn.specs.laws.HeardLaws.{IsSmall, known_small, small_actions, IsMessage-error}
 use Rattle.net_txn.specs.laws.NoticeLaws.{reply_kind}
+use Rattle.net_txn.specs.laws.InStepLaws.{small_of}
 
 -- ---- To a wait
 
@@ -118,7 +119,7 @@ packet-taken bytes type d k =
       | inr (fault, is) ↦ rw is (same_knows k)
     ]
 
-packet-type : (m : PacketInBody) → number_at 1 1 (message_bytes 0 (PacketIn m)) ≡ 10
+pub packet-type : (m : PacketInBody) → number_at 1 1 (message_bytes 0 (PacketIn m)) ≡ 10
 unfolding message_bytes number_at number_bytes
 packet-type m = refl
 
@@ -131,14 +132,6 @@ packet-news reason in_port frame = record { unawaited = unawaited _ (inl (packet
 two-bytes : (n : ℕ) → n < 256 ^ 2 → number_bytes 2 n ≡ two_bytes n
 unfolding number_bytes
 two-bytes n small = let high : n / 256 % 256 ≡ n / 256 = omega (arith, small) in ap (λ (x : ℕ). x ∷ n % 256 ∷ []) high
-
-IsMessage-error : (xid : ℕ) (m : Message) (e : OfError) → (e.kind < 256 ^ 2) × (e.code < 256 ^ 2) → IsMessage (Error e.kind e.code (take 64 (message_bytes xid m)))
-unfolding message_size
-IsMessage-error xid m e small = record {
-  fields = (small.0, (small.1, tt));
-  tail = tt;
-  size = omega (arith, length-take 64 (message_bytes xid m));
-}
 
 error-read : (xid : ℕ) (m : Message) (e : OfError) → xid < 2 ^ 32 → (e.kind < 256 ^ 2) × (e.code < 256 ^ 2) → reading_of (error_bytes xid m e) ≡ Ok (enveloped xid (Error e.kind e.code (take 64 (message_bytes xid m))))
 unfolding error_bytes
@@ -210,17 +203,14 @@ small_packet s packet =
       | inr some ↦ rw some (known_small buffer_unknown (omega arith) (omega arith))
     ]
 
-small_of : (e : OfError) → IsSmall (Some e) → (e.kind < 256 ^ 2) × (e.code < 256 ^ 2)
-small_of e is = is.small
-
 sent_with : (xid : ℕ) (packet : Packet) (s : SwitchState) (o : Option OfError) → message_refusal s (PacketOut packet) ≡ o → List (List ℕ)
 sent_with xid packet s None is = sent_by_packet_out packet s
 sent_with xid packet s (Some e) is = error_bytes xid (PacketOut packet) e ∷ []
 
-sent_so : (xid : ℕ) (packet : Packet) (s : SwitchState) (o : Option OfError) (is : message_refusal s (PacketOut packet) ≡ o) → sent_by_message xid (PacketOut packet) s ≡ sent_with xid packet s o is
+sent_is : (xid : ℕ) (packet : Packet) (s : SwitchState) (o : Option OfError) (is : message_refusal s (PacketOut packet) ≡ o) → sent_by_message xid (PacketOut packet) s ≡ sent_with xid packet s o is
 unfolding sent_by_message sent_by_taken sent_with
-sent_so xid packet s None is = rw is refl
-sent_so xid packet s (Some e) is = rw is refl
+sent_is xid packet s None is = rw is refl
+sent_is xid packet s (Some e) is = rw is refl
 
 news_with : (xid : ℕ) (packet : Packet) (s : SwitchState) (o : Option OfError) (is : message_refusal s (PacketOut packet) ≡ o) → xid < 2 ^ 32 → AllNews (sent_with xid packet s o is)
 unfolding sent_with
@@ -228,7 +218,7 @@ news_with xid packet s None is lt = packet-outputs-news packet.in_port _ s
 news_with xid packet s (Some e) is lt = (error-news xid (PacketOut packet) e lt (small_of e (subst IsSmall is (small_packet s packet))), tt)
 
 pub packet_news : (xid : ℕ) (packet : Packet) (s : SwitchState) → xid < 2 ^ 32 → AllNews (sent_by_message xid (PacketOut packet) s)
-packet_news xid packet s lt = subst AllNews (sym (sent_so xid packet s _ refl)) (news_with xid packet s _ refl lt)
+packet_news xid packet s lt = subst AllNews (sym (sent_is xid packet s _ refl)) (news_with xid packet s _ refl lt)
 
 events_with : (d xid : ℕ) (packet : Packet) (s : SwitchState) (o : Option OfError) (is : message_refusal s (PacketOut packet) ≡ o) → xid < 2 ^ 32 → events_of d (sent_with xid packet s o is) ≡ events_of d (sent_with 0 packet s o is)
 unfolding sent_with
@@ -236,7 +226,7 @@ events_with d xid packet s None is lt = refl
 events_with d xid packet s (Some e) is lt = error-event d xid (PacketOut packet) e lt (small_of e (subst IsSmall is (small_packet s packet)))
 
 pub packet_events : (d xid : ℕ) (packet : Packet) (s : SwitchState) → xid < 2 ^ 32 → events_of d (sent_by_message xid (PacketOut packet) s) ≡ events_of d (sent_by_message 0 (PacketOut packet) s)
-packet_events d xid packet s lt = ap (events_of d) (sent_so xid packet s _ refl) ∙ events_with d xid packet s _ refl lt ∙ ap (events_of d) (sym (sent_so 0 packet s _ refl))
+packet_events d xid packet s lt = ap (events_of d) (sent_is xid packet s _ refl) ∙ events_with d xid packet s _ refl lt ∙ ap (events_of d) (sym (sent_is 0 packet s _ refl))
 
 many_with : (xid : ℕ) (packet : Packet) (s : SwitchState) (o : Option OfError) (is : message_refusal s (PacketOut packet) ≡ o) → length (sent_with xid packet s o is) ≡ length (sent_with 0 packet s o is)
 unfolding sent_with
@@ -245,7 +235,7 @@ many_with xid packet s (Some e) is = refl
 
 -- nor how many they are
 pub packet_many : (xid : ℕ) (packet : Packet) (s : SwitchState) → length (sent_by_message xid (PacketOut packet) s) ≡ length (sent_by_message 0 (PacketOut packet) s)
-packet_many xid packet s = ap length (sent_so xid packet s _ refl) ∙ many_with xid packet s _ refl ∙ ap length (sym (sent_so 0 packet s _ refl))
+packet_many xid packet s = ap length (sent_is xid packet s _ refl) ∙ many_with xid packet s _ refl ∙ ap length (sym (sent_is 0 packet s _ refl))
 
 -- ---- One after the other
 

@@ -22,15 +22,16 @@ use Rattle.lego_model.specs.AfterFault.{after_packets}
 use Rattle.net_txn.specs.declared.trouble.Trouble.{Trouble}
 use Rattle.net_txn.specs.declared.trouble.Trouble.TheVariants as troubles
 use Rattle.net_txn.specs.Waits.{IsRead}
-use Rattle.net_txn.specs.Said.{Said, Says, Hears, said_steps, Calls, unsaid, unheard, last_said, wait_said, frames_said, barrier_of, reply_heard}
+use Rattle.net_txn.specs.Said.{Said, Says, said_steps, Calls, unsaid, last_said, wait_said, frames_said, barrier_of, reply_heard}
 use Rattle.net_txn.specs.Releases.{packet_awaited, MovesBy}
 use Rattle.net_txn.specs.ReleaseSteps.{packet_frames}
-use Rattle.net_txn.specs.laws.JoinedLaws.{losses_by, lost_none_all}
+use Rattle.net_txn.specs.laws.LinkPresenceLaws.{losses_by, lost_none_all}
 use Rattle.net_txn.specs.laws.SaidLaws.{all_two, is_fine, AreFine, fine_none_lost, fine_wait, said_links, Calls-moves}
-use Rattle.net_txn.specs.laws.LostLaws.{packets_said, packets_append, said_released, none_two, wait_none, barrier_none, is_link, fine_unsaid, fine_last}
+use Rattle.net_txn.specs.laws.LostLaws.{packets_said, packets_append, said_released, none_two, wait_none, barrier_none, is_link, fine_unsaid, fine_last, heard_none}
 use Rattle.net_txn.specs.laws.HeardLaws.{next_xid-lt}
 use Rattle.net_txn.specs.laws.PartLaws.{steps_other}
 use Rattle.net_txn.specs.laws.ChangeFlightLaws.{Stays, Moves, stays_then, moves_then, stays_unsaid, stays_last, stays_wait, told_map, stays_barrier}
+use Rattle.net_txn.specs.laws.UndoWaitLaws.{none_unsaid, none_last}
 
 -- ---- Each switch moves by them alone
 
@@ -54,7 +55,7 @@ moved_none d said old new told calls fine stays none =
     record {
       steps = steps;
       history = calls.told told;
-      released_so = said_released joined said ∙ none;
+      released_is = said_released joined said ∙ none;
       unlost = losses_by steps (said_links joined said) ∙ lost_none_all steps (fine_none_lost joined said fine);
       moved = λ e. elim (cases_eq d e) [
         | inl same ↦ subst (λ (n : ℕ). switch_of n (state new) ≡ option_map (after_packets n []) (switch_of n (state old))) same (ap (switch_of d) after ∙ stays joined (state old) ∙ none_map d (switch_of d (state old)))
@@ -67,7 +68,7 @@ moved_none d said old new told calls fine stays none =
 pub record PacketSaid (d : ℕ) (packet : Packet) (said : List Said) : Type 0 where
   pub moves : Moves d (PacketOut packet) said
   pub fine : AreFine said
-  pub released_so : packets_said said ≡ (d, packet) ∷ []
+  pub released_is : packets_said said ≡ (d, packet) ∷ []
 
 pub moved_one : {Own : Type 0} {Tells : Type 0} (d : ℕ) (packet : Packet) (said : List Said) (old new : Seen Own) → Tells → Calls Tells d said old new → PacketSaid d packet said → MovesBy ((d, packet) ∷ []) old new
 moved_one d packet said old new told calls one =
@@ -77,7 +78,7 @@ moved_one d packet said old new told calls one =
     record {
       steps = steps;
       history = calls.told told;
-      released_so = said_released joined said ∙ one.released_so;
+      released_is = said_released joined said ∙ one.released_is;
       unlost = losses_by steps (said_links joined said) ∙ lost_none_all steps (fine_none_lost joined said one.fine);
       moved = λ e. elim (cases_eq d e) [
         | inl same ↦ subst (λ (n : ℕ). switch_of n (state new) ≡ option_map (after_packets n ((d, packet) ∷ [])) (switch_of n (state old))) same (ap (switch_of d) after ∙ one.moves joined (state old) ∙ here_map d packet (switch_of d (state old)))
@@ -93,46 +94,20 @@ pub packet_said : (d xid : ℕ) (packet : Packet) → xid < 2 ^ 32 → IsMessage
 packet_said d xid packet small is = record {
   moves = told_map xid (PacketOut packet) (message_bytes xid (PacketOut packet)) d (reading_of-message_bytes xid (PacketOut packet) small is);
   fine = (refl, tt);
-  released_so = packet_released d xid packet small is;
+  released_is = packet_released d xid packet small is;
 }
 
 pub said_then : (d : ℕ) (packet : Packet) (xs ys : List Said) → PacketSaid d packet xs → Stays d ys → AreFine ys → packets_said ys ≡ [] → PacketSaid d packet (xs ++ ys)
 said_then d packet xs ys first stays fine none = record {
   moves = moves_then d (PacketOut packet) xs ys first.moves stays;
   fine = all_two (λ x. is_fine x ≡ true) xs ys first.fine fine;
-  released_so = packets_append xs ys ∙ ap (λ (ps : List Held). ps ++ packets_said ys) first.released_so ∙ ap (λ (ps : List Held). (d, packet) ∷ ps) none;
+  released_is = packets_append xs ys ∙ ap (λ (ps : List Held). ps ++ packets_said ys) first.released_is ∙ ap (λ (ps : List Held). (d, packet) ∷ ps) none;
 }
 
 pub both_said : (d xid : ℕ) (packet : Packet) → xid < 2 ^ 32 → IsMessage (PacketOut packet) → PacketSaid d packet (frames_said d (packet_frames d xid packet))
 both_said d xid packet small is =
     said_then d packet (Says d (message_bytes xid (PacketOut packet)) ∷ []) (Says d (barrier_of (packet_awaited d xid)) ∷ []) (packet_said d xid packet small is)
     (stays_barrier d (next_xid xid) (next_xid-lt xid small)) (refl, tt) (barrier_none d (next_xid xid) (next_xid-lt xid small))
-
-none_unsaid : (d : ℕ) (t : Trouble) → packets_said (unsaid d t) ≡ []
-unfolding packets_said
-none_unsaid d troubles.Link = refl
-none_unsaid d (troubles.Broke n) = refl
-none_unsaid d (troubles.Refused k x n) = refl
-none_unsaid d troubles.Flooded = refl
-none_unsaid d troubles.Short = refl
-none_unsaid d troubles.Full = refl
-
-none_unheard : (d : ℕ) (t : Trouble) (buf : List ℕ) → packets_said (unheard d t buf) ≡ []
-unfolding packets_said
-none_unheard d troubles.Link buf = refl
-none_unheard d (troubles.Broke n) buf = refl
-none_unheard d (troubles.Refused k x n) buf = refl
-none_unheard d troubles.Flooded buf = refl
-none_unheard d troubles.Short buf = refl
-none_unheard d troubles.Full buf = refl
-
-none_heard : (d : ℕ) (bytes : List ℕ) → packets_said (Hears d bytes ∷ []) ≡ []
-unfolding packets_said
-none_heard d bytes = refl
-
-none_last : (d : ℕ) (by : Option (List ℕ)) (t : Trouble) (buf : List ℕ) → packets_said (last_said d by t buf) ≡ []
-none_last d None t buf = none_unheard d t buf
-none_last d (Some bytes) t buf = none_two (Hears d bytes ∷ []) (unsaid d t) (none_heard d bytes) (none_unsaid d t)
 
 pub unsaid_then : (d : ℕ) (packet : Packet) (xs : List Said) (t : Trouble) → is_link t ≡ false → PacketSaid d packet xs → PacketSaid d packet (xs ++ unsaid d t)
 unsaid_then d packet xs t none said = said_then d packet xs (unsaid d t) said (stays_unsaid d t none) (fine_unsaid d t none) (none_unsaid d t)
@@ -155,7 +130,7 @@ reply_then d packet a xs got is read said stays =
     let ys = wait_said a got in
     let last = reply_heard a ∷ [] in
     said_then d packet xs (ys ++ last) said (stays_then d ys last (subst (λ (n : ℕ). Stays n ys) is (stays_wait a got)) stays)
-    (all_two (λ x. is_fine x ≡ true) ys last (fine_wait a got) (refl, tt)) (none_two ys last (wait_none a got read) (none_heard a.dpid (message_bytes a.barrier BarrierReply)))
+    (all_two (λ x. is_fine x ≡ true) ys last (fine_wait a got) (refl, tt)) (none_two ys last (wait_none a got read) (heard_none a.dpid (message_bytes a.barrier BarrierReply)))
 
 -- the history did not grow
 pub nothing_said : {Own : Type 0} {Tells : Type 0} (d : ℕ) (said : List Said) (old new : Seen Own) → Tells → Calls Tells d said old new → new.history ≡ old.history → said_steps (is_joined d (state old)) said ≡ []

@@ -35,9 +35,9 @@ use Rattle.net_txn.specs.Net.{NetState}
 use Rattle.net_txn.specs.Losing.{lost_net, IsLost}
 use Rattle.net_txn.specs.Said.{Said, Says, said_steps, Calls, IsOfLink, unsaid, wait_said, last_said, frames_said, barrier_of, reply_heard, Replied, Breaks, BreaksBy, Speaks, SaysNot, SaysTo}
 use Rattle.net_txn.specs.Releases.{packet_awaited, packet_steps, takes_all, MovesBy, SendsPacket, BreaksAt}
-use Rattle.net_txn.specs.ReleaseSteps.{PacketSent, PacketUnsent, BarrierPassed, BarrierBroke, BarrierStops, packet_frames, PacketTold, PacketBroke, PacketStops, SettlesIn, SettlesLost, SettlesNot, ReleasesPacket}
+use Rattle.net_txn.specs.ReleaseSteps.{PacketSent, PacketUnsent, BarrierPassed, BarrierBroke, BarrierStops, packet_frames, PacketTold, PacketBroke, PacketStops, TakenBeforeReply, LostBeforeReply, StopsBeforeReply, ReleasesPacket}
 use Rattle.net_txn.specs.laws.TalkLaws.{speaks_none, says_speak, talks_behind, talks_not, talks_speak, talks_waits, talks_cause, talks_flooded, halt_or}
-use Rattle.net_txn.specs.laws.JoinedLaws.{losses_by}
+use Rattle.net_txn.specs.laws.LinkPresenceLaws.{losses_by}
 use Rattle.net_txn.specs.laws.SaidLaws.{joined_after, Calls-none, Calls-joined, said_links}
 use Rattle.net_txn.specs.laws.LostLaws.{packets_none, said_released, released_two, losses_two, is_link, fault_is_none, says_halts, breaks_halts, breaks_none_lost, replied_none_lost, Calls-read}
 use Rattle.net_txn.specs.laws.PartLaws.{steps_other}
@@ -150,7 +150,7 @@ unsent_moved {Tells = Tells} d xid packet old new t first rest lt is none split 
 
 breaks_moved : {Own : Type 0} {Tells : Type 0} (d xid : ℕ) (packet : Packet) (old new : Seen Own) (came : List (ℕ × List ℕ)) (buf : List ℕ) (t : Trouble) → xid < 2 ^ 32 → IsMessage (PacketOut packet) → is_link t ≡ false
     → Breaks Tells (packet_awaited d xid) (packet_frames d xid packet) Growing [] old new [] came buf t → Moved Tells d packet old new
-breaks_moved d xid packet old new came buf t lt is none (inl u) = unsent_moved d xid packet old new t u.first u.rest lt is none u.frames_so u.calls
+breaks_moved d xid packet old new came buf t lt is none (inl u) = unsent_moved d xid packet old new t u.first u.rest lt is none u.frames_is u.calls
 breaks_moved d xid packet old new came buf t lt is none (inr u) =
     let a = packet_awaited d xid in
     let said = wait_then d packet a (frames_said d (packet_frames d xid packet)) u.got u.by t buf refl none u.before.read (both_said d xid packet lt is) in
@@ -181,8 +181,8 @@ IfShort halt = halt ≡ Fault NoMemory
 
 broke_short : {Own : Type 0} {Tells : Type 0} (d xid : ℕ) (packet : Packet) (old new : Seen Own) (fault : TxnFault) → PacketBroke Tells d xid packet old new fault → Tells → new.history ≡ old.history → fault ≡ NoMemory
 broke_short d xid packet old new fault b told same =
-    let none = fault_is_none d b.breaks.trouble b.breaks.buf fault b.breaks.halt_so in
-    let short : Fault fault ≡ Fault NoMemory = halt_or IfShort d b.breaks.trouble b.breaks.buf (Fault fault) b.breaks.halt_so (breaks_short d xid packet old new b.came b.breaks.buf b.breaks.trouble none b.breaks.breaks told same) refl in
+    let none = fault_is_none d b.breaks.trouble b.breaks.buf fault b.breaks.halt_is in
+    let short : Fault fault ≡ Fault NoMemory = halt_or IfShort d b.breaks.trouble b.breaks.buf (Fault fault) b.breaks.halt_is (breaks_short d xid packet old new b.came b.breaks.buf b.breaks.trouble none b.breaks.breaks told same) refl in
     cc
 
 -- ---- The whole of it
@@ -219,7 +219,7 @@ packet_breaks {Tells = Tells} d packet old new net fault viewed is lt (inl none)
 packet_breaks d packet old new net fault viewed is lt (inr (inl b)) =
     breaks_as d packet old new net fault viewed is lt (breaks_on (packet_awaited d net.xid) (packet_frames d net.xid packet) old new [] b.came b.breaks.buf b.breaks.trouble b.breaks.breaks)
     (talks_cause d (packet_bytes net.xid packet ∷ []) (Fault fault) refl b.breaks) (talks_flooded (packet_bytes net.xid packet ∷ []) (Fault fault) b.breaks)
-    (breaks_moved d net.xid packet old new b.came b.breaks.buf b.breaks.trouble lt is (fault_is_none d b.breaks.trouble b.breaks.buf fault b.breaks.halt_so) b.breaks.breaks) (broke_short d net.xid packet old new fault b)
+    (breaks_moved d net.xid packet old new b.came b.breaks.buf b.breaks.trouble lt is (fault_is_none d b.breaks.trouble b.breaks.buf fault b.breaks.halt_is) b.breaks.breaks) (broke_short d net.xid packet old new fault b)
 packet_breaks d packet old new net fault viewed is lt (inr (inr b)) =
     short_breaks d packet old new net fault viewed is lt b.told.replied.calls.continues (one_moved d packet old new (told_moves d net.xid packet old new b.came lt is b.told)) b.short
 
@@ -236,7 +236,7 @@ stops_speaks d xid packet old new fault (inr (inr b)) = told_speaks d xid packet
 stops_none_lost : {Own : Type 0} {Tells : Type 0} (d xid : ℕ) (packet : Packet) (old new : Seen Own) (fault : TxnFault) → PacketStops Tells d xid packet old new fault → Tells → lost_of new ≡ lost_of old
 stops_none_lost d xid packet old new fault (inl none) told = ap lost_of none.0
 stops_none_lost d xid packet old new fault (inr (inl b)) told =
-    breaks_none_lost (packet_awaited d xid) (packet_frames d xid packet) b.breaks.buf b.breaks.trouble (fault_is_none d b.breaks.trouble b.breaks.buf fault b.breaks.halt_so) b.breaks.breaks told
+    breaks_none_lost (packet_awaited d xid) (packet_frames d xid packet) b.breaks.buf b.breaks.trouble (fault_is_none d b.breaks.trouble b.breaks.buf fault b.breaks.halt_is) b.breaks.breaks told
 stops_none_lost d xid packet old new fault (inr (inr b)) told = replied_none_lost (packet_awaited d xid) (packet_frames d xid packet) b.told.replied told
 
 -- ---- Its switch is lost
@@ -258,7 +258,7 @@ lost_sent {Tells = Tells} d xid packet old mid new lt is sent later lost = recor
         steps = steps ++ o.steps;
         history = o.history ∙ ap (λ (s : List WorldStep). s ++ o.steps) history ∙ append_assoc old.history steps o.steps;
         lost = ap (λ (acts : List Act). losses acts) (journal-append steps o.steps) ∙ losses_two (journal steps) (journal o.steps) ∙ ap (λ (ds : List ℕ). ds ++ losses (journal o.steps)) (losses_by steps (said_links true said)) ∙ o.lost;
-        released_so = released_two steps o.steps ∙ ap (λ (ps : List Held). ps ++ released (journal o.steps)) (said_released true said ∙ packet_released d xid packet lt is) ∙ ap (λ (ps : List Held). (d, packet) ∷ ps) o.released_so;
+        released_is = released_two steps o.steps ∙ ap (λ (ps : List Held). ps ++ released (journal o.steps)) (said_released true said ∙ packet_released d xid packet lt is) ∙ ap (λ (ps : List Held). (d, packet) ∷ ps) o.released_is;
         out = o.out;
         waits = o.waits;
         others = λ e other. o.others e other ∙ ap (λ (s : State). switch_of e s) after ∙ (others e other).0;
@@ -285,8 +285,8 @@ lost_speaks d xid packet old mid new sent b =
 abbrev with_xid : NetState → ℕ → NetState
 with_xid net xid = record net { xid = xid }
 
-lost_so : (d : ℕ) (net now_net : NetState) (xid : ℕ) → now_net ≡ lost_net d (with_xid net xid) → now_net ≡ with_xid (lost_net d net) now_net.xid
-lost_so d net now_net xid is = let x : now_net.xid ≡ xid = ap (λ (n : NetState). n.xid) is in is ∙ ap (with_xid (lost_net d net)) (sym x)
+lost_is : (d : ℕ) (net now_net : NetState) (xid : ℕ) → now_net ≡ lost_net d (with_xid net xid) → now_net ≡ with_xid (lost_net d net) now_net.xid
+lost_is d net now_net xid is = let x : now_net.xid ≡ xid = ap (λ (n : NetState). n.xid) is in is ∙ ap (with_xid (lost_net d net)) (sym x)
 
 -- ---- The whole of one packet
 
@@ -296,7 +296,7 @@ passes_packet Tells d packet seen net queue unviewed = record {
   stays = stays_same net;
   calls = calls_none Tells net.views seen;
   read = λ ok told. messages-none seen;
-  does = inr (inl (refl, record { unviewed = unviewed; seen = refl; net_so = refl; queue_so = refl }));
+  does = inr (inl (refl, record { unviewed = unviewed; seen = refl; net_is = refl; queue_is = refl }));
 }
 
 -- a fault, before the packet was sent
@@ -323,7 +323,7 @@ lost_before {Tells = Tells} d packet old new net now_net queue xid viewed is (in
       stays = stays_lost d net now_net (with_xid net xid) refl refl refl refl is;
       calls = calls_lost d net.views old new [] viewed (says_speak (packet_bytes xid packet) (lost_result s) s) halts.0;
       read = λ ok told. halts.1 told;
-      does = inr (inr (inl (refl, record { continues = s.calls.continues; viewed = viewed; is_lost = halts.0; net_so = lost_so d net now_net xid is; queue_so = refl })));
+      does = inr (inr (inl (refl, record { continues = s.calls.continues; viewed = viewed; is_lost = halts.0; net_is = lost_is d net now_net xid is; queue_is = refl })));
     }
   where
     lost_result : SaysNot Tells d old new Lost → Result (Unit {0}) Halt
@@ -331,7 +331,7 @@ lost_before {Tells = Tells} d packet old new net now_net queue xid viewed is (in
 
 -- a fault behind it
 pub stops_packet : {Own : Type 0} {Tells : Type 0} (d : ℕ) (packet : Packet) (old mid new : Seen Own) (net now_net : NetState) (queue now_queue : List Event) (xid : ℕ) (fault : TxnFault) → is_viewed d net.views ≡ true → IsMessage (PacketOut packet) → net.xid < 2 ^ 32
-    → PacketSent Tells d net.xid packet old mid → SettlesNot Tells (packet_awaited d net.xid) mid new (with_xid net xid) now_net fault → ReleasesPacket Tells (d, packet) old new net now_net queue now_queue (Err fault)
+    → PacketSent Tells d net.xid packet old mid → StopsBeforeReply Tells (packet_awaited d net.xid) mid new (with_xid net xid) now_net fault → ReleasesPacket Tells (d, packet) old new net now_net queue now_queue (Err fault)
 stops_packet d packet old mid new net now_net queue now_queue xid fault viewed is lt sent s =
     let stops = stops_of d net.xid packet old mid new fault sent s.stops in
     record {
@@ -344,7 +344,7 @@ stops_packet d packet old mid new net now_net queue now_queue xid fault viewed i
 
 pub settled_packet : {Own : Type 0} {Tells : Type 0} (d : ℕ) (packet : Packet) (old mid new : Seen Own) (net now_net : NetState) (queue now_queue : List Event) (xid : ℕ) → is_viewed d net.views ≡ true → IsMessage (PacketOut packet) → (1 ≤ net.xid) × (net.xid < 2 ^ 32)
     → xid ≡ next_xid (next_xid net.xid) → PacketSent Tells d net.xid packet old mid
-    → SettlesIn Tells (packet_awaited d net.xid) mid new (with_xid net xid) now_net queue now_queue ⊎ SettlesLost Tells (packet_awaited d net.xid) mid new (with_xid net xid) now_net queue now_queue
+    → TakenBeforeReply Tells (packet_awaited d net.xid) mid new (with_xid net xid) now_net queue now_queue ⊎ LostBeforeReply Tells (packet_awaited d net.xid) mid new (with_xid net xid) now_net queue now_queue
     → ReleasesPacket Tells (d, packet) old new net now_net queue now_queue (Ok true)
 settled_packet d packet old mid new net now_net queue now_queue xid viewed is range next sent (inl s) =
     let told = told_of d net.xid packet old mid new s.came sent s.passed in
@@ -363,8 +363,8 @@ settled_packet {Tells = Tells} d packet old mid new net now_net queue now_queue 
     let lost = lost_sent d net.xid packet old mid new range.1 is sent later halts.0 in
     record {
       lost = d ∷ [];
-      stays = stays_lost d net now_net (with_xid net xid) refl refl refl refl s.net_so;
+      stays = stays_lost d net now_net (with_xid net xid) refl refl refl refl s.net_is;
       calls = calls_lost d net.views old new ((d, packet) ∷ []) viewed (lost_speaks d net.xid packet old mid new sent s.broke) lost;
       read = λ ok told. messages-then old mid new told sent.continues later (Calls-read (Says d (packet_bytes net.xid packet) ∷ []) sent (tt, tt) told) (halts.1 told);
-      does = inr (inr (inr (refl, record { continues = Continues-trans Tells old mid new sent.continues later; viewed = viewed; is_lost = lost; net_so = lost_so d net now_net xid s.net_so; queue_so = s.queue_so })));
+      does = inr (inr (inr (refl, record { continues = Continues-trans Tells old mid new sent.continues later; viewed = viewed; is_lost = lost; net_is = lost_is d net now_net xid s.net_is; queue_is = s.queue_is })));
     }

@@ -154,17 +154,17 @@ packet_in_step d packet s old new net now_net queue now_queue came refusal lt is
     let rest : wait_steps a w.got ++ reply_got a ∷ [] ≡ gots d (ws ++ reply ∷ []) =
     ap (λ (g : List (List ℕ)). wait_steps a g ++ reply_got a ∷ []) same ∙ ap (λ (xs : List WorldStep). xs ++ reply_got a ∷ []) (others_steps a ws others) ∙ sym (map-append of_switch ws (reply ∷ [])) in
     let end : state new ≡ after_steps (gots d (ws ++ reply ∷ [])) mid = after ∙ ap (λ (xs : List WorldStep). after_steps xs mid) rest in
-    let came_so : came ≡ map (from_switch d) ws = w.hears.kept_so ∙ ap (kept_of a) same ∙ others_kept a ws others in
+    let came_is : came ≡ map (from_switch d) ws = w.hears.kept_is ∙ ap (kept_of a) same ∙ others_kept a ws others in
     let later = with_xid net (next_xid (next_xid xid)) in
-    let knows : (now_net, now_queue) ≡ (later, queue ++ events_of d ws) = taken ∙ ap (λ (ms : List (ℕ × List ℕ)). takes_all ms (later, queue)) came_so ∙ all_taken d ws (later, queue) news in
+    let knows : (now_net, now_queue) ≡ (later, queue ++ events_of d ws) = taken ∙ ap (λ (ms : List (ℕ × List ℕ)). takes_all ms (later, queue)) came_is ∙ all_taken d ws (later, queue) news in
     let still : (e : ℕ) → e ≢ d → SameSwitch e (state old) (after_steps steps (state old)) = λ e other. steps_other d e steps (state old) other (all_of d xid packet w.got) in
     record {
       moved = ap (switch_of d) end ∙ gots_switch d (ws ++ reply ∷ []) mid ∙ b.switch;
       waits = ap (waits_of d) end ∙ gots_empty d (ws ++ reply ∷ []) mid b.waits;
       others = λ e other. ap (switch_of e) after ∙ (still e other).0;
       others_wait = λ e other. ap (waits_of e) after ∙ (still e other).1;
-      net_so = same_but_xid net now_net (next_xid (next_xid xid)) (ap net_of knows);
-      queue_so = ap queue_of knows ∙ ap (λ (es : List Event). queue ++ es) (packet_events d xid packet s lt);
+      net_is = same_but_xid net now_net (next_xid (next_xid xid)) (ap net_of knows);
+      queue_is = ap queue_of knows ∙ ap (λ (es : List Event). queue ++ es) (packet_events d xid packet s lt);
     }
 
 -- ---- A fault

@@ -11,7 +11,7 @@ thinned_more (x ∷ xs) y ys is = inr is
 
 -- no barrier was sent behind the last inverse
 pub ends_none : (parts : List (ℕ × Part)) → EndsByBarriers [] parts
-ends_none parts = record { last = []; front = parts; parts_so = refl; no_inverse = refl; in_order = tt; each = λ d among free. absurd cc }
+ends_none parts = record { last = []; front = parts; parts_is = refl; no_inverse = refl; in_order = tt; each = λ d among free. absurd cc }
 
 or_here : (a b : Bool) → a ≡ true → (a || b) ≡ true
 or_here true b is = refl
@@ -22,7 +22,7 @@ ends_part : (d : ℕ) (p : Part) (switches : List ℕ) (parts : List (ℕ × Par
 ends_part d p switches parts none e = record {
   last = (d, p) ∷ e.last;
   front = e.front;
-  parts_so = ap (λ (ps : List (ℕ × Part)). (d, p) ∷ ps) e.parts_so;
+  parts_is = ap (λ (ps : List (ℕ × Part)). (d, p) ∷ ps) e.parts_is;
   no_inverse = rw none e.no_inverse;
   in_order = inl (refl, e.in_order);
   each = λ c among free. elim (cases_eq d c) [
@@ -40,7 +40,7 @@ pub ends_skipped : (d : ℕ) (switches : List ℕ) (parts : List (ℕ × Part)) 
 ends_skipped d switches parts none e = record {
   last = e.last;
   front = e.front;
-  parts_so = e.parts_so;
+  parts_is = e.parts_is;
   no_inverse = e.no_inverse;
   in_order = thinned_more (map (λ (q : ℕ × Part). q.0) e.last) d switches e.in_order;
   each = λ c among free. elim (cases_eq d c) [

@@ -31,7 +31,7 @@ use Rattle.net_txn.specs.Net.{NetState, awaited_from}
 use Rattle.net_txn.specs.laws.SentLaws.{reading_of-as_sent}
 use Rattle.net_txn.specs.laws.HeardLaws.{IsMessage-barrier, next_xid-lt, heard-reply}
 use Rattle.net_txn.specs.Answering.{change_sent, error_in, Asked}
-use Rattle.net_txn.specs.Agreement.{ReachedSince}
+use Rattle.net_txn.specs.ChangeSteps.{ReachedSince}
 
 -- ---- Which acts send a change
 
@@ -143,6 +143,6 @@ reached d old new net now_net answer m told asked =
         alone = rw (change, barrier, none) refl;
       };
       error = error_in asked.refusal;
-      error_so = ap error_in hears.answer_so ∙ sym (first_behind a got);
-      answer_so = asked.answer_so;
+      error_is = ap error_in hears.answer_is ∙ sym (first_behind a got);
+      answer_is = asked.answer_is;
     }

@@ -58,7 +58,7 @@ reply_brings a small = ap is_read (reading_of-message_bytes a.barrier messages.B
 pub barred_brings : (a : Awaited) (got : List (List ℕ)) → a.barrier < 2 ^ 32 → AllByRecursion (λ b. IsOk (reading_of b)) got → BringMessages (wait_steps a got ++ reply_got a ∷ [])
 barred_brings a got small read = messages-append (wait_steps a got) (reply_got a ∷ []) (wait_brings a got read) (reply_brings a small, tt)
 
-all_read : (got : List (List ℕ)) → AllByRecursion IsRead got → AllByRecursion (λ b. IsOk (reading_of b)) got
+pub all_read : (got : List (List ℕ)) → AllByRecursion IsRead got → AllByRecursion (λ b. IsOk (reading_of b)) got
 all_read [] read = tt
 all_read (b ∷ bs) read = (read.0.1, all_read bs read.1)
 

@@ -12,7 +12,7 @@ use Rattle.net_txn.specs.Losing.{lost_net, lose_all}
 use Rattle.net_txn.specs.Undos.{Undoes, key_logged, lost_parts}
 use Rattle.net_txn.specs.Releases.{committed, Commits}
 use Rattle.net_txn.specs.ReleaseSteps.{ReleasedFront, StopsBehind}
-use Rattle.net_txn.specs.laws.JoinedLaws.{stays_in}
+use Rattle.net_txn.specs.laws.LinkPresenceLaws.{stays_in}
 use Rattle.net_txn.specs.laws.AbreastLaws.{without_keys-viewed, lose_all-viewed}
 
 abbrev in_views : ℕ → List TableView → Bool
@@ -34,11 +34,11 @@ commits_undone start old new net now_net queue result u =
       read = λ ok. absurd cc;
       lost = lost;
       losses = u.losses;
-      moment = ap (λ (n : NetState). n.moment) u.net_so ∙ lose_all-moment lost _;
+      moment = ap (λ (n : NetState). n.moment) u.net_is ∙ lose_all-moment lost _;
       room = λ ok. absurd cc;
       kept = λ ok. absurd cc;
-      switches = λ e. ap (λ (n : NetState). in_views e n.views) u.net_so ∙ lose_all-viewed e lost _ ∙ ap (stays_in e lost) (without_keys-viewed e (map key_logged (drop start net.log)) net.views);
-      ended = inl (record { fault_so = refl; result = result; undoes = u; queue_so = refl });
+      switches = λ e. ap (λ (n : NetState). in_views e n.views) u.net_is ∙ lose_all-viewed e lost _ ∙ ap (stays_in e lost) (without_keys-viewed e (map key_logged (drop start net.log)) net.views);
+      ended = inl (record { fault_is = refl; result = result; undoes = u; queue_is = refl });
     }
 
 -- all were released
@@ -55,7 +55,7 @@ commits_all start old new net now_net queue now_queue sizes r = record {
   room = λ ok. r.stays.room;
   kept = λ ok. r.stays.kept;
   switches = r.stays.switches;
-  ended = record { sent = r.sent; all = r.all; answer_so = r.sizes_so };
+  ended = record { sent = r.sent; all = r.all; answer_is = r.sizes_is };
 }
 
 -- the release stopped
@@ -76,7 +76,7 @@ commits_stopped start old new net now_net queue now_queue fault r = record {
     front = r.front;
     broken = r.broken;
     rest = r.rest;
-    held_so = r.held_so;
+    held_is = r.held_is;
     sent = r.sent;
     mid = r.mid;
     mid_net = r.mid_net;

@@ -23,7 +23,7 @@ use Rattle.net_txn.specs.Net.{NetState}
 use Rattle.net_txn.specs.Arriving.{net_after}
 use Rattle.net_txn.specs.Releases.{Knows, takes_read, takes_all, ReleasesOne, ReleasesAll}
 use Rattle.net_txn.specs.ReleaseSteps.{StaysSo, CallsLinks, sent_by, size_of, ReleasedFront, ReleasesNoted, StopsBehind}
-use Rattle.net_txn.specs.laws.JoinedLaws.{stays_in, stays-none, stays-then, among-append}
+use Rattle.net_txn.specs.laws.LinkPresenceLaws.{stays_in, stays-none, stays-then, among-append}
 use Rattle.net_txn.specs.laws.LinkStepLaws.{OnLinks-refl, OnLinks-trans}
 use Rattle.net_txn.specs.laws.LinkStrayLaws.{no_strays_none, no_strays_then}
 use Rattle.net_txn.specs.laws.LostLaws.{losses_then}
@@ -218,7 +218,7 @@ all_more Tells (h ∷ hs) sent held one_sent old mid new net mid_net now_net que
     (first, (later ++ one_sent, (ap (λ (xs : List Held). xs ++ one_sent) split ∙ append_assoc first later one_sent, (mid1, (net1, (queue1, (head, all_more Tells hs later held one_sent mid1 mid new net1 mid_net now_net queue1 mid_queue now_queue rest one)))))))
 
 pub front_none : {Own : Type 0} (Tells : Type 0) (seen : Seen Own) (net : NetState) (queue : List Event) → ReleasedFront Tells [] seen seen net net queue queue []
-front_none Tells seen net queue = record { lost = []; stays = stays_same net; calls = calls_none Tells net.views seen; read = λ told. messages-none seen; sent = []; all = (refl, refl, refl, refl); sizes_so = refl }
+front_none Tells seen net queue = record { lost = []; stays = stays_same net; calls = calls_none Tells net.views seen; read = λ told. messages-none seen; sent = []; all = (refl, refl, refl, refl); sizes_is = refl }
 
 pub front_more : {Own : Type 0} {Tells : Type 0} (front : List Held) (held : Held) (old mid new : Seen Own) (net mid_net now_net : NetState) (queue mid_queue now_queue : List Event) (sizes now_sizes : List (ℕ × ℕ)) → ReleasedFront Tells front old mid net mid_net queue mid_queue sizes
     → ReleasesNoted Tells held mid new mid_net now_net mid_queue now_queue sizes now_sizes (Ok tt) → ReleasedFront Tells (front ++ held ∷ []) old new net now_net queue now_queue now_sizes
@@ -231,7 +231,7 @@ front_more {Tells = Tells} front held old mid new net mid_net now_net queue mid_
       read = λ told. messages-then old mid new told before.calls.continues one.calls.continues (before.read told) (one.read refl told);
       sent = before.sent ++ more;
       all = all_more Tells front before.sent held more old mid new net mid_net now_net queue mid_queue now_queue before.all one.does;
-      sizes_so = noted ∙ ap (λ (ss : List (ℕ × ℕ)). ss ++ map size_of more) before.sizes_so ∙ sym (map-append size_of before.sent more);
+      sizes_is = noted ∙ ap (λ (ss : List (ℕ × ℕ)). ss ++ map size_of more) before.sizes_is ∙ sym (map-append size_of before.sent more);
     }
 
 pub stops_behind : {Own : Type 0} {Tells : Type 0} (all front : List Held) (held : Held) (rest : List Held) (old mid new : Seen Own) (net mid_net now_net : NetState) (queue mid_queue now_queue : List Event) (sizes now_sizes : List (ℕ × ℕ)) (fault : TxnFault) → all ≡ front ++ held ∷ rest
@@ -243,7 +243,7 @@ stops_behind all front held rest old mid new net mid_net now_net queue mid_queue
   front = front;
   broken = held;
   rest = rest;
-  held_so = split;
+  held_is = split;
   sent = before.sent;
   mid = mid;
   mid_net = mid_net;

@@ -18,9 +18,9 @@ use Rattle.flow_table.specs.Step.{sent_by_message}
 use Rattle.outside.specs.declared.step.WorldStep.{WorldStep}
 use Rattle.outside.specs.declared.step.WorldStep.TheVariants.{Acted}
 use Rattle.outside.specs.Seen.{Counts, Seen}
-use Rattle.outside.specs.State.{State, at_first, after_step, after_steps, state, switch_of, waits_of}
+use Rattle.outside.specs.State.{State, after_step, after_steps, state, switch_of, waits_of}
 use Rattle.outside.specs.laws.LinkLaws.{waits_of-got}
-use Rattle.outside.specs.laws.StateLaws.{after_steps-append, MaySteps-front, MaySteps-rest, Conforming-rest}
+use Rattle.outside.specs.laws.StateLaws.{after_steps-append, MaySteps-front, MaySteps-rest, Conforming-rest, state-append}
 use Rattle.outside.specs.Conforming.{MaySteps, Conforming}
 use Rattle.undo_laws.specs.Removal.{without, without_all, OnlyAdded}
 use Rattle.undo_laws.specs.laws.RemovalLaws.{without_added, is_among-reverse}
@@ -106,7 +106,7 @@ left_settled declared d xid got s older t is may l =
       switch = ap (switch_of d) end ∙ gots_switch d (waits_of d t ++ reply ∷ []) u ∙ moved;
       notices = subst AllNotices (sym none) tt;
       few = omega (arith, l.few, ap length none);
-      barred = λ zero_so. none;
+      barred = λ zero_is. none;
     }
 
 left_part : (declared : List Declared) (old new : Counts) (d : ℕ) (p : Part) (s : SwitchState) (older : List Part) (t : State) → IsRun old new d (p ∷ older) → is_stuck (p ∷ older) ≡ false → MaySteps declared (part_steps d p) t → Left d s older t
@@ -150,7 +150,7 @@ left_same d s parts t u same l = record {
 
 pub left_all : (declared : List Declared) (old new : Counts) (d : ℕ) (s : SwitchState) (parts : List (ℕ × Part)) (t : State) → AllRun old new parts → is_stuck (parts_of d parts) ≡ false → MaySteps declared (steps_of parts) t
     → switch_of d t ≡ Some s → waits_of d t ≡ [] → Left d s (parts_of d parts) (after_steps (steps_of parts) t)
-left_all declared old new d s [] t all free may is none = record { switch = is; notices = subst AllNotices (sym none) tt; few = omega (arith, ap length none); barred = λ zero_so. none }
+left_all declared old new d s [] t all free may is none = record { switch = is; notices = subst AllNotices (sym none) tt; few = omega (arith, ap length none); barred = λ zero_is. none }
 left_all declared old new d s (p ∷ older) t all free may is none =
     let here = runs_here old new p older all in
     let each = part_of old new p.0 p.1 (parts_of p.0 older) here in
@@ -212,10 +212,6 @@ restored_table parts keys s before same was is only =
 
 -- ---- From what is seen
 
-pub state_after : {Own : Type 0} (old new : Seen Own) (steps : List WorldStep) → new.given ≡ old.given → new.history ≡ old.history ++ steps → state new ≡ after_steps steps (state old)
-unfolding state
-state_after old new steps given is = rw (given, is) (after_steps-append old.history steps (at_first old.given))
-
 none_other : (old new : Counts) (d : ℕ) (parts : List (ℕ × Part)) (t : State) → AllRun old new parts → parts_of d parts ≡ [] → SameSwitch d t (after_steps (steps_of parts) t)
 none_other old new d [] t all none = (refl, refl)
 none_other old new d (p ∷ older) t all none =
@@ -236,7 +232,7 @@ none_other old new d (p ∷ older) t all none =
 
 pub others_stay : {Own : Type 0} (old new : Seen Own) (d : ℕ) (parts : List (ℕ × Part)) → new.given ≡ old.given → new.history ≡ old.history ++ steps_of parts → AllRun old.counts new.counts parts → parts_of d parts ≡ [] → SameSwitch d (state old) (state new)
 others_stay old new d parts given is all none =
-    subst (λ (t : State). SameSwitch d (state old) t) (sym (state_after old new (steps_of parts) given is)) (none_other old.counts new.counts d parts (state old) all none)
+    subst (λ (t : State). SameSwitch d (state old) t) (sym (state-append old new (steps_of parts) given is)) (none_other old.counts new.counts d parts (state old) all none)
 
 pub restored : {Own : Type 0} (old new : Seen Own) (d : ℕ) (s : SwitchState) (before : TableState) (keys : List Key) (parts : List (ℕ × Part)) → new.given ≡ old.given → new.history ≡ old.history ++ steps_of parts → AllRun old.counts new.counts parts → Conforming new
     → is_stuck (parts_of d parts) ≡ false → keys_reverted (parts_of d parts) ≡ keys → since_of (parts_of d parts) ≡ 0 → switch_of d (state old) ≡ Some s → waits_of d (state old) ≡ [] → IsTable before.entries → IsSerialed s.table → OnlyAdded keys before.entries s.table.entries
@@ -244,7 +240,7 @@ pub restored : {Own : Type 0} (old new : Seen Own) (d : ℕ) (s : SwitchState) (
 restored old new d s before keys parts given is all conforming free same none here waits was serialed only =
     let may = Conforming-rest old new (steps_of parts) given is conforming in
     let l = left_all old.given.declared old.counts new.counts d s parts (state old) all free may here waits in
-    subst (λ (t : State). Restored d before s t) (sym (state_after old new (steps_of parts) given is)) (record {
+    subst (λ (t : State). Restored d before s t) (sym (state-append old new (steps_of parts) given is)) (record {
       switch = l.switch ∙ ap (λ (x : SwitchState). Some x) (restored_table (parts_of d parts) keys s before same was serialed only);
       waits = l.barred none;
     })
@@ -289,7 +285,7 @@ left_refused declared d sent steps inverse bytes s older t r may l =
     let read = reading_of-message_bytes a.barrier BarrierRequest r.is_xid IsMessage-barrier in
     let u = after_step (barrier_sent a) t in
     let waits : waits_of a.dpid u ≡ waits_of a.dpid t ++ reply ∷ [] = told_waits a.dpid a.barrier BarrierRequest (message_bytes a.barrier BarrierRequest) t now read here.switch ∙ ap (λ (ws : List (List ℕ)). waits_of a.dpid t ++ ws) (barrier_sends a.barrier now) in
-    let going = subst (λ (xs : List WorldStep). MaySteps declared xs t) r.steps_so may in
+    let going = subst (λ (xs : List WorldStep). MaySteps declared xs t) r.steps_is may in
     no_error declared a (waits_of a.dpid t) r.got bytes u here.notices waits going.1 r.before.before_reply (refused_error sent bytes r.key r.of_key)
 
 pub earlier_or : (o later : Option TxnFault) (g : TxnFault) → first_fault_of o later ≡ Some g → (o ≡ Some g) ⊎ ((o ≡ None) × (later ≡ Some g))

@@ -196,8 +196,8 @@ Further-passed {switches = switches} d u none = record {
     ends = ends_skipped d switches u.parts none u.undoing.ends;
   };
   few = u.few;
-  fault_so = u.fault_so;
-  ports_so = u.ports_so;
+  fault_is = u.fault_is;
+  ports_is = u.ports_is;
 }
 
 no_both : (b : Bool) → b ≡ true → b ≡ false → ⊥

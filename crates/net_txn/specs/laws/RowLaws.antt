@@ -1,8 +1,8 @@
 -- A change that touches no row leaves view and table in agreement, and gives no notice.
-use Rattle.std.specs.Prelude.{◌≡◌, ◌==◌, ℕ, ◌≤◌, Bool, true, false, not, ◌&&◌, ◌||◌, ◌⊎◌, List, [], ◌∷◌, map, filter, Option, Some, None, nat_lt, if◌then◌else◌, refl}
+use Rattle.std.specs.Prelude.{◌≡◌, ◌==◌, ℕ, ◌≤◌, Bool, true, false, not, ◌&&◌, ◌||◌, List, [], ◌∷◌, map, filter, Option, Some, None, nat_lt, if◌then◌else◌, refl}
 use Rattle.std.specs.List.{list_any}
 use Rattle.std.proofs.Common.{sym, ap, ◌∙◌, inl, inr, arith}
-use Rattle.std.proofs.lemmas.Bool.{cases_Bool, eqb-true, eqb-false, ltb-false}
+use Rattle.std.proofs.lemmas.Bool.{cases_Bool, eqb-true, eqb-false, ltb-false, or_cases, or_parts}
 use Rattle.of_types.specs.declared.errors.OfError.{OfError}
 use Rattle.of_match.specs.declared.key.Key.{Key}
 use Rattle.of_match.specs.Key.{key_number}
@@ -59,21 +59,13 @@ pub any_of_map : {X Y : Type 0} (f : Y → Bool) (g : X → Y) (xs : List X) →
 any_of_map f g [] = refl
 any_of_map f g (x ∷ xs) = ap (λ (b : Bool). f (g x) || b) (any_of_map f g xs)
 
-neither : (a b : Bool) → (a || b) ≡ false → (a ≡ false) × (b ≡ false)
-neither true b e = absurd cc
-neither false b e = (refl, e)
-
-either : (a b : Bool) → (a || b) ≡ true → (a ≡ true) ⊎ (b ≡ true)
-either true b e = inl refl
-either false b e = inr e
-
-filter_all : (p : Entry → Bool) (es : List Entry) → list_any p es ≡ false → filter (λ e. not (p e)) es ≡ es
+pub filter_all : (p : Entry → Bool) (es : List Entry) → list_any p es ≡ false → filter (λ e. not (p e)) es ≡ es
 filter_all p [] none = refl
-filter_all p (e ∷ es) none = let n = neither (p e) (list_any p es) none in rw n.0 (ap (λ (fs : List Entry). e ∷ fs) (filter_all p es n.1))
+filter_all p (e ∷ es) none = let n = or_parts (p e) (list_any p es) none in rw n.0 (ap (λ (fs : List Entry). e ∷ fs) (filter_all p es n.1))
 
 filter_none : (p q : Entry → Bool) (es : List Entry) → list_any p es ≡ false → filter (λ e. p e && q e) es ≡ []
 filter_none p q [] none = refl
-filter_none p q (e ∷ es) none = let n = neither (p e) (list_any p es) none in rw n.0 (filter_none p q es n.1)
+filter_none p q (e ∷ es) none = let n = or_parts (p e) (list_any p es) none in rw n.0 (filter_none p q es n.1)
 
 -- ---- What the host lets pass
 
@@ -90,9 +82,9 @@ pub known_command : (m : Change) → flow_mod_refused m ≡ None → m.command �
 unfolding flow_mod_refused
 known_command m none = ltb-false 4 m.command (known_if _ (nat_lt 4 m.command) _ _ _ none)
 
-no_command : (m : Change) → is_delete m ≡ true → ((m.command == 0) ≡ false) × (is_modify m ≡ false)
+pub no_command : (m : Change) → is_delete m ≡ true → ((m.command == 0) ≡ false) × (is_modify m ≡ false)
 no_command m is =
-    elim (either (m.command == 3) (m.command == 4) is) [
+    elim (or_cases (m.command == 3) (m.command == 4) is) [
       | inl three ↦ let c : m.command ≡ 3 = eqb-true _ _ three in (rw c refl, rw c refl)
       | inr four ↦ let c : m.command ≡ 4 = eqb-true _ _ four in (rw c refl, rw c refl)
     ]
@@ -103,9 +95,9 @@ untouched_delete m es is none =
     let c = no_command m is in
     sym (any_of_map (λ (r : Key × List Action). describes m r.0 && sends_to m.out_port r.1) held es) ∙ (rw (c.0, c.1) at none)
 
-modifies_or_adds : (m : Change) → is_delete m ≡ false → m.command ≤ 4 → (m.command == 0) ≡ false → is_modify m ≡ true
+pub modifies_or_adds : (m : Change) → is_delete m ≡ false → m.command ≤ 4 → (m.command == 0) ≡ false → is_modify m ≡ true
 modifies_or_adds m other known not_add =
-    let n = neither (m.command == 3) (m.command == 4) other in
+    let n = or_parts (m.command == 3) (m.command == 4) other in
     elim (cases_Bool (m.command == 1)) [
       | inl one ↦ rw one refl
       | inr not_one ↦ elim (cases_Bool (m.command == 2)) [

@@ -29,7 +29,7 @@ use Rattle.net_txn.specs.LinkSteps.{AreLinkSteps, OnLinks, ThenWaits}
 use Rattle.lego_model.specs.UndoFaults.{loses, GoesWithoutStrays, IsStepOf}
 use Rattle.net_txn.specs.laws.LinkStepLaws.{links_append, OnLinks-by}
 use Rattle.net_txn.specs.laws.UndoWithoutStraysLaws.{goes_none, goes_append, goes_sure, goes_send_lost, goes_recv_lost, goes_same, goes_got, goes_barrier, barrier_waits}
-use Rattle.net_txn.specs.laws.JoinedLaws.{steps_stay, loses-append}
+use Rattle.net_txn.specs.laws.LinkPresenceLaws.{steps_stay, loses-append}
 use Rattle.net_txn.specs.Causes.{link_trouble}
 use Rattle.net_txn.specs.Undos.{Moves}
 use Rattle.net_txn.specs.Said.{Said, Says, Hears, HearsNoise, CannotSay, CannotHear, LacksMemory, steps_in, joined_behind, said_steps, IsSaid, AreSaidTo, Calls, unsaid, unheard, said_by, heard_said, wait_said, last_said, frames_said, barrier_of, IsOfLink, IsOfHearing}

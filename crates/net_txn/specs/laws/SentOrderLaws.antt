@@ -87,10 +87,10 @@ sent_keys d (p ∷ older) = part_keys d p.0 p.1 older (sent_keys d older) (p.0 =
 
 -- ---- The whole
 
-both_so : (a b : Bool) → (a && not b) ≡ true → (a ≡ true) × (b ≡ false)
-both_so true true is = absurd cc
-both_so true false is = (refl, refl)
-both_so false b is = absurd cc
+both_is : (a b : Bool) → (a && not b) ≡ true → (a ≡ true) × (b ≡ false)
+both_is true true is = absurd cc
+both_is true false is = (refl, refl)
+both_is false b is = absurd cc
 
 pub served_all : (views : List TableView) (parts : List (ℕ × Part)) (all : List (ℕ × Key)) → IsThinned (sent_in parts) all
     → ((d : ℕ) → is_viewed d views ≡ true → is_stuck (parts_of d parts) ≡ false → map (λ q. q.1) (inverses_of (parts_of d parts)) ≡ keys_of d all)
@@ -98,4 +98,4 @@ pub served_all : (views : List TableView) (parts : List (ℕ × Part)) (all : Li
 served_all views parts all is keys = same_counted (is_served views parts) (sent_in parts) all is same
   where
     same : SameKeys (is_served views parts) (sent_in parts) all
-    same d counted = let so = both_so (is_viewed d views) (is_stuck (parts_of d parts)) counted in sent_keys d parts ∙ keys d so.0 so.1
+    same d counted = let so = both_is (is_viewed d views) (is_stuck (parts_of d parts)) counted in sent_keys d parts ∙ keys d so.0 so.1

@@ -1,5 +1,5 @@
 -- How many bytes a message has at least that is read, by its type.
-use Rattle.std.proofs.Common.{◌≡◌, ℕ, ◌≤◌, Bool, true, false, cond, eqb, ltb, List, length, Option, Some, None, Result, Ok, Err, refl, ap, sym, ◌∙◌}
+use Rattle.std.proofs.Common.{◌≡◌, ℕ, ◌≤◌, true, cond, eqb, ltb, List, length, Option, Some, None, Result, Ok, Err, refl, ap, sym, ◌∙◌}
 use Rattle.std.specs.Prelude.{IsOk}
 use Rattle.std.proofs.lemmas.Bool.{ltb-false, leb-true, eqb-true}
 use Rattle.of_types.specs.Fields.{number_at}
@@ -10,10 +10,7 @@ use Rattle.of_wire.specs.declared.kind.MessageKind.TheVariants as kinds
 use Rattle.of_wire.specs.declared.fault.WireFault.TheVariants.{BadVersion, BadLength}
 use Rattle.of_wire.specs.Kinds.{kind_of_number}
 use Rattle.of_wire.specs.Reading.{has_length, if_sized, front_of, reading_of}
-
-guard_then : {A F : Type 0} (b : Bool) (fault : F) (r : Result A F) (x : A) → cond b r (Err fault) ≡ Ok x → (b ≡ true) × (r ≡ Ok x)
-guard_then true fault r x e = (refl, e)
-guard_then false fault r x e = absurd cc
+use Rattle.of_wire.specs.laws.GrammarLaws.{guard_then}
 
 some_step : {A B F : Type 0} (r : Result A F) (f : A → Result B F) → IsOk (r >>= f) → (x : A) × (r ≡ Ok x)
 some_step (Ok x) f is = (x, refl)

@@ -1,6 +1,6 @@
 -- What an undo leaves of the table of a switch, whatever its world tells besides, and whatever waits of it: the table without the keys
 -- whose inverses were sent. What comes of a switch moves no table.
-use Rattle.std.specs.Prelude.{◌≡◌, ◌≢◌, ◌==◌, ℕ, Bool, true, false, List, [], ◌∷◌, ◌++◌, Option, Some, None, if◌then◌else◌, refl}
+use Rattle.std.specs.Prelude.{◌≡◌, ◌≢◌, ◌==◌, ℕ, Bool, true, false, List, [], ◌∷◌, ◌++◌, Option, Some, if◌then◌else◌}
 use Rattle.std.specs.List.{AllByRecursion}
 use Rattle.std.specs.Option.{is_some}
 use Rattle.std.proofs.Common.{sym, ap, ◌∙◌, subst, eq-eqb, inl, inr}
@@ -16,7 +16,7 @@ use Rattle.outside.specs.declared.step.WorldStep.TheVariants.{Acted}
 use Rattle.outside.specs.Seen.{Counts, Seen}
 use Rattle.outside.specs.State.{State, after_step, after_steps, state, switch_of, is_joined}
 use Rattle.outside.specs.laws.LinkLaws.{switch_of-got}
-use Rattle.outside.specs.laws.StateLaws.{after_steps-append}
+use Rattle.outside.specs.laws.StateLaws.{after_steps-append, state-append}
 use Rattle.undo_laws.specs.Removal.{OnlyAdded}
 use Rattle.undo_laws.specs.Serials.{IsSerialed}
 use Rattle.lego_model.specs.BarrierWaits.{wait_steps, barrier_sent, reply_got}
@@ -26,8 +26,9 @@ use Rattle.net_txn.specs.laws.StepLaws.{told_switch, barrier_stays}
 use Rattle.net_txn.specs.laws.NoticeLaws.{with_entries, inverse_moves}
 use Rattle.net_txn.specs.laws.PartLaws.{steps_other, reading_of-inverse}
 use Rattle.net_txn.specs.Undos.{IsTableBack, CanBeSent, IsBarrierPassed, alone, Part, Inverse, BarrierPassed, Stuck, part_steps, steps_of, parts_of, is_stuck, inverses_of, IsRun}
-use Rattle.net_txn.specs.laws.RestoreLaws.{part_of, AllRun, runs_here, runs_older, entries_left, keys_reverted, restored_table, state_after, older_free}
+use Rattle.net_txn.specs.laws.RestoreLaws.{part_of, AllRun, runs_here, runs_older, entries_left, keys_reverted, restored_table, older_free}
 use Rattle.net_txn.specs.laws.WaitMoveLaws.{wait_switch}
+use Rattle.net_txn.specs.laws.LinkStrayLaws.{switch_there}
 
 abbrev some_switch : SwitchState → Option SwitchState
 some_switch x = Some x
@@ -99,25 +100,21 @@ table_left old new d s (p ∷ older) t all free is =
 
 -- ---- It stays joined
 
-some_switch_in : (o : Option SwitchState) → is_some o ≡ true → (s : SwitchState) × (o ≡ Some s)
-some_switch_in None some = absurd cc
-some_switch_in (Some s) some = (s, refl)
-
 pub joined_left : (old new : Counts) (d : ℕ) (parts : List (ℕ × Part)) (t : State) → AllRun old new parts → is_stuck (parts_of d parts) ≡ false → is_joined d t ≡ true → is_joined d (after_steps (steps_of parts) t) ≡ true
 joined_left old new d parts t all free joined =
-    let here = some_switch_in (switch_of d t) joined in
+    let here = switch_there (switch_of d t) joined in
     ap (λ (o : Option SwitchState). is_some o) (table_left old new d here.0 parts t all free here.1)
 
 pub stays_joined : {Own : Type 0} (old new : Seen Own) (d : ℕ) (parts : List (ℕ × Part)) → new.given ≡ old.given → new.history ≡ old.history ++ steps_of parts → AllRun old.counts new.counts parts → is_stuck (parts_of d parts) ≡ false
     → is_joined d (state old) ≡ true → is_joined d (state new) ≡ true
 stays_joined old new d parts given is all free joined =
-    subst (λ (t : State). is_joined d t ≡ true) (sym (state_after old new (steps_of parts) given is)) (joined_left old.counts new.counts d parts (state old) all free joined)
+    subst (λ (t : State). is_joined d t ≡ true) (sym (state-append old new (steps_of parts) given is)) (joined_left old.counts new.counts d parts (state old) all free joined)
 
 -- ---- The earlier table
 
 pub table_back : {Own : Type 0} (old new : Seen Own) (d : ℕ) (s : SwitchState) (before : TableState) (keys : List Key) (parts : List (ℕ × Part)) → new.given ≡ old.given → new.history ≡ old.history ++ steps_of parts → AllRun old.counts new.counts parts
     → is_stuck (parts_of d parts) ≡ false → keys_reverted (parts_of d parts) ≡ keys → switch_of d (state old) ≡ Some s → IsTable before.entries → IsSerialed s.table → OnlyAdded keys before.entries s.table.entries → IsTableBack d before s (state new)
 table_back old new d s before keys parts given is all free same here was serialed only =
-    ap (switch_of d) (state_after old new (steps_of parts) given is)
+    ap (switch_of d) (state-append old new (steps_of parts) given is)
     ∙ table_left old.counts new.counts d s parts (state old) all free here
     ∙ ap (λ (x : SwitchState). some_switch x) (restored_table (parts_of d parts) keys s before same was serialed only)

@@ -1,5 +1,5 @@
 -- Laws of a message, a barrier behind it and the wait for its reply: what was said is of links alone and in place, and why it failed.
-use Rattle.std.specs.Prelude.{◌≡◌, ℕ, ◌==◌, Bool, true, false, List, [], ◌∷◌, ◌++◌, length, take, ◌⊎◌, Option, Some, None, Result, Ok, Err, IfErr, IfOk, OnOk, OnErr, refl, if◌then◌else◌}
+use Rattle.std.specs.Prelude.{◌≡◌, ℕ, ◌==◌, Bool, true, false, List, [], ◌∷◌, ◌++◌, length, take, ◌⊎◌, Option, Some, None, Result, Ok, Err, IfOk, OnOk, OnErr, refl, if◌then◌else◌}
 use Rattle.std.specs.List.{AllByRecursion}
 use Rattle.std.proofs.Common.{sym, ap, ◌∙◌, subst, append_assoc, inl, inr}
 use Rattle.std.proofs.lemmas.List.{append-nil}
@@ -38,14 +38,14 @@ use Rattle.net_txn.specs.laws.ExchangeLaws.{replied_behind, breaks_behind}
 pub talks_behind : {Own : Type 0} {Tells : Type 0} {old mid : Seen Own} (a : Awaited) (first : List (List ℕ)) (new : Seen Own) (kept now_kept : List (ℕ × List ℕ)) (frame : List ℕ) (result : Result (Option Refusal) Halt)
     → Calls Tells a.dpid (Says a.dpid frame ∷ []) old mid → Talks Tells a first mid new kept now_kept result → Talks Tells a (frame ∷ first) old new kept now_kept result
 talks_behind a first new kept now_kept frame (Ok answer) before t = replied_behind frame before t
-talks_behind a first new kept now_kept frame (Err halt) before t = record { trouble = t.trouble; buf = t.buf; breaks = breaks_behind frame before t.breaks; halt_so = t.halt_so }
+talks_behind a first new kept now_kept frame (Err halt) before t = record { trouble = t.trouble; buf = t.buf; breaks = breaks_behind frame before t.breaks; halt_is = t.halt_is }
 
 pub talks_not : {Own : Type 0} {Tells : Type 0} {a : Awaited} {old new : Seen Own} (first : List (List ℕ)) (kept : List (ℕ × List ℕ)) (halt : Halt) → SaysNot Tells a.dpid old new halt → BreaksBy Tells a (first ++ barrier_of a ∷ []) old new kept kept halt
 talks_not {a = a} first kept halt s = record {
   trouble = s.trouble;
   buf = s.buf;
-  breaks = inl (record { first = []; rest = first ++ barrier_of a ∷ []; frames_so = refl; why = s.why; calls = s.calls; kept_so = refl });
-  halt_so = s.halt_so;
+  breaks = inl (record { first = []; rest = first ++ barrier_of a ∷ []; frames_is = refl; why = s.why; calls = s.calls; kept_is = refl });
+  halt_is = s.halt_is;
 }
 
 -- ---- What was said
@@ -126,8 +126,8 @@ talks_waits {a = a} {old = old} first r = record {
     continues = r.calls.continues;
     read = r.before.read;
     before_reply = r.before.before_reply;
-    kept_so = r.kept_so;
-    answer_so = r.answer_so;
+    kept_is = r.kept_is;
+    answer_is = r.answer_is;
     told = λ t. r.calls.told t ∙ ap (λ (s : List WorldStep). old.history ++ s) (whole_steps (is_joined a.dpid (state old)) a first r.got (reply_heard a ∷ [])
         ∙ ap (λ (s : List WorldStep). s ++ (barrier_sent a ∷ (wait_steps a r.got ++ reply_got a ∷ []))) (frames_steps (is_joined a.dpid (state old)) a.dpid first)
         ∙ sym (append_assoc (said_steps true (frames_said a.dpid first)) (barrier_sent a ∷ []) (wait_steps a r.got ++ reply_got a ∷ [])));
@@ -218,11 +218,7 @@ pub talks_cause : {Own : Type 0} {Tells : Type 0} {a : Awaited} {old new : Seen 
     → IsHaltCause Tells d old new halt
 talks_cause {Tells = Tells} {a = a} {old = old} {new = new} {kept = kept} {now_kept = now_kept} d first halt is b =
     subst (λ (x : ℕ). IsHaltCause Tells x old new halt) is
-    (halt_or (IsHaltCause Tells a.dpid old new) a.dpid b.trouble b.buf halt b.halt_so (breaks_cause a (first ++ barrier_of a ∷ []) old new kept now_kept b.buf b.trouble b.breaks) tt)
-
-pub says_cause : {Own T : Type 0} (Tells : Type 0) (d : ℕ) (frame : List ℕ) (old new : Seen Own) (result : Result T Halt) → SaysTo Tells d frame old new result → IfErr result (IsLinkCause d old new)
-says_cause Tells d frame old new (Ok x) c = tt
-says_cause Tells d frame old new (Err halt) s = halt_or (IsLinkCause d old new) d s.trouble s.buf halt s.halt_so (unsent_cause d [] old new s.trouble s.buf s.why s.calls) tt
+    (halt_or (IsHaltCause Tells a.dpid old new) a.dpid b.trouble b.buf halt b.halt_is (breaks_cause a (first ++ barrier_of a ∷ []) old new kept now_kept b.buf b.trouble b.breaks) tt)
 
 pub says_told : {Own T : Type 0} (Tells : Type 0) (d : ℕ) (frame bytes : List ℕ) (old new : Seen Own) (result : Result T Halt) → frame ≡ bytes → SaysTo Tells d frame old new result → Tells → OnOk result (new.history ≡ old.history ++ Acted (Sent d bytes) ∷ [])
 says_told Tells d frame bytes old new (Ok x) same c told = c.told told ∙ ap (λ (b : List ℕ). old.history ++ Acted (Sent d b) ∷ []) same
@@ -267,7 +263,7 @@ flooded_by a first old new kept now_kept buf troubles.Full b = tt
 pub talks_flooded : {Own : Type 0} {Tells : Type 0} {a : Awaited} {old new : Seen Own} {kept now_kept : List (ℕ × List ℕ)} (first : List (List ℕ)) (halt : Halt) → BreaksBy Tells a (first ++ barrier_of a ∷ []) old new kept now_kept halt
     → IfHaltFlooded Tells a (front_steps a first) old new halt
 talks_flooded {Tells = Tells} {a = a} {old = old} {new = new} {kept = kept} {now_kept = now_kept} first halt b =
-    halt_or (IfHaltFlooded Tells a (front_steps a first) old new) a.dpid b.trouble b.buf halt b.halt_so (flooded_by a first old new kept now_kept b.buf b.trouble b.breaks) tt
+    halt_or (IfHaltFlooded Tells a (front_steps a first) old new) a.dpid b.trouble b.buf halt b.halt_is (flooded_by a first old new kept now_kept b.buf b.trouble b.breaks) tt
 
 -- ---- What was kept
 
@@ -275,10 +271,10 @@ none_more : (d : ℕ) (kept now : List (ℕ × List ℕ)) → now ≡ kept → K
 none_more d kept now same = ([], same ∙ sym (append-nil kept))
 
 breaks_kept : {Own : Type 0} {Tells : Type 0} (a : Awaited) (frames : List (List ℕ)) (old new : Seen Own) (kept now_kept : List (ℕ × List ℕ)) (buf : List ℕ) (t : Trouble) → Breaks Tells a frames Growing [] old new kept now_kept buf t → KeptMore a.dpid kept now_kept
-breaks_kept a frames old new kept now_kept buf t (inl u) = none_more a.dpid kept now_kept u.kept_so
+breaks_kept a frames old new kept now_kept buf t (inl u) = none_more a.dpid kept now_kept u.kept_is
 breaks_kept a frames old new kept now_kept buf t (inr u) =
     let more = kept_of_more a u.got in
-    (more.0, u.kept_so ∙ ap (λ (s : List (ℕ × List ℕ)). kept ++ s) more.1)
+    (more.0, u.kept_is ∙ ap (λ (s : List (ℕ × List ℕ)). kept ++ s) more.1)
 
 pub talks_kept : {Own : Type 0} {Tells : Type 0} {a : Awaited} {frames : List (List ℕ)} {old new : Seen Own} {kept now_kept : List (ℕ × List ℕ)} {halt : Halt} → BreaksBy Tells a frames old new kept now_kept halt → KeptMore a.dpid kept now_kept
 talks_kept {a = a} {frames = frames} {old = old} {new = new} {kept = kept} {now_kept = now_kept} b = breaks_kept a frames old new kept now_kept b.buf b.trouble b.breaks

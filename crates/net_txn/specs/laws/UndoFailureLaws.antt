@@ -25,23 +25,23 @@ use Rattle.net_txn.specs.laws.UndoLaws.{out_of_stuck}
 
 -- steps of a part of it happened
 in_part : {old new : List WorldStep} (older steps rest front mid back : List WorldStep) → steps ≡ front ++ (mid ++ back) → new ≡ old ++ ((older ++ steps) ++ rest) → Happened mid old new
-in_part {old = old} older steps rest front mid back steps_so told = record {
+in_part {old = old} older steps rest front mid back steps_is told = record {
   before = older ++ front;
   behind = back ++ rest;
-  told = told ∙ ap (λ (s : List WorldStep). old ++ ((older ++ s) ++ rest)) steps_so ∙ ap (λ (w : List WorldStep). old ++ w) (regroup older front mid back rest);
+  told = told ∙ ap (λ (s : List WorldStep). old ++ ((older ++ s) ++ rest)) steps_is ∙ ap (λ (w : List WorldStep). old ++ w) (regroup older front mid back rest);
 }
   where
     regroup : (o f m b r : List WorldStep) → (o ++ (f ++ (m ++ b))) ++ r ≡ (o ++ f) ++ (m ++ (b ++ r))
     regroup o f m b r = simp append_assoc
 
 sent_earlier : (d xid : ℕ) (key : Key) (steps more : List WorldStep) → WasSent d xid key steps → WasSent d xid key (steps ++ more)
-sent_earlier d xid key steps more is = record { before = is.before; behind = is.behind ++ more; steps_so = ap (λ (xs : List WorldStep). xs ++ more) is.steps_so ∙ append_assoc is.before (Acted (Sent d (inverse_bytes xid key)) ∷ is.behind) more }
+sent_earlier d xid key steps more is = record { before = is.before; behind = is.behind ++ more; steps_is = ap (λ (xs : List WorldStep). xs ++ more) is.steps_is ∙ append_assoc is.before (Acted (Sent d (inverse_bytes xid key)) ∷ is.behind) more }
 
 same_key : (a b : Key) → Some a ≡ Some b → a ≡ b
 same_key a b h = cc
 
 sent_last : (c d x xid : ℕ) (k key : Key) (steps : List WorldStep) → c ≡ d → x ≡ xid → k ≡ key → WasSent d xid key (steps ++ Acted (Sent c (inverse_bytes x k)) ∷ [])
-sent_last c d x xid k key steps of_switch of_xid of_key = record { before = steps; behind = []; steps_so = rw (of_switch, of_xid, of_key) refl }
+sent_last c d x xid k key steps of_switch of_xid of_key = record { before = steps; behind = []; steps_is = rw (of_switch, of_xid, of_key) refl }
 
 parts_here : (d : ℕ) (p : ℕ × Part) (older : List (ℕ × Part)) → (p.0 == d) ≡ true → parts_of d (p ∷ older) ≡ p.1 ∷ parts_of d older
 parts_here d p older here = rw here refl
@@ -100,12 +100,12 @@ refused_error sent bytes key is = let both = refused_kind (number_at 1 1 bytes =
 
 -- the inverse, and behind it the message that refuses it
 refused_after : {old new : List WorldStep} (d xid : ℕ) (key : Key) (bytes : List ℕ) (older steps front rest : List WorldStep) → WasSent d xid key older → steps ≡ front ++ Acted (Got d bytes) ∷ [] → new ≡ old ++ ((older ++ steps) ++ rest) → SentThenGot d (inverse_bytes xid key) bytes old new
-refused_after {old = old} d xid key bytes older steps front rest sent steps_so told = (
+refused_after {old = old} d xid key bytes older steps front rest sent steps_is told = (
   sent.behind ++ front,
   record {
     before = sent.before;
     behind = rest;
-    told = told ∙ ap (λ (o : List WorldStep). old ++ ((o ++ steps) ++ rest)) sent.steps_so ∙ ap (λ (s : List WorldStep). old ++ (((sent.before ++ (Acted (Sent d (inverse_bytes xid key)) ∷ sent.behind)) ++ s) ++ rest)) steps_so
+    told = told ∙ ap (λ (o : List WorldStep). old ++ ((o ++ steps) ++ rest)) sent.steps_is ∙ ap (λ (s : List WorldStep). old ++ (((sent.before ++ (Acted (Sent d (inverse_bytes xid key)) ∷ sent.behind)) ++ s) ++ rest)) steps_is
         ∙ ap (λ (w : List WorldStep). old ++ w) (regroup sent.before (Acted (Sent d (inverse_bytes xid key))) sent.behind front (Acted (Got d bytes)) rest);
   },
 )
@@ -125,10 +125,10 @@ module _ {Own Tells : Type 0} (old new : Seen Own) where
       let r = cause.1 in
       let error = refused_error (inverses_of (parts_of d older)) bytes r.key r.of_key in
       let sent = inverse_sent d (number_at 4 4 bytes) r.key older error.1 in
-      let last = subst (λ (n : ℕ). steps ≡ (barrier_sent r.awaited ∷ wait_steps r.awaited r.got) ++ Acted (Got n bytes) ∷ []) r.of_switch r.steps_so in (
+      let last = subst (λ (n : ℕ). steps ≡ (barrier_sent r.awaited ∷ wait_steps r.awaited r.got) ++ Acted (Got n bytes) ∷ []) r.of_switch r.steps_is in (
         cause.0,
-        record { kind = error.0; key = r.key; inverse_so = r.inverse_so },
-        λ tells. subst (λ (b : List ℕ). SentThenGot d b bytes old.history new.history) (sym r.inverse_so)
+        record { kind = error.0; key = r.key; inverse_is = r.inverse_is },
+        λ tells. subst (λ (b : List ℕ). SentThenGot d b bytes old.history new.history) (sym r.inverse_is)
             (refused_after d (number_at 4 4 bytes) r.key bytes (steps_of older) steps (barrier_sent r.awaited ∷ wait_steps r.awaited r.got) rest sent last (told tells)),
       )
   stuck_in_undo d older steps rest (Flooded e n) told cause =
@@ -140,7 +140,7 @@ module _ {Own Tells : Type 0} (old new : Seen Own) where
         got = o.got;
         many = o.many ∙ sym cause.1;
         before_reply = o.before_reply;
-        told = λ tells. in_part (steps_of older) steps rest [] mid [] (o.steps_so ∙ sym (append-nil mid)) (told tells);
+        told = λ tells. in_part (steps_of older) steps rest [] mid [] (o.steps_is ∙ sym (append-nil mid)) (told tells);
       } in
       (cause.0, cause.1, here)
   stuck_in_undo d older steps rest NoMemory told cause = cause
@@ -159,13 +159,13 @@ record Failing (d : ℕ) (old new : Counts) (all : List WorldStep) : Type 0 wher
   steps : List WorldStep
   behind : List WorldStep
   by : IsStuckBy d (inverses_of (parts_of d older)) old new halt steps
-  steps_so : all ≡ (steps_of older ++ steps) ++ behind
+  steps_is : all ≡ (steps_of older ++ steps) ++ behind
 
 failing_here : (d : ℕ) (old new : Counts) (p : Part) (older : List (ℕ × Part)) → IsRun old new d (p ∷ parts_of d older) → is_stuck (p ∷ parts_of d older) ≡ true → is_out (p ∷ parts_of d older) ≡ false → (f : Failing d old new (steps_of older ++ part_steps d p)) × (is_lost f.halt ≡ false)
 failing_here d old new (Inverse xid k) older run is in_still = absurd cc
 failing_here d old new (BarrierPassed xid got) older run is in_still = absurd cc
 failing_here d old new (Stuck xid halt steps) older run is in_still = (
-  record { halt = halt; older = older; steps = steps; behind = []; by = run.0; steps_so = sym (append-nil (steps_of older ++ steps)) },
+  record { halt = halt; older = older; steps = steps; behind = []; by = run.0; steps_is = sym (append-nil (steps_of older ++ steps)) },
   sym (out_of_stuck xid halt steps (parts_of d older)) ∙ in_still,
 )
 
@@ -178,7 +178,7 @@ failing_longer d old new all more g =
         steps = f.steps;
         behind = f.behind ++ more;
         by = f.by;
-        steps_so = ap (λ (xs : List WorldStep). xs ++ more) f.steps_so ∙ append_assoc (steps_of f.older ++ f.steps) f.behind more;
+        steps_is = ap (λ (xs : List WorldStep). xs ++ more) f.steps_is ∙ append_assoc (steps_of f.older ++ f.steps) f.behind more;
       },
       g.1,
     )
@@ -198,19 +198,19 @@ failing d old new (p ∷ older) all is in_still =
           failing_longer d old new (steps_of older) (part_steps p.0 p.1) (failing d old new older (runs_older old new p older all) there in_there))
     ]
 
-fault_so : (halt : Halt) → is_lost halt ≡ false → (fault : TxnFault) × (halt ≡ Fault fault)
-fault_so Lost none = absurd cc
-fault_so (Fault fault) none = (fault, refl)
+fault_is : (halt : Halt) → is_lost halt ≡ false → (fault : TxnFault) × (halt ≡ Fault fault)
+fault_is Lost none = absurd cc
+fault_is (Fault fault) none = (fault, refl)
 
 pub fails_in_undo : {Own : Type 0} (Tells : Type 0) (d : ℕ) (old new : Seen Own) (parts : List (ℕ × Part)) → (Tells → new.history ≡ old.history ++ steps_of parts) → AllRun old.counts new.counts parts → is_stuck (parts_of d parts) ≡ true → is_out (parts_of d parts) ≡ false
     → FailsInUndo Tells d old new
 fails_in_undo Tells d old new parts told all is in_still =
     let g = failing d old.counts new.counts parts all is in_still in
     let f = g.0 in
-    let is_fault = fault_so f.halt g.1 in
+    let is_fault = fault_is f.halt g.1 in
     let fault = is_fault.0 in
     let cause : IsFaultOf d (inverses_of (parts_of d f.older)) old.counts new.counts f.steps fault = subst (λ (h : Halt). IsHaltOf d (inverses_of (parts_of d f.older)) old.counts new.counts f.steps h) is_fault.1 f.by.cause in
-    let within = λ (t : Tells). told t ∙ ap (λ (xs : List WorldStep). old.history ++ xs) f.steps_so in
+    let within = λ (t : Tells). told t ∙ ap (λ (xs : List WorldStep). old.history ++ xs) f.steps_is in
     record {
       fault = fault;
       why = stuck_in_undo old new d f.older f.steps f.behind fault within cause;

@@ -51,7 +51,7 @@ not_overrun declared d steps s older t r may l small =
     let read = reading_of-message_bytes a.barrier BarrierRequest r.is_xid IsMessage-barrier in
     let u = after_step (barrier_sent a) t in
     let waits : waits_of a.dpid u ≡ waits_of a.dpid t ++ reply ∷ [] = told_waits a.dpid a.barrier BarrierRequest (message_bytes a.barrier BarrierRequest) t now read here.switch ∙ ap (λ (ws : List (List ℕ)). waits_of a.dpid t ++ ws) (barrier_sends a.barrier now) in
-    let going = subst (λ (xs : List WorldStep). MaySteps declared xs t) r.steps_so may in
+    let going = subst (λ (xs : List WorldStep). MaySteps declared xs t) r.steps_is may in
     let few = few_got declared a (waits_of a.dpid t) r.got u (notices_got a (waits_of a.dpid t) here.notices) waits going.1 r.before_reply in
     omega (arith, few, r.many, here.few, small)
 

@@ -104,8 +104,8 @@ no_view known X is other = absurd cc
 
 pub Stands-inverse : (known : Bool) (d : ℕ) (old mid new : Counts) (parts : List Part) (reverted : List Logged) (e : Logged) → NoneFell old mid → NoneFell mid new → Stands known d old mid parts reverted → known ≡ true → is_stuck parts ≡ false → CanBeSent e.progress.xid e.key → since_of parts < 4096
     → e.dpid ≡ d → e.progress.failed ≡ false → e.progress.lost ≡ false → e.progress.since ≡ (progress_of d reverted).since + 1 → Stands known d old new (Inverse e.progress.xid e.key ∷ parts) (e ∷ reverted)
-Stands-inverse known d old mid new parts reverted e up after s known_so free can few is unfailed stays more = record {
-  unknown = λ no. no_view known _ known_so no;
+Stands-inverse known d old mid new parts reverted e up after s known_is free can few is unfailed stays more = record {
+  unknown = λ no. no_view known _ known_is no;
   run = (can, few, free, IsRun-later d old mid new parts up after s.run);
   stuck = λ k. ap (λ (f : UndoProgress). f.failed) (progress_of-same d e reverted is) ∙ unfailed;
   out = ap (λ (f : UndoProgress). f.lost) (progress_of-same d e reverted is) ∙ stays;
@@ -115,8 +115,8 @@ Stands-inverse known d old mid new parts reverted e up after s known_so free can
 
 pub Stands-stuck : (known : Bool) (d xid : ℕ) (old mid new : Counts) (parts : List Part) (reverted later : List Logged) (halt : Halt) (steps : List WorldStep) → NoneFell old mid → NoneFell mid new → Stands known d old mid parts reverted → known ≡ true → is_stuck parts ≡ false
     → IsStuckBy d (inverses_of parts) old new halt steps → (progress_of d later).failed ≡ true → (progress_of d later).lost ≡ is_out (Stuck xid halt steps ∷ parts) → Stands known d old new (Stuck xid halt steps ∷ parts) later
-Stands-stuck known d xid old mid new parts reverted later halt steps up after s known_so free stuck failed out = record {
-  unknown = λ no. no_view known _ known_so no;
+Stands-stuck known d xid old mid new parts reverted later halt steps up after s known_is free stuck failed out = record {
+  unknown = λ no. no_view known _ known_is no;
   run = (stuck, free, IsRun-later d old mid new parts up after s.run);
   stuck = λ k. failed;
   out = out;
@@ -126,8 +126,8 @@ Stands-stuck known d xid old mid new parts reverted later halt steps up after s 
 
 pub Stands-barred : (known : Bool) (d xid : ℕ) (old mid new : Counts) (parts : List Part) (reverted later : List Logged) (got : List (List ℕ)) → NoneFell old mid → NoneFell mid new → Stands known d old mid parts reverted → known ≡ true → is_stuck parts ≡ false
     → IsBarrierPassed d xid (inverses_of parts) got → (progress_of d later).failed ≡ false → (progress_of d later).lost ≡ false → (progress_of d later).since ≡ 0 → inverses_in d later ≡ inverses_in d reverted → Stands known d old new (BarrierPassed xid got ∷ parts) later
-Stands-barred known d xid old mid new parts reverted later got up after s known_so free barred unfailed stays none same = record {
-  unknown = λ no. no_view known _ known_so no;
+Stands-barred known d xid old mid new parts reverted later got up after s known_is free barred unfailed stays none same = record {
+  unknown = λ no. no_view known _ known_is no;
   run = (barred, free, IsRun-later d old mid new parts up after s.run);
   stuck = λ k. unfailed;
   out = stays;

@@ -44,7 +44,7 @@ none_or_served p older s d (inl empty) = inl (older_none p older d empty)
 none_or_served p older s d (inr joined) = inr joined
 
 served_all : (views : List TableView) (parts : List (ℕ × Part)) (s : State) → ((d : ℕ) → is_viewed d views ≡ false → parts_of d parts ≡ []) → AreJoined views s → AreServed parts s
-served_all views parts s unknown joined d = elim (cases_Bool (is_viewed d views)) [ inl known ↦ inr (joined d known) | inr not_so ↦ inl (unknown d not_so) ]
+served_all views parts s unknown joined d = elim (cases_Bool (is_viewed d views)) [ inl known ↦ inr (joined d known) | inr not_is ↦ inl (unknown d not_is) ]
 
 -- ---- All parts
 

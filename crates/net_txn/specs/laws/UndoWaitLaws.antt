@@ -35,7 +35,7 @@ use Rattle.net_txn.specs.Waits.{IsRead, KeptMore}
 use Rattle.net_txn.specs.Undos.{halt_by, alone, Moves, IsFaultOf, IsHaltOf, GoesOutBy, LosesBy, Fails, AwaitsReplies, PassesBarrier}
 use Rattle.net_txn.specs.Said.{Said, Says, Hears, HearsNoise, CannotSay, CannotHear, LacksMemory, IsSaid, Calls, steps_in, said_steps, unsaid, unheard, wait_said, last_said, IsOfLink, IsBreak, AreHeard, frames_said, barrier_of, reply_heard, Replied, Breaks}
 use Rattle.net_txn.specs.laws.WaitLaws.{of_switch, kept_of_more}
-use Rattle.net_txn.specs.laws.JoinedLaws.{steps_stay, losses_by, lost_none_all}
+use Rattle.net_txn.specs.laws.LinkPresenceLaws.{steps_stay, losses_by, lost_none_all}
 use Rattle.net_txn.specs.laws.SaidLaws.{all_two, all_behind, all_weaker, is_fine, AreFine, fine_append, fine_none_lost, fine_frames, fine_wait, said_links, Calls-moves, whole_steps, whole_goes}
 use Rattle.net_txn.specs.laws.TalkLaws.{last_of, unsent_goes}
 use Rattle.net_txn.specs.laws.LostLaws.{packets_said, packets_none, said_released, none_two, wait_none, heard_none, losses_two, IsFailed, failed_out, failed_waits, failed_lost, one_alone, IsReadSaid, said_brings, frames_read, wait_read, is_link, fine_unsaid, fine_last, barrier_none, front_none}
@@ -134,7 +134,7 @@ kept_fit a got kept now is =
 pub says_moves : {Own : Type 0} {Tells : Type 0} {d : ℕ} {frame : List ℕ} {old new : Seen Own} → Calls Tells d (frames_said d (frame ∷ [])) old new → Moves Tells d (Acted (Sent d frame) ∷ []) old new
 says_moves {d = d} {frame = frame} c = Calls-moves (Acted (Sent d frame) ∷ []) refl c
 
-none_unsaid : (d : ℕ) (t : Trouble) → packets_said (unsaid d t) ≡ []
+pub none_unsaid : (d : ℕ) (t : Trouble) → packets_said (unsaid d t) ≡ []
 unfolding packets_said
 none_unsaid d troubles.Link = refl
 none_unsaid d (troubles.Broke n) = refl
@@ -186,7 +186,7 @@ replies : {Own : Type 0} {Tells : Type 0} (a : Awaited) (sent : List (ℕ × Key
     → AwaitsReplies Tells a (barrier_sent a ∷ []) sent old new kept now_kept
 replies a sent old new kept now_kept answer r = record {
   got = r.got;
-  kept_so = r.kept_so;
+  kept_is = r.kept_is;
   few = r.few;
   before = before_of a sent r.got r.before;
   moves = Calls-moves (barrier_sent a ∷ (wait_steps a r.got ++ reply_got a ∷ [])) (whole_steps (is_joined a.dpid (state old)) a [] r.got (reply_heard a ∷ [])) r.calls;
@@ -222,7 +222,7 @@ unreplied_halt a sent got old new None troubles.Flooded buf b small h why c = (
     got = got;
     many = why;
     before_reply = h.before_reply;
-    steps_so = ap (λ (s : List WorldStep). barrier_sent a ∷ s) (append-nil (wait_steps a got));
+    steps_is = ap (λ (s : List WorldStep). barrier_sent a ∷ s) (append-nil (wait_steps a got));
   },
 )
 unreplied_halt a sent got old new None troubles.Short buf b small h why c =
@@ -239,13 +239,13 @@ unreplied_halt a sent got old new (Some m) (troubles.Refused k x n) buf b small 
   record {
     key = k;
     of_key = ap (key_refused sent) (sym why.1.0) ∙ why.1.1;
-    inverse_so = ap (λ (i : ℕ). inverse_bytes i k) (why.1.2 ∙ ap (number_at 4 4) why.1.0);
+    inverse_is = ap (λ (i : ℕ). inverse_bytes i k) (why.1.2 ∙ ap (number_at 4 4) why.1.0);
     awaited = a;
     of_switch = refl;
     is_xid = small;
     got = got;
     before = before_of a sent got h;
-    steps_so = ap (λ (bytes : List ℕ). barrier_sent a ∷ (wait_steps a got ++ Acted (Got a.dpid bytes) ∷ [])) why.1.0;
+    steps_is = ap (λ (bytes : List ℕ). barrier_sent a ∷ (wait_steps a got ++ Acted (Got a.dpid bytes) ∷ [])) why.1.0;
   },
 )
 unreplied_halt a sent got old new (Some m) troubles.Flooded buf b small h why c = absurd why.1
@@ -254,7 +254,7 @@ unreplied_halt a sent got old new (Some m) troubles.Short buf b small h why c =
     (last.1, last.2)
 unreplied_halt a sent got old new (Some m) troubles.Full buf b small h why c = absurd cc
 
-none_unheard : (d : ℕ) (t : Trouble) (buf : List ℕ) → packets_said (unheard d t buf) ≡ []
+pub none_unheard : (d : ℕ) (t : Trouble) (buf : List ℕ) → packets_said (unheard d t buf) ≡ []
 unfolding packets_said
 none_unheard d troubles.Link buf = refl
 none_unheard d (troubles.Broke n) buf = refl
@@ -263,7 +263,7 @@ none_unheard d troubles.Flooded buf = refl
 none_unheard d troubles.Short buf = refl
 none_unheard d troubles.Full buf = refl
 
-none_last : (d : ℕ) (by : Option (List ℕ)) (t : Trouble) (buf : List ℕ) → packets_said (last_said d by t buf) ≡ []
+pub none_last : (d : ℕ) (by : Option (List ℕ)) (t : Trouble) (buf : List ℕ) → packets_said (last_said d by t buf) ≡ []
 none_last d None t buf = none_unheard d t buf
 none_last d (Some m) t buf = none_two (Hears d m ∷ []) (unsaid d t) (heard_none d m) (none_unsaid d t)
 
@@ -293,7 +293,7 @@ unreplied_loses a got by troubles.Full buf = waited_stays a got by troubles.Full
 breaks_fails : {Own : Type 0} {Tells : Type 0} (a : Awaited) (sent : List (ℕ × Key)) (old new : Seen Own) (kept now_kept : List (ℕ × List ℕ)) (buf : List ℕ) (t : Trouble) → a.barrier < 2 ^ 32 → Breaks Tells a (barrier_of a ∷ []) Reserved sent old new kept now_kept buf t
     → Fails Tells a.dpid sent old new (halt_by a.dpid t buf)
 breaks_fails a sent old new kept now_kept buf t small (inl u) =
-    unsent_fails a.dpid sent u.first old new t buf (front_none a.dpid (barrier_of a ∷ []) u.first u.rest u.frames_so (barrier_none a.dpid a.barrier small)) u.why u.calls
+    unsent_fails a.dpid sent u.first old new t buf (front_none a.dpid (barrier_of a ∷ []) u.first u.rest u.frames_is (barrier_none a.dpid a.barrier small)) u.why u.calls
 breaks_fails a sent old new kept now_kept buf t small (inr u) =
     let b = is_joined a.dpid (state old) in
     fails_by a.dpid sent (waited_said a u.got u.by t buf) (waited b a u.got u.by t buf) (halt_by a.dpid t buf) u.calls (whole_steps b a [] u.got (last_said a.dpid u.by t buf))
@@ -303,15 +303,15 @@ breaks_fails a sent old new kept now_kept buf t small (inr u) =
 
 breaks_kept : {Own : Type 0} {Tells : Type 0} (a : Awaited) (sent : List (ℕ × Key)) (old new : Seen Own) (kept now_kept : List (ℕ × List ℕ)) (buf : List ℕ) (t : Trouble) → Breaks Tells a (barrier_of a ∷ []) Reserved sent old new kept now_kept buf t
     → KeptMore a.dpid kept now_kept
-breaks_kept a sent old new kept now_kept buf t (inl u) = ([], u.kept_so ∙ sym (append-nil kept))
-breaks_kept a sent old new kept now_kept buf t (inr u) = kept_fit a u.got kept now_kept u.kept_so
+breaks_kept a sent old new kept now_kept buf t (inl u) = ([], u.kept_is ∙ sym (append-nil kept))
+breaks_kept a sent old new kept now_kept buf t (inr u) = kept_fit a u.got kept now_kept u.kept_is
 
 pub passes_ok : {Own : Type 0} {Tells : Type 0} {sent : List (ℕ × Key)} {old new : Seen Own} {kept now_kept : List (ℕ × List ℕ)} (d xid : ℕ) (answer : Option Refusal) (buf : List ℕ) → Replied Tells (alone d xid) (barrier_of (alone d xid) ∷ []) Reserved sent old new kept now_kept answer
     → PassesBarrier Tells d xid sent old new kept now_kept buf (Ok tt)
 passes_ok {sent = sent} {old = old} {new = new} {kept = kept} {now_kept = now_kept} d xid answer buf r = record {
   replied = replies (alone d xid) sent old new kept now_kept answer r;
   failed = tt;
-  kept_more = kept_fit (alone d xid) r.got kept now_kept r.kept_so;
+  kept_more = kept_fit (alone d xid) r.got kept now_kept r.kept_is;
 }
 
 pub passes_err : {Own : Type 0} {Tells : Type 0} {sent : List (ℕ × Key)} {old new : Seen Own} {kept now_kept : List (ℕ × List ℕ)} (d xid : ℕ) (t : Trouble) (buf : List ℕ) → xid < 2 ^ 32 → Breaks Tells (alone d xid) (barrier_of (alone d xid) ∷ []) Reserved sent old new kept now_kept buf t

@@ -15,7 +15,7 @@ use Rattle.lego_model.specs.UndoFaults.{loses, GoesWithoutStrays}
 use Rattle.net_txn.specs.laws.LinkStepLaws.{wait_links}
 use Rattle.net_txn.specs.laws.LinkStrayLaws.{places_append, IsSure, sure_places, sure_wait, awaits_waiting, awaits_barrier, awaits_wait}
 use Rattle.outside.specs.laws.InOrderLaws.{come_front, come_rest}
-use Rattle.net_txn.specs.laws.JoinedLaws.{steps_stay, loses-rest}
+use Rattle.net_txn.specs.laws.LinkPresenceLaws.{steps_stay, loses-rest}
 
 pub goes_none : (d : ℕ) → GoesWithoutStrays d []
 goes_none d declared s may joined = record { places = tt; joined = λ none. joined }

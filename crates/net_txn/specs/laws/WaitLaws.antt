@@ -95,4 +95,4 @@ echo_is a bytes is =
 pub waits_kept : {Own : Type 0} {Tells : Type 0} {a : Awaited} {front : List WorldStep} {old new : Seen Own} {kept kept1 : List (ℕ × List ℕ)} {answer : Option Refusal} → Waits Tells a front old new kept kept1 answer → KeptMore a.dpid kept kept1
 waits_kept {a = a} {kept = kept} w =
     let more = kept_of_more a w.got in
-    (more.0, w.hears.kept_so ∙ ap (λ (s : List (ℕ × List ℕ)). kept ++ s) more.1)
+    (more.0, w.hears.kept_is ∙ ap (λ (s : List (ℕ × List ℕ)). kept ++ s) more.1)

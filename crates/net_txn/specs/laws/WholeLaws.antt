@@ -41,7 +41,7 @@ pub reverted_on : (known : Bool) (d : ℕ) (old new : Counts) (parts : List Part
 reverted_on known d old new parts reverted all same s barred = record {
   unknown = s.unknown;
   run = s.run;
-  keys_so = λ k free. ap (λ (ps : List (ℕ × Key)). map (λ p. p.1) ps) (sym (s.inverses k free)) ∙ keys-inverses_in d reverted ∙ ap (keys_of d) same;
+  keys_is = λ k free. ap (λ (ps : List (ℕ × Key)). map (λ p. p.1) ps) (sym (s.inverses k free)) ∙ keys-inverses_in d reverted ∙ ap (keys_of d) same;
   barred = λ k free. sym (s.since k free) ∙ barred k (s.stuck k ∙ free);
 }
 
@@ -73,17 +73,17 @@ undoes {Tells = Tells} start from old new net views kept ports xid room result f
     let keys = map key_logged (drop start net.log) in
     let same_keys : map key_logged (drop from net.log) ≡ keys = ap (λ (es : List Logged). map key_logged es) rest in
     let all : map key_logged u.reverted ≡ keys = u.same ∙ same_keys in
-    let is : result ≡ ended_by (first_fault parts) = u.result_so ∙ ap ended_by f.fault_so in
+    let is : result ≡ ended_by (first_fault parts) = u.result_is ∙ ap ended_by f.fault_is in
     let given = f.undoing.continues.given in
     let each : (d : ℕ) → IsRevertedOn (is_viewed d net.views) d old.counts new.counts (keys_of d keys) (parts_of d parts) = λ d.
     reverted_on (is_viewed d net.views) d old.counts new.counts (parts_of d parts) u.reverted keys all (f.undoing.stands d) (u.barred d) in
     let run : AllRun old.counts new.counts parts = λ c. (each c).run in
     let left = without_keys keys net.views in
     let now_views : views ≡ filter (λ v. not (is_among v.dpid lost)) left =
-    u.views_so ∙ filter_agree (λ v. not (was_lost u.reverted v.dpid)) (λ v. not (is_among v.dpid lost)) (λ v. lost_alike f v.dpid) (without_keys (map key_logged (drop from net.log)) net.views)
+    u.views_is ∙ filter_agree (λ v. not (was_lost u.reverted v.dpid)) (λ v. not (is_among v.dpid lost)) (λ v. lost_alike f v.dpid) (without_keys (map key_logged (drop from net.log)) net.views)
     ∙ ap (λ (ks : List (ℕ × Key)). filter (λ v. not (is_among v.dpid lost)) (without_keys ks net.views)) same_keys in
     let now_kept : kept ≡ filter (λ m. not (is_among m.0 lost)) u.all_kept =
-    u.kept_so ∙ filter_agree (λ m. not (was_lost u.reverted m.0)) (λ m. not (is_among m.0 lost)) (λ m. lost_alike f m.0) u.all_kept in
+    u.kept_is ∙ filter_agree (λ m. not (was_lost u.reverted m.0)) (λ m. not (is_among m.0 lost)) (λ m. lost_alike f m.0) u.all_kept in
     let base : NetState = record (undone_net start net) { xid = next_free net.xid parts; kept = u.all_kept; room = room } in
     let rows : (d : ℕ) → is_stuck (parts_of d parts) ≡ false → rows_at d views ≡ rows_at d left = λ d free.
     ap (rows_at d) now_views ∙ lost-rows d lost left (free-among old.counts new.counts d parts (run d) free) in
@@ -96,16 +96,16 @@ undoes {Tells = Tells} start from old new net views kept ports xid room result f
       numbered = f.undoing.numbered;
       each = each;
       order = rw all at f.undoing.order;
-      whole_order = served_all net.views parts keys (rw all at f.undoing.order) (λ d. (each d).keys_so);
+      whole_order = served_all net.views parts keys (rw all at f.undoing.order) (λ d. (each d).keys_is);
       last = f.undoing.ends;
-      result_so = is;
+      result_is = is;
       read = λ ok told.
           messages-by old new (steps_of parts) (f.undoing.told told) (parts_bring old.counts new.counts parts run (no_fault (first_fault parts) (subst (λ (r : Result (Unit {0}) TxnFault). IsOk r) is ok)));
       none_failed = λ ok d. none_failed old.counts new.counts result parts d run is ok;
       kept = u.all_kept;
       keeps = f.undoing.keeps;
-      net_so = ap (λ (log : List Logged). kept_now net views log [] kept ports xid room) front
-          ∙ net_alike net (filter (λ v. not (is_among v.dpid lost)) left) views (take start net.log) [] (filter (λ m. not (is_among m.0 lost)) u.all_kept) kept (ports_lost lost (record { known = net.ports; left = net.left })) ports (next_free net.xid parts) xid room now_views now_kept f.ports_so f.undoing.next
+      net_is = ap (λ (log : List Logged). kept_now net views log [] kept ports xid room) front
+          ∙ net_alike net (filter (λ v. not (is_among v.dpid lost)) left) views (take start net.log) [] (filter (λ m. not (is_among m.0 lost)) u.all_kept) kept (ports_lost lost (record { known = net.ports; left = net.left })) ports (next_free net.xid parts) xid room now_views now_kept f.ports_is f.undoing.next
           ∙ sym (lose_all-so lost base);
       room = fits;
       others = λ d told unknown. others_stay old new d parts given (f.undoing.told told) run ((each d).unknown unknown);
@@ -114,9 +114,9 @@ undoes {Tells = Tells} start from old new net views kept ports xid room result f
       none_released = λ told. undo_releases_none old new parts (f.undoing.told told) run;
       accepted = λ d s inverse bytes told conforming here waits err. accepted old new d s inverse bytes parts result given (f.undoing.told told) run conforming is here waits err;
       restored = λ d s before told conforming known free here waits was serialed only.
-          restored old new d s before (keys_of d keys) parts given (f.undoing.told told) run conforming free ((each d).keys_so known free) ((each d).barred known free) here waits was serialed only;
+          restored old new d s before (keys_of d keys) parts given (f.undoing.told told) run conforming free ((each d).keys_is known free) ((each d).barred known free) here waits was serialed only;
       tables_restored = λ d s before told known free here was serialed only.
-          table_back old new d s before (keys_of d keys) parts given (f.undoing.told told) run free ((each d).keys_so known free) here was serialed only;
+          table_back old new d s before (keys_of d keys) parts given (f.undoing.told told) run free ((each d).keys_is known free) here was serialed only;
       none_kept = λ told conforming ok ready. now_kept ∙ none_kept old new net.views parts result net.kept u.all_kept given (f.undoing.told told) run (λ c. (each c).unknown) is ok conforming ready f.undoing.keeps;
       plain = λ told conforming ready.
           plain old new net.views parts result given (f.undoing.told told) run (λ c. (each c).unknown) is (Conforming-before told f.undoing.continues conforming) conforming ready;

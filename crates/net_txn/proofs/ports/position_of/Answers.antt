@@ -1,5 +1,5 @@
 use Rattle.std.proofs.Common.{arith}
-use Rattle.net_txn.specs.laws.PortLaws.{port_more_at, port_stop_at, port_end}
+use Rattle.flow_table.specs.laws.PortLaws.{port_more_at, port_stop_at, port_end}
 use Rattle.net_txn.proofs.ports.position_of.Goals as goal
 
 pub returns-then-number-port : goal.returns-then-number-port

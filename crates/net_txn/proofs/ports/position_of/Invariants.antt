@@ -1,4 +1,4 @@
-use Rattle.net_txn.specs.laws.PortLaws.{PortsBefore}
+use Rattle.flow_table.specs.laws.PortLaws.{PortsBefore}
 use Rattle.net_txn.proofs.ports.position_of.Given as goal
 
 abbrev pub invariant-loop-i : goal.invariant-loop-i

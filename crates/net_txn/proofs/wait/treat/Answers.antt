@@ -26,7 +26,7 @@ returns-in-Notice g c =
 pub returns-in_err-send-in-Echo : goal.returns-in_err-send-in-Echo
 returns-in_err-send-in-Echo g c =
     let p = err_from_is_err_and c.from_residual.result c.from_residual.ensures.1 in
-    rw (p.1, p.2) (record { why = untreated_by c.args.storage c.in_err-send-in-Echo.field-0.0 c.in_err-send-in-Echo.ensures.0; calls = c.in_err-send-in-Echo.ensures.1; kept_so = refl })
+    rw (p.1, p.2) (record { why = untreated_by c.args.storage c.in_err-send-in-Echo.field-0.0 c.in_err-send-in-Echo.ensures.0; calls = c.in_err-send-in-Echo.ensures.1; kept_is = refl })
 
 pub returns-in_ok-send-in-Echo : goal.returns-in_ok-send-in-Echo
 returns-in_ok-send-in-Echo g c =
@@ -45,5 +45,5 @@ returns-in_err-keep-in-Other g c =
     rw (p.1, p.2) (record {
       why = subst (λ (t : Trouble). IsUntreated c.args.storage t) (sym e.full) e.err.0;
       calls = subst (λ (t : Trouble). Calls g.W.World.Tells d (unsaid d t) seen seen) (sym e.full) (Calls-none g.W.World.Tells d seen);
-      kept_so = e.err.1;
+      kept_is = e.err.1;
     })

@@ -31,7 +31,7 @@ returns-in-Err-Lost-clause-joins g c =
     let is = c.forget.ensures ∙ ap (λ (n : NetState). filter (λ m. not (m.0 == c.args.dpid)) n.kept) c.self.view_is in
     record {
       is_lost = (subst (λ (h : Halt). WaitHalts g.W.World.Tells (greeted_from c.args.dpid net.xid) (greeting c.args.dpid net.xid) (g.W.World.seen c.args.world.now) (g.W.World.seen c.join.new.world) h) c.in-Err-Lost.field-0-is c.in-Err-Lost.ensures.halts.halts).0;
-      net_so = subst (λ (n : NetState). record n { kept = kept } ≡ record net { xid = n.xid; kept = filter (λ m. not (m.0 == c.args.dpid)) net.kept }) (sym c.self.view_is)
+      net_is = subst (λ (n : NetState). record n { kept = kept } ≡ record net { xid = n.xid; kept = filter (λ m. not (m.0 == c.args.dpid)) net.kept }) (sym c.self.view_is)
           (not_joined c.args.dpid net c.join.new.self kept c.join.ensures.stays c.in-Err-Lost.ensures.halts.not_joined is);
     }
 

@@ -8,7 +8,7 @@ use Rattle.flow_table.specs.View.{plains}
 use Rattle.net_txn.specs.declared.halt.Halt.{Halt}
 use Rattle.net_txn.specs.Views.{is_viewed}
 use Rattle.net_txn.specs.Net.{NetState}
-use Rattle.net_txn.specs.ReleaseSteps.{PacketUnsent, Settles, ReleasesPacket}
+use Rattle.net_txn.specs.ReleaseSteps.{PacketUnsent, TakesUntilReply, ReleasesPacket}
 use Rattle.net_txn.specs.laws.PacketReleaseLaws.{passes_packet, unsent_packet, lost_before, stops_packet, settled_packet}
 use Rattle.net_txn.proofs.net.Net.release_packet.Goals as goal
 
@@ -18,8 +18,8 @@ returns-then-not-is_viewed g c =
     let unknown : c.is_viewed.result ≡ false = search rules in
     passes_packet g.W.World.Tells c.args.dpid c.args.packet (g.W.World.seen c.args.world.now) c.args.self.now c.args.queue.now (sym (c.is_viewed.ensures ∙ ap (is_viewed c.args.dpid) v) ∙ unknown)
 
-pub returns-in_ok-settle-in-Ok : goal.returns-in_ok-settle-in-Ok
-returns-in_ok-settle-in-Ok g c =
+pub returns-in_ok-take_until_reply-in-Ok : goal.returns-in_ok-take_until_reply-in-Ok
+returns-in_ok-take_until_reply-in-Ok g c =
     let s = c.self.inside in
     let old = g.W.World.seen c.args.world.now in
     let net : NetState = record { views = plains s.views.items; ports = s.ports.known; left = s.ports.left; log = s.log.items; held = s.held.items; xid = s.xid; moment = s.moment; kept = s.kept; room = vec_len s.rooms } in
@@ -27,14 +27,14 @@ returns-in_ok-settle-in-Ok g c =
     let known : c.is_viewed.result ≡ true = search rules in
     let viewed : is_viewed c.args.dpid net.views ≡ true = sym (c.is_viewed.ensures ∙ ap (λ (vs : List Lent). is_viewed c.args.dpid (plains vs)) c.deref.ensures.value) ∙ known in
     let mid = g.W.World.seen c.send_packet.new.world in
-    let new = g.W.World.seen c.settle.new.world in
-    let settled = subst (λ (a : Awaited). Settles g.W.World.Tells a mid new (record net { xid = xid }) c.settle.new.self c.args.queue.now c.settle.new.queue (Ok tt)) c.await_packet.ensures c.in_ok-settle-in-Ok.ensures in
-    let does = settled_packet {Tells = g.W.World.Tells} c.args.dpid c.args.packet old mid new net c.settle.new.self c.args.queue.now c.settle.new.queue xid viewed c.requires (c.self.invariant.1, omega arith)
+    let new = g.W.World.seen c.take_until_reply.new.world in
+    let settled = subst (λ (a : Awaited). TakesUntilReply g.W.World.Tells a mid new (record net { xid = xid }) c.take_until_reply.new.self c.args.queue.now c.take_until_reply.new.queue (Ok tt)) c.await_packet.ensures c.in_ok-take_until_reply-in-Ok.ensures in
+    let does = settled_packet {Tells = g.W.World.Tells} c.args.dpid c.args.packet old mid new net c.take_until_reply.new.self c.args.queue.now c.take_until_reply.new.queue xid viewed c.requires (c.self.invariant.1, omega arith)
     (c.following-self-inside.ensures.next ∙ ap next_xid c.following.ensures.next) c.in-Ok.ensures settled in
-    subst (λ (x : NetState). ReleasesPacket g.W.World.Tells (c.args.dpid, c.args.packet) old new x c.settle.new.self c.args.queue.now c.settle.new.queue (Ok true)) c.self.view_is does
+    subst (λ (x : NetState). ReleasesPacket g.W.World.Tells (c.args.dpid, c.args.packet) old new x c.take_until_reply.new.self c.args.queue.now c.take_until_reply.new.queue (Ok true)) c.self.view_is does
 
-pub returns-in_err-settle-in-Ok : goal.returns-in_err-settle-in-Ok
-returns-in_err-settle-in-Ok g c =
+pub returns-in_err-take_until_reply-in-Ok : goal.returns-in_err-take_until_reply-in-Ok
+returns-in_err-take_until_reply-in-Ok g c =
     let p = err_from_is_err_and c.from_residual.result c.from_residual.ensures.1 in
     let s = c.self.inside in
     let old = g.W.World.seen c.args.world.now in
@@ -43,11 +43,11 @@ returns-in_err-settle-in-Ok g c =
     let known : c.is_viewed.result ≡ true = search rules in
     let viewed : is_viewed c.args.dpid net.views ≡ true = sym (c.is_viewed.ensures ∙ ap (λ (vs : List Lent). is_viewed c.args.dpid (plains vs)) c.deref.ensures.value) ∙ known in
     let mid = g.W.World.seen c.send_packet.new.world in
-    let new = g.W.World.seen c.settle.new.world in
-    let fault = c.in_err-settle-in-Ok.field-0.0 in
-    let settled = subst (λ (a : Awaited). Settles g.W.World.Tells a mid new (record net { xid = xid }) c.settle.new.self c.args.queue.now c.settle.new.queue (Err fault)) c.await_packet.ensures c.in_err-settle-in-Ok.ensures in
-    let does = stops_packet {Tells = g.W.World.Tells} c.args.dpid c.args.packet old mid new net c.settle.new.self c.args.queue.now c.settle.new.queue xid fault viewed c.requires (omega arith) c.in-Ok.ensures settled in
-    rw (p.1, p.2) (subst (λ (x : NetState). ReleasesPacket g.W.World.Tells (c.args.dpid, c.args.packet) old new x c.settle.new.self c.args.queue.now c.settle.new.queue (Err fault)) c.self.view_is does)
+    let new = g.W.World.seen c.take_until_reply.new.world in
+    let fault = c.in_err-take_until_reply-in-Ok.field-0.0 in
+    let settled = subst (λ (a : Awaited). TakesUntilReply g.W.World.Tells a mid new (record net { xid = xid }) c.take_until_reply.new.self c.args.queue.now c.take_until_reply.new.queue (Err fault)) c.await_packet.ensures c.in_err-take_until_reply-in-Ok.ensures in
+    let does = stops_packet {Tells = g.W.World.Tells} c.args.dpid c.args.packet old mid new net c.take_until_reply.new.self c.args.queue.now c.take_until_reply.new.queue xid fault viewed c.requires (omega arith) c.in-Ok.ensures settled in
+    rw (p.1, p.2) (subst (λ (x : NetState). ReleasesPacket g.W.World.Tells (c.args.dpid, c.args.packet) old new x c.take_until_reply.new.self c.args.queue.now c.take_until_reply.new.queue (Err fault)) c.self.view_is does)
 
 pub returns-in-Err-Lost : goal.returns-in-Err-Lost
 returns-in-Err-Lost g c =

@@ -42,8 +42,8 @@ returns-in_ok-take_news-in_default g c =
     let old = g.W.World.seen c.args.world.now in
     record {
       ok = record {
-        event_so = c.in_ok-take_news-in_default.ensures.event;
-        net_so = c.in_ok-take_news-in_default.ensures.ok;
+        event_is = c.in_ok-take_news-in_default.ensures.event;
+        net_is = c.in_ok-take_news-in_default.ensures.ok;
         told = λ told. sym (append-nil old.history) ∙ ap (λ (steps : List WorldStep). old.history ++ steps) (sym (unanswered c.args.dpid c.args.xid c.args.message.now c.in_default.not-EchoRequest));
       };
       err = tt;

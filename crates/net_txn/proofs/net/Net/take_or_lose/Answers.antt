@@ -20,7 +20,7 @@ returns-in-Err-Lost g c =
         request = echo.1;
         is_lost = halts.0;
         read = halts.1;
-        net_so = c.lose.ensures ∙ ap (lost_net c.args.dpid) c.in-Err-Lost.ensures.err;
+        net_is = c.lose.ensures ∙ ap (lost_net c.args.dpid) c.in-Err-Lost.ensures.err;
         no_event = refl;
       });
     }

@@ -13,12 +13,12 @@ returns g c =
     let u = c.undo_log.ensures in
     let n = c.undo_log.new in
     let start = c.args.start in
-    let from = c.place_in-from.result in
+    let from = c.within_log-from.result in
     let net : NetState = record { views = plains s.views.items; ports = s.ports.known; log = s.log.items; held = s.held.items; xid = s.xid; moment = s.moment; kept = s.kept; room = vec_len s.rooms; left = s.ports.left } in
     let old = g.W.World.seen c.args.world.now in
     let new = g.W.World.seen n.world in
-    let front = subst (λ (xs : List Logged). take from xs ≡ take start xs) c.deref.ensures.value c.place_in-from.ensures.front in
-    let rest = subst (λ (xs : List Logged). drop from xs ≡ drop start xs) c.deref.ensures.value c.place_in-from.ensures.rest in
+    let front = subst (λ (xs : List Logged). take from xs ≡ take start xs) c.deref.ensures.value c.within_log-from.ensures.front in
+    let rest = subst (λ (xs : List Logged). drop from xs ≡ drop start xs) c.deref.ensures.value c.within_log-from.ensures.rest in
     let whole = undoes start from old new net (plains n.views.items) n.kept n.ports n.xid (vec_len n.rooms) c.undo_log.result front rest u.undoing u.room in
     let same = later_alike net (plains n.views.items) (take from s.log.items) n.log.items [] c.clear.new.self.items n.kept n.ports n.xid (vec_len n.rooms) u.log c.clear.ensures.items in
     subst (λ (x : NetState). Undoes g.W.World.Tells start old new x (kept_now net (plains n.views.items) n.log.items c.clear.new.self.items n.kept n.ports n.xid (vec_len n.rooms)) c.undo_log.result) c.self.view_is

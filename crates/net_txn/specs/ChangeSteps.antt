@@ -30,13 +30,13 @@ pub record ReachedSince (d : ℕ) (change : Message) (answer : Answer) (old new 
   pub since : new ≡ old ++ steps
   pub reached : ReachedAtOnce d change (journal steps)
   pub error : Option OfError
-  pub error_so : error ≡ first_error d reached.xid reached.barrier (drop reached.sent (journal steps))
-  pub answer_so : answer ≡ answer_by error
+  pub error_is : error ≡ first_error d reached.xid reached.barrier (drop reached.sent (journal steps))
+  pub answer_is : answer ≡ answer_by error
 
 -- The answer is the switch's own, the switch moves as by this message alone, and the view with it; nothing of the switch waits, no other
 -- switch moves, and nothing is kept.
 pub record InStep {Own : Type 0} (d : ℕ) (m : Message) (old new : Seen Own) (net now_net : NetState) (answer : Answer) : Type 0 where
-  pub answer_so : IfSome (switch_of d (state old)) (λ s. answer ≡ switch_answer s m)
+  pub answer_is : IfSome (switch_of d (state old)) (λ s. answer ≡ switch_answer s m)
   pub moved : switch_of d (state new) ≡ option_map (after_message m) (switch_of d (state old))
   pub waits : waits_of d (state new) ≡ []
   pub others : (e : ℕ) → e ≢ d → switch_of e (state new) ≡ switch_of e (state old)

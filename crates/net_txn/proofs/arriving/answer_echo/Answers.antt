@@ -2,7 +2,7 @@ use Rattle.std.proofs.Common.{◌∙◌, refl}
 use Rattle.std.proofs.lemmas.Result.{err_from_is_err_and}
 use Rattle.net_txn.specs.laws.TalkLaws.{speaks_none, says_speak, says_told}
 use Rattle.net_txn.specs.laws.ArrivalLaws.{says_halt}
-use Rattle.net_txn.proofs.arrived.answer_echo.Goals as goal
+use Rattle.net_txn.proofs.arriving.answer_echo.Goals as goal
 
 pub returns-in_err-reply-clause-speaks : goal.returns-in_err-reply-clause-speaks
 returns-in_err-reply-clause-speaks g c = speaks_none g.W.World.Tells c.args.dpid (g.W.World.seen c.args.world.now)

@@ -4,7 +4,7 @@ use Rattle.std.specs.Prelude.{◌≡◌, ℕ, ◌==◌, Bool, true, false, not, 
 use Rattle.std.specs.List.{list_any, flat_map}
 use Rattle.std.specs.Option.{is_some}
 use Rattle.std.proofs.Common.{sym, ap, ◌∙◌, subst, inl, inr}
-use Rattle.std.proofs.lemmas.Bool.{cases_eq, eq-eqb, ne_eqb}
+use Rattle.std.proofs.lemmas.Bool.{cases_eq, eq-eqb, ne_eqb, or_parts}
 use Rattle.of_types.specs.declared.journal.Act.{Act}
 use Rattle.of_types.specs.declared.journal.Act.TheVariants.{Stim, Started, Gave, Gone, Took, Ended, Sent, Got, Lost}
 use Rattle.of_wire.specs.declared.message.Envelope.{Envelope}
@@ -214,14 +214,10 @@ lost_none (RecvLost d) none = absurd cc
 lost_none (SendFailed d) none = refl
 lost_none (RecvFailed d) none = refl
 
-pub or_false : (a b : Bool) → (a || b) ≡ false → (a ≡ false) × (b ≡ false)
-or_false true b none = absurd cc
-or_false false b none = (refl, none)
-
 pub lost_none_all : (steps : List WorldStep) → list_any loses steps ≡ false → lost_by_all steps ≡ []
 lost_none_all [] none = refl
 lost_none_all (x ∷ xs) none =
-    let two = or_false (loses x) (list_any loses xs) none in
+    let two = or_parts (loses x) (list_any loses xs) none in
     ap (λ (ds : List ℕ). ds ++ lost_by_all xs) (lost_none x two.0) ∙ lost_none_all xs two.1
 
 pub steps_stay : (steps : List WorldStep) (s : State) → AreLinkSteps steps → list_any loses steps ≡ false → (e : ℕ) → is_joined e (after_steps steps s) ≡ is_joined e s
@@ -229,8 +225,8 @@ steps_stay steps s all none e = (steps_leave steps s all).joined e ∙ ap (λ (d
 
 pub loses-append : (xs ys : List WorldStep) → list_any loses xs ≡ false → list_any loses ys ≡ false → list_any loses (xs ++ ys) ≡ false
 loses-append [] ys first second = second
-loses-append (x ∷ xs) ys first second = let two = or_false (loses x) (list_any loses xs) first in rw two.0 (loses-append xs ys two.1 second)
+loses-append (x ∷ xs) ys first second = let two = or_parts (loses x) (list_any loses xs) first in rw two.0 (loses-append xs ys two.1 second)
 
 pub loses-rest : (xs ys : List WorldStep) → list_any loses (xs ++ ys) ≡ false → list_any loses ys ≡ false
 loses-rest [] ys none = none
-loses-rest (x ∷ xs) ys none = loses-rest xs ys (or_false (loses x) (list_any loses (xs ++ ys)) none).1
+loses-rest (x ∷ xs) ys none = loses-rest xs ys (or_parts (loses x) (list_any loses (xs ++ ys)) none).1

@@ -4,7 +4,7 @@ use Rattle.of_wire.specs.declared.message.Message.TheVariants.{EchoRequest, Echo
 use Rattle.of_wire.specs.Spelling.{message_size}
 use Rattle.of_wire.specs.Grammar.{IsMessage}
 use Rattle.of_wire.specs.laws.ReadingLaws.{reading_of-message_bytes}
-use Rattle.net_txn.proofs.arrived.echo_bytes.Goals as goal
+use Rattle.net_txn.proofs.arriving.echo_bytes.Goals as goal
 
 a_reply : (payload : List ℕ) → IsMessage (EchoRequest payload) → IsMessage (EchoReply payload)
 unfolding message_size
