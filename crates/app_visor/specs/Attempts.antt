@@ -101,16 +101,16 @@ restarted ts more a =
 pub record Restarts {Own : Type 0} (Tells : Type 0) (app : ℕ) (kept : List ℕ) (old new : Seen Own) (found : Option (List ℕ)) (tries : List Tried) : Type 0 where
   pub all : List (OneTry Own)
   pub are : AreTries Tells app kept attempts all old new
-  pub tries_so : tries ≡ tries_of all
-  pub found_so : found ≡ ready_rest all
+  pub tries_is : tries ≡ tries_of all
+  pub found_is : found ≡ ready_rest all
   pub as_started : (a : App) (more : List Start) → a.starts ≡ starts_of all ++ more → started attempts a ≡ restarted all more a
 
 -- all of them, where the last ones are these
 pub record TriedAll {Own : Type 0} (Tells : Type 0) (app : ℕ) (kept : List ℕ) (old new : Seen Own) (tries : List Tried) (later : List (OneTry Own)) : Type 0 where
   pub all : List (OneTry Own)
   pub are : AreTries Tells app kept attempts all old new
-  pub tries_so : tries_of all ≡ tries ++ tries_of later
-  pub found_so : ready_rest all ≡ ready_rest later
+  pub tries_is : tries_of all ≡ tries ++ tries_of later
+  pub found_is : ready_rest all ≡ ready_rest later
 
 -- the attempts that are still to be made, behind those that were made
 pub record TriesOn {Own : Type 0} (Tells : Type 0) (app : ℕ) (kept : List ℕ) (left : ℕ) (first : Seen Own) (tries : List Tried) (old : Seen Own) : Type 0 where

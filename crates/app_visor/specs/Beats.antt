@@ -101,4 +101,4 @@ acts_of app steps = filter (is_of app) (journal steps)
 pub record ActsTold {Own : Type 0} (app : ℕ) (acts : List Act) (old new : Seen Own) : Type 0 where
   pub steps : List WorldStep
   pub history : new.history ≡ old.history ++ steps
-  pub acts_so : acts_of app steps ≡ acts
+  pub acts_is : acts_of app steps ≡ acts

@@ -35,7 +35,7 @@ pub record IsNext (frame : AppFrame) (rest left : List ℕ) : Type 0 where
   pub read : app_reading rest ≡ Ok (Some (frame, size))
   -- a message or a checkpoint in it is no longer than it may be
   pub fits : AppFits frame
-  pub left_so : left ≡ drop size rest
+  pub left_is : left ≡ drop size rest
 
 -- what stands at the front of what is unread: nothing whole, a frame, or bytes that are none
 abbrev pub IsAtFront : Option Came → List ℕ → List ℕ → Type 0
@@ -49,7 +49,7 @@ IsAtFront (Some Silent) rest left = ⊥
 pub record TakesOne {Own : Type 0} (Tells : Type 0) (app : ℕ) (rest left : List ℕ) (old new : Seen Own) : Type 0 where
   pub piece : List ℕ
   pub some : 1 ≤ length piece
-  pub left_so : left ≡ rest ++ piece
+  pub left_is : left ≡ rest ++ piece
   pub told : Told Tells (Took app (took.Bytes piece)) old new
 
 -- what a call of `take` gave: a piece, or why there is none
@@ -72,7 +72,7 @@ pub record Comes {Own : Type 0} (Tells : Type 0) (app : ℕ) (rest left : List �
   pub unread : List ℕ
   pub then_seen : Seen Own
   pub taken : Taken Tells app rest unread old then_seen
-  pub came_so : CameSo Tells app came unread left then_seen new
+  pub came_is : CameSo Tells app came unread left then_seen new
 
 -- Memory was wanting, after some pieces were taken.
 pub record Breaks {Own : Type 0} (Tells : Type 0) (app : ℕ) (rest : List ℕ) (old new : Seen Own) : Type 0 where

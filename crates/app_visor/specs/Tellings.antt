@@ -35,12 +35,12 @@ marks_by given frame s = if given then marks_after_gave frame s else s.marks
 
 -- One reply more is told, the application was given so many frames more, no stimulus came, and the last attempt to start it stands.
 pub record TurnTold {Own : Type 0} (app : ℕ) (given : Bool) (frame : List ℕ) (reply : Reply) (frames : List (List ℕ)) (old new : Seen Own) : Type 0 where
-  pub given_so : new.given ≡ old.given
+  pub given_is : new.given ≡ old.given
   pub starts : starts_in (acts_of app new.history) ≡ starts_in (acts_of app old.history)
   pub replies : replies_in (acts_of app new.history) ≡ replies_in (acts_of app old.history) ++ reply ∷ []
   pub life : LastStands (acts_of app new.history)
-  pub inputs_so : inputs app (journal new.history) ≡ inputs app (journal old.history) ++ frames
-  pub stimuli_so : stimuli (journal new.history) ≡ stimuli (journal old.history)
+  pub inputs_is : inputs app (journal new.history) ≡ inputs app (journal old.history) ++ frames
+  pub stimuli_is : stimuli (journal new.history) ≡ stimuli (journal old.history)
   pub beside : Beside (state old) (state new)
   pub marks : (state new).marks ≡ marks_by given frame (state old)
 
@@ -54,12 +54,12 @@ tried_acts app old (t ∷ ts) = (end_acts (is_running app (state old)) app ++ St
 -- Their starts are told more and no reply, the application was given so many frames more, and no stimulus came; where one was ready, the
 -- last attempt stands, and the application runs.
 pub record TriesTold {Own : Type 0} (app : ℕ) (kept : List ℕ) (all : List (OneTry Own)) (old new : Seen Own) : Type 0 where
-  pub given_so : new.given ≡ old.given
+  pub given_is : new.given ≡ old.given
   pub acts : acts_of app new.history ≡ acts_of app old.history ++ tried_acts app old all
   pub starts : starts_in (acts_of app new.history) ≡ starts_in (acts_of app old.history) ++ starts_of all
   pub replies : replies_in (acts_of app new.history) ≡ replies_in (acts_of app old.history)
-  pub inputs_so : inputs app (journal new.history) ≡ inputs app (journal old.history) ++ given_by kept all
-  pub stimuli_so : stimuli (journal new.history) ≡ stimuli (journal old.history)
+  pub inputs_is : inputs app (journal new.history) ≡ inputs app (journal old.history) ++ given_by kept all
+  pub stimuli_is : stimuli (journal new.history) ≡ stimuli (journal old.history)
   pub apart : Apart (state old) (state new)
   pub life : is_some (ready_rest all) ≡ true → LastStands (acts_of app new.history)
   pub running : is_some (ready_rest all) ≡ true → is_running app (state new) ≡ true

@@ -50,8 +50,8 @@ unfoldable pub oracle : {Own : Type 0} → Bool → Table (Asking Own)
 oracle judged = record { answer = λ state dpid bytes. next_asked dpid bytes state; allows = λ state. judged }
 
 -- exactly these messages were asked, in this order
-abbrev pub played_so : {Own : Type 0} → List Answer → Outcome → Played (Asking Own)
-played_so answers outcome = record { state = Some []; answers = answers; outcome = outcome }
+abbrev pub played_is : {Own : Type 0} → List Answer → Outcome → Played (Asking Own)
+played_is answers outcome = record { state = Some []; answers = answers; outcome = outcome }
 
 -- ---- How a turn ends
 
@@ -109,7 +109,7 @@ pub record TurnsFrom {Own : Type 0} (Tells : Type 0) (accepts : List TableView �
   pub chain : Chain Tells app trace old new net now_net
   pub answers : List Answer
   pub outcome : Outcome
-  pub played : played_by (accepts now_net.views) left rest (acts_in trace) (exchanges_in trace) ≡ played_so answers outcome
+  pub played : played_by (accepts now_net.views) left rest (acts_in trace) (exchanges_in trace) ≡ played_is answers outcome
   pub ends : IsPlayEnd end unread outcome
   pub given : inputs app (acts_in trace) ≡ map answer_frame answers
   -- it did not end for the reason alone that no more was told
@@ -133,10 +133,10 @@ pub record Turns {Own : Type 0} (Tells : Type 0) (accepts : List TableView → B
   pub chain : Chain Tells app (Talk (give_act given app frame) ∷ trace) old new net now_net
   pub answers : List Answer
   pub outcome : Outcome
-  pub played : turn_of (oracle (accepts now_net.views)) budget rest (reply_by given trace) (Some (exchanges_in trace)) ≡ played_so answers outcome
+  pub played : turn_of (oracle (accepts now_net.views)) budget rest (reply_by given trace) (Some (exchanges_in trace)) ≡ played_is answers outcome
   pub ends : IsEnd end unread outcome
   pub leaves : LeavesNone end unread
-  pub inputs_so : inputs app (acts_in (Talk (give_act given app frame) ∷ trace)) ≡ given_in given frame answers
+  pub inputs_is : inputs app (acts_in (Talk (give_act given app frame) ∷ trace)) ≡ given_in given frame answers
   -- it did not end for the reason alone that no more was told
   pub heard : is_heard budget rest (reply_by given trace) ≡ true
   -- behind the event no act begins a turn or an attempt
@@ -154,7 +154,7 @@ with_handed app (Some checkpoint) slots = with_slot app (staged (checkpoints che
 -- The turn, and that the checkpoint that it handed over was staged; where it handed over none, or failed, nothing was.
 pub record StagesTurn {Own : Type 0} (Tells : Type 0) (accepts : List TableView → Bool) (app budget : ℕ) (rest frame : List ℕ) (old new : Seen Own) (net now_net : NetState) (end : TurnEnd) (unread : List ℕ) (slots now_slots : List Slot) : Type 0 where
   pub turns : Turns Tells accepts app budget rest frame old new net now_net end unread
-  pub staged_so : now_slots ≡ with_handed app (handed turns.outcome) slots
+  pub staged_is : now_slots ≡ with_handed app (handed turns.outcome) slots
 
 -- ---- One frame
 

@@ -1,4 +1,5 @@
--- What is so after a batch. All of this is our own.
+-- What holds of the switches, and of what the engine knows of them, before a stimulus, and once all items that it makes are handled. All of
+-- this is our own.
 use Rattle.std.specs.Prelude.{◌≡◌, ℕ, [], ◌++◌, Option, Some, None}
 use Rattle.of_types.specs.declared.journal.WorldStim.{WorldStim}
 use Rattle.flow_table.specs.Switch.{SwitchState}
@@ -14,7 +15,7 @@ use Rattle.batch_laws.specs.Lasting.{AllLast}
 use Rattle.batch_laws.specs.LinkTells.{KnownIn, StandsIn}
 use Rattle.batch_laws.specs.Waiting.{NoneWait}
 
--- what stands before a stimulus
+-- Before a stimulus nothing waits, the engine knows each switch as it is, and each switch stands well.
 pub record Facts (s : State) (k : Knowledge) : Type 0 where
   pub ascend : AreDeclaredFrom 1 (declared_in s.links)
   pub waits : NoneWait s.links
@@ -29,7 +30,7 @@ abbrev pub SoundIn : Option SwitchState → Type 0
 SoundIn None = Unit {0}
 SoundIn (Some s) = AllSound s.table.entries
 
--- what is so after it
+-- After it the events that wait and the switches are those of the reference controller, and the engine knows each switch as it is.
 pub record After (x : WorldStim) (s : State) (before k : Knowledge) : Type 0 where
   pub queue : k.queue ≡ before.queue ++ events_after x s.moment (shown_places (declared_in s.links) before.views s)
   pub places : shown_places (declared_in s.links) k.views (after_stim x s) ≡ places_after x s.moment (shown_places (declared_in s.links) before.views s)

@@ -61,7 +61,7 @@ pub record InBatch {Own : Type 0} (x : WorldStim) (n : ℕ) (first now : Standin
   pub left : now.net.left ≡ []
   pub text : now.text ≡ first.text
   pub lost : lost_of now.seen ≡ lost_of first.seen
-  pub stimuli_so : stimuli (journal now.seen.history) ≡ stimuli (journal first.seen.history) ++ x ∷ []
+  pub stimuli_is : stimuli (journal now.seen.history) ≡ stimuli (journal first.seen.history) ++ x ∷ []
   pub acts : (app : ℕ) → filter (is_of app) (journal now.seen.history) ≡ filter (is_of app) (journal first.seen.history)
   pub released : released_of now.seen ≡ released_of first.seen
   pub orderly : (app : ℕ) → OrderlySince app first.seen now.seen
@@ -88,7 +88,7 @@ pub record BatchDone {Own : Type 0} (x : WorldStim) (first now : Standing Own) :
   pub left : now.net.left ≡ []
   pub text : now.text ≡ first.text
   pub lost : lost_of now.seen ≡ lost_of first.seen
-  pub stimuli_so : stimuli (journal now.seen.history) ≡ stimuli (journal first.seen.history) ++ x ∷ []
+  pub stimuli_is : stimuli (journal now.seen.history) ≡ stimuli (journal first.seen.history) ++ x ∷ []
   pub acts : (app : ℕ) → filter (is_of app) (journal now.seen.history) ≡ filter (is_of app) (journal first.seen.history)
   pub released : released_of now.seen ≡ released_of first.seen
   pub orderly : (app : ℕ) → OrderlySince app first.seen now.seen
@@ -103,7 +103,7 @@ pub record BatchLost {Own : Type 0} (x : WorldStim) (begun : Bool) (first now : 
   pub given : now.seen.given ≡ first.seen.given
   pub began : MayBegin first.seen.given.declared x (state first.seen)
   pub stays : SameBesides (state now.seen) (after_stim x (state first.seen))
-  pub begun_so : (state now.seen).begun ≡ begun
+  pub begun_is : (state now.seen).begun ≡ begun
   pub due : (state now.seen).due ≡ []
   pub waits : (d : ℕ) → waits_of d (state now.seen) ≡ []
   pub out : switch_of dpid (state now.seen) ≡ None
@@ -116,7 +116,7 @@ pub record BatchLost {Own : Type 0} (x : WorldStim) (begun : Bool) (first now : 
   pub left : now.net.left ≡ []
   pub text : now.text ≡ first.text ++ lost_line dpid
   pub lost : lost_of now.seen ≡ lost_of first.seen ++ dpid ∷ []
-  pub stimuli_so : stimuli (journal now.seen.history) ≡ stimuli (journal first.seen.history) ++ x ∷ []
+  pub stimuli_is : stimuli (journal now.seen.history) ≡ stimuli (journal first.seen.history) ++ x ∷ []
   pub acts : (app : ℕ) → filter (is_of app) (journal now.seen.history) ≡ filter (is_of app) (journal first.seen.history)
   pub released : released_of now.seen ≡ released_of first.seen
   pub orderly : (app : ℕ) → OrderlySince app first.seen now.seen
@@ -129,7 +129,7 @@ BatchEnds x first now = BatchDone x first now ⊎ BatchLost x false first now
 pub record BatchOver {Own : Type 0} (first now : Standing Own) : Type 0 where
   pub given : now.seen.given ≡ first.seen.given
   pub to_come : (state first.seen).to_come ≡ []
-  pub state_so : state now.seen ≡ state first.seen
+  pub state_is : state now.seen ≡ state first.seen
   pub net : now.net ≡ first.net
   pub queue : now.queue ≡ first.queue
   pub text : now.text ≡ first.text

@@ -114,14 +114,14 @@ pub record Departs (d : ℕ) (net now_net : NetState) (queue now_queue : List Ev
 pub record EntersStill {Own : Type 0} (Tells : Type 0) (d : ℕ) (m : Message) (text : List ℕ) (old new : Seen Own) (net now_net : NetState) (queue now_queue : List Event) : Type 0 where
   pub knowledge : knowledge_of now_net now_queue ≡ joined_by d m (knowledge_of net queue)
   pub takes : TakesInBy Tells d m old new net now_net
-  pub text_so : text ≡ []
+  pub text_is : text ≡ []
 
 -- it is lost
 pub record EntersNot {Own : Type 0} (Tells : Type 0) (d : ℕ) (text : List ℕ) (old new : Seen Own) (net now_net : NetState) (queue now_queue : List Event) : Type 0 where
   pub is_lost : IsLost Tells d [] old new
   pub knowledge : knowledge_of now_net now_queue ≡ knowledge_of net queue
   pub kept : now_net.kept ≡ filter (λ m. not (m.0 == d)) net.kept
-  pub text_so : text ≡ lost_line d
+  pub text_is : text ≡ lost_line d
 
 pub record Enters {Own : Type 0} (Tells : Type 0) (d : ℕ) (m : Message) (text : List ℕ) (old new : Seen Own) (net now_net : NetState) (queue now_queue : List Event) : Type 0 where
   pub log : now_net.log ≡ net.log
@@ -136,7 +136,7 @@ pub record Enters {Own : Type 0} (Tells : Type 0) (d : ℕ) (m : Message) (text 
 pub record HandlesStill {Own : Type 0} (Tells : Type 0) (item : WorldStep) (text : List ℕ) (old new : Seen Own) (net now_net : NetState) (queue now_queue : List Event) : Type 0 where
   pub knowledge : knowledge_of now_net now_queue ≡ handled item (knowledge_of net queue)
   pub does : Does Tells item old new net now_net
-  pub text_so : text ≡ []
+  pub text_is : text ≡ []
 
 -- a switch is lost at it, and told
 pub record HandlesLost {Own : Type 0} (Tells : Type 0) (item : WorldStep) (text : List ℕ) (old new : Seen Own) (net now_net : NetState) (queue now_queue : List Event) : Type 0 where
@@ -147,7 +147,7 @@ pub record HandlesLost {Own : Type 0} (Tells : Type 0) (item : WorldStep) (text 
   pub no_strays : AsksWithoutStrays Tells dpid old new
   pub knowledge : knowledge_of now_net now_queue ≡ known_lost dpid item (knowledge_of net queue)
   pub kept : now_net.kept ≡ filter (λ m. not (m.0 == dpid)) net.kept
-  pub text_so : text ≡ text_lost dpid item (knowledge_of net queue)
+  pub text_is : text ≡ text_lost dpid item (knowledge_of net queue)
 
 -- It is handled, and this text noted.
 pub record Handles {Own : Type 0} (Tells : Type 0) (item : WorldStep) (text : List ℕ) (old new : Seen Own) (net now_net : NetState) (queue now_queue : List Event) : Type 0 where
@@ -177,7 +177,7 @@ pub record Leaves (s t : State) : Type 0 where
   pub begun : t.begun ≡ s.begun
   pub due : t.due ≡ s.due
   pub switches : (d : ℕ) → switch_of d t ≡ switch_of d s
-  pub upcoming_so : upcoming t ≡ upcoming s
+  pub upcoming_is : upcoming t ≡ upcoming s
 
 -- the rest of a state, whatever becomes of switches
 pub record SameRest (s t : State) : Type 0 where
@@ -192,7 +192,7 @@ pub record LossLeaves {Own : Type 0} (d : ℕ) (mid new : Seen Own) : Type 0 whe
   pub others : (e : ℕ) → e ≢ d → switch_of e (state new) ≡ switch_of e (state mid)
   pub waits : (e : ℕ) → waits_of e (state new) ≡ []
   pub lost : lost_of new ≡ lost_of mid ++ d ∷ []
-  pub stimuli_so : stimuli (journal new.history) ≡ stimuli (journal mid.history)
+  pub stimuli_is : stimuli (journal new.history) ≡ stimuli (journal mid.history)
   pub acts : (app : ℕ) → filter (is_of app) (journal new.history) ≡ filter (is_of app) (journal mid.history)
   pub released : released_of new ≡ released_of mid
   pub orderly : (app : ℕ) → OrderlySince app mid new
@@ -204,7 +204,7 @@ pub record ItemDone {Own : Type 0} (mid new : Seen Own) : Type 0 where
   pub given : new.given ≡ mid.given
   pub lost : lost_of new ≡ lost_of mid
   pub leaves : Leaves (state mid) (state new)
-  pub stimuli_so : stimuli (journal new.history) ≡ stimuli (journal mid.history)
+  pub stimuli_is : stimuli (journal new.history) ≡ stimuli (journal mid.history)
   pub acts : (app : ℕ) → filter (is_of app) (journal new.history) ≡ filter (is_of app) (journal mid.history)
   pub released : released_of new ≡ released_of mid
   pub orderly : (app : ℕ) → OrderlySince app mid new

@@ -1,4 +1,5 @@
--- What lasts of switches while a world goes on. All of this is our own.
+-- What stays so of each switch through the whole history of a world: it is the one that was declared, and its ports are few, in order, and
+-- within their limits. All of this is our own.
 use Rattle.std.specs.Prelude.{◌≡◌, ℕ, ◌+◌, ◌^◌, ◌<◌, ◌≤◌, List, [], ◌∷◌, length, Option, Some, None}
 use Rattle.std.specs.List.{AllByRecursion}
 use Rattle.of_types.specs.declared.journal.Stimulus.{Stimulus}
@@ -12,7 +13,7 @@ abbrev pub AscendPorts : ℕ → List PortState → Type 0
 AscendPorts least [] = Unit {0}
 AscendPorts least (p ∷ ps) = (least ≤ p.number) × (p.number ≤ 65280) × (p.config < 2 ^ 32) × AscendPorts (p.number + 1) ps
 
--- it is the declared one, with ports that stand so
+-- it is the declared one, with at most 64 such ports
 pub record Lasts (d : Declared) (s : SwitchState) : Type 0 where
   pub declared : s.declared ≡ d
   pub ports : AscendPorts 1 s.ports

@@ -1,4 +1,5 @@
--- What one link tells at a stimulus, and what is known of its switch then. All of this is our own.
+-- One switch at a stimulus: what may happen to it, the messages that its link to the controller brings, and what the engine knows of it
+-- before and behind them. All of this is our own.
 use Rattle.std.specs.Prelude.{◌≡◌, ◌≢◌, ℕ, ◌^◌, ◌<◌, ◌≤◌, List, ◌++◌, map, Option, Some, None, IsTrue}
 use Rattle.std.specs.List.{AllByRecursion, flat_map}
 use Rattle.std.specs.Option.{option_map}
@@ -28,7 +29,7 @@ use Rattle.batch_laws.specs.Calm.{known_ports}
 use Rattle.batch_laws.specs.Lasting.{Lasts}
 use Rattle.batch_laws.specs.Tells.{FitsRead}
 
--- what may happen to it
+-- what may happen to a switch that is joined
 abbrev pub Happens : Stimulus → Type 0
 Happens (Frame port bytes) = Unit {0}
 Happens (Advance t) = t < 2 ^ 32
@@ -36,7 +37,7 @@ Happens (Port port change) = (1 ≤ port) × (port ≤ 65280)
 Happens (Counts priority packets bytes) = Unit {0}
 Happens (Raw bytes) = IsTrue (may_be_raw (reading_of bytes)) × FitsRead (reading_of bytes)
 
--- what stands of it
+-- what holds of a switch that is joined, between stimuli
 pub record StandsWell (d : ℕ) (s : SwitchState) : Type 0 where
   pub number : s.declared.dpid ≡ d
   pub lasts : Lasts s.declared s

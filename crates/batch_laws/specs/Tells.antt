@@ -1,4 +1,4 @@
--- What items tell of a switch. All of this is our own.
+-- What the items of a stimulus tell the engine of a switch, and what it knows once they are handled. All of this is our own.
 use Rattle.std.specs.Prelude.{◌≡◌, ◌≢◌, ℕ, ◌^◌, ◌<◌, List, ◌++◌, Some, None, Result, Ok, Err}
 use Rattle.std.specs.List.{AllByRecursion}
 use Rattle.of_types.specs.declared.journal.Stimulus.{Stimulus}
@@ -28,7 +28,7 @@ use Rattle.of_types.specs.declared.journal.WorldStim.{WorldStim}
 use Rattle.app_frames.specs.declared.frame.Event.{Event}
 use Rattle.outside.specs.Seen.{Seen}
 use Rattle.net_txn.specs.Net.{NetState}
-use Rattle.net_txn.specs.Agreement.{Agrees}
+use Rattle.net_txn.specs.ChangeSteps.{Agrees}
 use Rattle.switch_laws.specs.Sound.{Sound}
 
 abbrev pub FitsMessage : Message → Type 0
@@ -52,7 +52,7 @@ abbrev pub IsPlainRead : Result Envelope WireFault → Type 0
 IsPlainRead (Ok e) = IsPlain e.message
 IsPlainRead (Err fault) = Unit {0}
 
--- bytes that are read so
+-- bytes of a message that is no news of a port and no notice of an entry that went, and whose numbers fit
 pub record PlainBytes (bytes : List ℕ) : Type 0 where
   pub plain : IsPlainRead (reading_of bytes)
   pub fits : FitsRead (reading_of bytes)
@@ -91,7 +91,7 @@ pub record OnlyOne (d : ℕ) (s now : State) (k after : Knowledge) : Type 0 wher
 
 -- what is so once the items of a stimulus are handled
 pub record StimulusHandled {Own : Type 0} (x : WorldStim) (seen : Seen Own) (net : NetState) (queue : List Event) (k : Knowledge) : Type 0 where
-  pub queue_so : k.queue ≡ queue ++ events_after x (state seen).moment (shown_places seen.given.declared net.views (state seen))
+  pub queue_is : k.queue ≡ queue ++ events_after x (state seen).moment (shown_places seen.given.declared net.views (state seen))
   pub places : shown_places seen.given.declared k.views (after_stim x (state seen)) ≡ places_after x (state seen).moment (shown_places seen.given.declared net.views (state seen))
   pub agrees : (d : ℕ) → Agrees d k.views (after_stim x (state seen))
   pub known : (d : ℕ) → ports_lost d k.ports ≡ ports_known d (switch_of d (after_stim x (state seen)))
@@ -102,8 +102,8 @@ pub record StimulusHandled {Own : Type 0} (x : WorldStim) (seen : Seen Own) (net
 -- What is so once a switch was lost while they were handled: as the reference controller has it, the switch is out.
 pub record StimulusLost {Own : Type 0} (x : WorldStim) (d : ℕ) (seen new : Seen Own) (net : NetState) (queue : List Event) (k : Knowledge) : Type 0 where
   pub after : List Place
-  pub after_so : after ≡ places_after x (state seen).moment (shown_places seen.given.declared net.views (state seen))
-  pub queue_so : k.queue ≡ queue ++ left_at x d after
+  pub after_is : after ≡ places_after x (state seen).moment (shown_places seen.given.declared net.views (state seen))
+  pub queue_is : k.queue ≡ queue ++ left_at x d after
   pub places : shown_places seen.given.declared k.views (state new) ≡ with_place d (λ o. None) after
   pub agrees : (e : ℕ) → Agrees e k.views (state new)
   pub known : (e : ℕ) → ports_lost e k.ports ≡ ports_known e (switch_of e (state new))

@@ -1,4 +1,4 @@
--- What one item that was told is to a batch. All of this is our own.
+-- One item of a batch: it was the next that was upcoming, the outside told it, and the engine handled it. All of this is our own.
 use Rattle.std.specs.Prelude.{◌≡◌, ℕ, true, false, List, [], ◌∷◌, ◌++◌, filter, Some, None}
 use Rattle.of_types.specs.declared.journal.WorldStim.{WorldStim}
 use Rattle.app_frames.specs.declared.frame.Event.{Event}
@@ -10,7 +10,7 @@ use Rattle.outside.specs.declared.step.WorldStep.{WorldStep}
 use Rattle.outside.specs.Seen.{Seen, journal}
 use Rattle.outside.specs.State.{State, upcoming, state, switch_of, waits_of, is_joined}
 use Rattle.outside.specs.Conforming.{MayStep, Conforming}
-use Rattle.net_txn.specs.Agreement.{Agrees}
+use Rattle.net_txn.specs.ChangeSteps.{Agrees}
 use Rattle.net_txn.specs.Net.{NetState}
 use Rattle.switch_laws.specs.Released.{released_by}
 use Rattle.switch_laws.specs.Since.{ports_known}
@@ -21,7 +21,7 @@ use Rattle.batch_laws.specs.Knowledge.{ports_lost}
 use Rattle.batch_laws.specs.Tells.{FitsItem}
 use Rattle.batch_laws.specs.Waiting.{NoneWait}
 
--- what an item that may be told is to the state before it
+-- from the state s before an item to the state t behind it: of what was upcoming the item is gone, and nothing else changed
 pub record IsTold (item : WorldStep) (s t : State) : Type 0 where
   pub first : upcoming s ≡ item ∷ upcoming t
   pub besides : SameBesides t s
@@ -39,7 +39,7 @@ pub record TellsDue (item : WorldStep) (s t : State) : Type 0 where
   pub links : t.links ≡ s.links
   pub none_due : t.due ≡ []
 
--- it was told as the next, and the engine did with it what it does
+-- The item was told in a world that keeps its word, behind the run as it stood, and the engine handled it.
 pub record Later {Own : Type 0} (Tells : Type 0) (item : WorldStep) (text : List ℕ) (now : Standing Own) (mid new : Seen Own) (net : NetState) (queue : List Event) : Type 0 where
   pub told : Tells
   pub keeps : Conforming new
@@ -50,7 +50,7 @@ pub record Later {Own : Type 0} (Tells : Type 0) (item : WorldStep) (text : List
   pub fits : FitsItem item
   pub handles : Handles Tells item text mid new now.net net now.queue queue
 
--- the parts of what is calm
+-- what holds between batches: nothing waits, nothing is kept or due, and what is known of each switch is so
 pub record Stills {Own : Type 0} (first : Standing Own) : Type 0 where
   pub none_due : (state first.seen).due ≡ []
   pub none_begun : (state first.seen).begun ≡ false
@@ -67,11 +67,11 @@ pub record LostAlone {Own : Type 0} (x : WorldStim) (d : ℕ) (text : List ℕ) 
   pub first : front ≡ []
   pub last : later ≡ []
   pub joined : is_joined d (state mid) ≡ true
-  pub text_so : text ≡ lost_line d
+  pub text_is : text ≡ lost_line d
 
 -- none of the items is a stimulus or an act of an application
 pub record TellsNone (item : WorldStep) : Type 0 where
-  pub stimuli_so : stimuli (journal (item ∷ [])) ≡ []
+  pub stimuli_is : stimuli (journal (item ∷ [])) ≡ []
   pub loses : losses (journal (item ∷ [])) ≡ []
   pub acts : (app : ℕ) → filter (is_of app) (journal (item ∷ [])) ≡ []
   pub releases : released_by item ≡ None

@@ -32,7 +32,7 @@ pub record WholeMoves {Own : Type 0} (allows : List Place → Bool) (text : List
 
 -- the same in a world that keeps its word, where the stimuli are fewer than this number of rounds
 pub record ShownWhole {Own : Type 0} (Tells : Type 0) (accepts : List TableView → Bool) (most : ℕ) (text : List ℕ) (old new : Seen Own) (e now_e : Engine) : Type 0 where
-  pub whole_so : (allows : List Place → Bool) → Tells → Conforming new → JudgesAlike Own allows accepts → AtRest old e → length (stimuli_in new) < most → WholeMoves allows text old new e now_e
+  pub whole_is : (allows : List Place → Bool) → Tells → Conforming new → JudgesAlike Own allows accepts → AtRest old e → length (stimuli_in new) < most → WholeMoves allows text old new e now_e
 
 -- ---- The last part
 
@@ -44,7 +44,7 @@ pub record Leaves {Own : Type 0} (lost : List ℕ) (last new : Seen Own) : Type 
   pub inputs : given_in new ≡ given_in last
   pub stimuli : stimuli_in new ≡ stimuli_in last
   pub released : released_of new ≡ released_of last
-  pub lost_so : lost_of new ≡ lost_of last ++ lost
+  pub lost_is : lost_of new ≡ lost_of last ++ lost
   pub marks : (state new).marks ≡ (state last).marks
   pub switches : (d : ℕ) → switch_of d (state new) ≡ switch_left lost (state last) d
   pub at_once : AtOnce index (journal last.history) → AtOnce index (journal new.history)
@@ -70,7 +70,7 @@ pub record RanOut {Own : Type 0} (Tells : Type 0) (accepts : List TableView → 
   pub last : Seen Own
   pub text : List ℕ
   pub later : Continues Tells last new
-  pub whole_so : ShownWhole Tells accepts most text old last e now_e
+  pub whole_is : ShownWhole Tells accepts most text old last e now_e
   pub none_left : now_e.queue ≡ []
   pub finish : ShownFinish Tells (append_known held text) now_contents last new now_e
 
@@ -80,7 +80,7 @@ pub record RanFull {Own : Type 0} (Tells : Type 0) (accepts : List TableView →
   pub now_engine : Engine
   pub text : List ℕ
   pub later : Continues Tells last new
-  pub whole_so : ShownWhole Tells accepts most text old last e now_engine
-  pub left_so : left ≡ length now_engine.queue
-  pub contents_so : now_contents ≡ append_known held text
+  pub whole_is : ShownWhole Tells accepts most text old last e now_engine
+  pub left_is : left ≡ length now_engine.queue
+  pub contents_is : now_contents ≡ append_known held text
   pub leaves : ShownLeaves Tells last new

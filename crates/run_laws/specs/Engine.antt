@@ -59,7 +59,7 @@ pub record Stands {Own : Type 0} (seen : Seen Own) (e : Engine) (starts : List S
   pub apps : r.apps ≡ app_at e (given_in seen) starts replies ∷ []
   pub released : r.released ≡ released_of seen
   pub lost : r.lost ≡ lost_of seen
-  pub losses_so : r.losses ≡ losses
+  pub losses_is : r.losses ≡ losses
   pub marks : AgreeMarks (points_in seen) r.marks
   pub life : e.alive ≡ true → LastStands (own_acts seen)
 

@@ -37,7 +37,7 @@ pub record StartsAlike {Own : Type 0} (Tells : Type 0) (text : List ℕ) (old ne
   pub places : (declared : List Declared) → shown_places declared now_e.net.views (state new) ≡ shown_places declared e.net.views (state old)
   pub app : (said_starts : List Start) (said_replies : List Reply) → AreStartFronts starts said_starts
       → started attempts (app_at e (given_in old) said_starts said_replies) ≡ (app_at now_e (given_in new) (drop (length starts) said_starts) said_replies, tries)
-  pub text_so : text ≡ lines_text (map (Started 0) tries ++ gone_line 0 now_e.alive)
+  pub text_is : text ≡ lines_text (map (Started 0) tries ++ gone_line 0 now_e.alive)
   pub read_starts : starts_in (own_acts new) ≡ starts_in (own_acts old) ++ starts
   pub read_replies : replies_in (own_acts new) ≡ replies_in (own_acts old)
   pub read_stimuli : stimuli_in new ≡ stimuli_in old
@@ -78,7 +78,7 @@ pub record TurnAlike {Own : Type 0} (allows : List Place → Bool) (event : Even
         outcome = outcome;
         given = given;
       }
-  pub text_so : (later_starts : List Start) (later_replies : List Reply) → text ≡ lines_text (Ended 0 outcome ∷ out_lines release.packets ++ lost_lines (leavers left) ++ restart_lines 0 outcome (app_at now_e (given_in new) later_starts later_replies, tries))
+  pub text_is : (later_starts : List Start) (later_replies : List Reply) → text ≡ lines_text (Ended 0 outcome ∷ out_lines release.packets ++ lost_lines (leavers left) ++ restart_lines 0 outcome (app_at now_e (given_in new) later_starts later_replies, tries))
 
 pub record TurnMoves {Own : Type 0} (allows : List Place → Bool) (event : Event) (text : List ℕ) (old new : Seen Own) (e now_e : Engine) : Type 0 where
   pub starts : List Start

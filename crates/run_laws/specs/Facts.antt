@@ -39,7 +39,7 @@ pub record StartsAgain {Own : Type 0} (Tells : Type 0) (text : List ℕ) (old ne
   pub tries : List Tried
   pub restarts : Restarts Tells index e.kept old new found tries
   pub engine : now_e ≡ record e { alive = is_some found; rest = unwrap_or found [] }
-  pub text_so : text ≡ starts_text tries (is_some found)
+  pub text_is : text ≡ starts_text tries (is_some found)
 
 -- ---- How a turn was closed
 
@@ -64,7 +64,7 @@ pub record StaysDone {Own : Type 0} (Tells : Type 0) (checkpoint : Option (List 
   pub sent : List (ℕ × ℕ)
   pub commits : Commits Tells start mid new mid_net net e.queue queue (Ok sent)
   pub engine : now_e ≡ all_told net queue (record e { rest = unread; kept = unwrap_or checkpoint e.kept; done = e.done + 1 })
-  pub text_so : text ≡ turn_line name (turn_word (ends.Done stop)) ++ (out_text sent ++ lost_text net.left)
+  pub text_is : text ≡ turn_line name (turn_word (ends.Done stop)) ++ (out_text sent ++ lost_text net.left)
 
 -- it was undone, and the application started again
 pub record IsUndone {Own : Type 0} (Tells : Type 0) (cause : Cause) (text : List ℕ) (start : ℕ) (mid new : Seen Own) (mid_net : NetState) (e now_e : Engine) : Type 0 where
@@ -73,7 +73,7 @@ pub record IsUndone {Own : Type 0} (Tells : Type 0) (cause : Cause) (text : List
   pub undoes : Undoes Tells start mid undone mid_net undone_net (Ok tt)
   pub later_text : List ℕ
   pub starts : StartsAgain Tells later_text undone new (all_told undone_net e.queue (record e { rest = []; failed = e.failed + 1 })) now_e
-  pub text_so : text ≡ turn_line name (words.Failed cause) ++ (lost_text undone_net.left ++ later_text)
+  pub text_is : text ≡ turn_line name (words.Failed cause) ++ (lost_text undone_net.left ++ later_text)
 
 abbrev pub IsClosed : {Own : Type 0} → Type 0 → TurnEnd → Option (List ℕ) → List ℕ → List ℕ → ℕ → Seen Own → Seen Own → NetState → Engine → Engine → Type 0
 IsClosed Tells (ends.Done stop) checkpoint unread text start mid new mid_net e now_e = StaysDone Tells checkpoint unread stop text start mid new mid_net e now_e
@@ -98,4 +98,4 @@ IsTurn Tells accepts event false text old new e now_e = (new ≡ old) × (now_e 
 pub record Dispatches {Own : Type 0} (Tells : Type 0) (accepts : List TableView → Bool) (event : Event) (text : List ℕ) (old new : Seen Own) (e now_e : Engine) : Type 0 where
   pub turn_text : List ℕ
   pub turn : IsTurn Tells accepts event e.alive turn_text old new (record e { events = e.events + 1 }) now_e
-  pub text_so : text ≡ event_line (e.events + 1) event.kind event.dpid ++ turn_text
+  pub text_is : text ≡ event_line (e.events + 1) event.kind event.dpid ++ turn_text

@@ -73,7 +73,7 @@ pub record OnlyAsked {Own : Type 0} (lost : List ℕ) (old new : Seen Own) : Typ
   pub inputs : given_in new ≡ given_in old
   pub stimuli : stimuli_in new ≡ stimuli_in old
   pub released : released_of new ≡ released_of old
-  pub lost_so : lost_of new ≡ lost_of old ++ lost
+  pub lost_is : lost_of new ≡ lost_of old ++ lost
   pub marks : (state new).marks ≡ (state old).marks
   pub at_once : AtOnce index (journal old.history) → AtOnce index (journal new.history)
   pub orderly : OrderlySince index old new

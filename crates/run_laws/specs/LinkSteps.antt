@@ -1,4 +1,5 @@
--- Steps of links alone, and what they leave. All of this is our own.
+-- Parts of a history with calls of links alone (a link is the connection of a switch to the controller), or with calls for the application
+-- alone: what of the state and of the journal stays as it was. All of this is our own.
 use Rattle.std.specs.Prelude.{◌≡◌, ℕ, List, [], filter, None, ◌++◌}
 use Rattle.std.specs.List.{AllByRecursion}
 use Rattle.of_types.specs.declared.journal.Act.{Act}
@@ -10,7 +11,7 @@ use Rattle.app_visor.specs.Talks.{step_of}
 use Rattle.switch_laws.specs.Sound.{Sound}
 use Rattle.lego_model.specs.History.{own_acts, given_in, stimuli_in, released_of, lost_of}
 
--- all but the switches stands as it stood
+-- from s to t all but the switches is as it was
 pub record OnlyLinks (s t : State) : Type 0 where
   pub begun : t.begun ≡ s.begun
   pub due : t.due ≡ s.due
@@ -19,7 +20,7 @@ pub record OnlyLinks (s t : State) : Type 0 where
   pub running : t.running ≡ s.running
   pub marks : t.marks ≡ s.marks
 
--- they tell nothing of an application, and no stimulus
+-- these steps tell nothing of an application, and no stimulus
 pub record TellsNothing (app : ℕ) (steps : List WorldStep) : Type 0 where
   pub acts : filter (is_of app) (journal steps) ≡ []
   pub given : inputs app (journal steps) ≡ []

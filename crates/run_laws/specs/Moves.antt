@@ -1,4 +1,5 @@
--- What a part of a run does is what the reference controller does, with what the part tells of the application. All of this is our own.
+-- A part of a run, as a batch, an event or a start, does what the reference controller does, with what the journal tells of the application in
+-- it. All of this is our own.
 use Rattle.std.specs.Prelude.{◌≡◌, ℕ, Bool, true, List, [], ◌∷◌, ◌++◌, length, drop, ◌<◌}
 use Rattle.of_types.specs.declared.journal.WorldStim.{WorldStim}
 use Rattle.flow_table.specs.View.{TableView}
@@ -20,9 +21,9 @@ use Rattle.lego_model.specs.Application.{index}
 use Rattle.lego_model.specs.ReferenceRun.{text_of, rounds}
 use Rattle.run_laws.specs.Readings.{JudgesAlike}
 
--- A part of a run with these stimuli and this text: what the journal tells is longer by these starts and replies, and wherever engine and
--- reference controller stood alike, with starts and replies before its application of which these are the fronts, and with these losses to come
--- in front of others, they do so after the part, with those that follow.
+-- A part of a run with these stimuli, which prints this text. The journal tells more starts and replies of the application by it. Where engine
+-- and reference controller stood alike before it, they stand alike behind it: if the first starts and replies that the application of the
+-- reference controller had left were these, and the first losses to come those of this part.
 pub record Moves {Own : Type 0} (xs : List WorldStim) (f : Run → Run) (text : List ℕ) (old new : Seen Own) (e now_e : Engine) : Type 0 where
   pub starts : List Start
   pub replies : List Reply
@@ -42,7 +43,7 @@ pub record Moves {Own : Type 0} (xs : List WorldStim) (f : Run → Run) (text : 
 -- messages.
 pub record Conversing {Own : Type 0} (seen : Seen Own) (e : Engine) : Type 0 where
   pub at_once : AtOnce index (journal seen.history)
-  pub rest_so : e.alive ≡ true → (at_once.last.running ≡ true) × Passes at_once.last.unread e.rest
+  pub rest_is : e.alive ≡ true → (at_once.last.running ≡ true) × Passes at_once.last.unread e.rest
 
 -- between parts all is calm, where the application is alive its last start stands, and all steps were in order
 pub record AtRest {Own : Type 0} (seen : Seen Own) (e : Engine) : Type 0 where
@@ -69,7 +70,7 @@ pub record OneHappens {Own : Type 0} (text : List ℕ) (old new : Seen Own) (e n
 -- so many rounds, with a stimulus each
 pub record Rounds {Own : Type 0} (allows : List Place → Bool) (number : ℕ) (text : List ℕ) (old new : Seen Own) (e now_e : Engine) : Type 0 where
   pub stimuli : List WorldStim
-  pub number_so : length stimuli ≡ number
+  pub number_is : length stimuli ≡ number
   pub moved : Moved stimuli (rounds allows stimuli) text old new e now_e
 
 -- all rounds, and the last batch, that has no stimulus
@@ -85,7 +86,7 @@ pub record ShownOver {Own : Type 0} (Tells : Type 0) (text : List ℕ) (old new 
   pub moved : Tells → Conforming new → AtRest old e → Moved [] (λ r. r) text old new e now_e
 
 pub record ShownRounds {Own : Type 0} (Tells : Type 0) (accepts : List TableView → Bool) (number : ℕ) (text : List ℕ) (old new : Seen Own) (e now_e : Engine) : Type 0 where
-  pub rounds_so : (allows : List Place → Bool) → Tells → Conforming new → JudgesAlike Own allows accepts → AtRest old e → Rounds allows number text old new e now_e
+  pub rounds_is : (allows : List Place → Bool) → Tells → Conforming new → JudgesAlike Own allows accepts → AtRest old e → Rounds allows number text old new e now_e
 
 -- where the stimuli are fewer than this number of rounds
 pub record ShownToEnd {Own : Type 0} (Tells : Type 0) (accepts : List TableView → Bool) (most : ℕ) (text : List ℕ) (old new : Seen Own) (e now_e : Engine) : Type 0 where

@@ -23,7 +23,7 @@ pub record RanAs {Own : Type 0} (later : Losses) (text : List ℕ) (last : Seen 
   pub starts : List Start
   pub replies : List Reply
   pub stands : Stands last e starts replies later r
-  pub text_so : text_of r ≡ text
+  pub text_is : text_of r ≡ text
 
 -- so it is over what is said of the application, where switches are lost at some places, and some are to be lost at the end
 pub record Ran {Own : Type 0} (allows : List Place → Bool) (lost : List ℕ) (text : List ℕ) (last : Seen Own) (e : Engine) : Type 0 where

@@ -7,8 +7,8 @@ use Rattle.lego_model.specs.Scripted.{pieces_said, end_said, IsLookedAt}
 
 -- nothing is taken
 pub record TakesNothing (acts : List Act) : Type 0 where
-  pub pieces_so : pieces acts ≡ []
-  pub end_so : (before : End) → end_from before acts ≡ before
+  pub pieces_is : pieces acts ≡ []
+  pub end_is : (before : End) → end_from before acts ≡ before
 
 -- what is taken is the front of what these steps give
 abbrev pub LooksAt : List ScriptStep → List Act → Type 0

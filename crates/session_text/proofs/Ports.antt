@@ -2,7 +2,7 @@
 use Rattle.std.proofs.Common.{◌≡◌, ℕ, true, not, List, [], ◌∷◌, Ok, refl, arith}
 use Rattle.std.specs.List.{list_all}
 use Rattle.lego_model.specs.declared.session.SessionKind.TheVariants.{Range}
-use Rattle.lego_model.specs.Words.{is_numeral}
+use Rattle.of_types.specs.Numerals.{is_numeral}
 use Rattle.lego_model.specs.SessionWords.{unless, a_number, is_port, are_ports, values_of}
 use Rattle.session_text.specs.TextGives.{numbers, ports_read}
 

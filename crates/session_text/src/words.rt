@@ -3,7 +3,8 @@
 ghost use Rattle.std.specs.Prelude.{◌≡◌, ◌==◌, ◌≤◌, ◌^◌, IfOk, MatchOption, map, true};
 ghost use Rattle.std.specs.Char.{is_ascii_digit};
 ghost use Rattle.std.specs.List.{list_all, slice_split};
-ghost use Rattle.lego_model.specs.Words.{words_of as words_in, is_word, is_numeral as is_numeral_in, leads_with_zero as zero_leads, value_after};
+ghost use Rattle.of_types.specs.Numerals.{is_numeral as is_numeral_in, leads_with_zero as zero_leads};
+ghost use Rattle.lego_model.specs.Words.{words_of as words_in, is_word, value_after};
 
 use std::alloc::{AllocError, Global};
 
@@ -48,7 +49,7 @@ fn leads_with_zero(word: &[u8]) -> bool
 }
 
 /// Tells whether a word is a decimal number, without a leading zero but for `0` itself.
-#[tactic(auto, unfolding(lego_model::specs::Words::is_numeral))]
+#[tactic(auto, unfolding(of_types::specs::Numerals::is_numeral))]
 pub fn is_numeral(word: &[u8]) -> bool
     ensures value { result ≡ is_numeral_in word.now }
     ensures digits { result ≡ true → list_all is_ascii_digit word.now ≡ true }

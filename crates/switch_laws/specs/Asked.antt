@@ -1,4 +1,4 @@
--- A change as the bytes of a message spell it. All of this is our own.
+-- The one message of an application that the host leaves to the switch to judge, a change of its table. All of this is our own.
 use Rattle.std.specs.Prelude.{◌≡◌, ℕ, List, Ok}
 use Rattle.of_wire.specs.declared.bodies.FlowMod.{FlowMod as Change}
 use Rattle.of_wire.specs.declared.message.Message.TheVariants.{FlowMod}

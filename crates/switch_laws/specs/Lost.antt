@@ -16,9 +16,9 @@ use Rattle.switch_laws.specs.Shown.{shown_places}
 -- Switches were lost, with these Leave events, in order, which the host has not told yet; the history has their losses.
 pub record LeavesBy {Own : Type 0} (old new : Seen Own) (net now_net : NetState) (left : List Event) : Type 0 where
   pub gone : List KnownPorts
-  pub left_so : now_net.left ≡ net.left ++ gone
-  pub events_so : map left_event gone ≡ left
-  pub lost_so : lost_of new ≡ lost_of old ++ leavers left
+  pub left_is : now_net.left ≡ net.left ++ gone
+  pub events_is : map left_event gone ≡ left
+  pub lost_is : lost_of new ≡ lost_of old ++ leavers left
 
 -- ---- One message
 
@@ -40,5 +40,5 @@ pub record ExchangeShown {Own : Type 0} (declared : List Declared) (d : ℕ) (by
 pub record UndoShown {Own : Type 0} (declared : List Declared) (lost : List ℕ) (first old new : Seen Own) (net0 net now_net : NetState) : Type 0 where
   pub left : List Event
   pub leaves : LeavesBy old new net now_net left
-  pub leavers_so : leavers left ≡ lost
-  pub undoing_so : undoing lost (shown_places declared net0.views (state first)) (shown_places declared net.views (state old)) ≡ (shown_places declared now_net.views (state new), left)
+  pub leavers_is : leavers left ≡ lost
+  pub undoing_is : undoing lost (shown_places declared net0.views (state first)) (shown_places declared net.views (state old)) ≡ (shown_places declared now_net.views (state new), left)

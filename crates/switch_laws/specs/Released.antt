@@ -49,24 +49,24 @@ LosesNone steps = AllByRecursion (λ step. lost_by step ≡ None) steps
 pub record MovesOrLoses {Own : Type 0} (packets : List Held) (old new : Seen Own) : Type 0 where
   pub steps : List WorldStep
   pub history : new.history ≡ old.history ++ steps
-  pub released_so : released (journal steps) ≡ packets
+  pub released_is : released (journal steps) ≡ packets
   pub moved : (e : ℕ) → (switch_of e (state new) ≡ option_map (after_packets e packets) (switch_of e (state old))) ⊎ WasLost e old new
 
 -- The switches stand then, with the flags of the owners, as the reference controller's do that releases the same packets and loses these of
 -- their switches; its events joined the queue, and the history released its packets. All is ready again, and nothing else is known of them.
 pub record ReleaseShown {Own : Type 0} (held sent : List Held) (old new : Seen Own) (net now_net : NetState) (queue now_queue : List Event) : Type 0 where
   pub losing : List PacketLoss
-  pub release_so : Release
-  pub is : release_so ≡ release losing (shown_places old.given.declared net.views (state old)) held
-  pub places : shown_places old.given.declared now_net.views (state new) ≡ release_so.places
-  pub events : now_queue ≡ queue ++ release_so.events
-  pub packets : release_so.packets ≡ sent
-  pub none_more : release_so.losing ≡ []
-  pub leaves : LeavesBy old new net now_net release_so.left
-  pub released_so : released_of new ≡ released_of old ++ release_so.packets
+  pub release_is : Release
+  pub is : release_is ≡ release losing (shown_places old.given.declared net.views (state old)) held
+  pub places : shown_places old.given.declared now_net.views (state new) ≡ release_is.places
+  pub events : now_queue ≡ queue ++ release_is.events
+  pub packets : release_is.packets ≡ sent
+  pub none_more : release_is.losing ≡ []
+  pub leaves : LeavesBy old new net now_net release_is.left
+  pub released_is : released_of new ≡ released_of old ++ release_is.packets
   pub ready : Ready new now_net
   pub sound : Sound (state new)
-  pub net_so : now_net ≡ record (lose_all (leavers release_so.left) net) { xid = now_net.xid }
+  pub net_is : now_net ≡ record (lose_all (leavers release_is.left) net) { xid = now_net.xid }
 
 -- How a release may stop in a world that keeps its word: memory ran out, or a packet made its switch send more messages than a wait takes.
 abbrev pub StopsFor : {Own : Type 0} → Seen Own → Seen Own → TxnFault → Type 0

@@ -13,7 +13,7 @@ use Rattle.outside.specs.Seen.{Seen}
 use Rattle.outside.specs.State.{state, switch_of, waits_of}
 use Rattle.net_txn.specs.declared.ports.KnownPorts.{KnownPorts}
 use Rattle.net_txn.specs.Net.{NetState}
-use Rattle.net_txn.specs.Agreement.{Agrees}
+use Rattle.net_txn.specs.ChangeSteps.{Agrees}
 use Rattle.net_txn.specs.Losing.{lose_all, is_among}
 use Rattle.net_txn.specs.Undos.{key_logged, without_keys, keys_of}
 use Rattle.net_txn.specs.Views.{is_viewed}
@@ -56,7 +56,7 @@ pub record Since {Own : Type 0} (start : ℕ) (lost : List ℕ) (first now : See
   pub lost_out : (d : ℕ) → is_among d lost ≡ true → switch_of d (state now) ≡ None
   pub out : (d : ℕ) → switch_of d (state first) ≡ None → switch_of d (state now) ≡ None
 
--- a transaction stands so, and all is ready
+-- an open transaction: the world stands so to where it began, and between messages all is ready
 pub record Goes {Own : Type 0} (start : ℕ) (lost : List ℕ) (first now : Seen Own) (net0 net : NetState) : Type 0 where
   pub since : Since start lost first now net0 net
   pub ready : Ready now net

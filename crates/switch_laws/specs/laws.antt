@@ -1,5 +1,6 @@
 pub mod FlagLaws
 pub mod PlaceLaws
+pub mod LinkLaws
 pub mod ShownChangeLaws
 pub mod AskedLaws
 pub mod ShownExchangeLaws

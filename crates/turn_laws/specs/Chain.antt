@@ -1,4 +1,5 @@
--- A turn over the tables of a world, beat after beat. All of this is our own.
+-- A turn in a world that keeps its word, beat after beat (a beat is a call for the application, or one of its messages and the answer): what
+-- the reference controller does at the same beats. All of this is our own.
 use Rattle.std.specs.Prelude.{◌≡◌, ℕ, Bool, List, [], ◌++◌, length}
 use Rattle.app_frames.specs.declared.frame.Answer.{Answer}
 use Rattle.app_frames.specs.declared.frame.Event.{Event}
@@ -19,7 +20,7 @@ use Rattle.switch_laws.specs.Since.{Goes}
 abbrev pub play_at : {Own : Type 0} → Seen Own → Seen Own → NetState → List Bool → List Event → Play
 play_at first seen net losing left = shown_play first.given.declared seen net losing left
 
--- where the beats lead, with the losses at their messages
+-- what these messages and answers leave, with the switches that were lost at them
 pub record Leads {Own : Type 0} (allows : List Place → Bool) (start : ℕ) (lost : List ℕ) (first old new : Seen Own) (net0 net now_net : NetState) (xs : List (Exchange Own)) : Type 0 where
   pub messages : List Bool
   pub left : List Event

@@ -108,7 +108,7 @@ plain_joined : {Own : Type 0} (Tells : Type 0) (d : ℕ) (bytes : List ℕ) (old
 plain_joined Tells d bytes old new net now_net answer changes = elim (decided (known_rows d net.views) bytes) [
   | inl h ↦ subst IsPlain (sym ((changes.by_host h.0 h.1.0).answers)) h.1.1
   | inr h ↦ elim h.1.1.0 [
-    | inl none ↦ let asked = changes.by_switch h.0 h.1.0 none h.1.1.1 in subst IsPlain (sym asked.answer_so) (plain_by (error_in asked.refusal))
+    | inl none ↦ let asked = changes.by_switch h.0 h.1.0 none h.1.1.1 in subst IsPlain (sym asked.answer_is) (plain_by (error_in asked.refusal))
     | inr a ↦ subst IsPlain (sym ((changes.by_host a.0 a.1.0).answers)) a.1.1
   ]
 ]

@@ -168,13 +168,13 @@ unfolding end_steps after_step after_act
 stopped app true s is = any-filter_same (λ a. a == app) (λ a. not (a == app)) false (λ k e. rw e refl) s.running
 stopped app false s is = is
 
-pub ends_so : {Own : Type 0} (Tells : Type 0) (app : ℕ) (old new : Seen Own) → Ends Tells app old new → Tells → is_running app (state new) ≡ false
-ends_so Tells app old new ends told =
+pub ends_is : {Own : Type 0} (Tells : Type 0) (app : ℕ) (old new : Seen Own) → Ends Tells app old new → Tells → is_running app (state new) ≡ false
+ends_is Tells app old new ends told =
     ap (λ (s : State). is_running app s) (state-append old new (end_steps app (is_running app (state old))) ends.given (ends.told told).history) ∙ stopped app (is_running app (state old)) (state old) refl
 
-pub not_started_so : {Own : Type 0} (Tells : Type 0) (app : ℕ) (old new : Seen Own) → Told Tells (Started app false) old new → Tells → is_running app (state old) ≡ false → is_running app (state new) ≡ false
+pub not_started_is : {Own : Type 0} (Tells : Type 0) (app : ℕ) (old new : Seen Own) → Told Tells (Started app false) old new → Tells → is_running app (state old) ≡ false → is_running app (state new) ≡ false
 unfolding after_step after_act
-not_started_so Tells app old new told tells is =
+not_started_is Tells app old new told tells is =
     ap (λ (s : State). is_running app s) (state-append old new (Acted (Started app false) ∷ []) told.continues.given (told.history tells)) ∙ is
 
 -- ---- A start that stands
@@ -248,8 +248,8 @@ runs_started Tells app old new told tells =
     ap (λ (s : State). is_running app s) (state-append old new (Acted (Started app true) ∷ []) told.continues.given (told.history tells)) ∙ started_runs app app (state old).running (same app)
 
 pub greets_gone : {Own : Type 0} {Tells : Type 0} {app : ℕ} {kept : List ℕ} {old new : Seen Own} (frame unread : List ℕ) → frame ≡ restore_frame kept → Told Tells (Gone app frame) old new → Greets Tells app kept Closed unread old new
-greets_gone {Tells = Tells} {app = app} {kept = kept} {old = old} {new = new} frame unread is told_so =
-    let told : Told Tells (Gone app (restore_frame kept)) old new = subst (λ (f : List ℕ). Told Tells (Gone app f) old new) is told_so in
+greets_gone {Tells = Tells} {app = app} {kept = kept} {old = old} {new = new} frame unread is told_is =
+    let told : Told Tells (Gone app (restore_frame kept)) old new = subst (λ (f : List ℕ). Told Tells (Gone app f) old new) is told_is in
     record {
       acts = Gone app (restore_frame kept) ∷ [];
       continues = told.continues;
@@ -268,17 +268,17 @@ greets_gone {Tells = Tells} {app = app} {kept = kept} {old = old} {new = new} fr
       };
     }
 
-first_so : {Own : Type 0} (Tells : Type 0) (app : ℕ) (came : Came) (unread left : List ℕ) (old new : Seen Own) → CameSo Tells app came unread left old new
+first_is : {Own : Type 0} (Tells : Type 0) (app : ℕ) (came : Came) (unread left : List ℕ) (old new : Seen Own) → CameSo Tells app came unread left old new
     → first_frame (end_of came) (next_of unread []) ≡ (tried_by came, rest_of (tried_by came) left)
-first_so Tells app (comes.Frame frames.Ready) unread left old new so = rw (next_framed frames.Ready unread left [] so.0) refl
-first_so Tells app (comes.Frame frames.Save) unread left old new so = rw (next_framed frames.Save unread left [] so.0) refl
-first_so Tells app (comes.Frame frames.Keep) unread left old new so = rw (next_framed frames.Keep unread left [] so.0) refl
-first_so Tells app (comes.Frame frames.Undo) unread left old new so = rw (next_framed frames.Undo unread left [] so.0) refl
-first_so Tells app (comes.Frame (frames.Message dpid bytes)) unread left old new so = rw (next_framed (frames.Message dpid bytes) unread left [] so.0) refl
-first_so Tells app (comes.Frame (frames.Done stop checkpoint)) unread left old new so = rw (next_framed (frames.Done stop checkpoint) unread left [] so.0) refl
-first_so Tells app (comes.Refused fault) unread left old new so = rw (next_faulty fault unread [] so.0) refl
-first_so Tells app comes.Closed unread left old new so = rw (next_over unread so.0) refl
-first_so Tells app comes.Silent unread left old new so = rw (next_over unread so.0) refl
+first_is Tells app (comes.Frame frames.Ready) unread left old new so = rw (next_framed frames.Ready unread left [] so.0) refl
+first_is Tells app (comes.Frame frames.Save) unread left old new so = rw (next_framed frames.Save unread left [] so.0) refl
+first_is Tells app (comes.Frame frames.Keep) unread left old new so = rw (next_framed frames.Keep unread left [] so.0) refl
+first_is Tells app (comes.Frame frames.Undo) unread left old new so = rw (next_framed frames.Undo unread left [] so.0) refl
+first_is Tells app (comes.Frame (frames.Message dpid bytes)) unread left old new so = rw (next_framed (frames.Message dpid bytes) unread left [] so.0) refl
+first_is Tells app (comes.Frame (frames.Done stop checkpoint)) unread left old new so = rw (next_framed (frames.Done stop checkpoint) unread left [] so.0) refl
+first_is Tells app (comes.Refused fault) unread left old new so = rw (next_faulty fault unread [] so.0) refl
+first_is Tells app comes.Closed unread left old new so = rw (next_over unread so.0) refl
+first_is Tells app comes.Silent unread left old new so = rw (next_over unread so.0) refl
 
 came_heard : {Own : Type 0} (Tells : Type 0) (app : ℕ) (came : Came) (unread left : List ℕ) (old new : Seen Own) → CameSo Tells app came unread left old new
     → (is_told (end_of came) || is_whole (next_of unread [])) ≡ true
@@ -352,8 +352,8 @@ start_came app kept ps came running =
 
 pub greets_came : {Own : Type 0} {Tells : Type 0} {app : ℕ} {kept rest left : List ℕ} {old mid new : Seen Own} (frame : List ℕ) (came : Came) → frame ≡ restore_frame kept → rest ≡ [] → Told Tells (Gave app frame) old mid
     → Comes Tells app rest left mid new came → Greets Tells app kept (tried_by came) left old new
-greets_came {Tells = Tells} {app = app} {kept = kept} {rest = rest} {left = left} {old = old} {mid = mid} {new = new} frame came is none told_so comes =
-    let told : Told Tells (Gave app (restore_frame kept)) old mid = subst (λ (f : List ℕ). Told Tells (Gave app f) old mid) is told_so in
+greets_came {Tells = Tells} {app = app} {kept = kept} {rest = rest} {left = left} {old = old} {mid = mid} {new = new} frame came is none told_is comes =
+    let told : Told Tells (Gave app (restore_frame kept)) old mid = subst (λ (f : List ℕ). Told Tells (Gave app f) old mid) is told_is in
     let ps = comes.taken.pieces in
     let then_seen = comes.then_seen in
     let taken = Taken-continues comes.taken in
@@ -362,22 +362,22 @@ greets_came {Tells = Tells} {app = app} {kept = kept} {rest = rest} {left = left
     let continues = Continues-trans Tells old mid new told.continues (Comes-continues comes) in
     let adds : Adds Tells (all_acts app kept ps (last_acts came app)) old new = Adds-append Tells (Gave app (restore_frame kept) ∷ []) (takes app ps ++ last_acts came app) old mid new told.history
     (Adds-append Tells (takes app ps) (last_acts came app) mid then_seen new (Adds-takes Tells app ps rest comes.unread mid then_seen comes.taken.all)
-    (Adds-last Tells app came comes.unread left then_seen new comes.came_so)) in
+    (Adds-last Tells app came comes.unread left then_seen new comes.came_is)) in
     record {
       acts = all_acts app kept ps (last_acts came app);
       continues = continues;
       history = adds;
       outcome = λ running. ap (λ (s : Start). outcome_of s) (start_came app kept ps came running) ∙ outcome_by ps (end_of came) ∙ ap (λ (n : Next). first_frame (end_of came) n) next
-          ∙ first_so Tells app came comes.unread left then_seen new comes.came_so;
+          ∙ first_is Tells app came comes.unread left then_seen new comes.came_is;
       given = λ running. ap (λ (acts : List Act). inputs app acts) (then_ended app kept ps came running) ∙ inputs_greeted app kept ps (lasts came running app) (plain_lasts came running app)
           ∙ ap (λ (s : Start). restored kept s) (sym (start_came app kept ps came running));
       heard = λ running. ap (λ (s : Start). is_start_heard s) (start_came app kept ps came running) ∙ heard_start ps (end_of came) ∙ ap (λ (n : Next). is_told (end_of came) || is_whole n) next
-          ∙ came_heard Tells app came comes.unread left then_seen new comes.came_so;
-      rises = came_rises Tells app came comes.unread left old then_seen new (Continues-trans Tells old mid then_seen told.continues taken) comes.came_so;
+          ∙ came_heard Tells app came comes.unread left then_seen new comes.came_is;
+      rises = came_rises Tells app came comes.unread left old then_seen new (Continues-trans Tells old mid then_seen told.continues taken) comes.came_is;
       within = within_all app kept ps came;
       running = runs_by Tells app (all_acts app kept ps (last_acts came app)) old new continues adds (runs_given app kept ps came);
       speaks = λ tells.
-          let last = speaks_came Tells app came comes.unread left (takes app ps) then_seen new comes.came_so tells in
+          let last = speaks_came Tells app came comes.unread left (takes app ps) then_seen new comes.came_is tells in
           let front : Converses app nothing_said (before comes.unread (takes app ps)) mid then_seen =
           subst (λ (r : List ℕ). Converses app (before r []) (before comes.unread (takes app ps)) mid then_seen) none (converses_takes Tells app ps rest comes.unread [] mid then_seen comes.taken.all tells) in
           record {

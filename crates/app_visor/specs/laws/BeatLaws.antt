@@ -80,7 +80,7 @@ leads_came Tells app comes.Silent rest left old new net so = record { trace = Ta
 
 pub leads_comes : {Own : Type 0} {Tells : Type 0} {app : ℕ} {rest left : List ℕ} {old new : Seen Own} (came : Came) (net : NetState) → Comes Tells app rest left old new came → Leads Tells app old new net net
 leads_comes {Tells = Tells} {app = app} {left = left} {new = new} came net comes =
-    Leads-trans (leads_taken net comes.taken) (leads_came Tells app came comes.unread left comes.then_seen new net comes.came_so)
+    Leads-trans (leads_taken net comes.taken) (leads_came Tells app came comes.unread left comes.then_seen new net comes.came_is)
 
 -- ---- A turn that stops
 

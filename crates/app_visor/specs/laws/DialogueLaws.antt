@@ -25,7 +25,7 @@ use Rattle.outside.specs.Calls.{Ends, end_steps}
 use Rattle.net_txn.specs.Net.{NetState}
 use Rattle.net_txn.specs.LinkSteps.{LinkSteps}
 use Rattle.net_txn.specs.Losing.{GoesOut, SaysNone, IsLost}
-use Rattle.net_txn.specs.Agreement.{ReachedSince}
+use Rattle.net_txn.specs.ChangeSteps.{ReachedSince}
 use Rattle.net_txn.specs.Answering.{known_rows, answer_of_host, ByHost}
 use Rattle.net_txn.specs.Changes.{ChangesJoined}
 use Rattle.lego_model.specs.Answers.{as_sent, host_answer}
@@ -41,7 +41,7 @@ use Rattle.app_visor.specs.Dialogues.{Converses}
 
 -- a frame that is no message is passed over
 pub passes_next : (frame : AppFrame) (rest left : List ℕ) → is_message frame ≡ false → IsNext frame rest left → Passes rest left
-passes_next frame rest left is next = record { frames = frame ∷ []; are = (is, (next.size, (next.read, next.left_so))) }
+passes_next frame rest left is next = record { frames = frame ∷ []; are = (is, (next.size, (next.read, next.left_is))) }
 
 -- ---- One part behind another
 
@@ -87,13 +87,13 @@ pub converses_event : {Own : Type 0} (Tells : Type 0) (app : ℕ) (frame rest : 
     → Converses app s (before rest []) old new
 converses_event Tells app frame rest s old new told tells event runs passes =
     converses_told Tells app (Gave app frame) s (before rest []) old new told tells (same app)
-    (runs, subst (λ (b : Bool). GivesFrame b frame s (before rest [])) (sym (event_is_no_answer frame event)) (record { not_ended = λ other. absurd (true≢false (sym event ∙ other)); running_so = refl; passes = passes; since_so = refl; ended_so = refl }))
+    (runs, subst (λ (b : Bool). GivesFrame b frame s (before rest [])) (sym (event_is_no_answer frame event)) (record { not_ended = λ other. absurd (true≢false (sym event ∙ other)); running_is = refl; passes = passes; since_is = refl; ended_is = refl }))
 
 -- it is given its checkpoint
 pub converses_restored : {Own : Type 0} (Tells : Type 0) (app : ℕ) (kept : List ℕ) (old new : Seen Own) → Told Tells (Gave app (restore_frame kept)) old new → Tells → Converses app nothing_said nothing_said old new
 converses_restored Tells app kept old new told tells =
     converses_told Tells app (Gave app (restore_frame kept)) nothing_said nothing_said old new told tells (same app)
-    (refl, subst (λ (b : Bool). GivesFrame b (restore_frame kept) nothing_said nothing_said) (sym (restore_is_no_answer kept)) (record { not_ended = λ other. refl; running_so = refl; passes = passes_none []; since_so = refl; ended_so = refl }))
+    (refl, subst (λ (b : Bool). GivesFrame b (restore_frame kept) nothing_said nothing_said) (sym (restore_is_no_answer kept)) (record { not_ended = λ other. refl; running_is = refl; passes = passes_none []; since_is = refl; ended_is = refl }))
 
 -- it is ended, where it runs
 converses_ended_by : {Own : Type 0} (app : ℕ) (running : Bool) (s : Before) (old new : Seen Own) → s.running ≡ running → new.history ≡ old.history ++ end_steps app running → (t : Before) × (Converses app s t old new × (t.running ≡ false))
@@ -130,7 +130,7 @@ host_answered app since x answer is by none = record {
   steps = [];
   history = ap (λ (s : Seen _). s.history) by.world ∙ sym (append-nil x.before.history);
   others = refl;
-  at_once = inl (host_since x.bytes x.answer since [] none (record { rows = known_rows x.dpid x.net.views; answer_so = is ∙ ap (λ (a : Answer). Some a) (sym by.answers); none_sent = refl }));
+  at_once = inl (host_since x.bytes x.answer since [] none (record { rows = known_rows x.dpid x.net.views; answer_is = is ∙ ap (λ (a : Answer). Some a) (sym by.answers); none_sent = refl }));
 }
 
 -- the acts of calls of links
@@ -151,8 +151,8 @@ switch_answered Tells app since x xid m read r only none = record {
     change = refl;
     reached = r.reached;
     error = r.error;
-    error_so = r.error_so;
-    answer_so = r.answer_so;
+    error_is = r.error_is;
+    answer_is = r.answer_is;
   })));
 }
 
@@ -171,10 +171,10 @@ joined_answered Tells app since x is only tells none = elim (decided (known_rows
 loss_told : (d : ℕ) (acts : List Act) (rest : List ℕ) → losses acts ≡ d ∷ rest → list_any (is_loss_of d) acts ≡ true
 unfolding losses
 loss_told d [] rest is = absurd cc
-loss_told d (Lost e ∷ acts) rest is = rw (head_so e d (losses acts) rest is, same d) refl
+loss_told d (Lost e ∷ acts) rest is = rw (head_is e d (losses acts) rest is, same d) refl
   where
-    head_so : (e d : ℕ) (xs ys : List ℕ) → e ∷ xs ≡ d ∷ ys → e ≡ d
-    head_so e d xs ys is = cc
+    head_is : (e d : ℕ) (xs ys : List ℕ) → e ∷ xs ≡ d ∷ ys → e ≡ d
+    head_is e d xs ys is = cc
 loss_told d (Stim x ∷ acts) rest is = loss_told d acts rest is
 loss_told d (Started of stands ∷ acts) rest is = loss_told d acts rest is
 loss_told d (Gave of frame ∷ acts) rest is = loss_told d acts rest is
@@ -189,7 +189,7 @@ loss_answered app since x unknown out only = record {
   steps = out.steps;
   history = out.history;
   others = link_others app x.before x.after out.steps out.history only;
-  at_once = inr (inr (loss_since x.dpid x.answer since (journal out.steps) (record { answer_so = unknown; lost = loss_told x.dpid (journal out.steps) [] out.lost })));
+  at_once = inr (inr (loss_since x.dpid x.answer since (journal out.steps) (record { answer_is = unknown; lost = loss_told x.dpid (journal out.steps) [] out.lost })));
 }
 
 -- It was out before, and so no change was sent: it is answered as a switch that is not known.
@@ -199,7 +199,7 @@ out_answered app since x unknown says only none = record {
   steps = says.steps;
   history = says.history;
   others = link_others app x.before x.after says.steps says.history only;
-  at_once = inl (host_since x.bytes x.answer since (journal says.steps) none (record { rows = None; answer_so = ap (λ (a : Answer). Some a) (sym unknown); none_sent = says.none_sent }));
+  at_once = inl (host_since x.bytes x.answer since (journal says.steps) none (record { rows = None; answer_is = ap (λ (a : Answer). Some a) (sym unknown); none_sent = says.none_sent }));
 }
 
 lost_answered : {Own : Type 0} (Tells : Type 0) (app : ℕ) (since : List Act) (x : Exchange Own) → x.answer ≡ Unknown → IsLost Tells x.dpid [] x.before x.after → LinkSteps x.before x.after → Tells → SendsNone since → IsAnswered app since x
@@ -222,20 +222,20 @@ converses_answered Tells app dpid bytes rest here since old new net now_net next
     let x = exchange_of dpid bytes e.answer old e.after net now_net in
     let said = exchange_answered Tells app since x e.exchange tells none in
     let frame = answer_frame e.answer in
-    let then_so = before rest (since ++ journal said.steps) in
-    Converses-then app (before rest since) then_so (before here []) old e.after new
+    let then_is = before rest (since ++ journal said.steps) in
+    Converses-then app (before rest since) then_is (before here []) old e.after new
     (record { steps = said.steps; history = said.history; dialogue = others_say app (journal said.steps) (before rest since) said.others })
-    (converses_told Tells app (Gave app frame) then_so (before here []) e.after new e.told tells (same app) (
+    (converses_told Tells app (Gave app frame) then_is (before here []) e.after new e.told tells (same app) (
       refl,
-      subst (λ (b : Bool). GivesFrame b frame then_so (before here [])) (sym (answer_is_one e.answer)) (record {
+      subst (λ (b : Bool). GivesFrame b frame then_is (before here [])) (sym (answer_is_one e.answer)) (record {
         dpid = dpid;
         bytes = bytes;
         size = next.size;
         answer = e.answer;
         read = next.read;
-        frame_so = refl;
+        frame_is = refl;
         at_once = said.at_once;
-        then_so = ap (λ (u : List ℕ). before u []) next.left_so;
+        then_is = ap (λ (u : List ℕ). before u []) next.left_is;
       }),
     ))
 
@@ -246,9 +246,9 @@ converses_unanswered Tells app dpid bytes s old new net now_net e tells runs =
     let x = exchange_of dpid bytes e.answer old e.after net now_net in
     let said = exchange_answered Tells app [] x e.exchange tells refl in
     let act = Gone app (answer_frame e.answer) in
-    let then_so : Before = record s { since = s.since ++ journal said.steps } in (
-      besides then_so act,
-      Converses-then app s then_so (besides then_so act) old e.after new
+    let then_is : Before = record s { since = s.since ++ journal said.steps } in (
+      besides then_is act,
+      Converses-then app s then_is (besides then_is act) old e.after new
           (record { steps = said.steps; history = said.history; dialogue = others_say app (journal said.steps) s said.others })
-          (converses_told Tells app act then_so (besides then_so act) e.after new e.told tells (same app) (runs, refl)),
+          (converses_told Tells app act then_is (besides then_is act) e.after new e.told tells (same app) (runs, refl)),
     )

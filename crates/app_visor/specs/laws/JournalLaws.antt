@@ -21,13 +21,13 @@ acts_append app xs ys = ap (λ (acts : List Act). filter (is_of app) acts) (jour
 
 told_none : {Own : Type 0} (app : ℕ) (old new : Seen Own) → new ≡ old → ActsTold app [] old new
 unfolding journal
-told_none app old new is = record { steps = []; history = ap (λ (s : Seen _). s.history) is ∙ sym (append-nil old.history); acts_so = refl }
+told_none app old new is = record { steps = []; history = ap (λ (s : Seen _). s.history) is ∙ sym (append-nil old.history); acts_is = refl }
 
 told_then : {Own : Type 0} (app : ℕ) (xs ys : List Act) (a b c : Seen Own) → ActsTold app xs a b → ActsTold app ys b c → ActsTold app (xs ++ ys) a c
 told_then app xs ys a b c first second = record {
   steps = first.steps ++ second.steps;
   history = second.history ∙ ap (λ (h : List WorldStep). h ++ second.steps) first.history ∙ append_assoc a.history first.steps second.steps;
-  acts_so = acts_append app first.steps second.steps ∙ ap (λ (acts : List Act). acts ++ acts_of app second.steps) first.acts_so ∙ ap (λ (acts : List Act). xs ++ acts) second.acts_so;
+  acts_is = acts_append app first.steps second.steps ∙ ap (λ (acts : List Act). acts ++ acts_of app second.steps) first.acts_is ∙ ap (λ (acts : List Act). xs ++ acts) second.acts_is;
 }
 
 -- ---- A call for the application
@@ -80,14 +80,14 @@ links_none app (NextFailed ∷ steps) all = absurd (true≢false (sym all.0))
 exchange_told : {Own : Type 0} (Tells : Type 0) (app : ℕ) (x : Exchange Own) → IsExchange Tells x → Tells → ActsTold app [] x.before x.after
 exchange_told Tells app x is tells =
     let only = is.changes.links tells in
-    record { steps = only.steps; history = only.history; acts_so = links_none app only.steps only.all }
+    record { steps = only.steps; history = only.history; acts_is = links_none app only.steps only.all }
 
 -- ---- All beats
 
 pub chain_told : {Own : Type 0} (Tells : Type 0) (app : ℕ) (trace : List (Beat Own)) (old new : Seen Own) (net now_net : NetState) → Chain Tells app trace old new net now_net → Tells → ActsTold app (acts_in trace) old new
 chain_told Tells app [] old new net now_net chain tells = told_none app old new chain.0
 chain_told Tells app (Talk act ∷ trace) old new net now_net chain tells =
-    let one : ActsTold app (act ∷ []) old chain.1.0 = record { steps = step_of act ∷ []; history = chain.1.1.0.history tells; acts_so = call_told app act chain.0 } in
+    let one : ActsTold app (act ∷ []) old chain.1.0 = record { steps = step_of act ∷ []; history = chain.1.1.0.history tells; acts_is = call_told app act chain.0 } in
     told_then app (act ∷ []) (acts_in trace) old chain.1.0 new one (chain_told Tells app trace chain.1.0 new net now_net chain.1.1.1 tells)
 chain_told Tells app (Asks x ∷ trace) old new net now_net chain tells =
     let one : ActsTold app [] old x.after = rw (← chain.0.0) (exchange_told Tells app x chain.1.0 tells) in

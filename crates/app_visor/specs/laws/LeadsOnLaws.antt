@@ -63,7 +63,7 @@ pub leads_on_came : {Own : Type 0} (Tells : Type 0) (app : ℕ) (frame : AppFram
 leads_on_came Tells app frame rest left since old mid new came tells later =
     let t = before came.unread (since ++ takes app came.taken.pieces) in
     let front = converses_takes Tells app came.taken.pieces rest came.unread since old came.then_seen came.taken.all tells in
-    leads_on_then app (before rest since) t old mid new (subst (λ (x : Seen _). Converses app (before rest since) t old x) (sym came.came_so.1) front) (later t)
+    leads_on_then app (before rest since) t old mid new (subst (λ (x : Seen _). Converses app (before rest since) t old x) (sym came.came_is.1) front) (later t)
 
 -- ---- A turn
 

@@ -89,7 +89,7 @@ own_came Tells app comes.Silent rest left old new so tells = own_told app (Took 
 
 pub own_comes : {Own : Type 0} {Tells : Type 0} {app : ℕ} {rest left : List ℕ} {old new : Seen Own} (came : Came) → Comes Tells app rest left old new came → Tells → OwnSteps app old new
 own_comes {Tells = Tells} {app = app} {left = left} {new = new} came is tells =
-    own_then (own_taken is.taken tells) (own_came Tells app came is.unread left is.then_seen new is.came_so tells)
+    own_then (own_taken is.taken tells) (own_came Tells app came is.unread left is.then_seen new is.came_is tells)
 
 pub own_breaking : {Own : Type 0} {Tells : Type 0} {app : ℕ} {rest : List ℕ} {old new : Seen Own} → Breaks Tells app rest old new → Tells → OwnSteps app old new
 own_breaking {app = app} breaks tells = own_then (own_taken breaks.taken tells) (own_wanting app breaks.wants tells)

@@ -45,9 +45,9 @@ pub leads_asked : {Own : Type 0} {Tells : Type 0} (app dpid : ℕ) (bytes : List
 leads_asked app dpid bytes answer old after net now_net is =
     record { trace = Asks (exchange_of dpid bytes answer old after net now_net) ∷ []; chain = ((refl, refl), (is, (refl, refl))) }
 
-pub exchanges_so : {Own : Type 0} (Tells : Type 0) (app dpid : ℕ) (bytes : List ℕ) (given : Bool) (answer : Answer) (frame : List ℕ) (old after new : Seen Own) (net now_net : NetState)
+pub exchanges_is : {Own : Type 0} (Tells : Type 0) (app dpid : ℕ) (bytes : List ℕ) (given : Bool) (answer : Answer) (frame : List ℕ) (old after new : Seen Own) (net now_net : NetState)
     → IsExchange Tells (exchange_of dpid bytes answer old after net now_net) → frame ≡ answer_frame answer → Told Tells (give_act given app frame) after new → Exchanges Tells app dpid bytes given old new net now_net
-exchanges_so Tells app dpid bytes given answer frame old after new net now_net is spelled told =
+exchanges_is Tells app dpid bytes given answer frame old after new net now_net is spelled told =
     record { answer = answer; after = after; exchange = is; told = subst (λ (f : List ℕ). Told Tells (give_act given app f) after new) spelled told }
 
 pub plays_answered : {Own : Type 0} (Tells : Type 0) (accepts : List TableView → Bool) (app dpid : ℕ) (bytes : List ℕ) (old new : Seen Own) (net now_net : NetState) → Exchanges Tells app dpid bytes true old new net now_net
@@ -63,8 +63,8 @@ plays_unanswered Tells accepts app dpid bytes old new net now_net e = record { f
 pub plays_came : {Own : Type 0} (Tells : Type 0) (accepts : List TableView → Bool) (app : ℕ) (result : Option PlayEnd) (frame : AppFrame) (rest left : List ℕ) (old mid new : Seen Own) (net now_net : NetState)
     → Comes Tells app rest left old mid (comes.Frame frame) → Plays Tells accepts app frame mid new net now_net result → FramePlayed Tells accepts app result rest left old new net now_net
 plays_came Tells accepts app None frame rest left old mid new net now_net came plays =
-    let taken : Taken Tells app rest came.unread old mid = subst (λ (s : Seen _). Taken Tells app rest came.unread old s) (sym came.came_so.1) came.taken in
-    let one = plays.frame_played came.unread left came.came_so.0 in
+    let taken : Taken Tells app rest came.unread old mid = subst (λ (s : Seen _). Taken Tells app rest came.unread old s) (sym came.came_is.1) came.taken in
+    let one = plays.frame_played came.unread left came.came_is.0 in
     record {
       on = λ n later later_net end unread t. turn_taken taken (one.on n later later_net end unread t);
       speaks = λ tells since none.
@@ -73,8 +73,8 @@ plays_came Tells accepts app None frame rest left old mid new net now_net came p
           (one.speaks tells (since ++ ps) (sends_none_both since ps none (takes_send_none app taken.pieces)));
     }
 plays_came Tells accepts app (Some end) frame rest left old mid new net now_net came plays =
-    let taken : Taken Tells app rest came.unread old mid = subst (λ (s : Seen _). Taken Tells app rest came.unread old s) (sym came.came_so.1) came.taken in
-    record { turn = λ n. turn_taken taken ((plays.frame_played came.unread left came.came_so.0).turn n) }
+    let taken : Taken Tells app rest came.unread old mid = subst (λ (s : Seen _). Taken Tells app rest came.unread old s) (sym came.came_is.1) came.taken in
+    record { turn = λ n. turn_taken taken ((plays.frame_played came.unread left came.came_is.0).turn n) }
 
 pub ends_over : {Own : Type 0} (Tells : Type 0) (accepts : List TableView → Bool) (app : ℕ) (came : Came) (rest here : List ℕ) (old new : Seen Own) (net : NetState) → ((left : ℕ) → IsOver came left) → Comes Tells app rest here old new came
     → EndsSo Tells accepts app rest here old new net net (plays.Failed (cause_of came))
@@ -128,7 +128,7 @@ gone_ends Tells accepts app budget rest frame old new net told = record {
   played = refl;
   ends = refl;
   leaves = refl;
-  inputs_so = given_none app frame;
+  inputs_is = given_none app frame;
   heard = refl;
   within = tt;
   speaks = λ tells event s runs passes. record {
@@ -143,7 +143,7 @@ pub turns_gone : {Own : Type 0} {Tells : Type 0} {accepts : List TableView → B
     → StagesTurn Tells accepts app budget rest event old new net net (ends.Failed causes.Closed) left slots slots
 unfolding gone_ends
 turns_gone {Tells = Tells} {accepts = accepts} {app = app} {old = old} {new = new} budget rest left frame event net slots none is told =
-    rw none (record { turns = gone_ends Tells accepts app budget rest event old new net (subst (λ (f : List ℕ). Told Tells (Gone app f) old new) is told); staged_so = refl })
+    rw none (record { turns = gone_ends Tells accepts app budget rest event old new net (subst (λ (f : List ℕ). Told Tells (Gone app f) old new) is told); staged_is = refl })
 
 ends_after : (end : PlayEnd) (unread : List ℕ) (outcome : Outcome) → IsPlayEnd end unread outcome → IsEnd (turn_end end) (unread_after (turn_end end) unread) outcome
 ends_after (plays.Done stop checkpoint) unread (Completed stops handed rest) is = (is.0, is.1.0)
@@ -151,11 +151,11 @@ ends_after (plays.Done stop checkpoint) unread (Failed why) is = absurd is
 ends_after (plays.Failed cause) unread (Completed stop checkpoint rest) is = absurd is
 ends_after (plays.Failed cause) unread (Failed why) is = is
 
-handed_so : (end : PlayEnd) (unread : List ℕ) (outcome : Outcome) → IsPlayEnd end unread outcome → handed_at end ≡ handed outcome
-handed_so (plays.Done stop checkpoint) unread (Completed stops handed rest) is = is.1.1.0
-handed_so (plays.Done stop checkpoint) unread (Failed why) is = absurd is
-handed_so (plays.Failed cause) unread (Completed stop checkpoint rest) is = absurd is
-handed_so (plays.Failed cause) unread (Failed why) is = refl
+handed_is : (end : PlayEnd) (unread : List ℕ) (outcome : Outcome) → IsPlayEnd end unread outcome → handed_at end ≡ handed outcome
+handed_is (plays.Done stop checkpoint) unread (Completed stops handed rest) is = is.1.1.0
+handed_is (plays.Done stop checkpoint) unread (Failed why) is = absurd is
+handed_is (plays.Failed cause) unread (Completed stop checkpoint rest) is = absurd is
+handed_is (plays.Failed cause) unread (Failed why) is = refl
 
 leaves_after : (end : PlayEnd) (unread : List ℕ) → LeavesNone (turn_end end) (unread_after (turn_end end) unread)
 leaves_after (plays.Done stop checkpoint) unread = tt
@@ -177,7 +177,7 @@ given_ends Tells accepts app budget rest frame unread old mid new net now_net en
   played = t.played;
   ends = ends_after end unread t.outcome t.ends;
   leaves = leaves_after end unread;
-  inputs_so = given_more app frame (acts_in t.trace) _ t.given;
+  inputs_is = given_more app frame (acts_in t.trace) _ t.given;
   heard = t.heard;
   within = t.within;
   speaks = λ tells event s runs passes.
@@ -196,7 +196,7 @@ stages_given : {Own : Type 0} (Tells : Type 0) (accepts : List TableView → Boo
 unfolding given_ends
 stages_given Tells accepts app budget rest frame unread old mid new net now_net end slots now_slots staged told t = record {
   turns = given_ends Tells accepts app budget rest frame unread old mid new net now_net end told t;
-  staged_so = staged ∙ ap (λ (checkpoint : Option (List ℕ)). with_handed app checkpoint slots) (handed_so end unread t.outcome t.ends);
+  staged_is = staged ∙ ap (λ (checkpoint : Option (List ℕ)). with_handed app checkpoint slots) (handed_is end unread t.outcome t.ends);
 }
 
 pub turns_given : {Own : Type 0} {Tells : Type 0} {accepts : List TableView → Bool} {app budget : ℕ} {rest unread : List ℕ} {old mid new : Seen Own} {net now_net : NetState} {end : PlayEnd} {slots now_slots : List Slot} (answer : TurnEnd) (left frame event taken : List ℕ)
@@ -212,10 +212,6 @@ short_at (plays.Done stop checkpoint) unread (Completed stops handed rest) is = 
 short_at (plays.Done stop checkpoint) unread (Failed why) is = absurd is
 short_at (plays.Failed cause) unread (Completed stop checkpoint rest) is = absurd is
 short_at (plays.Failed cause) unread (Failed why) is = tt
-
-pub turn_short : {Own : Type 0} {Tells : Type 0} {accepts : List TableView → Bool} {app left : ℕ} {rest unread : List ℕ} {old new : Seen Own} {net now_net : NetState} {end : PlayEnd} → TurnsFrom Tells accepts app left rest old new net now_net end unread
-    → IsShort (handed_at end)
-turn_short {unread = unread} {end = end} t = short_at end unread t.outcome t.ends
 
 pub leads_turn : {Own : Type 0} {Tells : Type 0} {accepts : List TableView → Bool} {app left : ℕ} {rest unread : List ℕ} {old new : Seen Own} {net now_net : NetState} {end : PlayEnd} → TurnsFrom Tells accepts app left rest old new net now_net end unread
     → Leads Tells app old new net now_net

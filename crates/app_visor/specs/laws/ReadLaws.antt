@@ -28,7 +28,7 @@ pub Taken-one : {Own : Type 0} {Tells : Type 0} {app : ℕ} {rest left later : L
     → Taken Tells app left later next new → Taken Tells app rest later old new
 Taken-one {Tells = Tells} {app = app} {later = later} {next = next} {new = new} none one more = record {
   pieces = one.piece ∷ more.pieces;
-  all = (none, (next, (one.told, subst (λ (x : List ℕ). TakesAll Tells app more.pieces x later next new) one.left_so more.all)));
+  all = (none, (next, (one.told, subst (λ (x : List ℕ). TakesAll Tells app more.pieces x later next new) one.left_is more.all)));
 }
 
 TakesAll-continues : {Own : Type 0} (Tells : Type 0) (app : ℕ) (ps : List (List ℕ)) (rest left : List ℕ) (old new : Seen Own) → TakesAll Tells app ps rest left old new → Continues Tells old new
@@ -51,7 +51,7 @@ came_then {app = app} {here = here} {then_seen = then_seen} came on so = record 
   unread = here;
   then_seen = then_seen;
   taken = on.on here then_seen (Taken-refl app here then_seen);
-  came_so = so;
+  came_is = so;
 }
 
 pub broke_then : {Own : Type 0} {Tells : Type 0} {app : ℕ} {rest here : List ℕ} {old then_seen new : Seen Own} → TakesOn Tells app rest here old then_seen → Breaks Tells app here then_seen new → Breaks Tells app rest old new
@@ -70,7 +70,7 @@ CameSo-continues Tells app Silent rest left old new so = so.1.continues
 
 pub Comes-continues : {Own : Type 0} {Tells : Type 0} {app : ℕ} {rest left : List ℕ} {old new : Seen Own} {came : Came} → Comes Tells app rest left old new came → Continues Tells old new
 Comes-continues {Tells = Tells} {app = app} {left = left} {old = old} {new = new} {came = came} comes =
-    Continues-trans Tells old comes.then_seen new (Taken-continues comes.taken) (CameSo-continues Tells app came comes.unread left comes.then_seen new comes.came_so)
+    Continues-trans Tells old comes.then_seen new (Taken-continues comes.taken) (CameSo-continues Tells app came comes.unread left comes.then_seen new comes.came_is)
 
 pub Breaks-continues : {Own : Type 0} {Tells : Type 0} {app : ℕ} {rest : List ℕ} {old new : Seen Own} → Breaks Tells app rest old new → Continues Tells old new
 Breaks-continues {Tells = Tells} {old = old} {new = new} breaks =
@@ -89,8 +89,8 @@ next_taken {Tells = Tells} {app = app} {rest = rest} {left = left} {old = old} {
 
 pub next_framed : (frame : AppFrame) (rest left : List ℕ) (more : List (List ℕ)) → IsNext frame rest left → next_of rest more ≡ Framed frame left more
 unfolding next_of
-next_framed frame rest left [] is = rw is.read (ap (λ (x : List ℕ). Framed frame x []) (sym is.left_so))
-next_framed frame rest left (p ∷ ps) is = rw is.read (ap (λ (x : List ℕ). Framed frame x (p ∷ ps)) (sym is.left_so))
+next_framed frame rest left [] is = rw is.read (ap (λ (x : List ℕ). Framed frame x []) (sym is.left_is))
+next_framed frame rest left (p ∷ ps) is = rw is.read (ap (λ (x : List ℕ). Framed frame x (p ∷ ps)) (sym is.left_is))
 
 pub next_faulty : (fault : FrameFault) (rest : List ℕ) (more : List (List ℕ)) → app_reading rest ≡ Err fault → next_of rest more ≡ Faulty fault
 unfolding next_of
@@ -140,12 +140,12 @@ broke_at_once {app = app} {old = old} rest wants = record { unread = rest; then_
 pub Wants-refl : {Own : Type 0} {Tells : Type 0} (seen : Seen Own) → Wants Tells seen seen
 Wants-refl {Tells = Tells} seen = record { continues = Continues-refl Tells seen; history = λ told. refl }
 
-broke_taking_so : {Own : Type 0} {Tells : Type 0} {app : ℕ} {old new : Seen Own} (rest : List ℕ) → app_reading rest ≡ Ok None → Wants Tells old new ⊎ ((left : List ℕ) × TakesOne Tells app rest left old new) → Breaks Tells app rest old new
-broke_taking_so rest none (inl wants) = broke_at_once rest wants
-broke_taking_so {app = app} {new = new} rest none (inr one) =
+broke_taking_is : {Own : Type 0} {Tells : Type 0} {app : ℕ} {old new : Seen Own} (rest : List ℕ) → app_reading rest ≡ Ok None → Wants Tells old new ⊎ ((left : List ℕ) × TakesOne Tells app rest left old new) → Breaks Tells app rest old new
+broke_taking_is rest none (inl wants) = broke_at_once rest wants
+broke_taking_is {app = app} {new = new} rest none (inr one) =
     record { unread = one.0; then_seen = new; taken = Taken-one none one.1 (Taken-refl app one.0 new); wants = Wants-refl new }
 
 pub broke_taking : {Own T E : Type 0} (Tells : Type 0) (app : ℕ) (old new : Seen Own) (rest here : List ℕ) (result : Result T E) → here ≡ rest → app_reading rest ≡ Ok None
     → OnErr result (Wants Tells old new ⊎ ((left : List ℕ) × TakesOne Tells app here left old new)) → OnErr result (Breaks Tells app rest old new)
 broke_taking Tells app old new rest here result same none err =
-    on_err_weaker result (broke_taking_so rest none) (subst (λ (x : List ℕ). OnErr result (Wants Tells old new ⊎ ((left : List ℕ) × TakesOne Tells app x left old new))) same err)
+    on_err_weaker result (broke_taking_is rest none) (subst (λ (x : List ℕ). OnErr result (Wants Tells old new ⊎ ((left : List ℕ) × TakesOne Tells app x left old new))) same err)

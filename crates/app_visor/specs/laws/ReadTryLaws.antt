@@ -59,8 +59,8 @@ record TryTold {Own : Type 0} (app : ℕ) (kept : List ℕ) (attempt : Attempt) 
   acts : acts_of app new.history ≡ acts_of app old.history ++ all_of_try app (is_running app (state old)) attempt
   starts : starts_in (acts_of app new.history) ≡ starts_in (acts_of app old.history) ++ start_of attempt ∷ []
   replies : replies_in (acts_of app new.history) ≡ replies_in (acts_of app old.history)
-  inputs_so : inputs app (journal new.history) ≡ inputs app (journal old.history) ++ restored kept (start_of attempt)
-  stimuli_so : stimuli (journal new.history) ≡ stimuli (journal old.history)
+  inputs_is : inputs app (journal new.history) ≡ inputs app (journal old.history) ++ restored kept (start_of attempt)
+  stimuli_is : stimuli (journal new.history) ≡ stimuli (journal old.history)
   apart : Apart (state old) (state new)
   life : is_ready tried ≡ true → LastStands (acts_of app new.history)
 
@@ -77,9 +77,9 @@ try_told Tells app kept attempt tried rest old new is tells =
       acts = more;
       starts = ap starts_in more ∙ reads.starts;
       replies = ap replies_in more ∙ reads.replies;
-      inputs_so = ap (λ (h : List WorldStep). inputs app (journal h)) longer ∙ inputs_longer app old.history (map step_of acts)
+      inputs_is = ap (λ (h : List WorldStep). inputs app (journal h)) longer ∙ inputs_longer app old.history (map step_of acts)
           ∙ ap (λ (xs : List (List ℕ)). inputs app (journal old.history) ++ xs) (inputs_called app acts ∙ inputs_try app runs attempt ∙ is.given);
-      stimuli_so = ap (λ (h : List WorldStep). stimuli (journal h)) longer ∙ stimuli_longer old.history (map step_of acts)
+      stimuli_is = ap (λ (h : List WorldStep). stimuli (journal h)) longer ∙ stimuli_longer old.history (map step_of acts)
           ∙ ap (λ (xs : List WorldStim). stimuli (journal old.history) ++ xs) (stimuli_called app acts all) ∙ append-nil (stimuli (journal old.history));
       apart = subst (λ (s : State). Apart (state old) s) (sym (state-append old new (map step_of acts) is.continues.given longer)) (apart_called app acts (state old) all);
       life = λ ready. subst LastStands (sym more) (reads.life (ready_stands attempt tried rest is.outcome ready));
@@ -89,12 +89,12 @@ try_told Tells app kept attempt tried rest old new is tells =
 
 told_none : {Own : Type 0} (app : ℕ) (kept : List ℕ) (old new : Seen Own) → new ≡ old → TriesTold app kept [] old new
 told_none app kept old new is = rw is (record {
-  given_so = refl;
+  given_is = refl;
   acts = sym (append-nil (acts_of app old.history));
   starts = sym (append-nil (starts_in (acts_of app old.history)));
   replies = refl;
-  inputs_so = sym (append-nil (inputs app (journal old.history)));
-  stimuli_so = refl;
+  inputs_is = sym (append-nil (inputs app (journal old.history)));
+  stimuli_is = refl;
   apart = Apart-refl (state old);
   life = λ some. absurd (true≢false (sym some));
   running = λ some. absurd (true≢false (sym some));
@@ -108,12 +108,12 @@ told_then Tells app kept t ts old new is tells later life running =
     let first = try_told Tells app kept t.attempt t.tried t.rest old t.after is tells in
     let acts = all_of_try app (is_running app (state old)) t.attempt in
     record {
-      given_so = later.given_so ∙ is.continues.given;
+      given_is = later.given_is ∙ is.continues.given;
       acts = later.acts ∙ ap (λ (xs : List Act). xs ++ tried_acts app t.after ts) first.acts ∙ append_assoc (acts_of app old.history) acts (tried_acts app t.after ts);
       starts = later.starts ∙ ap (λ (xs : List Start). xs ++ starts_of ts) first.starts ∙ append_assoc (starts_in (acts_of app old.history)) (start_of t.attempt ∷ []) (starts_of ts);
       replies = later.replies ∙ first.replies;
-      inputs_so = later.inputs_so ∙ ap (λ (xs : List (List ℕ)). xs ++ given_by kept ts) first.inputs_so ∙ append_assoc (inputs app (journal old.history)) (restored kept (start_of t.attempt)) (given_by kept ts);
-      stimuli_so = later.stimuli_so ∙ first.stimuli_so;
+      inputs_is = later.inputs_is ∙ ap (λ (xs : List (List ℕ)). xs ++ given_by kept ts) first.inputs_is ∙ append_assoc (inputs app (journal old.history)) (restored kept (start_of t.attempt)) (given_by kept ts);
+      stimuli_is = later.stimuli_is ∙ first.stimuli_is;
       apart = Apart-trans (state old) (state t.after) (state new) first.apart later.apart;
       life = life;
       running = running;

@@ -30,16 +30,16 @@ use Rattle.app_visor.specs.laws.TellingLaws.{stimuli_longer, inputs_longer, Besi
 
 -- no stimulus came, and all stays but the switches and what runs
 record StaysBeside {Own : Type 0} (old new : Seen Own) : Type 0 where
-  stimuli_so : stimuli (journal new.history) ≡ stimuli (journal old.history)
+  stimuli_is : stimuli (journal new.history) ≡ stimuli (journal old.history)
   beside : Beside (state old) (state new)
   marks : (state new).marks ≡ (state old).marks
 
 stays_refl : {Own : Type 0} (old new : Seen Own) → new ≡ old → StaysBeside old new
-stays_refl old new is = rw is (record { stimuli_so = refl; beside = Beside-refl (state old); marks = refl })
+stays_refl old new is = rw is (record { stimuli_is = refl; beside = Beside-refl (state old); marks = refl })
 
 stays_trans : {Own : Type 0} (a b c : Seen Own) → StaysBeside a b → StaysBeside b c → StaysBeside a c
 stays_trans a b c first second = record {
-  stimuli_so = second.stimuli_so ∙ first.stimuli_so;
+  stimuli_is = second.stimuli_is ∙ first.stimuli_is;
   beside = Beside-trans (state a) (state b) (state c) first.beside second.beside;
   marks = second.marks ∙ first.marks;
 }
@@ -50,11 +50,11 @@ no_stimuli_more old new steps longer none =
 
 stays_links : {Own : Type 0} (old new : Seen Own) → new.given ≡ old.given → LinkSteps old new → StaysBeside old new
 stays_links old new given only =
-    let then_so = state-append old new only.steps given only.history in
+    let then_is = state-append old new only.steps given only.history in
     record {
-      stimuli_so = no_stimuli_more old new only.steps only.history (stimuli_links only.steps only.all);
-      beside = subst (λ (s : State). Beside (state old) s) (sym then_so) (beside_links only.steps (state old) only.all);
-      marks = ap (λ (s : State). s.marks) then_so ∙ marks_links only.steps (state old) only.all;
+      stimuli_is = no_stimuli_more old new only.steps only.history (stimuli_links only.steps only.all);
+      beside = subst (λ (s : State). Beside (state old) s) (sym then_is) (beside_links only.steps (state old) only.all);
+      marks = ap (λ (s : State). s.marks) then_is ∙ marks_links only.steps (state old) only.all;
     }
 
 stimuli_told : {Own : Type 0} (Tells : Type 0) (app : ℕ) (act : Act) (old new : Seen Own) → is_of app act ≡ true → Told Tells act old new → Tells → stimuli (journal new.history) ≡ stimuli (journal old.history)
@@ -73,7 +73,7 @@ stays_chain Tells app (Talk act ∷ trace) old new net now_net chain all tells =
     let told = chain.1.1.0 in
     let call = call_within app act all.0 in
     stays_trans old next new (record {
-      stimuli_so = stimuli_told Tells app act old next chain.0 told tells;
+      stimuli_is = stimuli_told Tells app act old next chain.0 told tells;
       beside = beside_told Tells app act old next chain.0 told tells;
       marks = ap (λ (s : State). s.marks) (state_told Tells act old next told tells) ∙ marks_one app act (state old) call;
     }) (stays_chain Tells app trace next new net now_net chain.1.1.1 all.1 tells)
@@ -90,7 +90,7 @@ marks_event false app frame s = refl
 
 -- what the acts of an application tell, where its history has these more
 read_more : {Own : Type 0} (app : ℕ) (acts : List Act) (old new : Seen Own) → ActsTold app acts old new → acts_of app new.history ≡ acts_of app old.history ++ acts
-read_more app acts old new told = ap (λ (h : List WorldStep). acts_of app h) told.history ∙ acts_append app old.history told.steps ∙ ap (λ (xs : List Act). acts_of app old.history ++ xs) told.acts_so
+read_more app acts old new told = ap (λ (h : List WorldStep). acts_of app h) told.history ∙ acts_append app old.history told.steps ∙ ap (λ (xs : List Act). acts_of app old.history ++ xs) told.acts_is
 
 -- the acts of the application are longer by the event and the acts behind it
 pub turn_acts : {Own : Type 0} {Tells : Type 0} {accepts : List TableView → Bool} {app budget : ℕ} {rest frame unread : List ℕ} {old new : Seen Own} {net now_net : NetState} {end : TurnEnd}
@@ -102,7 +102,7 @@ turn_acts {Tells = Tells} {app = app} {frame = frame} {old = old} {new = new} {n
 inputs_more : {Own : Type 0} (app : ℕ) (acts : List Act) (frames : List (List ℕ)) (old new : Seen Own) → ActsTold app acts old new → inputs app acts ≡ frames → inputs app (journal new.history) ≡ inputs app (journal old.history) ++ frames
 inputs_more app acts frames old new told is =
     ap (λ (h : List WorldStep). inputs app (journal h)) told.history ∙ inputs_longer app old.history told.steps
-    ∙ ap (λ (xs : List (List ℕ)). inputs app (journal old.history) ++ xs) (sym (inputs_own app (journal told.steps)) ∙ ap (inputs app) told.acts_so ∙ is)
+    ∙ ap (λ (xs : List (List ℕ)). inputs app (journal old.history) ++ xs) (sym (inputs_own app (journal told.steps)) ∙ ap (inputs app) told.acts_is ∙ is)
 
 pub turn_told : {Own : Type 0} {Tells : Type 0} {accepts : List TableView → Bool} {app budget : ℕ} {rest frame unread : List ℕ} {old new : Seen Own} {net now_net : NetState} {end : TurnEnd}
     → (t : Turns Tells accepts app budget rest frame old new net now_net end unread) → Tells → is_event frame ≡ true → LastStands (acts_of app old.history)
@@ -116,12 +116,12 @@ turn_told {Tells = Tells} {app = app} {frame = frame} {old = old} {new = new} {n
     let reads = turn_read app t.given frame (acts_of app old.history) (acts_in t.trace) stood event t.within in
     let more = turn_acts t tells in
     record {
-      given_so = (Chain-continues Tells app (Talk act ∷ t.trace) old new net now_net t.chain).given;
+      given_is = (Chain-continues Tells app (Talk act ∷ t.trace) old new net now_net t.chain).given;
       starts = ap starts_in more ∙ reads.starts;
       replies = ap replies_in more ∙ reads.replies;
       life = subst LastStands (sym more) reads.life;
-      inputs_so = inputs_more app (act ∷ acts_in t.trace) (given_in t.given frame t.answers) old new acts t.inputs_so;
-      stimuli_so = later.stimuli_so ∙ stimuli_told Tells app act old next t.chain.0 told tells;
+      inputs_is = inputs_more app (act ∷ acts_in t.trace) (given_in t.given frame t.answers) old new acts t.inputs_is;
+      stimuli_is = later.stimuli_is ∙ stimuli_told Tells app act old next t.chain.0 told tells;
       beside = Beside-trans (state old) (state next) (state new) (beside_told Tells app act old next t.chain.0 told tells) later.beside;
       marks = later.marks ∙ ap (λ (s : State). s.marks) (state_told Tells act old next told tells) ∙ marks_event t.given app frame (state old);
     }

@@ -66,13 +66,13 @@ other_acts app (Got d bytes) s other = refl
 other_acts app (Lost d) s other = refl
 
 given_runs : (answers : Bool) (frame : List ℕ) (s t : Before) → GivesFrame answers frame s t → t.running ≡ true
-given_runs true frame s t gives = ap (λ (x : Before). x.running) gives.then_so
-given_runs false frame s t gives = gives.running_so
+given_runs true frame s t gives = ap (λ (x : Before). x.running) gives.then_is
+given_runs false frame s t gives = gives.running_is
 
 started_as : (app of : ℕ) (stands : Bool) (t : Before) (s : State) → (of == app) ≡ true → is_running app s ≡ false → t ≡ attempted stands → t.running ≡ is_running app (after_act (Started of stands) s)
 unfolding after_act
-started_as app of true t s is not_before then_so = ap (λ (x : Before). x.running) then_so ∙ sym (started_runs app of s.running is)
-started_as app of false t s is not_before then_so = ap (λ (x : Before). x.running) then_so ∙ sym not_before
+started_as app of true t s is not_before then_is = ap (λ (x : Before). x.running) then_is ∙ sym (started_runs app of s.running is)
+started_as app of false t s is not_before then_is = ap (λ (x : Before). x.running) then_is ∙ sym not_before
 
 own_acts : (app : ℕ) (act : Act) (s t : Before) (st : State) → is_of app act ≡ true → Says true act s t → s.running ≡ is_running app st → t.running ≡ is_running app (after_act act st)
 unfolding after_act

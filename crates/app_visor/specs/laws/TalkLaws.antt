@@ -74,9 +74,9 @@ wants_take {old = old} short buf call = record { continues = Takes-continues cal
 
 pub took_one : {Own : Type 0} {Tells : Type 0} {app : ℕ} {old new : Seen Own} (n : ℕ) (buf rest left : List ℕ) → length buf ≡ room → Takes Tells app old new (Ok (gave.Some n)) buf → left ≡ rest ++ take n buf
     → TakesOne Tells app rest left old new
-took_one n buf rest left is call left_so = record {
+took_one n buf rest left is call left_is = record {
   piece = take n buf;
   some = subst (λ (m : ℕ). 1 ≤ m) (sym (length-take-le n buf call.taken.1)) call.taken.0;
-  left_so = left_so;
+  left_is = left_is;
   told = told_taken n buf is call;
 }

@@ -15,6 +15,7 @@ use Rattle.outside.specs.State.{State, event_number, marks_after_gave, after_act
 use Rattle.net_txn.specs.LinkSteps.{is_link_step, AreLinkSteps}
 use Rattle.journal_laws.specs.Readings.{is_call, Calls}
 use Rattle.journal_laws.specs.laws.CallLaws.{both_second, call_of, calls_of, stimulus_called, no_stimuli}
+use Rattle.journal_laws.specs.laws.FrameLaws.{kind_byte}
 use Rattle.app_visor.specs.Talks.{step_of}
 use Rattle.app_visor.specs.Beats.{acts_of}
 use Rattle.app_visor.specs.laws.JournalLaws.{journal_told}
@@ -50,18 +51,9 @@ Apart-trans a b c first second = record { beside = Beside-trans a b c first.besi
 
 -- ---- What is no Event makes no mark
 
-kind_at : (bytes : List ℕ) → number_at 1 4 bytes ≡ slice_index bytes 4
-unfolding number_at
-kind_at [] = refl
-kind_at (a ∷ []) = refl
-kind_at (a ∷ b ∷ []) = refl
-kind_at (a ∷ b ∷ c ∷ []) = refl
-kind_at (a ∷ b ∷ c ∷ d ∷ []) = refl
-kind_at (a ∷ b ∷ c ∷ d ∷ e ∷ rest) = omega arith
-
 pub no_number : (bytes : List ℕ) → is_event bytes ≡ false → event_number bytes ≡ None
 unfolding event_number
-no_number bytes is = rw (kind_at bytes, is) refl
+no_number bytes is = rw (kind_byte bytes, is) refl
 
 pub no_mark : (bytes : List ℕ) (s : State) → is_event bytes ≡ false → marks_after_gave bytes s ≡ s.marks
 unfolding marks_after_gave

@@ -26,7 +26,7 @@ use Rattle.app_visor.specs.Dialogues.{Converses, Speaks}
 use Rattle.app_visor.specs.laws.DialogueLaws.{Converses-refl, Converses-then, converses_told, converses_ended}
 use Rattle.app_visor.specs.laws.RunningLaws.{converses_runs}
 use Rattle.app_visor.specs.Attempts.{TryRises, restored, IsTry, Tries, OneTry, AreTries, ready_rest, tries_of, starts_of, restarted, Restarts, TriesOn, rest_of, stood, Greets, EndsUnless}
-use Rattle.app_visor.specs.laws.AttemptLaws.{Adds, Adds-append, Adds-none, Adds-ended, ends_so, not_started_so, runs_started}
+use Rattle.app_visor.specs.laws.AttemptLaws.{Adds, Adds-append, Adds-none, Adds-ended, ends_is, not_started_is, runs_started}
 
 -- ---- One attempt
 
@@ -56,7 +56,7 @@ try_refused {Tells = Tells} {app = app} {kept = kept} {old = old} {mid = mid} {n
     heard = refused_heard;
     rises = Rose-after old.counts.starts_failed mid.counts.starts_failed new.counts.starts_failed ends.none_fell.starts_failed told.rises;
     within = tt;
-    ended = λ tells not_ready. not_started_so Tells app mid new told tells (ends_so Tells app old mid ends tells);
+    ended = λ tells not_ready. not_started_is Tells app mid new told tells (ends_is Tells app old mid ends tells);
     running = λ tells ready. absurd (no_ready (sym ready));
     speaks = λ tells s runs.
         let ended = converses_ended Tells app s old mid ends tells runs in
@@ -89,12 +89,12 @@ within_end : (app : ℕ) (running : Bool) → Within app (end_acts running app)
 within_end app true = (eq-eqb app app refl, tt)
 within_end app false = tt
 
-stood_so : {Own : Type 0} (Tells : Type 0) (app : ℕ) (kept : List ℕ) (tried : Tried) (left : List ℕ) (running : Bool) (old mid up then_seen new : Seen Own)
+stood_is : {Own : Type 0} (Tells : Type 0) (app : ℕ) (kept : List ℕ) (tried : Tried) (left : List ℕ) (running : Bool) (old mid up then_seen new : Seen Own)
     → Ends Tells app old mid → Told Tells (Started app true) mid up → (greets : Greets Tells app kept tried left up then_seen) → Adds Tells (end_acts running app) then_seen new → Continues Tells then_seen new
     → (Tells → is_ready tried ≡ false → is_running app (state new) ≡ false) → (Tells → is_ready tried ≡ true → is_running app (state new) ≡ true)
     → (Tells → (s : Before) → s.running ≡ is_running app (state then_seen) → (is_ready tried ≡ true → Passes s.unread left) → Speaks app s then_seen new (is_ready tried) (rest_of tried left))
     → IsTry Tells app kept (stood (stood_acts app greets.acts running)) tried (rest_of tried left) old new
-stood_so Tells app kept tried left running old mid up then_seen new ends told greets adds later ended running_so closes = record {
+stood_is Tells app kept tried left running old mid up then_seen new ends told greets adds later ended running_is closes = record {
   continues = Continues-trans Tells old mid new (Ends-continues ends) (Continues-trans Tells mid up new told.continues (Continues-trans Tells up then_seen new greets.continues later));
   history = Adds-append Tells (end_acts (is_running app (state old)) app) (Started app true ∷ stood_acts app greets.acts running) old mid new (Adds-ended Tells app old mid ends)
       (Adds-append Tells (Started app true ∷ []) (stood_acts app greets.acts running) mid up new told.history (Adds-append Tells greets.acts (end_acts running app) up then_seen new greets.history adds));
@@ -104,7 +104,7 @@ stood_so Tells app kept tried left running old mid up then_seen new ends told gr
   rises = rises_over tried old.counts up.counts then_seen.counts new.counts (Continues-trans Tells old mid up (Ends-continues ends) told.continues).none_fell greets.continues.none_fell greets.rises later.none_fell;
   within = Within-append app greets.acts (end_acts running app) greets.within (within_end app running);
   ended = ended;
-  running = running_so;
+  running = running_is;
   speaks = λ tells s runs.
       let first = converses_ended Tells app s old mid ends tells runs in
       let greeted = greets.speaks tells in
@@ -124,7 +124,7 @@ try_stood_at : {Own : Type 0} (Tells : Type 0) (app : ℕ) (kept : List ℕ) (tr
     → Ends Tells app old mid → Told Tells (Started app true) mid up → Greets Tells app kept tried left up then_seen → EndsUnless Tells app ready then_seen new → Tries Tells app kept tried (rest_of tried left) old new
 try_stood_at Tells app kept tried left true old mid up then_seen new is ends told greets unless = record {
   attempt = stood (stood_acts app greets.acts false);
-  went = stood_so Tells app kept tried left false old mid up then_seen new ends told greets (Adds-none Tells then_seen new unless) (rw unless (Continues-refl Tells then_seen))
+  went = stood_is Tells app kept tried left false old mid up then_seen new ends told greets (Adds-none Tells then_seen new unless) (rw unless (Continues-refl Tells then_seen))
       (λ tells e. absurd (no_ready (sym is ∙ e))) (λ tells e. ap (λ (s : Seen _). is_running app (state s)) unless ∙ greets.running tells ∙ runs_started Tells app mid up told tells)
       (λ tells s runs passes. record {
         after = s;
@@ -135,8 +135,8 @@ try_stood_at Tells app kept tried left true old mid up then_seen new is ends tol
 }
 try_stood_at Tells app kept tried left false old mid up then_seen new is ends told greets unless = record {
   attempt = stood (stood_acts app greets.acts (is_running app (state then_seen)));
-  went = stood_so Tells app kept tried left (is_running app (state then_seen)) old mid up then_seen new ends told greets (Adds-ended Tells app then_seen new unless) (Ends-continues unless)
-      (λ tells e. ends_so Tells app then_seen new unless tells) (λ tells e. absurd (no_ready (sym e ∙ is)))
+  went = stood_is Tells app kept tried left (is_running app (state then_seen)) old mid up then_seen new ends told greets (Adds-ended Tells app then_seen new unless) (Ends-continues unless)
+      (λ tells e. ends_is Tells app then_seen new unless tells) (λ tells e. absurd (no_ready (sym e ∙ is)))
       (λ tells s runs passes.
       let closed = converses_ended Tells app s then_seen new unless tells runs in
       record { after = closed.0; converses = closed.1.0; runs = λ ready. absurd (no_ready (sym ready ∙ is)); passes = λ ready. absurd (no_ready (sym ready ∙ is)) });
@@ -158,7 +158,7 @@ one_try {tried = tried} {rest = rest} {new = new} t = record { attempt = t.attem
 
 pub none_tried : {Own : Type 0} {Tells : Type 0} (app : ℕ) (kept : List ℕ) (seen : Seen Own) (tries : List Tried) → tries ≡ [] → TriesOn Tells app kept attempts seen tries seen
 none_tried app kept seen tries is = record {
-  whole = λ later new are. record { all = later; are = are; tries_so = ap (λ (ts : List Tried). ts ++ tries_of later) (sym is); found_so = refl };
+  whole = λ later new are. record { all = later; are = are; tries_is = ap (λ (ts : List Tried). ts ++ tries_of later) (sym is); found_is = refl };
 }
 
 pub not_yet : {Own : Type 0} {Tells : Type 0} {app : ℕ} {kept : List ℕ} {left : ℕ} {tried : Tried} {rest : List ℕ} {tries now_tries : List Tried} {first old new : Seen Own} (less : ℕ) → left ≡ suc less
@@ -171,8 +171,8 @@ not_yet {Own = Own} {Tells = Tells} {app = app} {kept = kept} {tried = tried} {r
           record {
             all = all.all;
             are = all.are;
-            tries_so = all.tries_so ∙ sym (append_assoc tries (tried ∷ []) (tries_of later)) ∙ ap (λ (ts : List Tried). ts ++ tries_of later) (sym pushed);
-            found_so = all.found_so ∙ rw not_ready refl;
+            tries_is = all.tries_is ∙ sym (append_assoc tries (tried ∷ []) (tries_of later)) ∙ ap (λ (ts : List Tried). ts ++ tries_of later) (sym pushed);
+            found_is = all.found_is ∙ rw not_ready refl;
           };
     }
 
@@ -195,20 +195,20 @@ ready_first n t ts more a ready last = rw (ready, last, append-nil) refl
 unready_first : {Own : Type 0} (n : ℕ) (t : OneTry Own) (ts : List (OneTry Own)) (more : List Start) (a : App) → is_ready t.tried ≡ false
     → started n (first_tried a (start_of t.attempt) (starts_of ts ++ more) t.rest) ≡ restarted ts more (first_tried a (start_of t.attempt) (starts_of ts ++ more) t.rest)
     → by_first n a t.tried (first_tried a (start_of t.attempt) (starts_of ts ++ more) t.rest) ≡ restarted (t ∷ ts) more a
-unready_first n t ts more a unready then_so = rw (unready, then_so, append_assoc) refl
+unready_first n t ts more a unready then_is = rw (unready, then_is, append_assoc) refl
 
-started_so : {Own : Type 0} (Tells : Type 0) (app : ℕ) (kept : List ℕ) (n : ℕ) (ts : List (OneTry Own)) (old new : Seen Own) → AreTries Tells app kept n ts old new → (a : App) (more : List Start) → a.starts ≡ starts_of ts ++ more
+started_is : {Own : Type 0} (Tells : Type 0) (app : ℕ) (kept : List ℕ) (n : ℕ) (ts : List (OneTry Own)) (old new : Seen Own) → AreTries Tells app kept n ts old new → (a : App) (more : List Start) → a.starts ≡ starts_of ts ++ more
     → started n a ≡ restarted ts more a
 unfolding started
-started_so Tells app kept zero [] old new are a more has = rw (append-nil, ← has) refl
-started_so Tells app kept zero (t ∷ ts) old new are a more has = absurd are
-started_so Tells app kept (suc n) [] old new are a more has = absurd are
-started_so Tells app kept (suc n) (t ∷ ts) old new are a more has =
+started_is Tells app kept zero [] old new are a more has = rw (append-nil, ← has) refl
+started_is Tells app kept zero (t ∷ ts) old new are a more has = absurd are
+started_is Tells app kept (suc n) [] old new are a more has = absurd are
+started_is Tells app kept (suc n) (t ∷ ts) old new are a more has =
     let next = first_tried a (start_of t.attempt) (starts_of ts ++ more) t.rest in
     started_first n a (start_of t.attempt) (starts_of ts ++ more) t.tried t.rest has are.0.outcome
     ∙ elim are.1 [
       | inl h ↦ ready_first n t ts more a h.0 h.1
-      | inr h ↦ unready_first n t ts more a h.0 (started_so Tells app kept n ts t.after new h.1 next more refl)
+      | inr h ↦ unready_first n t ts more a h.0 (started_is Tells app kept n ts t.after new h.1 next more refl)
     ]
 
 pub back_then : {Own : Type 0} {Tells : Type 0} {app : ℕ} {kept : List ℕ} {left : ℕ} {tried : Tried} {rest : List ℕ} {tries now_tries : List Tried} {first old new : Seen Own} (less : ℕ) → left ≡ suc less
@@ -219,9 +219,9 @@ back_then {Tells = Tells} {app = app} {kept = kept} {tried = tried} {rest = rest
     record {
       all = all.all;
       are = all.are;
-      tries_so = pushed ∙ sym all.tries_so;
-      found_so = sym (all.found_so ∙ rw ready refl);
-      as_started = started_so Tells app kept attempts all.all first new all.are;
+      tries_is = pushed ∙ sym all.tries_is;
+      found_is = sym (all.found_is ∙ rw ready refl);
+      as_started = started_is Tells app kept attempts all.all first new all.are;
     }
 
 pub none_back : {Own : Type 0} {Tells : Type 0} {app : ℕ} {kept : List ℕ} {left : ℕ} {tries : List Tried} {first old : Seen Own} → left ≡ zero → TriesOn Tells app kept left first tries old → Restarts Tells app kept first old None tries
@@ -231,9 +231,9 @@ none_back {Tells = Tells} {app = app} {kept = kept} {tries = tries} {first = fir
     record {
       all = all.all;
       are = all.are;
-      tries_so = sym (all.tries_so ∙ append-nil tries);
-      found_so = sym all.found_so;
-      as_started = started_so Tells app kept attempts all.all first old all.are;
+      tries_is = sym (all.tries_is ∙ append-nil tries);
+      found_is = sym all.found_is;
+      as_started = started_is Tells app kept attempts all.all first old all.are;
     }
 
 -- ---- The dialogue

@@ -33,7 +33,7 @@ use Rattle.app_visor.specs.Beats.{Exchange, Talk, Asks, acts_in, exchanges_in, e
 use Rattle.app_visor.specs.laws.BeatLaws.{same, Chain-append, talks, takes_chain, acts_talks, exchanges_talks}
 use Rattle.app_visor.specs.Dialogues.{is_done}
 use Rattle.app_visor.specs.laws.DialogueLaws.{passes_next, Converses-refl, Converses-then, converses_told, converses_takes, takes_send_none, converses_answered, converses_unanswered}
-use Rattle.app_visor.specs.Turns.{same_bytes, Asking, oracle, played_so, IsShort, IsPlayEnd, turn_end, played_by, heard_by, TurnsFrom, cause_of, Goes, EndsSo, Plays, done_as}
+use Rattle.app_visor.specs.Turns.{same_bytes, Asking, oracle, played_is, IsShort, IsPlayEnd, turn_end, played_by, heard_by, TurnsFrom, cause_of, Goes, EndsSo, Plays, done_as}
 
 -- ---- Pieces taken
 
@@ -108,9 +108,9 @@ one_fewer_gave app frame acts true is = rw is refl
 one_fewer_gave app frame acts false is = rw is refl
 
 exchanged_played : {Own : Type 0} (judged : Bool) (app left : ℕ) (rest here frame : List ℕ) (x : Exchange Own) (acts : List Act) (xs : List (Exchange Own)) (answers : List Answer) (outcome : Outcome)
-    → IsNext (frames.Message x.dpid x.bytes) rest here → played_by judged left here acts xs ≡ played_so answers outcome
-    → played_by judged (suc left) rest (Gave app frame ∷ acts) (x ∷ xs) ≡ played_so (x.answer ∷ answers) outcome
-exchanged_played {Own = Own} judged app left rest here frame x acts xs answers outcome next then_so =
+    → IsNext (frames.Message x.dpid x.bytes) rest here → played_by judged left here acts xs ≡ played_is answers outcome
+    → played_by judged (suc left) rest (Gave app frame ∷ acts) (x ∷ xs) ≡ played_is (x.answer ∷ answers) outcome
+exchanged_played {Own = Own} judged app left rest here frame x acts xs answers outcome next then_is =
     let given = answers_given (Gave app frame ∷ acts) in
     let end = end_from Untold acts in
     let ps = pieces acts in
@@ -119,7 +119,7 @@ exchanged_played {Own = Own} judged app left rest here frame x acts xs answers o
     ∙ turn_message judged left given end x xs here ps
     ∙ ap (λ (b : Bool). told_to b (x.answer, Some xs) later) (none_left_gave app frame acts (any_gone acts) refl)
     ∙ ap (λ (a : Option ℕ). answered x.answer (turn_from (oracle judged) left a end (Some xs) (next_of here ps))) (one_fewer_gave app frame acts (any_gone acts) refl)
-    ∙ ap (λ (p : Played (Asking Own)). answered x.answer p) then_so
+    ∙ ap (λ (p : Played (Asking Own)). answered x.answer p) then_is
 
 heard_message : (told : Bool) (left : ℕ) (answers : Option ℕ) (dpid : ℕ) (bytes rest : List ℕ) (ps : List (List ℕ))
     → (told || settles (suc left) answers (Framed (frames.Message dpid bytes) rest ps)) ≡ (told || (is_none_left answers || settles left (one_fewer answers) (next_of rest ps)))
@@ -127,7 +127,7 @@ unfolding settles
 heard_message told left answers dpid bytes rest ps = refl
 
 exchanged_heard : (app left dpid : ℕ) (bytes rest here frame : List ℕ) (acts : List Act) → IsNext (frames.Message dpid bytes) rest here → heard_by left here acts ≡ true → heard_by (suc left) rest (Gave app frame ∷ acts) ≡ true
-exchanged_heard app left dpid bytes rest here frame acts next then_so =
+exchanged_heard app left dpid bytes rest here frame acts next then_is =
     let given = answers_given (Gave app frame ∷ acts) in
     let told = is_told (end_from Untold acts) in
     let ps = pieces acts in
@@ -135,7 +135,7 @@ exchanged_heard app left dpid bytes rest here frame acts next then_so =
     ∙ heard_message told left given dpid bytes here ps
     ∙ ap (λ (b : Bool). told || (b || settles left (one_fewer given) (next_of here ps))) (none_left_gave app frame acts (any_gone acts) refl)
     ∙ ap (λ (a : Option ℕ). told || settles left a (next_of here ps)) (one_fewer_gave app frame acts (any_gone acts) refl)
-    ∙ then_so
+    ∙ then_is
 
 pub given_more : (app : ℕ) (frame : List ℕ) (acts : List Act) (frames : List (List ℕ)) → inputs app acts ≡ frames → inputs app (Gave app frame ∷ acts) ≡ frame ∷ frames
 unfolding inputs
@@ -173,7 +173,7 @@ unfolding inputs
 given_none app frame = refl
 
 unanswered_played : {Own : Type 0} (judged : Bool) (app left : ℕ) (rest here frame : List ℕ) (x : Exchange Own) → IsNext (frames.Message x.dpid x.bytes) rest here
-    → played_by judged (suc left) rest (Gone app frame ∷ []) (x ∷ []) ≡ played_so [] (Failed causes.Closed)
+    → played_by judged (suc left) rest (Gone app frame ∷ []) (x ∷ []) ≡ played_is [] (Failed causes.Closed)
 unanswered_played judged app left rest here frame x next =
     ap (λ (n : Next). turn_from (oracle judged) (suc left) (Some 0) Untold (Some (x ∷ [])) n) (next_framed (frames.Message x.dpid x.bytes) rest here [] next)
     ∙ turn_message judged left (Some 0) Untold x [] here []
@@ -225,7 +225,7 @@ others_settle left frames.Undo here no_message = refl
 others_settle left frames.Ready here no_message = refl
 
 ends_at : {Own : Type 0} (Tells : Type 0) (accepts : List TableView → Bool) (app : ℕ) (frame : AppFrame) (rest here : List ℕ) (seen : Seen Own) (net : NetState) (end : PlayEnd) (outcome : Outcome) → IsNext frame rest here
-    → ((left : ℕ) → turn_from {State = Asking Own} (oracle (accepts net.views)) (suc left) None Untold (Some []) (Framed frame here []) ≡ played_so [] outcome) → is_message frame ≡ false → IsPlayEnd end here outcome → (is_done (turn_end end) ≡ true → Passes rest here) → EndsSo Tells accepts app rest here seen seen net net end
+    → ((left : ℕ) → turn_from {State = Asking Own} (oracle (accepts net.views)) (suc left) None Untold (Some []) (Framed frame here []) ≡ played_is [] outcome) → is_message frame ≡ false → IsPlayEnd end here outcome → (is_done (turn_end end) ≡ true → Passes rest here) → EndsSo Tells accepts app rest here seen seen net net end
 unfolding inputs
 ends_at {Own = Own} Tells accepts app frame rest here seen net end outcome next plays no_message is passes = record {
   turn = λ left. record {
@@ -243,12 +243,12 @@ ends_at {Own = Own} Tells accepts app frame rest here seen net end outcome next 
 }
 
 done_plays : (Own : Type 0) (judged : Bool) (left : ℕ) (stop : Bool) (checkpoint : Option (List ℕ)) (here : List ℕ) → judged ≡ true
-    → turn_from {State = Asking Own} (oracle judged) (suc left) None Untold (Some []) (Framed (frames.Done stop checkpoint) here []) ≡ played_so [] (Completed stop checkpoint here)
+    → turn_from {State = Asking Own} (oracle judged) (suc left) None Untold (Some []) (Framed (frames.Done stop checkpoint) here []) ≡ played_is [] (Completed stop checkpoint here)
 unfolding turn_from oracle
 done_plays Own judged left stop checkpoint here is = rw is refl
 
 judged_plays : (Own : Type 0) (judged : Bool) (left : ℕ) (stop : Bool) (checkpoint : Option (List ℕ)) (here : List ℕ) → judged ≡ false
-    → turn_from {State = Asking Own} (oracle judged) (suc left) None Untold (Some []) (Framed (frames.Done stop checkpoint) here []) ≡ played_so [] (Failed causes.Judged)
+    → turn_from {State = Asking Own} (oracle judged) (suc left) None Untold (Some []) (Framed (frames.Done stop checkpoint) here []) ≡ played_is [] (Failed causes.Judged)
 unfolding turn_from oracle
 judged_plays Own judged left stop checkpoint here is = rw is refl
 
@@ -282,7 +282,7 @@ IsUnbalanced frames.Undo = Unit {0}
 IsUnbalanced frames.Ready = Unit {0}
 
 unbalanced_plays : (Own : Type 0) (judged : Bool) (left : ℕ) (frame : AppFrame) (here : List ℕ) → IsUnbalanced frame
-    → turn_from {State = Asking Own} (oracle judged) (suc left) None Untold (Some []) (Framed frame here []) ≡ played_so [] (Failed causes.Unbalanced)
+    → turn_from {State = Asking Own} (oracle judged) (suc left) None Untold (Some []) (Framed frame here []) ≡ played_is [] (Failed causes.Unbalanced)
 unfolding turn_from
 unbalanced_plays Own judged left (frames.Message dpid bytes) here is = absurd is
 unbalanced_plays Own judged left (frames.Done stop checkpoint) here is = absurd is
@@ -309,22 +309,22 @@ plays_unbalanced {Own = Own} Tells accepts app frame seen net is = record {
 
 -- ---- No frame comes, or one too many
 
-faulty_plays : (Own : Type 0) (judged : Bool) (left : ℕ) (fault : FrameFault) → turn_from {State = Asking Own} (oracle judged) left None Untold (Some []) (Faulty fault) ≡ played_so [] (Failed (causes.Garbled fault))
+faulty_plays : (Own : Type 0) (judged : Bool) (left : ℕ) (fault : FrameFault) → turn_from {State = Asking Own} (oracle judged) left None Untold (Some []) (Faulty fault) ≡ played_is [] (Failed (causes.Garbled fault))
 unfolding turn_from
 faulty_plays Own judged zero fault = refl
 faulty_plays Own judged (suc left) fault = refl
 
-closed_plays : (Own : Type 0) (judged : Bool) (left : ℕ) → turn_from {State = Asking Own} (oracle judged) left None Closes (Some []) Over ≡ played_so [] (Failed causes.Closed)
+closed_plays : (Own : Type 0) (judged : Bool) (left : ℕ) → turn_from {State = Asking Own} (oracle judged) left None Closes (Some []) Over ≡ played_is [] (Failed causes.Closed)
 unfolding turn_from
 closed_plays Own judged zero = refl
 closed_plays Own judged (suc left) = refl
 
-silent_plays : (Own : Type 0) (judged : Bool) (left : ℕ) → turn_from {State = Asking Own} (oracle judged) left None Stalls (Some []) Over ≡ played_so [] (Failed causes.Silent)
+silent_plays : (Own : Type 0) (judged : Bool) (left : ℕ) → turn_from {State = Asking Own} (oracle judged) left None Stalls (Some []) Over ≡ played_is [] (Failed causes.Silent)
 unfolding turn_from
 silent_plays Own judged zero = refl
 silent_plays Own judged (suc left) = refl
 
-spent_plays : (Own : Type 0) (judged : Bool) (frame : AppFrame) (here : List ℕ) → turn_from {State = Asking Own} (oracle judged) zero None Untold (Some []) (Framed frame here []) ≡ played_so [] (Failed causes.Budget)
+spent_plays : (Own : Type 0) (judged : Bool) (frame : AppFrame) (here : List ℕ) → turn_from {State = Asking Own} (oracle judged) zero None Untold (Some []) (Framed frame here []) ≡ played_is [] (Failed causes.Budget)
 unfolding turn_from
 spent_plays Own judged frame here = refl
 
@@ -413,4 +413,4 @@ came_over {Own = Own} Tells accepts app left comes.Silent rest here unread old n
 pub turn_over : {Own : Type 0} (Tells : Type 0) (accepts : List TableView → Bool) (app left : ℕ) (came : Came) (rest here unread : List ℕ) (old new : Seen Own) (net : NetState) → IsOver came left → Comes Tells app rest here old new came
     → TurnsFrom Tells accepts app left rest old new net net (plays.Failed (cause_of came)) unread
 turn_over Tells accepts app left came rest here unread old new net over comes =
-    turn_taken comes.taken (came_over Tells accepts app left came comes.unread here unread comes.then_seen new net over comes.came_so)
+    turn_taken comes.taken (came_over Tells accepts app left came comes.unread here unread comes.then_seen new net over comes.came_is)

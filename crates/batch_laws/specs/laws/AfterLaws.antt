@@ -21,7 +21,9 @@ use Rattle.outside.specs.Seen.{is_declared}
 use Rattle.outside.specs.State.{Link, State, link_of, switch_in, switch_of, link_stimulated, stimulus_sends, after_stim, upcoming, declared_in}
 use Rattle.outside.specs.laws.LinkLaws.{link_of-same, link_of-other}
 use Rattle.outside.specs.Conforming.{AreDeclaredFrom, IsStimulus}
+use Rattle.outside.specs.laws.LinkKeptLaws.{keeps_stimulated}
 use Rattle.net_txn.specs.Views.{rows_at}
+use Rattle.net_txn.specs.laws.SaidLaws.{all_weaker}
 use Rattle.switch_laws.specs.Shown.{flags_in, rows_or_none, flags_at, shown_switch, shown_places}
 use Rattle.switch_laws.specs.laws.SoundLaws.{stimulus-sound}
 use Rattle.batch_laws.specs.Knowledge.{Knowledge, handled, handled_all}
@@ -29,7 +31,7 @@ use Rattle.batch_laws.specs.Calm.{known_ports}
 use Rattle.batch_laws.specs.Tells.{FitsItem}
 use Rattle.batch_laws.specs.laws.LinkTellLaws.{switch-step, links-step}
 use Rattle.batch_laws.specs.LinkTells.{KnownIn, StandsIn, HappensIn, table_rows, KnownThen, SwitchStep, items_of, seen_events, LinkReady, LinkThen, LinksStep}
-use Rattle.batch_laws.specs.laws.ReferenceLaws.{all-of, all-each, place-map, flat-one, events-links, links-found, all-at, link_of-map, waiting-all, waiting-one}
+use Rattle.batch_laws.specs.laws.ReferenceLaws.{all-of, place-map, flat-one, events-links, links-found, all-at, link_of-map, waiting-all, waiting-one}
 use Rattle.batch_laws.specs.Waiting.{place_at, NoneWait}
 use Rattle.batch_laws.specs.After.{Facts, SoundIn, After}
 
@@ -39,10 +41,6 @@ stimulated-in : (x : Stimulus) (o : Option Link) → switch_in (option_map (link
 unfolding link_stimulated
 stimulated-in x None = refl
 stimulated-in x (Some l) = refl
-
-keeps-stimulated : (x : Stimulus) (l : Link) → (link_stimulated x l).declared ≡ l.declared
-unfolding link_stimulated
-keeps-stimulated x l = refl
 
 sound-stimulated : (x : Stimulus) (d : ℕ) (o : Option SwitchState) → StandsIn d o → SoundIn (option_map (after_stimulus x) o)
 sound-stimulated x d None stands = tt
@@ -55,7 +53,7 @@ sound-stands d (Some s) stands = stands.sound
 -- each link as the engine knows it
 links-known : (P : Link → Type 0) (s : State) → AreDeclaredFrom 1 (declared_in s.links) → ((l : Link) → switch_of l.declared.dpid s ≡ l.switch → P l) → AllByRecursion P s.links
 unfolding switch_of
-links-known P s ascend each = all-each (λ l. link_of l.declared.dpid s.links ≡ Some l) P (λ l is. each l (ap switch_in is)) s.links (links-found 1 s.links ascend)
+links-known P s ascend each = all_weaker (λ l. link_of l.declared.dpid s.links ≡ Some l) P (λ l is. each l (ap switch_in is)) s.links (links-found 1 s.links ascend)
 
 -- ---- A moment
 
@@ -94,7 +92,7 @@ module _ (t : ℕ) (s : State) (k : Knowledge) (facts : Facts s k) (within : t <
 
   switch-then : (d : ℕ) → switch_of d (after_stim (At t) s) ≡ option_map (after_stimulus (Advance t)) (switch_of d s)
   unfolding switch_of after_stim
-  switch-then d = ap switch_in (link_of-map (link_stimulated (Advance t)) (keeps-stimulated (Advance t)) d s.links) ∙ stimulated-in (Advance t) (link_of d s.links)
+  switch-then d = ap switch_in (link_of-map (link_stimulated (Advance t)) (keeps_stimulated (Advance t)) d s.links) ∙ stimulated-in (Advance t) (link_of d s.links)
 
   known-then : (d : ℕ) → KnownThen (Advance t) (switch_of d s) (rows_at d k.views) (rows_at d told_all.views) (known_ports d told_all.ports)
   unfolding switch_of
@@ -147,11 +145,11 @@ module _ (d : ℕ) (x : Stimulus) (s : State) (k : Knowledge) (facts : Facts s k
 
   one-here : switch_of d (after_stim (Of d x) s) ≡ option_map (after_stimulus x) (switch_of d s)
   unfolding switch_of after_stim
-  one-here = ap switch_in (link_of-same d (link_stimulated x) (keeps-stimulated x) s.links) ∙ stimulated-in x (link_of d s.links)
+  one-here = ap switch_in (link_of-same d (link_stimulated x) (keeps_stimulated x) s.links) ∙ stimulated-in x (link_of d s.links)
 
   one-other : (e : ℕ) → e ≢ d → switch_of e (after_stim (Of d x) s) ≡ switch_of e s
   unfolding switch_of after_stim
-  one-other e other = ap switch_in (link_of-other d e (link_stimulated x) (keeps-stimulated x) other s.links)
+  one-other e other = ap switch_in (link_of-other d e (link_stimulated x) (keeps_stimulated x) other s.links)
 
   abbrev shown_then : ℕ → Option SwitchState
   shown_then = shown_switch told_one.views (after_stim (Of d x) s)

@@ -1,5 +1,6 @@
 -- An ECHO_REQUEST that a stimulus makes is all that it makes, and so is a switch that joins (OpenFlow 1.0.0, 5.5.2 Echo Request).
 use Rattle.std.specs.Prelude.{◌≡◌, ℕ, Bool, true, false, List, [], ◌∷◌, ◌++◌, map, Option, Some, None, Ok, is_some, if◌then◌else◌, refl}
+use Rattle.net_txn.specs.laws.SaidLaws.{all_two}
 use Rattle.std.specs.List.{AllByRecursion, flat_map}
 use Rattle.std.proofs.Common.{sym, ap, ap₂, ◌∙◌, subst, inl, inr}
 use Rattle.std.proofs.lemmas.Bool.{cases_Bool}
@@ -28,11 +29,12 @@ use Rattle.batch_laws.specs.Alone.{EchoAlone, JoinAlone}
 use Rattle.batch_laws.specs.Knowledge.{IsEchoRead}
 use Rattle.batch_laws.specs.LinkTells.{items_of}
 use Rattle.batch_laws.specs.Waiting.{NoneWait}
-use Rattle.batch_laws.specs.laws.FrameTellLaws.{front-kind, packet-type, frame-sent}
+use Rattle.batch_laws.specs.laws.FrameTellLaws.{front-kind, frame-sent}
 use Rattle.batch_laws.specs.laws.ReferenceLaws.{none-waiting, waiting-silent, waiting-all}
 use Rattle.batch_laws.specs.laws.AfterLaws.{items-of-one}
 use Rattle.batch_laws.specs.laws.LeaveTellLaws.{left-silent}
 use Rattle.batch_laws.specs.laws.JoinTellLaws.{joined-silent}
+use Rattle.net_txn.specs.laws.PacketHeardLaws.{packet-type}
 
 -- ---- One among others
 
@@ -57,10 +59,6 @@ tail_same a b xs ys is = cc
 only_one : (front later : List WorldStep) (item one : WorldStep) → front ++ item ∷ later ≡ one ∷ [] → (front ≡ []) × (later ≡ []) × (item ≡ one)
 only_one [] later item one is = (refl, tail_same item one later [] is, head_same item one later [] is)
 only_one (x ∷ front) later item one is = absurd (not_nil front later item (tail_same x one (front ++ item ∷ later) [] is))
-
-all_append : (P : WorldStep → Type 0) (xs ys : List WorldStep) → AllByRecursion P xs → AllByRecursion P ys → AllByRecursion P (xs ++ ys)
-all_append P [] ys first later = later
-all_append P (x ∷ xs) ys first later = (first.0, all_append P xs ys first.1 later)
 
 all_from : (P : WorldStep → Type 0) (Q : List ℕ → Type 0) (d : ℕ) → ((bytes : List ℕ) → Q bytes → P (From d bytes)) → (list : List (List ℕ)) → AllByRecursion Q list → AllByRecursion P (map (From d) list)
 all_from P Q d each [] all = tt
@@ -165,12 +163,12 @@ moment_sends t (Some s) = notices_news (expiry_notices t s.table.entries)
 moment_news : (t : ℕ) (ls : List Link) → AllByRecursion NoEcho (flat_map (items_of (Advance t)) ls)
 moment_news t [] = tt
 moment_news t (l ∷ ls) =
-    all_append NoEcho (items_of (Advance t) l) (flat_map (items_of (Advance t)) ls) (news_items l.declared.dpid (stimulus_sends (Advance t) l.switch) (moment_sends t l.switch)) (moment_news t ls)
+    all_two NoEcho (items_of (Advance t) l) (flat_map (items_of (Advance t)) ls) (news_items l.declared.dpid (stimulus_sends (Advance t) l.switch) (moment_sends t l.switch)) (moment_news t ls)
 
 moment_messages : (t : ℕ) (ls : List Link) → AllByRecursion NoJoin (flat_map (items_of (Advance t)) ls)
 moment_messages t [] = tt
 moment_messages t (l ∷ ls) =
-    all_append NoJoin (items_of (Advance t) l) (flat_map (items_of (Advance t)) ls) (message_items l.declared.dpid (stimulus_sends (Advance t) l.switch)) (moment_messages t ls)
+    all_two NoJoin (items_of (Advance t) l) (flat_map (items_of (Advance t)) ls) (message_items l.declared.dpid (stimulus_sends (Advance t) l.switch)) (moment_messages t ls)
 
 -- ---- What a stimulus makes, where nothing waited
 

@@ -29,6 +29,8 @@ use Rattle.outside.specs.laws.StateLaws.{state-append}
 use Rattle.outside.specs.laws.LinkLaws.{switch_of-from, switch_of-from_other, link_of-same}
 use Rattle.outside.specs.Calls.{item_step}
 use Rattle.outside.specs.Conforming.{IsNext, MayStep, Conforming}
+use Rattle.outside.specs.laws.LinkKeptLaws.{keeps_stimulated}
+use Rattle.outside.specs.laws.CallLaws.{nothing_next}
 use Rattle.net_txn.specs.Net.{NetState}
 use Rattle.net_txn.specs.Views.{rows_at}
 use Rattle.switch_laws.specs.Since.{ports_known}
@@ -38,6 +40,7 @@ use Rattle.lego_model.specs.Controller.{lost_at}
 use Rattle.lego_model.specs.RunReport.{lost_line}
 use Rattle.lego_model.specs.Answers.{rows_of_view}
 use Rattle.switch_laws.specs.laws.OrderlyLaws.{released-still, orderly-then}
+use Rattle.switch_laws.specs.laws.LinkLaws.{links_switch, links_waits}
 use Rattle.batch_laws.specs.Knowledge.{Knowledge, knowledge_of, is_known, handled, handled_all, LosesAt, lost_text, ports_lost, known_lost}
 use Rattle.batch_laws.specs.LinkTells.{table_rows}
 use Rattle.batch_laws.specs.Told.{IsTold, TellsDue, TellsNone, Later, Stills, LostAlone}
@@ -51,7 +54,7 @@ use Rattle.batch_laws.specs.laws.GoneLaws.{lost-leaves}
 use Rattle.batch_laws.specs.laws.UpcomingLaws.{IsOfSwitch, no_message_joined, no_message_left, no_message_moment, IsDue, stim_is_due, none_due_by, one_due_by, stim_fresh}
 use Rattle.batch_laws.specs.laws.ItemLaws.{links_ascend, told_first, none_waiting, none_waits, item_done}
 use Rattle.batch_laws.specs.InBatch.{SameBesides, IsReadable, InBatch, BatchDone, BatchLost, GoesOn, standing}
-use Rattle.batch_laws.specs.laws.HandleLaws.{idle_so}
+use Rattle.batch_laws.specs.laws.HandleLaws.{idle_is}
 
 -- ---- One item is told
 
@@ -93,14 +96,6 @@ due_tells item s t due other is next =
       links = links;
       none_due = none;
     }
-
-pub links_switch : (d : ℕ) (s t : State) → t.links ≡ s.links → switch_of d t ≡ switch_of d s
-unfolding switch_of
-links_switch d s t same = ap (λ (ls : List Link). switch_in (link_of d ls)) same
-
-pub links_waits : (d : ℕ) (s t : State) → t.links ≡ s.links → waits_of d t ≡ waits_of d s
-unfolding waits_of
-links_waits d s t same = ap (λ (ls : List Link). waits_in (link_of d ls)) same
 
 tells_by_due : {item : WorldStep} {s t : State} → TellsDue item s t → IsFresh item t → IsReadable item → IsTold item s t
 tells_by_due {s = s} {t = t} due fresh readable = record {
@@ -163,28 +158,28 @@ fresh_in {x = x} {first = first} {now = now} d bytes none waits batch is = by ba
 
 from_none : (d : ℕ) (bytes : List ℕ) → TellsNone (From d bytes)
 unfolding stimuli journal losses
-from_none d bytes = record { stimuli_so = refl; loses = refl; acts = λ app. refl; releases = refl; orderly = λ app. tt }
+from_none d bytes = record { stimuli_is = refl; loses = refl; acts = λ app. refl; releases = refl; orderly = λ app. tt }
 
 joined_none : (d : ℕ) (bytes : List ℕ) → TellsNone (Joined d bytes)
 unfolding stimuli journal losses
-joined_none d bytes = record { stimuli_so = refl; loses = refl; acts = λ app. refl; releases = refl; orderly = λ app. tt }
+joined_none d bytes = record { stimuli_is = refl; loses = refl; acts = λ app. refl; releases = refl; orderly = λ app. tt }
 
 left_none : (d : ℕ) → TellsNone (Left d)
 unfolding stimuli journal losses
-left_none d = record { stimuli_so = refl; loses = refl; acts = λ app. refl; releases = refl; orderly = λ app. tt }
+left_none d = record { stimuli_is = refl; loses = refl; acts = λ app. refl; releases = refl; orderly = λ app. tt }
 
 moment_none : (t : ℕ) → TellsNone (Moment t)
 unfolding stimuli journal losses
-moment_none t = record { stimuli_so = refl; loses = refl; acts = λ app. refl; releases = refl; orderly = λ app. tt }
+moment_none t = record { stimuli_is = refl; loses = refl; acts = λ app. refl; releases = refl; orderly = λ app. tt }
 
 idle_none : TellsNone Idle
 unfolding stimuli journal losses
-idle_none = record { stimuli_so = refl; loses = refl; acts = λ app. refl; releases = refl; orderly = λ app. tt }
+idle_none = record { stimuli_is = refl; loses = refl; acts = λ app. refl; releases = refl; orderly = λ app. tt }
 
 stimuli_later : {Own : Type 0} (old mid : Seen Own) (item : WorldStep) → TellsNone item → mid.history ≡ old.history ++ item ∷ [] → stimuli (journal mid.history) ≡ stimuli (journal old.history)
 stimuli_later old mid item none longer =
     ap (λ (h : List WorldStep). stimuli (journal h)) longer ∙ ap stimuli (journal-append old.history (item ∷ [])) ∙ stimuli-append (journal old.history) (journal (item ∷ []))
-    ∙ ap (λ (xs : List WorldStim). stimuli (journal old.history) ++ xs) none.stimuli_so ∙ append-nil (stimuli (journal old.history))
+    ∙ ap (λ (xs : List WorldStim). stimuli (journal old.history) ++ xs) none.stimuli_is ∙ append-nil (stimuli (journal old.history))
 
 lost_later : {Own : Type 0} (old mid : Seen Own) (item : WorldStep) → TellsNone item → mid.history ≡ old.history ++ item ∷ [] → lost_of mid ≡ lost_of old
 lost_later old mid item none longer =
@@ -251,7 +246,7 @@ one_more {x = x} {n = n} {first = first} {now = now} {item = item} {text = text}
       count = length-append batch.told (item ∷ []) ∙ ap (λ (k : ℕ). k + 1) batch.count;
       read = all_more IsReadable batch.told item batch.read told.readable;
       fits = all_more FitsItem batch.told item batch.fits later.fits;
-      order = ap (λ (xs : List WorldStep). (batch.told ++ item ∷ []) ++ xs) leaves.upcoming_so ∙ append_assoc batch.told (item ∷ []) (upcoming (state mid))
+      order = ap (λ (xs : List WorldStep). (batch.told ++ item ∷ []) ++ xs) leaves.upcoming_is ∙ append_assoc batch.told (item ∷ []) (upcoming (state mid))
           ∙ ap (λ (xs : List WorldStep). batch.told ++ xs) (sym told.first) ∙ batch.order;
       knowledge = stays.knowledge ∙ ap (handled item) batch.knowledge ∙ sym (handled_all-append batch.told (item ∷ []) (knowledge_of first.net first.queue));
       kept = done.kept;
@@ -259,9 +254,9 @@ one_more {x = x} {n = n} {first = first} {now = now} {item = item} {text = text}
       room = later.handles.room ∙ batch.room;
       held = later.handles.held ∙ batch.held;
       left = later.handles.left;
-      text = more_text now.text first.text text [] stays.text_so batch.text ∙ append-nil first.text;
+      text = more_text now.text first.text text [] stays.text_is batch.text ∙ append-nil first.text;
       lost = done.done.lost ∙ lost_later now.seen mid item none later.longer ∙ batch.lost;
-      stimuli_so = done.done.stimuli_so ∙ stimuli_later now.seen mid item none later.longer ∙ batch.stimuli_so;
+      stimuli_is = done.done.stimuli_is ∙ stimuli_later now.seen mid item none later.longer ∙ batch.stimuli_is;
       acts = λ app. done.done.acts app ∙ acts_later now.seen mid item app none later.longer ∙ batch.acts app;
       released = done.done.released ∙ released_later now.seen mid item none later.longer ∙ batch.released;
       orderly = orderly_later first.seen now.seen mid new item none later.longer batch.orderly done.done.orderly;
@@ -295,7 +290,7 @@ one_lost {x = x} {n = n} {first = first} {now = now} {item = item} {text = text}
         given = later.handles.continues.given ∙ later.given ∙ batch.given;
         began = batch.began;
         stays = besides_then goal (state mid) (state new) (besides_then goal (state now.seen) (state mid) batch.stays told.besides) gone.rest.besides;
-        begun_so = gone.rest.begun ∙ told.begun ∙ batch.begun;
+        begun_is = gone.rest.begun ∙ told.begun ∙ batch.begun;
         due = gone.rest.due ∙ told.none_due;
         waits = gone.waits;
         out = gone.out;
@@ -306,9 +301,9 @@ one_lost {x = x} {n = n} {first = first} {now = now} {item = item} {text = text}
         room = later.handles.room ∙ batch.room;
         held = later.handles.held ∙ batch.held;
         left = later.handles.left;
-        text = more_text now.text first.text text (lost_line loss.dpid) alone.text_so batch.text;
+        text = more_text now.text first.text text (lost_line loss.dpid) alone.text_is batch.text;
         lost = gone.lost ∙ ap (λ (ds : List ℕ). ds ++ loss.dpid ∷ []) (lost_later now.seen mid item none later.longer ∙ batch.lost);
-        stimuli_so = gone.stimuli_so ∙ stimuli_later now.seen mid item none later.longer ∙ batch.stimuli_so;
+        stimuli_is = gone.stimuli_is ∙ stimuli_later now.seen mid item none later.longer ∙ batch.stimuli_is;
         acts = λ app. gone.acts app ∙ acts_later now.seen mid item app none later.longer ∙ batch.acts app;
         released = gone.released ∙ released_later now.seen mid item none later.longer ∙ batch.released;
         orderly = orderly_later first.seen now.seen mid new item none later.longer batch.orderly gone.orderly;
@@ -333,10 +328,6 @@ happened_stays x (Some l) joined = by l.switch joined
     by : (o : Option SwitchState) → is_some o ≡ true → is_some (option_map (after_stimulus x) o) ≡ true
     by None is = absurd (true≢false (sym is))
     by (Some s) is = refl
-
-keeps_stimulated : (x : Stimulus) (l : Link) → (link_stimulated x l).declared ≡ l.declared
-unfolding link_stimulated
-keeps_stimulated x l = refl
 
 joined_after : (d : ℕ) (x : Stimulus) (s : State) → is_joined d s ≡ true → is_joined d (after_stim (Of d x) s) ≡ true
 unfolding switch_of after_stim
@@ -364,7 +355,7 @@ echo_lost {x = x} {first = first} {now = now} {d = d} {bytes = bytes} {text = te
       first = alone.first;
       last = alone.last;
       joined = ap joins_in (told.switches loss.dpid ∙ batch.switches loss.dpid) ∙ after;
-      text_so = loss.text_so ∙ ap (λ (known : Knowledge). lost_text (ports_lost loss.dpid known.ports)) knowledge ∙ ap lost_text (still.known loss.dpid)
+      text_is = loss.text_is ∙ ap (λ (known : Knowledge). lost_text (ports_lost loss.dpid known.ports)) knowledge ∙ ap lost_text (still.known loss.dpid)
           ∙ ports_text_one loss.dpid (switch_of loss.dpid (state first.seen)) before;
     }
 
@@ -380,7 +371,7 @@ join_lost {x = x} {first = first} {d = d} {bytes = bytes} {mid = mid} still batc
       first = alone.first;
       last = alone.last;
       joined = ap (λ (e : ℕ). is_joined e (state mid)) (sym same) ∙ ap joins_in told.fresh.joined;
-      text_so = loss.text_so;
+      text_is = loss.text_is;
     }
 
 -- ---- Each item
@@ -479,7 +470,7 @@ told_idle {x = x} {first = first} {now = now} {mid = mid} {new = new} {text = te
     let leaves = done.done.leaves in
     let is : state mid ≡ record s { begun = false } = mid_state later ∙ idle_state s in
     let none : upcoming s ≡ [] = later.may.1 in
-    let after : upcoming (state new) ≡ [] = leaves.upcoming_so ∙ ap upcoming is ∙ idle_upcoming s ∙ none in
+    let after : upcoming (state new) ≡ [] = leaves.upcoming_is ∙ ap upcoming is ∙ idle_upcoming s ∙ none in
     let all : batch.told ≡ upcoming goal = sym (ap (λ (xs : List WorldStep). batch.told ++ xs) none ∙ append-nil batch.told) ∙ batch.order in
     record {
       given = done.done.given ∙ later.given ∙ batch.given;
@@ -491,15 +482,15 @@ told_idle {x = x} {first = first} {now = now} {mid = mid} {new = new} {text = te
       switches = λ d. leaves.switches d ∙ ap (switch_of d) is ∙ idle_switch d s ∙ batch.switches d;
       read = subst (λ (xs : List WorldStep). AllByRecursion IsReadable xs) all batch.read;
       fits = subst (λ (xs : List WorldStep). AllByRecursion FitsItem xs) all batch.fits;
-      knowledge = stays.knowledge ∙ idle_so (knowledge_of now.net now.queue) ∙ batch.knowledge ∙ ap (λ (xs : List WorldStep). handled_all xs (knowledge_of first.net first.queue)) all;
+      knowledge = stays.knowledge ∙ idle_is (knowledge_of now.net now.queue) ∙ batch.knowledge ∙ ap (λ (xs : List WorldStep). handled_all xs (knowledge_of first.net first.queue)) all;
       kept = done.kept;
       log = later.handles.log ∙ batch.log;
       room = later.handles.room ∙ batch.room;
       held = later.handles.held ∙ batch.held;
       left = later.handles.left;
-      text = more_text now.text first.text text [] stays.text_so batch.text ∙ append-nil first.text;
+      text = more_text now.text first.text text [] stays.text_is batch.text ∙ append-nil first.text;
       lost = done.done.lost ∙ lost_later now.seen mid Idle idle_none later.longer ∙ batch.lost;
-      stimuli_so = done.done.stimuli_so ∙ stimuli_later now.seen mid Idle idle_none later.longer ∙ batch.stimuli_so;
+      stimuli_is = done.done.stimuli_is ∙ stimuli_later now.seen mid Idle idle_none later.longer ∙ batch.stimuli_is;
       acts = λ app. done.done.acts app ∙ acts_later now.seen mid Idle app idle_none later.longer ∙ batch.acts app;
       released = done.done.released ∙ released_later now.seen mid Idle idle_none later.longer ∙ batch.released;
       orderly = orderly_later first.seen now.seen mid new Idle idle_none later.longer batch.orderly done.done.orderly;
@@ -525,9 +516,6 @@ pub none_upcoming : {Own : Type 0} {x : WorldStim} {first now : Standing Own} �
 unfolding upcoming waits_of
 none_upcoming {now = now} keeps lost = ap (λ (xs : List WorldStep). xs ++ waiting (state now.seen).links) lost.due ∙ none_waiting 1 (state now.seen).links (links_ascend now.seen keeps) lost.waits
 
-none_first : (step : WorldStep) (s : State) → upcoming s ≡ [] → IsNext step s → ⊥
-none_first step s none next = let h : None ≡ Some step = sym (ap (λ (xs : List WorldStep). slice_get xs 0) none) ∙ next in absurd cc
-
 lost_idle : {Own Tells : Type 0} {x : WorldStim} {first now : Standing Own} {mid new : Seen Own} {net : NetState} {queue : List Event} {text : List ℕ} → BatchLost x true first now → Later Tells Idle text now mid new net queue → BatchLost x false first (standing new net queue (now.text ++ text))
 lost_idle {x = x} {first = first} {now = now} {mid = mid} {new = new} {net = net} {text = text} batch later =
     let s = state now.seen in
@@ -545,20 +533,20 @@ lost_idle {x = x} {first = first} {now = now} {mid = mid} {new = new} {net = net
       given = done.done.given ∙ later.given ∙ batch.given;
       began = batch.began;
       stays = besides_then goal s (state new) batch.stays (idle_besides s (state new) is);
-      begun_so = ap (λ (u : State). u.begun) is;
+      begun_is = ap (λ (u : State). u.begun) is;
       due = ap (λ (u : State). u.due) is ∙ batch.due;
       waits = λ d. ap (waits_of d) is ∙ idle_waits d s ∙ batch.waits d;
       out = ap (switch_of batch.dpid) is ∙ idle_switch batch.dpid s ∙ batch.out;
       others = λ d other. ap (switch_of d) is ∙ idle_switch d s ∙ batch.others d other;
-      knowledge = stays.knowledge ∙ idle_so (knowledge_of now.net now.queue) ∙ batch.knowledge;
+      knowledge = stays.knowledge ∙ idle_is (knowledge_of now.net now.queue) ∙ batch.knowledge;
       kept = done.kept;
       log = later.handles.log ∙ batch.log;
       room = later.handles.room ∙ batch.room;
       held = later.handles.held ∙ batch.held;
       left = later.handles.left;
-      text = more_text now.text (first.text ++ lost_line batch.dpid) text [] stays.text_so batch.text ∙ append-nil (first.text ++ lost_line batch.dpid);
+      text = more_text now.text (first.text ++ lost_line batch.dpid) text [] stays.text_is batch.text ∙ append-nil (first.text ++ lost_line batch.dpid);
       lost = done.done.lost ∙ lost_later now.seen mid Idle idle_none later.longer ∙ batch.lost;
-      stimuli_so = done.done.stimuli_so ∙ stimuli_later now.seen mid Idle idle_none later.longer ∙ batch.stimuli_so;
+      stimuli_is = done.done.stimuli_is ∙ stimuli_later now.seen mid Idle idle_none later.longer ∙ batch.stimuli_is;
       acts = λ app. done.done.acts app ∙ acts_later now.seen mid Idle app idle_none later.longer ∙ batch.acts app;
       released = done.done.released ∙ released_later now.seen mid Idle idle_none later.longer ∙ batch.released;
       orderly = orderly_later first.seen now.seen mid new Idle idle_none later.longer batch.orderly done.done.orderly;
@@ -571,12 +559,12 @@ IsQuiet other = ⊥
 
 pub only_idle : {Own : Type 0} {x : WorldStim} {first now : Standing Own} (declared : List Declared) (item : Item) (buf : List ℕ) → upcoming (state now.seen) ≡ [] → BatchLost x true first now → MayStep declared (item_step item buf) (state now.seen) → item ≡ items.Idle
 unfolding item_step MayStep
-only_idle {now = now} declared (items.From d k) buf none batch may = absurd (none_first (From d (take k buf)) (state now.seen) none may.0)
-only_idle {now = now} declared (items.Joined d k) buf none batch may = absurd (none_first (Joined d (take k buf)) (state now.seen) none may)
-only_idle {now = now} declared (items.Left d) buf none batch may = absurd (none_first (Left d) (state now.seen) none may)
-only_idle {now = now} declared (items.Moment t) buf none batch may = absurd (none_first (Moment t) (state now.seen) none may)
+only_idle {now = now} declared (items.From d k) buf none batch may = absurd (nothing_next (From d (take k buf)) (state now.seen) none may.0)
+only_idle {now = now} declared (items.Joined d k) buf none batch may = absurd (nothing_next (Joined d (take k buf)) (state now.seen) none may)
+only_idle {now = now} declared (items.Left d) buf none batch may = absurd (nothing_next (Left d) (state now.seen) none may)
+only_idle {now = now} declared (items.Moment t) buf none batch may = absurd (nothing_next (Moment t) (state now.seen) none may)
 only_idle declared items.Idle buf none batch may = refl
-only_idle declared items.End buf none batch may = let h : true ≡ false = sym batch.begun_so ∙ may.0 in absurd (true≢false h)
+only_idle declared items.End buf none batch may = let h : true ≡ false = sym batch.begun_is ∙ may.0 in absurd (true≢false h)
 
 pub lost_in_batch : {Own Tells : Type 0} {x : WorldStim} (n : ℕ) {first now : Standing Own} {mid new : Seen Own} {net : NetState} {queue : List Event} {text : List ℕ} (item : Item) (buf : List ℕ) → item ≡ items.Idle → BatchLost x true first now
     → Later Tells (item_step item buf) text now mid new net queue → GoesOn item n first (standing new net queue (now.text ++ text))

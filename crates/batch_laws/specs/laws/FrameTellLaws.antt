@@ -4,20 +4,18 @@ use Rattle.std.proofs.Common.{◌≡◌, ◌==◌, ◌⊎◌, ℕ, List, [], ◌
 use Rattle.std.proofs.lemmas.Bool.{cases_Bool}
 use Rattle.std.specs.Prelude.{IsTrue}
 use Rattle.std.specs.List.{AllByRecursion, flat_map}
-use Rattle.of_types.specs.Fields.{number_at, number_bytes}
+use Rattle.of_types.specs.Fields.{number_at}
 use Rattle.of_types.specs.declared.port_desc.PortDesc.{PortDesc}
 use Rattle.of_types.specs.declared.journal.Stimulus.{Stimulus}
 use Rattle.of_types.specs.declared.journal.Stimulus.TheVariants.{Frame, Counts, Raw}
 use Rattle.of_wire.specs.declared.kind.MessageKind.{MessageKind}
 use Rattle.of_wire.specs.declared.kind.MessageKind.TheVariants as wire
-use Rattle.of_wire.specs.declared.bodies.PacketIn.{PacketIn as PacketInBody}
 use Rattle.of_wire.specs.declared.message.Message.{Message}
 use Rattle.of_wire.specs.declared.message.Message.TheVariants.{Hello, Error, EchoRequest, EchoReply, Vendor, FeaturesRequest, FeaturesReply, GetConfigRequest, GetConfigReply, SetConfig, PacketIn, FlowRemoved, PortStatus, PacketOut, FlowMod, PortMod, StatsRequest, StatsReply, BarrierRequest, BarrierReply, QueueGetConfigRequest, QueueGetConfigReply}
 use Rattle.of_wire.specs.declared.message.Envelope.{Envelope}
 use Rattle.of_wire.specs.declared.fault.WireFault.{WireFault}
 use Rattle.of_wire.specs.declared.fault.WireFault.TheVariants.{BadVersion, BadLength}
 use Rattle.of_wire.specs.Kinds.{kind_of_number}
-use Rattle.of_wire.specs.Spelling.{message_bytes}
 use Rattle.of_wire.specs.Reading.{has_length, front_of, body_of, reading_of}
 use Rattle.flow_table.specs.declared.entry.Entry.{Entry}
 use Rattle.flow_table.specs.declared.view.ViewRow.{ViewRow}
@@ -38,6 +36,7 @@ use Rattle.switch_laws.specs.laws.FaceLaws.{face-same, face-frame}
 use Rattle.batch_laws.specs.Knowledge.{Knowledge, handled_all}
 use Rattle.batch_laws.specs.laws.TellLaws.{is-known, plain-handled, view-kept}
 use Rattle.batch_laws.specs.Tells.{FitsRead, IsPlainRead, PlainBytes, AllPlain, SwitchHandled, SwitchKnown}
+use Rattle.net_txn.specs.laws.PacketHeardLaws.{packet-type}
 
 -- ---- A PACKET_IN is plain
 
@@ -65,10 +64,6 @@ plain-type bytes type =
       | inl is ↦ record { plain = rw is tt; fits = rw is tt }
       | inr (fault, is) ↦ record { plain = rw is tt; fits = rw is tt }
     ]
-
-pub packet-type : (m : PacketInBody) → number_at 1 1 (message_bytes 0 (PacketIn m)) ≡ 10
-unfolding message_bytes number_at number_bytes
-packet-type m = refl
 
 packet-plain : (reason in_port : ℕ) (frame : List ℕ) → PlainBytes (packet_in reason in_port frame)
 unfolding packet_in

@@ -112,12 +112,12 @@ gone_by d mid new told keeps given none joined no_strays links out = record {
   ];
   lost = ap (λ (h : List WorldStep). losses (journal h)) out.history ∙ ap losses (journal-append mid.history out.steps) ∙ losses-append (journal mid.history) (journal out.steps)
       ∙ ap (λ (xs : List ℕ). losses (journal mid.history) ++ xs) out.lost;
-  stimuli_so = ap (λ (h : List WorldStep). stimuli (journal h)) links.history ∙ ap stimuli (journal-append mid.history links.steps) ∙ stimuli-append (journal mid.history) (journal links.steps)
+  stimuli_is = ap (λ (h : List WorldStep). stimuli (journal h)) links.history ∙ ap stimuli (journal-append mid.history links.steps) ∙ stimuli-append (journal mid.history) (journal links.steps)
       ∙ ap (λ (xs : List WorldStim). stimuli (journal mid.history) ++ xs) (stimuli_none links.steps links.all) ∙ append-nil (stimuli (journal mid.history));
   acts = λ app. ap (λ (h : List WorldStep). filter (is_of app) (journal h)) links.history ∙ ap (filter (is_of app)) (journal-append mid.history links.steps)
       ∙ filter-append (is_of app) (journal mid.history) (journal links.steps)
       ∙ ap (λ (xs : List Act). filter (is_of app) (journal mid.history) ++ xs) (acts_none app links.steps links.all) ∙ append-nil (filter (is_of app) (journal mid.history));
-  released = released-on mid new out.steps out.history ∙ ap (λ (xs : List Held). released_of mid ++ xs) out.released_so ∙ append-nil (released_of mid);
+  released = released-on mid new out.steps out.history ∙ ap (λ (xs : List Held). released_of mid ++ xs) out.released_is ∙ append-nil (released_of mid);
   orderly = λ app. calls-orderly app mid new links (no_strays told (Conforming-in_order new keeps) joined);
 }
 

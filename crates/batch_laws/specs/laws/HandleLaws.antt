@@ -78,21 +78,21 @@ from_out d bytes k out = rw out refl
 becomes_still : {Own Tells : Type 0} {d : ℕ} {bytes : List ℕ} {old new : Seen Own} {net now_net : NetState} {queue now_queue : List Event} {text : List ℕ} (event : Option Event) (e : Envelope) → reading_of bytes ≡ Ok e → IsSome (rows_at d net.views) → IsBytes bytes
     → now_queue ≡ with_event event queue → text ≡ [] → Becomes Tells d e.xid e.message old new net now_net event → HandlesStill Tells (From d bytes) text old new net now_net queue now_queue
 becomes_still {Tells = Tells} {d = d} {bytes = bytes} {old = old} {new = new} {net = net} {now_net = now_net} {queue = queue} {now_queue = now_queue} event e read known fit waits none is =
-    let after : NetAfter d e.message net now_net = subst (λ (n : NetState). NetAfter d e.message net n) (sym is.net_so) (net_is d e.message net) in
+    let after : NetAfter d e.message net now_net = subst (λ (n : NetState). NetAfter d e.message net n) (sym is.net_is) (net_is d e.message net) in
     let sees : is_some (rows_at d net.views) ≡ true = known in
     record {
-      knowledge = knows now_net now_queue (told_message d e.message (knowledge_of net queue)) after.views after.ports after.moment (waits ∙ ap (λ (o : Option Event). with_event o queue) is.event_so)
+      knowledge = knows now_net now_queue (told_message d e.message (knowledge_of net queue)) after.views after.ports after.moment (waits ∙ ap (λ (o : Option Event). with_event o queue) is.event_is)
           ∙ sym (from_known d bytes (knowledge_of net queue) e sees read);
       does = rw sees (record { fit = fit; read = rw read refl; told = λ told. is.told told ∙ ap (λ (r : Result Envelope WireFault). old.history ++ answers d r) (sym read); kept = after.kept });
-      text_so = none;
+      text_is = none;
     }
 
 -- what the host keeps behind a message, once the switches that were lost are told
 record Told (net mid_net now_net : NetState) (queue mid_queue now_queue : List Event) (text : List ℕ) : Type 0 where
   none : net.left ≡ []
-  net_so : now_net ≡ record mid_net { left = [] }
-  queue_so : now_queue ≡ mid_queue ++ left_events mid_net.left
-  text_so : text ≡ lost_text mid_net.left
+  net_is : now_net ≡ record mid_net { left = [] }
+  queue_is : now_queue ≡ mid_queue ++ left_events mid_net.left
+  text_is : text ≡ lost_text mid_net.left
 
 echo_read : (r : Result Envelope WireFault) (e : Envelope) (payload : List ℕ) → r ≡ Ok e → e.message ≡ EchoRequest payload → IsEchoRead r
 echo_read r e payload read request = rw (read, request) tt
@@ -104,22 +104,22 @@ arrives_by : {Own Tells : Type 0} {d : ℕ} {bytes : List ℕ} {old new : Seen O
     → IsBytes bytes → Continues Tells old new → OnLinks Tells old new → AsksWithoutStrays Tells d old new → mid_queue ≡ with_event event queue → Told net mid_net now_net queue mid_queue now_queue text
     → IsOkAnd r (λ e. Becomes Tells d e.xid e.message old new net mid_net event ⊎ ArrivesLost Tells d e.message old new net mid_net event) → Handles Tells (From d bytes) text old new net now_net queue now_queue
 arrives_by {Tells = Tells} {d = d} {bytes = bytes} {old = old} {new = new} {net = net} {mid_net = mid_net} {now_net = now_net} {queue = queue} {mid_queue = mid_queue} {now_queue = now_queue} {text = text} event (Ok e) read known fit continues links no_strays waits told (inl is) =
-    let after : NetAfter d e.message net mid_net = subst (λ (n : NetState). NetAfter d e.message net n) (sym is.net_so) (net_is d e.message net) in
+    let after : NetAfter d e.message net mid_net = subst (λ (n : NetState). NetAfter d e.message net n) (sym is.net_is) (net_is d e.message net) in
     let none : mid_net.left ≡ [] = after.left ∙ told.none in
-    let same : now_net ≡ mid_net = told.net_so ∙ ap (λ (ks : List KnownPorts). record mid_net { left = ks }) (sym none) in
-    let queue_so : now_queue ≡ mid_queue = told.queue_so ∙ ap (λ (ks : List KnownPorts). mid_queue ++ left_events ks) none ∙ append-nil mid_queue in
+    let same : now_net ≡ mid_net = told.net_is ∙ ap (λ (ks : List KnownPorts). record mid_net { left = ks }) (sym none) in
+    let queue_is : now_queue ≡ mid_queue = told.queue_is ∙ ap (λ (ks : List KnownPorts). mid_queue ++ left_events ks) none ∙ append-nil mid_queue in
     let now_is : Becomes Tells d e.xid e.message old new net now_net event = subst (λ (n : NetState). Becomes Tells d e.xid e.message old new net n event) (sym same) is in
     record {
       continues = continues;
       log = ap (λ (n : NetState). n.log) same ∙ after.log;
       room = ap (λ (n : NetState). n.room) same ∙ after.room;
       held = ap (λ (n : NetState). n.held) same ∙ after.held;
-      left = ap (λ (n : NetState). n.left) told.net_so;
-      went = inl (becomes_still event e read known fit (queue_so ∙ waits) (told.text_so ∙ ap lost_text none) now_is);
+      left = ap (λ (n : NetState). n.left) told.net_is;
+      went = inl (becomes_still event e read known fit (queue_is ∙ waits) (told.text_is ∙ ap lost_text none) now_is);
     }
 arrives_by {Tells = Tells} {d = d} {bytes = bytes} {old = old} {new = new} {net = net} {mid_net = mid_net} {now_net = now_net} {queue = queue} {mid_queue = mid_queue} {now_queue = now_queue} {text = text} event (Ok e) read known fit continues links no_strays waits told (inr lost) =
-    let gone : mid_net.left ≡ ports_lost d net.ports = lost_left d net mid_net told.none lost.net_so in
-    let after : now_net ≡ record (lost_net d net) { left = [] } = told.net_so ∙ ap (λ (n : NetState). record n { left = [] }) lost.net_so in
+    let gone : mid_net.left ≡ ports_lost d net.ports = lost_left d net mid_net told.none lost.net_is in
+    let after : now_net ≡ record (lost_net d net) { left = [] } = told.net_is ∙ ap (λ (n : NetState). record n { left = [] }) lost.net_is in
     let same : mid_queue ≡ queue = waits ∙ ap (λ (o : Option Event). with_event o queue) lost.no_event in
     record {
       continues = continues;
@@ -134,9 +134,9 @@ arrives_by {Tells = Tells} {d = d} {bytes = bytes} {old = old} {new = new} {net 
         links = links;
         no_strays = no_strays;
         knowledge = knows now_net now_queue (lost_by d (knowledge_of net queue)) (ap (λ (n : NetState). n.views) after) (ap (λ (n : NetState). n.ports) after) (ap (λ (n : NetState). n.moment) after)
-            (told.queue_so ∙ ap₂ (λ (q : List Event) (ks : List KnownPorts). q ++ left_events ks) same gone);
+            (told.queue_is ∙ ap₂ (λ (q : List Event) (ks : List KnownPorts). q ++ left_events ks) same gone);
         kept = ap (λ (n : NetState). n.kept) after;
-        text_so = told.text_so ∙ ap lost_text gone;
+        text_is = told.text_is ∙ ap lost_text gone;
       });
     }
 arrives_by event (Err fault) read known fit continues links no_strays waits told is = absurd is
@@ -145,8 +145,8 @@ arrives_by event (Err fault) read known fit continues links no_strays waits told
 pub arrived_handles : {Own : Type 0} {Tells : Type 0} (d : ℕ) (bytes : List ℕ) (old new : Seen Own) (net mid_net now_net : NetState) (queue mid_queue now_queue : List Event) (text : List ℕ) (event : Option Event) → net.left ≡ [] → IsSome (rows_at d net.views) → IsBytes bytes
     → Arrives Tells d bytes old new net mid_net (Ok event) → mid_queue ≡ with_event event queue → now_net ≡ record mid_net { left = [] } → now_queue ≡ mid_queue ++ left_events mid_net.left → text ≡ lost_text mid_net.left
     → Handles Tells (From d bytes) text old new net now_net queue now_queue
-arrived_handles d bytes old new net mid_net now_net queue mid_queue now_queue text event none known fit arrives waits net_so queue_so text_so =
-    arrives_by event (reading_of bytes) refl known fit arrives.continues arrives.links arrives.no_strays waits (record { none = none; net_so = net_so; queue_so = queue_so; text_so = text_so }) arrives.read
+arrived_handles d bytes old new net mid_net now_net queue mid_queue now_queue text event none known fit arrives waits net_is queue_is text_is =
+    arrives_by event (reading_of bytes) refl known fit arrives.continues arrives.links arrives.no_strays waits (record { none = none; net_is = net_is; queue_is = queue_is; text_is = text_is }) arrives.read
 
 pub from_ignored : {Own : Type 0} {Tells : Type 0} (d : ℕ) (bytes : List ℕ) (seen : Seen Own) (net : NetState) (queue : List Event) → net.left ≡ [] → rows_at d net.views ≡ None → Handles Tells (From d bytes) [] seen seen net net queue queue
 from_ignored {Tells = Tells} d bytes seen net queue none out =
@@ -157,7 +157,7 @@ from_ignored {Tells = Tells} d bytes seen net queue none out =
       room = refl;
       held = refl;
       left = none;
-      went = inl (record { knowledge = sym (from_out d bytes (knowledge_of net queue) sees); does = rw sees (record { seen = refl; kept = refl }); text_so = refl });
+      went = inl (record { knowledge = sym (from_out d bytes (knowledge_of net queue) sees); does = rw sees (record { seen = refl; kept = refl }); text_is = refl });
     }
 
 -- ---- A switch that leaves
@@ -200,7 +200,7 @@ departs_handles {Tells = Tells} d seen net now_net queue now_queue none departs 
   room = departs.room;
   held = departs.held;
   left = departs.left ∙ none;
-  went = inl (record { knowledge = departs.knowledge; does = departs_does d (is_some (rows_at d net.views)) seen net now_net departs.kept; text_so = refl });
+  went = inl (record { knowledge = departs.knowledge; does = departs_does d (is_some (rows_at d net.views)) seen net now_net departs.kept; text_is = refl });
 }
 
 -- ---- A switch that joins
@@ -221,7 +221,7 @@ enters_by {d = d} {bytes = bytes} {net = net} {queue = queue} out read links no_
     inl (record {
       knowledge = still.knowledge ∙ sym (joined_out d bytes (knowledge_of net queue) sees ∙ ap (λ (r : Result Envelope WireFault). joined_read d r (knowledge_of net queue)) read);
       does = rw (sees, read) still.takes;
-      text_so = still.text_so;
+      text_is = still.text_is;
     })
 enters_by {d = d} {net = net} out read links no_strays (inr lost) = inr (record {
   dpid = d;
@@ -231,7 +231,7 @@ enters_by {d = d} {net = net} out read links no_strays (inr lost) = inr (record 
   no_strays = no_strays;
   knowledge = lost.knowledge;
   kept = lost.kept;
-  text_so = lost.text_so;
+  text_is = lost.text_is;
 })
 
 pub enters_handles : {Own : Type 0} {Tells : Type 0} (d : ℕ) (bytes : List ℕ) (e : Envelope) (text : List ℕ) (old new : Seen Own) (net now_net : NetState) (queue now_queue : List Event) → net.left ≡ [] → rows_at d net.views ≡ None → reading_of bytes ≡ Ok e
@@ -257,7 +257,7 @@ unread_handles {Tells = Tells} d bytes fault seen net queue none out read =
       went = inl (record {
         knowledge = sym (joined_out d bytes (knowledge_of net queue) sees ∙ ap (λ (r : Result Envelope WireFault). joined_read d r (knowledge_of net queue)) read);
         does = rw (sees, read) (record { seen = refl; kept = refl });
-        text_so = refl;
+        text_is = refl;
       });
     }
 
@@ -270,14 +270,14 @@ joined_ignored {Tells = Tells} d bytes seen net queue none known =
       room = refl;
       held = refl;
       left = none;
-      went = inl (record { knowledge = sym (joined_known d bytes (knowledge_of net queue) sees); does = rw sees (record { seen = refl; kept = refl }); text_so = refl });
+      went = inl (record { knowledge = sym (joined_known d bytes (knowledge_of net queue) sees); does = rw sees (record { seen = refl; kept = refl }); text_is = refl });
     }
 
 -- ---- The others
 
-moment_so : (t : ℕ) (k : Knowledge) → handled (Moment t) k ≡ record k { moment = t }
+moment_is : (t : ℕ) (k : Knowledge) → handled (Moment t) k ≡ record k { moment = t }
 unfolding handled
-moment_so t k = refl
+moment_is t k = refl
 
 pub moment_handles : {Own : Type 0} {Tells : Type 0} (t : ℕ) (seen : Seen Own) (net now_net : NetState) (queue : List Event) → net.left ≡ [] → now_net ≡ record net { moment = t } → Handles Tells (Moment t) [] seen seen net now_net queue queue
 moment_handles {Tells = Tells} t seen net now_net queue none is = subst (λ (n : NetState). Handles Tells (Moment t) [] seen seen net n queue queue) (sym is) (record {
@@ -286,12 +286,12 @@ moment_handles {Tells = Tells} t seen net now_net queue none is = subst (λ (n :
   room = refl;
   held = refl;
   left = none;
-  went = inl (record { knowledge = sym (moment_so t (knowledge_of net queue)); does = record { seen = refl; kept = refl }; text_so = refl });
+  went = inl (record { knowledge = sym (moment_is t (knowledge_of net queue)); does = record { seen = refl; kept = refl }; text_is = refl });
 })
 
-pub idle_so : (k : Knowledge) → handled Idle k ≡ k
+pub idle_is : (k : Knowledge) → handled Idle k ≡ k
 unfolding handled
-idle_so k = refl
+idle_is k = refl
 
 pub idle_handles : {Own : Type 0} {Tells : Type 0} (seen : Seen Own) (net : NetState) (queue : List Event) → net.left ≡ [] → Handles Tells Idle [] seen seen net net queue queue
 idle_handles {Tells = Tells} seen net queue none = record {
@@ -300,12 +300,12 @@ idle_handles {Tells = Tells} seen net queue none = record {
   room = refl;
   held = refl;
   left = none;
-  went = inl (record { knowledge = sym (idle_so (knowledge_of net queue)); does = record { seen = refl; same = refl }; text_so = refl });
+  went = inl (record { knowledge = sym (idle_is (knowledge_of net queue)); does = record { seen = refl; same = refl }; text_is = refl });
 }
 
-pub end_so : (k : Knowledge) → handled End k ≡ k
+pub end_is : (k : Knowledge) → handled End k ≡ k
 unfolding handled
-end_so k = refl
+end_is k = refl
 
 pub end_handles : {Own : Type 0} {Tells : Type 0} (seen : Seen Own) (net : NetState) (queue : List Event) → net.left ≡ [] → Handles Tells End [] seen seen net net queue queue
 end_handles {Tells = Tells} seen net queue none = record {
@@ -314,5 +314,5 @@ end_handles {Tells = Tells} seen net queue none = record {
   room = refl;
   held = refl;
   left = none;
-  went = inl (record { knowledge = sym (end_so (knowledge_of net queue)); does = record { seen = refl; same = refl }; text_so = refl });
+  went = inl (record { knowledge = sym (end_is (knowledge_of net queue)); does = record { seen = refl; same = refl }; text_is = refl });
 }

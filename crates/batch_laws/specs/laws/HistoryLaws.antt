@@ -31,8 +31,9 @@ use Rattle.outside.specs.declared.step.WorldStep.{WorldStep}
 use Rattle.outside.specs.declared.step.WorldStep.TheVariants.{Acted, TookInto, From, Joined, Left, Moment, Idle, End, Opened, NotOpened, NextFailed, SendLost, RecvLost, SendFailed, RecvFailed}
 use Rattle.outside.specs.declared.call.FailCall.{FailCall}
 use Rattle.outside.specs.Seen.{Seen}
-use Rattle.outside.specs.State.{Link, State, link_at_first, at_first, link_of, switch_in, switch_of, with_link, switch_joined, link_joined, link_left, link_stimulated, switch_told, link_sent, link_got, link_told, link_lost, link_failed, links_after, after_stim, after_act, after_step, after_steps, state}
+use Rattle.outside.specs.State.{Link, State, link_at_first, at_first, link_of, switch_in, switch_of, switch_joined, link_joined, link_left, link_stimulated, switch_told, link_sent, link_got, link_told, link_lost, link_failed, links_after, after_stim, after_act, after_step, after_steps, state}
 use Rattle.outside.specs.Conforming.{ArePortsFrom, MayDeclare, IsStimulus, IsWorldStim, MayAct, MayStep, MaySteps, Conforming}
+use Rattle.outside.specs.laws.LinkKeptLaws.{Keeps, one-kept, each-kept}
 use Rattle.switch_laws.specs.laws.StandLaws.{state-links}
 use Rattle.batch_laws.specs.Lasting.{AscendPorts, Lasts, PortWithin, LastsIn, LinkLasts, AllLast}
 use Rattle.switch_laws.specs.laws.FaceLaws.{goes}
@@ -254,28 +255,25 @@ message-lasts m d s is = unless-lasts (message_refusal s m) d s (after_taken m s
 
 -- ---- Links
 
-record Keeps (change : Link → Link) : Type 0 where
-  keeps : (l : Link) → LinkLasts l → LinkLasts (change l)
-
 stimulated : (x : Stimulus) (d : Declared) (o : Option SwitchState) → PortWithin x → LastsIn d o → LastsIn d (option_map (after_stimulus x) o)
 stimulated x d None within h = tt
 stimulated x d (Some s) within h = stimulus-lasts x d s within h
 
-keeps-stimulated : (x : Stimulus) → PortWithin x → Keeps (link_stimulated x)
+keeps-stimulated : (x : Stimulus) → PortWithin x → Keeps LinkLasts (link_stimulated x)
 unfolding link_stimulated
-keeps-stimulated x within = record { keeps = λ l is. record { may = is.may; switch = stimulated x l.declared l.switch within is.switch } }
+keeps-stimulated x within l is = record { may = is.may; switch = stimulated x l.declared l.switch within is.switch }
 
 joins : (moment : ℕ) (d : Declared) (o : Option SwitchState) → MayDeclare d → LastsIn d o → LastsIn d (switch_joined moment d o)
 joins moment d None may h = joined-lasts moment d may
 joins moment d (Some s) may h = h
 
-keeps-joined : (moment : ℕ) → Keeps (link_joined moment)
+keeps-joined : (moment : ℕ) → Keeps LinkLasts (link_joined moment)
 unfolding link_joined
-keeps-joined moment = record { keeps = λ l is. record { may = is.may; switch = joins moment l.declared l.switch is.may is.switch } }
+keeps-joined moment l is = record { may = is.may; switch = joins moment l.declared l.switch is.may is.switch }
 
-keeps-left : Keeps link_left
+keeps-left : Keeps LinkLasts link_left
 unfolding link_left
-keeps-left = record { keeps = λ l is. record { may = is.may; switch = tt } }
+keeps-left l is = record { may = is.may; switch = tt }
 
 told : (r : Result Envelope WireFault) (d : Declared) (o : Option SwitchState) → LastsIn d o → LastsIn d (switch_told r o)
 told (Ok e) d None h = tt
@@ -283,46 +281,34 @@ told (Ok e) d (Some s) h = message-lasts e.message d s h
 told (Err fault) d None h = tt
 told (Err fault) d (Some s) h = h
 
-keeps-sent : (bytes : List ℕ) → Keeps (link_sent bytes)
+keeps-sent : (bytes : List ℕ) → Keeps LinkLasts (link_sent bytes)
 unfolding link_sent
-keeps-sent bytes = record { keeps = λ l is. record { may = is.may; switch = told (reading_of bytes) l.declared l.switch is.switch } }
+keeps-sent bytes l is = record { may = is.may; switch = told (reading_of bytes) l.declared l.switch is.switch }
 
-keeps-got : Keeps link_got
+keeps-got : Keeps LinkLasts link_got
 unfolding link_got
-keeps-got = record { keeps = λ l is. record { may = is.may; switch = is.switch } }
+keeps-got l is = record { may = is.may; switch = is.switch }
 
-keeps-told : Keeps link_told
+keeps-told : Keeps LinkLasts link_told
 unfolding link_told
-keeps-told = record { keeps = λ l is. record { may = is.may; switch = is.switch } }
+keeps-told l is = record { may = is.may; switch = is.switch }
 
-keeps-lost : Keeps link_lost
+keeps-lost : Keeps LinkLasts link_lost
 unfolding link_lost
-keeps-lost = record { keeps = λ l is. record { may = is.may; switch = tt } }
+keeps-lost l is = record { may = is.may; switch = tt }
 
-keeps-failed : Keeps link_failed
+keeps-failed : Keeps LinkLasts link_failed
 unfolding link_failed
-keeps-failed = record { keeps = λ l is. record { may = is.may; switch = is.switch } }
-
-one : (d : ℕ) (change : Link → Link) → Keeps change → (ls : List Link) → AllLast ls → AllLast (with_link d change ls)
-one d change keeps [] h = tt
-one d change keeps (l ∷ ls) h =
-    elim (cases_Bool (l.declared.dpid == d)) [
-      | inl here ↦ rw here (keeps.keeps l h.0, h.1)
-      | inr other ↦ rw other (h.0, one d change keeps ls h.1)
-    ]
-
-all : (change : Link → Link) → Keeps change → (ls : List Link) → AllLast ls → AllLast (map change ls)
-all change keeps [] h = tt
-all change keeps (l ∷ ls) h = (keeps.keeps l h.0, all change keeps ls h.1)
+keeps-failed l is = record { may = is.may; switch = is.switch }
 
 -- ---- Steps
 
 pub stim-lasts : (declared : List Declared) (x : WorldStim) (moment : ℕ) (ls : List Link) → IsWorldStim declared moment x → AllLast ls → AllLast (links_after x moment ls)
 unfolding IsWorldStim
-stim-lasts declared (Join d) moment ls may h = one d (link_joined moment) (keeps-joined moment) ls h
-stim-lasts declared (Leave d) moment ls may h = one d link_left keeps-left ls h
-stim-lasts declared (At t) moment ls may h = all (link_stimulated (Advance t)) (keeps-stimulated (Advance t) tt) ls h
-stim-lasts declared (Of d x) moment ls may h = one d (link_stimulated x) (keeps-stimulated x (within-stimulus x may.1)) ls h
+stim-lasts declared (Join d) moment ls may h = one-kept LinkLasts d (link_joined moment) (keeps-joined moment) ls h
+stim-lasts declared (Leave d) moment ls may h = one-kept LinkLasts d link_left keeps-left ls h
+stim-lasts declared (At t) moment ls may h = each-kept LinkLasts (link_stimulated (Advance t)) (keeps-stimulated (Advance t) tt) ls h
+stim-lasts declared (Of d x) moment ls may h = one-kept LinkLasts d (link_stimulated x) (keeps-stimulated x (within-stimulus x may.1)) ls h
 
 act-lasts : (declared : List Declared) (act : Act) (s : State) → MayAct declared act s → AllLast s.links → AllLast (after_act act s).links
 unfolding after_act after_stim MayAct
@@ -332,15 +318,15 @@ act-lasts declared (Gave app bytes) s may h = h
 act-lasts declared (Gone app bytes) s may h = h
 act-lasts declared (Took app what) s may h = h
 act-lasts declared (Ended app) s may h = h
-act-lasts declared (Sent d bytes) s may h = one d (link_sent bytes) (keeps-sent bytes) s.links h
-act-lasts declared (Got d bytes) s may h = one d link_got keeps-got s.links h
-act-lasts declared (Lost d) s may h = one d link_lost keeps-lost s.links h
+act-lasts declared (Sent d bytes) s may h = one-kept LinkLasts d (link_sent bytes) (keeps-sent bytes) s.links h
+act-lasts declared (Got d bytes) s may h = one-kept LinkLasts d link_got keeps-got s.links h
+act-lasts declared (Lost d) s may h = one-kept LinkLasts d link_lost keeps-lost s.links h
 
 step-lasts : (declared : List Declared) (step : WorldStep) (s : State) → MayStep declared step s → AllLast s.links → AllLast (after_step step s).links
 unfolding after_step MayStep
 step-lasts declared (Acted act) s may h = act-lasts declared act s may h
 step-lasts declared (TookInto app what room) s may h = h
-step-lasts declared (From d bytes) s may h = one d link_told keeps-told s.links h
+step-lasts declared (From d bytes) s may h = one-kept LinkLasts d link_told keeps-told s.links h
 step-lasts declared (Joined d bytes) s may h = h
 step-lasts declared (Left d) s may h = h
 step-lasts declared (Moment t) s may h = h
@@ -349,10 +335,10 @@ step-lasts declared End s may h = h
 step-lasts declared Opened s may h = h
 step-lasts declared NotOpened s may h = h
 step-lasts declared NextFailed s may h = h
-step-lasts declared (SendLost d) s may h = one d link_lost keeps-lost s.links h
-step-lasts declared (RecvLost d) s may h = one d link_lost keeps-lost s.links h
-step-lasts declared (SendFailed d) s may h = one d link_failed keeps-failed s.links h
-step-lasts declared (RecvFailed d) s may h = one d link_failed keeps-failed s.links h
+step-lasts declared (SendLost d) s may h = one-kept LinkLasts d link_lost keeps-lost s.links h
+step-lasts declared (RecvLost d) s may h = one-kept LinkLasts d link_lost keeps-lost s.links h
+step-lasts declared (SendFailed d) s may h = one-kept LinkLasts d link_failed keeps-failed s.links h
+step-lasts declared (RecvFailed d) s may h = one-kept LinkLasts d link_failed keeps-failed s.links h
 
 steps-last : (declared : List Declared) (steps : List WorldStep) (s : State) → MaySteps declared steps s → AllLast s.links → AllLast (after_steps steps s).links
 steps-last declared [] s may h = h
@@ -369,7 +355,7 @@ links-last seen keeps = steps-last seen.given.declared seen.history (at_first se
 
 -- The links are those of the declared switches, in their order.
 pub links-declared : {Own : Type 0} (seen : Seen Own) → map (λ l. l.declared) (state seen).links ≡ seen.given.declared
-links-declared seen = (state-links seen).declared_so
+links-declared seen = (state-links seen).declared_is
 
 -- ---- A switch by its number
 

@@ -23,6 +23,8 @@ use Rattle.outside.specs.laws.CallLaws.{MayStep-at_rest}
 use Rattle.outside.specs.Conforming.{MayBegin, MayStep, MayAct, Conforming}
 use Rattle.net_txn.specs.Net.{NetState}
 use Rattle.switch_laws.specs.laws.OrderlyLaws.{released-still}
+use Rattle.switch_laws.specs.laws.LinkLaws.{links_waits}
+pub use Rattle.batch_laws.specs.laws.UpcomingLaws.{some_same}
 use Rattle.batch_laws.specs.Knowledge.{Knowledge, knowledge_of}
 use Rattle.batch_laws.specs.Told.{Stills}
 use Rattle.batch_laws.specs.Calm.{Calm}
@@ -32,10 +34,8 @@ use Rattle.batch_laws.specs.laws.StimulusLaws.{none-wait}
 use Rattle.batch_laws.specs.laws.UpcomingLaws.{no_message_joined, one_due_by}
 use Rattle.batch_laws.specs.laws.ItemLaws.{links_ascend, none_waiting}
 use Rattle.batch_laws.specs.InBatch.{InBatch, BatchLost, BatchOver, SoFar, GoesOn, CanTake, CanTakeNext, standing}
-use Rattle.batch_laws.specs.laws.HandleLaws.{end_so}
+use Rattle.batch_laws.specs.laws.HandleLaws.{end_is}
 use Rattle.batch_laws.specs.laws.BatchItemLaws.{due_tells, joined_step, due_in, fresh_in, item_fits, loses_none, told_in, none_upcoming, only_idle, lost_in_batch}
-pub use Rattle.batch_laws.specs.laws.BatchItemLaws.{links_switch, links_waits}
-pub use Rattle.batch_laws.specs.laws.UpcomingLaws.{some_same}
 
 -- ---- The beginning
 
@@ -93,7 +93,7 @@ begins x first still may =
       left = still.left;
       text = refl;
       lost = ap losses (journal-append h (Acted (Stim x) ∷ [])) ∙ losses-append (journal h) (journal (Acted (Stim x) ∷ [])) ∙ ap (λ (xs : List ℕ). losses (journal h) ++ xs) (stim_losses x) ∙ append-nil (losses (journal h));
-      stimuli_so = ap stimuli (journal-append h (Acted (Stim x) ∷ [])) ∙ stimuli-append (journal h) (journal (Acted (Stim x) ∷ [])) ∙ ap (λ (xs : List WorldStim). stimuli (journal h) ++ xs) (stim_stimuli x);
+      stimuli_is = ap stimuli (journal-append h (Acted (Stim x) ∷ [])) ∙ stimuli-append (journal h) (journal (Acted (Stim x) ∷ [])) ∙ ap (λ (xs : List WorldStim). stimuli (journal h) ++ xs) (stim_stimuli x);
       acts = λ app. ap (filter (is_of app)) (journal-append h (Acted (Stim x) ∷ [])) ∙ filter-append (is_of app) (journal h) (journal (Acted (Stim x) ∷ []))
           ∙ ap (λ (xs : List Act). filter (is_of app) (journal h) ++ xs) (stim_acts x app) ∙ append-nil (filter (is_of app) (journal h));
       released = released-still first.seen now.seen (Acted (Stim x) ∷ []) refl (refl, tt);
@@ -147,10 +147,10 @@ is_over {first = first} {mid = mid} {new = new} {text = text} given longer none 
     record {
       given = ap (λ (s : Seen _). s.given) same ∙ given;
       to_come = none;
-      state_so = ap state same ∙ state-append first.seen mid (End ∷ []) given longer ∙ end_state (state first.seen);
+      state_is = ap state same ∙ state-append first.seen mid (End ∷ []) given longer ∙ end_state (state first.seen);
       net = handles.does.same;
-      queue = ap (λ (k : Knowledge). k.queue) (handles.knowledge ∙ end_so (knowledge_of first.net first.queue));
-      text = ap (λ (xs : List ℕ). first.text ++ xs) handles.text_so ∙ append-nil first.text;
+      queue = ap (λ (k : Knowledge). k.queue) (handles.knowledge ∙ end_is (knowledge_of first.net first.queue));
+      text = ap (λ (xs : List ℕ). first.text ++ xs) handles.text_is ∙ append-nil first.text;
       acts = ap (λ (s : Seen _). journal s.history) same ∙ end_acts first.seen mid longer;
       orderly = λ app. record { steps = End ∷ []; history = ap (λ (s : Seen _). s.history) same ∙ longer; orderly = (tt, tt) };
     }
@@ -247,7 +247,7 @@ after_loss n {now = now} {new = new} item (Some y) told keeps batch takes is =
     let kept : Conforming mid = Conforming-before told takes.handles.continues keeps in
     let longer = next_history told takes.nexts (Some y) is in
     let may = Conforming-rest now.seen mid (Acted (Stim y) ∷ item_step item takes.buf ∷ []) takes.nexts.given longer kept in
-    let h : true ≡ false = sym batch.begun_so ∙ (may_begin now.seen.given.declared y (state now.seen) may.0).none_begun in
+    let h : true ≡ false = sym batch.begun_is ∙ (may_begin now.seen.given.declared y (state now.seen) may.0).none_begun in
     absurd (true≢false h)
 
 -- it kept its word before
@@ -352,7 +352,7 @@ lost_can {now = now} item buf mid None told keeps batch call is =
     rw (only_idle now.seen.given.declared item buf (none_upcoming before batch) batch may) tt
 lost_can {now = now} item buf mid (Some y) told keeps batch call is =
     let may = Conforming-rest now.seen mid (Acted (Stim y) ∷ item_step item buf ∷ []) call.given (next_history told call (Some y) is) keeps in
-    let h : true ≡ false = sym batch.begun_so ∙ (may_begin now.seen.given.declared y (state now.seen) may.0).none_begun in
+    let h : true ≡ false = sym batch.begun_is ∙ (may_begin now.seen.given.declared y (state now.seen) may.0).none_begun in
     absurd (true≢false h)
 
 further_can : {Own Tells : Type 0} {x : WorldStim} {n : ℕ} {first now : Standing Own} → Tells → Calm first.seen first.net → InBatch x n first now ⊎ ((n ≡ 1) × BatchLost x true first now) → CanTakeNext Tells now.seen

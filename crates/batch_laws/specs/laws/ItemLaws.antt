@@ -42,6 +42,7 @@ use Rattle.net_txn.specs.Views.{rows_at}
 use Rattle.net_txn.specs.Arriving.{arrival_steps}
 use Rattle.net_txn.specs.Joining.{greeting, greeted_from}
 use Rattle.net_txn.specs.JoiningSteps.{JoinsInStep}
+use Rattle.net_txn.specs.laws.SaidLaws.{all_two}
 use Rattle.switch_laws.specs.laws.StandLaws.{state-links}
 use Rattle.lego_model.specs.OrderlySteps.{IsOrderly}
 use Rattle.switch_laws.specs.Released.{ReleasesNone}
@@ -52,7 +53,7 @@ use Rattle.batch_laws.specs.Items.{answers, Untouched, Rests, TakesMessage, Take
 
 -- the links of a world that keeps its word are in order
 pub links_ascend : {Own : Type 0} (seen : Seen Own) → Conforming seen → Ascend 1 (state seen).links
-links_ascend seen keeps = subst (λ (ds : List Declared). AreDeclaredFrom 1 ds) (sym (state-links seen).declared_so) keeps.declared
+links_ascend seen keeps = subst (λ (ds : List Declared). AreDeclaredFrom 1 ds) (sym (state-links seen).declared_is) keeps.declared
 
 pub lower_number : (d e : ℕ) (a b : List ℕ) → Some (From d a) ≡ Some (From e b) → d ≡ e
 lower_number d e a b same = cc
@@ -168,7 +169,7 @@ leaves_all s = record {
   begun = refl;
   due = refl;
   switches = λ d. refl;
-  upcoming_so = refl;
+  upcoming_is = refl;
 }
 
 -- ---- Calls of links
@@ -256,7 +257,7 @@ losses_none (step ∷ steps) all = (tells_by step all.0.0 all.0.1 all.0.2 steps 
 -- ---- What an item leaves, from where it was told
 
 none_done : {Own : Type 0} (mid : Seen Own) → ItemDone mid mid
-none_done mid = record { given = refl; lost = refl; leaves = leaves_all (state mid); stimuli_so = refl; acts = λ app. refl; released = refl; orderly = λ app. orderly-none app mid }
+none_done mid = record { given = refl; lost = refl; leaves = leaves_all (state mid); stimuli_is = refl; acts = λ app. refl; released = refl; orderly = λ app. orderly-none app mid }
 
 untouched_done : {Own : Type 0} (mid new : Seen Own) → new ≡ mid → ItemDone mid new
 untouched_done mid new is = subst (λ (x : Seen _). ItemDone mid x) (sym is) (none_done mid)
@@ -267,7 +268,7 @@ links_done mid new steps given longer all none orderly leaves = record {
   lost = ap (λ (h : List WorldStep). losses (journal h)) longer ∙ ap losses (journal-append mid.history steps) ∙ losses-append (journal mid.history) (journal steps)
       ∙ ap (λ (xs : List ℕ). losses (journal mid.history) ++ xs) (losses_none steps all) ∙ append-nil (losses (journal mid.history));
   leaves = leaves;
-  stimuli_so = ap (λ (h : List WorldStep). stimuli (journal h)) longer ∙ ap stimuli (journal-append mid.history steps) ∙ stimuli-append (journal mid.history) (journal steps)
+  stimuli_is = ap (λ (h : List WorldStep). stimuli (journal h)) longer ∙ ap stimuli (journal-append mid.history steps) ∙ stimuli-append (journal mid.history) (journal steps)
       ∙ ap (λ (xs : List WorldStim). stimuli (journal mid.history) ++ xs) (stimuli_none steps all) ∙ append-nil (stimuli (journal mid.history));
   acts = λ app. ap (λ (h : List WorldStep). filter (is_of app) (journal h)) longer ∙ ap (filter (is_of app)) (journal-append mid.history steps) ∙ filter-append (is_of app) (journal mid.history) (journal steps)
       ∙ ap (λ (xs : List Act). filter (is_of app) (journal mid.history) ++ xs) (acts_none app steps all) ∙ append-nil (filter (is_of app) (journal mid.history));
@@ -302,7 +303,7 @@ still_leaves d bytes still s = record {
   begun = refl;
   due = refl;
   switches = λ e. still_switch d e (link_sent bytes) still s.links;
-  upcoming_so = ap (λ (xs : List WorldStep). s.due ++ xs) (still_waiting d (link_sent bytes) still s.links);
+  upcoming_is = ap (λ (xs : List WorldStep). s.due ++ xs) (still_waiting d (link_sent bytes) still s.links);
 }
 
 IsMessage-echo : (payload : List ℕ) → IsMessage (EchoRequest payload) → IsMessage (EchoReply payload)
@@ -359,10 +360,6 @@ message_done {d = d} {bytes = bytes} {mid = mid} {new = new} told given takes =
 
 -- ---- A switch joins that is empty
 
-all_join : (P : WorldStep → Type 0) (xs ys : List WorldStep) → AllByRecursion P xs → AllByRecursion P ys → AllByRecursion P (xs ++ ys)
-all_join P [] ys first later = later
-all_join P (x ∷ xs) ys first later = (first.0, all_join P xs ys first.1 later)
-
 heard_links : (d : ℕ) (h : Heard) (bytes : List ℕ) → AllByRecursion IsSentOrGot (steps_by d h bytes)
 heard_links d Reply bytes = tt
 heard_links d (Refused r) bytes = tt
@@ -372,12 +369,12 @@ heard_links d Other bytes = tt
 
 wait_links : (a : Awaited) (got : List (List ℕ)) → AllByRecursion IsSentOrGot (wait_steps a got)
 wait_links a [] = tt
-wait_links a (b ∷ bs) = (got_is a.dpid b, all_join IsSentOrGot (steps_by a.dpid (heard a b) b) (wait_steps a bs) (heard_links a.dpid (heard a b) b) (wait_links a bs))
+wait_links a (b ∷ bs) = (got_is a.dpid b, all_two IsSentOrGot (steps_by a.dpid (heard a b) b) (wait_steps a bs) (heard_links a.dpid (heard a b) b) (wait_links a bs))
 
 join_links : (d xid : ℕ) (got : List (List ℕ)) → AllByRecursion IsSentOrGot (greeting d xid ++ (wait_steps (greeted_from d xid) got ++ reply_got (greeted_from d xid) ∷ []))
 join_links d xid got =
     let a = greeted_from d xid in
-    (sent_is d _, (sent_is d _, (sent_is d _, all_join IsSentOrGot (wait_steps a got) (reply_got a ∷ []) (wait_links a got) (got_is d _, tt))))
+    (sent_is d _, (sent_is d _, (sent_is d _, all_two IsSentOrGot (wait_steps a got) (reply_got a ∷ []) (wait_links a got) (got_is d _, tt))))
 
 joins_leave : {Own : Type 0} {d : ℕ} {mid new : Seen Own} {net now_net : NetState} → Conforming mid → Conforming new → Fresh d (state mid) → SameRest (state mid) (state new) → JoinsInStep d mid new net now_net → Leaves (state mid) (state new)
 unfolding upcoming waits_of
@@ -396,7 +393,7 @@ joins_leave {d = d} {mid = mid} {new = new} kept keeps fresh rest steps =
         | inl here ↦ subst (λ (n : ℕ). switch_of n (state new) ≡ switch_of n (state mid)) (sym (eqb-true e d here)) (steps.stays fresh.switch fresh.joined fresh.empty fresh.config ∙ sym fresh.joined)
         | inr other ↦ steps.others e (eqb-false e d other)
       ];
-      upcoming_so = ap₂ (λ (due waits : List WorldStep). due ++ waits) rest.due (after ∙ sym before);
+      upcoming_is = ap₂ (λ (due waits : List WorldStep). due ++ waits) rest.due (after ∙ sym before);
     }
 
 join_done : {Own Tells : Type 0} {d : ℕ} {ports : List PortDesc} {mid new : Seen Own} {net now_net : NetState} → Tells → Conforming mid → Conforming new → new.given ≡ mid.given → Fresh d (state mid)

@@ -29,10 +29,13 @@ use Rattle.outside.specs.Seen.{is_declared}
 use Rattle.outside.specs.State.{Link, State, link_of, switch_in, switch_of, with_link, switch_joined, link_joined, join_due, after_stim, upcoming, declared_in}
 use Rattle.outside.specs.laws.LinkLaws.{link_of-same, link_of-other}
 use Rattle.outside.specs.Conforming.{MayDeclare}
+use Rattle.outside.specs.laws.LinkKeptLaws.{keeps_joined}
 use Rattle.net_txn.specs.declared.ports.KnownPorts.{KnownPorts}
 use Rattle.net_txn.specs.Views.{rows_at, ViewsAscend}
 use Rattle.net_txn.specs.Joining.{with_view}
 use Rattle.net_txn.specs.laws.JoiningLaws.{rows_at-with_view, rows_at-with_view-other}
+use Rattle.net_txn.specs.laws.OrderLaws.{with_view-ascends}
+use Rattle.net_txn.specs.laws.SaidLaws.{all_weaker}
 use Rattle.switch_laws.specs.Shown.{flags_at, shown_switch, places, shown_places}
 use Rattle.batch_laws.specs.Knowledge.{Knowledge, handled, handled_all, joined_by}
 use Rattle.batch_laws.specs.Calm.{known_ports}
@@ -40,13 +43,14 @@ use Rattle.batch_laws.specs.laws.HistoryLaws.{joined-lasts}
 use Rattle.batch_laws.specs.Lasting.{AscendPorts, Lasts, LinkLasts}
 use Rattle.batch_laws.specs.laws.PortTellLaws.{desc-fits}
 use Rattle.batch_laws.specs.LinkTells.{KnownIn}
-use Rattle.batch_laws.specs.laws.ReferenceLaws.{all-each, place-map, flat-one, flat-alike, declared-found, has-link, all-at, none-waiting, waiting-silent}
+use Rattle.batch_laws.specs.laws.ReferenceLaws.{place-map, flat-one, flat-alike, declared-found, has-link, all-at, none-waiting, waiting-silent}
 use Rattle.batch_laws.specs.Waiting.{place_at, events_of_one}
 use Rattle.batch_laws.specs.laws.AfterLaws.{sound-stands}
 use Rattle.batch_laws.specs.After.{Facts, SoundIn, After}
 use Rattle.batch_laws.specs.laws.LeaveTellLaws.{all-known, all-sound, place-of-one}
 use Rattle.batch_laws.specs.Tells.{OnlyOne}
 use Rattle.switch_laws.specs.laws.ShownExchangeLaws.{some_switch}
+use Rattle.switch_laws.specs.laws.ShownUndoLaws.{no-rows}
 
 -- ---- Its FEATURES_REPLY can be read
 
@@ -67,10 +71,6 @@ features-read s small lasts = reading_of-message_bytes 0 (FeaturesReply (feature
 
 -- ---- The switches then
 
-keeps-joined : (moment : ℕ) (l : Link) → (link_joined moment l).declared ≡ l.declared
-unfolding link_joined
-keeps-joined moment l = refl
-
 pub joined-silent : (moment : ℕ) (l : Link) → l.waits ≡ [] → (link_joined moment l).waits ≡ []
 unfolding link_joined
 joined-silent moment l h = h
@@ -85,7 +85,7 @@ module _ (d : ℕ) (s : State) (l : Link) (found : link_of d s.links ≡ Some l)
 
   join-here : switch_of d joined_state ≡ switch_joined s.moment l.declared l.switch
   unfolding switch_of after_stim
-  join-here = ap switch_in (link_of-same d (link_joined s.moment) (keeps-joined s.moment) s.links) ∙ ap (λ (o : Option Link). switch_in (option_map (link_joined s.moment) o)) found ∙ joined-in s.moment l
+  join-here = ap switch_in (link_of-same d (link_joined s.moment) (keeps_joined s.moment) s.links) ∙ ap (λ (o : Option Link). switch_in (option_map (link_joined s.moment) o)) found ∙ joined-in s.moment l
 
   switch-before : switch_of d s ≡ l.switch
   unfolding switch_of
@@ -93,7 +93,7 @@ module _ (d : ℕ) (s : State) (l : Link) (found : link_of d s.links ≡ Some l)
 
   join-other : (e : ℕ) → e ≢ d → switch_of e joined_state ≡ switch_of e s
   unfolding switch_of after_stim
-  join-other e other = ap switch_in (link_of-other d e (link_joined s.moment) (keeps-joined s.moment) other s.links)
+  join-other e other = ap switch_in (link_of-other d e (link_joined s.moment) (keeps_joined s.moment) other s.links)
 
   join-items : (k : Knowledge) → Facts s k → upcoming joined_state ≡ join_due d s.moment (Some l)
   unfolding upcoming after_stim
@@ -121,7 +121,7 @@ join-events d s k l facts declared found =
     let g : ℕ → Option SwitchState = shown_switch k.views s in
     flat-alike (events_at_join d s.moment) (events_of_one d (joins_at s.moment)) (join-event-at d s.moment) (places g (declared_in s.links))
     ∙ flat-one d (joins_at s.moment) g (joins_at s.moment (record { declared = l.declared; switch = g d })) 1 (declared_in s.links) facts.ascend declared
-    (all-each (λ (y : Declared). y.dpid ≡ d → y ≡ l.declared) (λ y. y.dpid ≡ d → joins_at s.moment (place_at g y) ≡ joins_at s.moment (record { declared = l.declared; switch = g d }))
+    (all_weaker (λ (y : Declared). y.dpid ≡ d → y ≡ l.declared) (λ y. y.dpid ≡ d → joins_at s.moment (place_at g y) ≡ joins_at s.moment (record { declared = l.declared; switch = g d }))
     (λ y is same. ap₂ (λ (x : Declared) (n : ℕ). joins_at s.moment (record { declared = x; switch = g n })) (is same) same) (declared_in s.links) (declared-found d 1 s.links l facts.ascend found))
 
 join-places : (d : ℕ) (s : State) (k after : Knowledge) (l : Link) → Facts s k → link_of d s.links ≡ Some l → OnlyOne d s (after_stim (Join d) s) k after
@@ -132,30 +132,13 @@ join-places d s k after l facts found only here =
     let now : State = after_stim (Join d) s in
     let g : ℕ → Option SwitchState = shown_switch k.views s in
     sym (place-map (at_place d (joined s.moment)) g (shown_switch after.views now) (declared_in s.links)
-    (all-each (λ (y : Declared). y.dpid ≡ d → y ≡ l.declared) (λ y. at_place d (joined s.moment) (place_at g y) ≡ place_at (shown_switch after.views now) y)
+    (all_weaker (λ (y : Declared). y.dpid ≡ d → y ≡ l.declared) (λ y. at_place d (joined s.moment) (place_at g y) ≡ place_at (shown_switch after.views now) y)
     (λ y is. place-of-one d s now k after facts only (joined s.moment) y (λ same.
     ap (λ (o : Option SwitchState). record { declared = y; switch = o })
     (ap₂ (λ (x : Declared) (n : ℕ). some_switch (or_joined s.moment x (g n))) (is same) same ∙ sym here ∙ ap (shown_switch after.views now) (sym same)))) (declared_in s.links)
     (declared-found d 1 s.links l facts.ascend found)))
 
 -- ---- What the engine knows then
-
-view-order : (d least : ℕ) (views : List TableView) → least ≤ d → rows_at d views ≡ None → ViewsAscend least views → ViewsAscend least (with_view d views)
-view-order d least [] low none h = (low, tt)
-view-order d least (v ∷ vs) low none h =
-    elim (cases_Bool (v.dpid == d)) [
-      | inl here ↦ absurd (some_is_none v.rows (rw here at none))
-      | inr other ↦ elim (cases_lt v.dpid d) [
-        | inl below ↦ rw (lt-ltb v.dpid d below) (h.0, view-order d (v.dpid + 1) vs (omega (arith, below)) (rw other at none) h.1)
-        | inr above ↦ rw (le-ltb v.dpid d above) (low, (more d v.dpid above (λ same. eqb-false v.dpid d other (sym same)), h.1))
-      ]
-    ]
-  where
-    some_is_none : (rows : List ViewRow) → Some rows ≡ None → ⊥
-    some_is_none rows e = cc
-
-    more : (m n : ℕ) → m ≤ n → (m ≡ n → ⊥) → m + 1 ≤ n
-    more m n le apart = omega (arith, le, apart)
 
 added-here : (d : ℕ) (ps : List PortDesc) (ks : List KnownPorts) → known_ports d ks ≡ None → known_ports d (ks ++ record { dpid = d; ports = ps } ∷ []) ≡ Some ps
 added-here d ps [] none = rw (eq-eqb d d refl) refl
@@ -171,10 +154,6 @@ added-here d ps (k ∷ ks) none =
 added-other : (d e : ℕ) (ps : List PortDesc) (ks : List KnownPorts) → e ≢ d → known_ports e (ks ++ record { dpid = d; ports = ps } ∷ []) ≡ known_ports e ks
 added-other d e ps [] other = rw (ne_eqb d e (λ same. other (sym same))) refl
 added-other d e ps (k ∷ ks) other = ap (λ (o : Option (List PortDesc)). if k.dpid == e then Some k.ports else o) (added-other d e ps ks other)
-
-pub no-rows : (rows : Option (List ViewRow)) → option_map rows_of_view rows ≡ None → rows ≡ None
-no-rows None h = refl
-no-rows (Some rows) h = absurd cc
 
 joined-handled : (d : ℕ) (k : Knowledge) (j : SwitchState) → rows_at d k.views ≡ None → reading_of (features_reply 0 j) ≡ Ok (enveloped 0 (FeaturesReply (features_of j))) → handled (Joined d (features_reply 0 j)) k ≡ joined_by d (FeaturesReply (features_of j)) k
 unfolding handled
@@ -228,7 +207,7 @@ comes d s k l facts declared found number may is =
         agrees = ap (option_map rows_of_view) (rows_at-with_view d k.views);
         ports = added-here d (features_of j).ports k.ports known.ports;
       }));
-      order = view-order d 0 k.views (omega arith) none facts.order;
+      order = with_view-ascends d 0 k.views (omega arith) none facts.order;
       moment = facts.moment;
       sound = all-sound d s now k after facts only (subst SoundIn (sym here) tt);
     })
@@ -242,6 +221,6 @@ pub after-join : (d : ℕ) (s : State) (k : Knowledge) → Facts s k → IsTrue 
 after-join d s k facts declared =
     let h = has-link d s.links declared in
     let l : Link = h.link in
-    let last = all-at LinkLasts d s.links l facts.last h.link_so in
-    subst (λ (list : List WorldStep). After (Join d) s k (handled_all list k)) (sym (join-items d s l h.link_so k facts))
-    (join-by d s k l facts declared h.link_so h.number last.0.may l.switch refl)
+    let last = all-at LinkLasts d s.links l facts.last h.link_is in
+    subst (λ (list : List WorldStep). After (Join d) s k (handled_all list k)) (sym (join-items d s l h.link_is k facts))
+    (join-by d s k l facts declared h.link_is h.number last.0.may l.switch refl)

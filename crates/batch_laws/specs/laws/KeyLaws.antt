@@ -1,7 +1,8 @@
 -- Keys of entries, of notices and of rows: where the entries that go are taken out of a view, and which of them their owners asked for.
 use Rattle.std.proofs.Common.{◌≡◌, ◌==◌, ℕ, ◌+◌, ◌<◌, ◌≤◌, Bool, true, false, not, ◌&&◌, ◌||◌, List, [], ◌∷◌, map, filter, nat_le, Some, refl, sym, ap, ◌∙◌, subst, inl, inr, arith}
-use Rattle.std.proofs.lemmas.Bool.{cases_Bool, eqb-true, eqb-false, eq-eqb, ne_eqb}
+use Rattle.std.proofs.lemmas.Bool.{cases_Bool, eqb-true, eqb-false, eq-eqb, ne_eqb, or_parts}
 use Rattle.std.specs.List.{AllByRecursion, list_any}
+use Rattle.std.proofs.Math.Bool.{or-false}
 use Rattle.of_match.specs.declared.key.Key.{Key}
 use Rattle.of_match.specs.Key.{key_number}
 use Rattle.flow_table.specs.declared.entry.Entry.{Entry}
@@ -13,7 +14,6 @@ use Rattle.lego_model.specs.Answers.{rows_of_table, rows_of_view}
 use Rattle.net_txn.specs.Arriving.{is_asked, without_key}
 use Rattle.switch_laws.specs.Shown.{flags_in}
 use Rattle.batch_laws.specs.Keys.{has_place, Distinct, entry_keys, without_all, AscendRows}
-use Rattle.switch_laws.specs.laws.AbsentLaws.{neither}
 
 -- ---- Lists
 
@@ -83,7 +83,7 @@ distinct-among e (f ∷ fs) new h =
     elim (cases_Bool (nat_le (end_of e) (end_of f))) [
       | inl first ↦ rw first (new, h)
       | inr later ↦
-          let n = neither (key_number e.key == key_number f.key) (has_place e.key (entry_keys fs)) new in
+          let n = or_parts (key_number e.key == key_number f.key) (has_place e.key (entry_keys fs)) new in
           let apart : (key_number f.key == key_number e.key) ≡ false = ne_eqb (key_number f.key) (key_number e.key) (λ same. eqb-false (key_number e.key) (key_number f.key) n.0 (sym same)) in
           rw later (has-among f.key e fs ∙ ap (λ (b : Bool). b || has_place f.key (entry_keys fs)) apart ∙ h.0, distinct-among e fs n.1 h.1)
     ]
@@ -201,10 +201,6 @@ asked-below k least [] h lt = refl
 asked-below k least (r ∷ rs) h lt =
     let apart : (key_number r.key == key_number k) ≡ false = ne_eqb (key_number r.key) (key_number k) (λ same. omega (arith, same, h.0, lt)) in
     rw apart (asked-below k (key_number r.key + 1) rs h.1 (omega (arith, h.0, lt)))
-
-or-false : (a : Bool) → (a || false) ≡ a
-or-false true = refl
-or-false false = refl
 
 -- the owner of a key asked where the flags say so
 pub asked-flags : (k : Key) (least : ℕ) (rows : List ViewRow) → AscendRows least (rows_of_view rows) → is_asked k (Some rows) ≡ asks_notice (flags_in rows k)

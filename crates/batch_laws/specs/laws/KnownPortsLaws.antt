@@ -3,6 +3,7 @@ use Rattle.std.specs.Prelude.{◌≡◌, ◌==◌, ℕ, ◌+◌, ◌≤◌, Bool
 use Rattle.std.specs.Option.{option_map}
 use Rattle.std.proofs.Common.{suc, sym, ap, ◌∙◌, subst, inl, inr, arith}
 use Rattle.std.proofs.lemmas.Bool.{cases_Bool, cases_eq, eqb-true, eq-eqb, ne_eqb}
+use Rattle.std.proofs.lemmas.Option.{same_Some}
 use Rattle.of_types.specs.declared.port_desc.PortDesc.{PortDesc}
 use Rattle.of_wire.specs.declared.bodies.PortStatus.{PortStatus as Status}
 use Rattle.of_wire.specs.declared.message.Message.{Message}
@@ -64,16 +65,9 @@ first_known d (Some s) = refl
 pub known-first : (d : ℕ) (ks : List KnownPorts) (o : Option SwitchState) → ports_lost d ks ≡ ports_known d o → known_ports d ks ≡ option_map ports_of o
 known-first d ks o is = known_first d ks ∙ ap first_of is ∙ first_known d o
 
-ports_one : ℕ → Option (List PortDesc) → List KnownPorts
-ports_one d None = []
-ports_one d (Some ports) = record { dpid = d; ports = ports } ∷ []
-
 no_more : (k : KnownPorts) (ks : List KnownPorts) → length (k ∷ ks) ≤ 1 → ks ≡ []
 no_more k [] few = refl
 no_more k (j ∷ ks) few = absurd (omega (arith, few))
-
-one_value : (a b : List PortDesc) → Some a ≡ Some b → a ≡ b
-one_value a b e = cc
 
 none_known : (d : ℕ) (ks : List KnownPorts) → known_ports d ks ≡ None → ports_lost d ks ≡ []
 none_known d [] is = refl
@@ -89,7 +83,7 @@ one_known d (k ∷ ks) ports few is =
     elim (cases_Bool (k.dpid == d)) [
       | inl here ↦
           let rest : ports_lost d ks ≡ [] = no_more k (ports_lost d ks) (rw here at few) in
-          rw (here, rest) (this k (eqb-true k.dpid d here) (one_value k.ports ports (rw here at is)))
+          rw (here, rest) (this k (eqb-true k.dpid d here) (same_Some k.ports ports (rw here at is)))
       | inr other ↦ rw other (one_known d ks ports (rw other at few) (rw other at is))
     ]
   where

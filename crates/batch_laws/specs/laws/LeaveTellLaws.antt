@@ -4,6 +4,7 @@ use Rattle.std.proofs.lemmas.Bool.{cases_eq, eqb-true, eqb-false, ne_eqb, cases_
 use Rattle.std.proofs.lemmas.List.{append-nil}
 use Rattle.std.specs.Prelude.{IsTrue, is_some}
 use Rattle.std.specs.Option.{option_map}
+use Rattle.std.proofs.lemmas.Option.{same_Some}
 use Rattle.of_types.specs.declared.port_desc.PortDesc.{PortDesc}
 use Rattle.of_types.specs.declared.journal.WorldStim.TheVariants.{Leave}
 use Rattle.of_wire.specs.Spelling.{ports_bytes}
@@ -26,7 +27,7 @@ use Rattle.net_txn.specs.declared.ports.KnownPorts.{KnownPorts}
 use Rattle.net_txn.specs.Views.{rows_at, ViewsAscend}
 use Rattle.net_txn.specs.Leaving.{ports_at, port_text, ports_text}
 use Rattle.switch_laws.specs.Shown.{flags_in, rows_or_none, flags_at, shown_switch, shown_places}
-use Rattle.switch_laws.specs.laws.LossLaws.{rows-gone, rows-stay}
+use Rattle.switch_laws.specs.laws.LossLaws.{rows-gone, rows-stay, text-bytes}
 use Rattle.batch_laws.specs.Knowledge.{Knowledge, is_known, handled, handled_all, left_by}
 use Rattle.batch_laws.specs.Calm.{known_ports}
 use Rattle.batch_laws.specs.LinkTells.{KnownIn, table_rows, StandsWell, StandsIn}
@@ -134,16 +135,9 @@ ports-found : (d : ℕ) (ks : List KnownPorts) (ps : List PortDesc) → known_po
 ports-found d [] ps is = absurd cc
 ports-found d (k ∷ ks) ps is =
     elim (cases_Bool (k.dpid == d)) [
-      | inl here ↦ rw here (one_list k.ports ps (rw here at is))
+      | inl here ↦ rw here (same_Some k.ports ps (rw here at is))
       | inr other ↦ rw other (ports-found d ks ps (rw other at is))
     ]
-  where
-    one_list : (xs ys : List PortDesc) → Some xs ≡ Some ys → xs ≡ ys
-    one_list xs ys e = cc
-
-text-bytes : (ps : List PortDesc) → ports_text ps ≡ ports_bytes ps
-unfolding ports_text port_text
-text-bytes ps = refl
 
 -- the events of a switch that leaves
 leave-events : (d : ℕ) (s : State) (k : Knowledge) → Facts s k → is_declared d (declared_in s.links) ≡ true → events_after (Leave d) s.moment (shown_places (declared_in s.links) k.views s) ≡ left_of (shown_switch k.views s d)

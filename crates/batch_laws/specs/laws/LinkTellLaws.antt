@@ -4,6 +4,7 @@ use Rattle.std.proofs.lemmas.Bool.{cases_Bool, eq-eqb, ne_eqb}
 use Rattle.std.proofs.lemmas.List.{append-nil}
 use Rattle.std.specs.List.{AllByRecursion, flat_map}
 use Rattle.std.specs.Option.{option_map}
+use Rattle.std.proofs.lemmas.Option.{same_Some}
 use Rattle.of_types.specs.declared.port_desc.PortDesc.{PortDesc}
 use Rattle.of_types.specs.declared.journal.Stimulus.{Stimulus}
 use Rattle.of_types.specs.declared.journal.Stimulus.TheVariants.{Frame, Advance, Port, Counts, Raw}
@@ -45,15 +46,12 @@ stimulus-switch d (Raw bytes) s rows k known stands may = raw-switch d bytes s r
 
 record RowsIn (s : SwitchState) (rows : Option (List ViewRow)) : Type 0 where
   list : List ViewRow
-  rows_so : rows ≡ Some list
+  rows_is : rows ≡ Some list
   agrees : rows_of_view list ≡ table_rows s
 
 rows-in : (s : SwitchState) (rows : Option (List ViewRow)) → option_map rows_of_view rows ≡ Some (table_rows s) → RowsIn s rows
 rows-in s None h = absurd cc
-rows-in s (Some list) h = record { list = list; rows_so = refl; agrees = one_value _ _ h }
-  where
-    one_value : {X : Type 0} (a b : X) → Some a ≡ Some b → a ≡ b
-    one_value a b e = cc
+rows-in s (Some list) h = record { list = list; rows_is = refl; agrees = same_Some _ _ h }
 
 abbrev some : {X : Type 0} → X → Option X
 some x = Some x
@@ -70,19 +68,19 @@ switch-step d x None k known stands may = record {
 }
 switch-step d x (Some s) k known stands may =
     let r = rows-in s (rows_at d k.views) known.agrees in
-    let h = stimulus-switch d x s r.list k (record { rows_are = r.rows_so; agrees = r.agrees; ports = known.ports }) stands may in
+    let h = stimulus-switch d x s r.list k (record { rows_are = r.rows_is; agrees = r.agrees; ports = known.ports }) stands may in
     record {
       here = record {
         known = record { agrees = ap (option_map rows_of_view) h.views.here ∙ ap some h.agrees; ports = h.ports };
         shown =
             ap (λ (o : Option (List ViewRow)). some (owned_switch (flags_in (rows_or_none o)) (after_stimulus x s))) h.views.here
             ∙ ap some h.shown
-            ∙ ap (λ (o : Option (List ViewRow)). some (after_stimulus x (owned_switch (flags_in (rows_or_none o)) s))) (sym r.rows_so);
+            ∙ ap (λ (o : Option (List ViewRow)). some (after_stimulus x (owned_switch (flags_in (rows_or_none o)) s))) (sym r.rows_is);
       };
       others = h.views.others;
       others_ports = h.others;
       order = h.views.order;
-      queue = h.queue ∙ ap (λ (o : Option (List ViewRow)). k.queue ++ events_of d (sent_by_stimulus x (owned_switch (flags_in (rows_or_none o)) s))) (sym r.rows_so);
+      queue = h.queue ∙ ap (λ (o : Option (List ViewRow)). k.queue ++ events_of d (sent_by_stimulus x (owned_switch (flags_in (rows_or_none o)) s))) (sym r.rows_is);
       moment = h.moment;
     }
 

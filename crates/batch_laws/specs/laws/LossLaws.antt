@@ -5,6 +5,7 @@ use Rattle.std.specs.Option.{option_map}
 use Rattle.std.proofs.Common.{sym, ap, ap₂, ◌∙◌, subst, inl, inr, true≢false}
 use Rattle.std.proofs.lemmas.Bool.{cases_eq, ne_eqb}
 use Rattle.std.proofs.lemmas.List.{append-nil}
+use Rattle.std.proofs.lemmas.Option.{same_Some, none-some}
 use Rattle.of_types.specs.declared.journal.Stimulus.{Stimulus}
 use Rattle.of_types.specs.declared.journal.WorldStim.{WorldStim}
 use Rattle.of_types.specs.declared.journal.WorldStim.TheVariants.{Join, Of}
@@ -29,7 +30,7 @@ use Rattle.outside.specs.State.{State, switch_of, after_stim, upcoming, state, l
 use Rattle.outside.specs.Conforming.{AreDeclaredFrom, IsWorldStim, Conforming}
 use Rattle.net_txn.specs.declared.ports.KnownPorts.{KnownPorts}
 use Rattle.net_txn.specs.Net.{NetState}
-use Rattle.net_txn.specs.Agreement.{Agrees}
+use Rattle.net_txn.specs.ChangeSteps.{Agrees}
 use Rattle.net_txn.specs.Views.{rows_at, ViewsAscend}
 use Rattle.net_txn.specs.laws.JoiningLaws.{rows_at-with_view-other}
 use Rattle.switch_laws.specs.Shown.{flags_in, rows_or_none, flags_at, shown_switch, places, shown_places}
@@ -85,13 +86,10 @@ module _ (d : ℕ) (s now : State) (k after : Knowledge) (out : OutOf d s now k 
         | inr other ↦ out.others_ports e other ∙ known e ∙ sym (ap (ports_known e) (out.others e other))
       ]
 
-  none_some : (x : SwitchState) → None ≡ Some x → ⊥
-  none_some x e = cc
-
   sound-out : Sound s → Sound now
   sound-out sound = record {
     entries = λ e x is. elim (cases_eq e d) [
-      | inl same ↦ absurd (none_some x (sym out.switch ∙ subst (λ (n : ℕ). switch_of n now ≡ Some x) same is))
+      | inl same ↦ absurd (none-some x (sym out.switch ∙ subst (λ (n : ℕ). switch_of n now ≡ Some x) same is))
       | inr other ↦ sound.entries e x (sym (out.others e other) ∙ is)
     ];
   }
@@ -100,14 +98,14 @@ module _ (d : ℕ) (s now : State) (k after : Knowledge) (out : OutOf d s now k 
 lost-by : {Own : Type 0} (x : WorldStim) (d : ℕ) (seen new : Seen Own) (net : NetState) (queue : List Event) (k after : Knowledge) → Conforming seen → is_declared d seen.given.declared ≡ true → StimulusHandled x seen net queue k
     → OutOf d (after_stim x (state seen)) (state new) k after → after.queue ≡ queue ++ left_at x d (places_after x (state seen).moment (shown_places seen.given.declared net.views (state seen))) → StimulusLost x d seen new net queue after
 unfolding shown_places
-lost-by x d seen new net queue k after keeps declared handled out queue_so =
+lost-by x d seen new net queue k after keeps declared handled out queue_is =
     let s = after_stim x (state seen) in
     let now = state new in
     let ds = seen.given.declared in
     record {
       after = places_after x (state seen).moment (places (shown_switch net.views (state seen)) ds);
-      after_so = refl;
-      queue_so = queue_so;
+      after_is = refl;
+      queue_is = queue_is;
       places = sym (with_place-places (shown_switch k.views s) (shown_switch after.views now) d (λ o. None) 1 ds keeps.declared declared (shown-out d s now k after out) (shown-others d s now k after out))
           ∙ ap (λ (ps : List Place). with_place d (λ o. None) ps) handled.places;
       agrees = agrees-out d s now k after out handled.agrees;
@@ -156,12 +154,9 @@ echo-left d ds views s ports declared number known =
     ∙ left-known d (shown_switch views s d) (λ y is. owned-number (switch_of d s) y number is)
     ∙ ap left_of (sym (switch_at-declared (shown_switch views s) d ds declared))
   where
-    one_switch : (a b : SwitchState) → Some a ≡ Some b → a ≡ b
-    one_switch a b e = cc
-
     owned-number : (o : Option SwitchState) (y : SwitchState) → ((z : SwitchState) → o ≡ Some z → z.declared.dpid ≡ d) → option_map (owned_switch (flags_at d views)) o ≡ Some y → y.declared.dpid ≡ d
     owned-number None y each is = absurd cc
-    owned-number (Some z) y each is = ap (λ (w : SwitchState). w.declared.dpid) (sym (one_switch (owned_switch (flags_at d views) z) y is)) ∙ each z refl
+    owned-number (Some z) y each is = ap (λ (w : SwitchState). w.declared.dpid) (sym (same_Some (owned_switch (flags_at d views) z) y is)) ∙ each z refl
 
 -- ---- Either
 

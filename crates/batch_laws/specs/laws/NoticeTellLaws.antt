@@ -1,10 +1,11 @@
 -- What the engine knows after a moment: of the entries that went those are events whose owners asked for a notice, and the view is without all
 -- of them.
 use Rattle.std.proofs.Common.{◌≡◌, ◌==◌, ℕ, ◌+◌, ◌^◌, ◌<◌, Bool, true, false, not, ◌&&◌, List, [], ◌∷◌, ◌++◌, map, filter, Option, Some, None, Ok, refl, sym, ap, ap₂, ◌∙◌, subst, inl, inr, arith, append_assoc}
-use Rattle.std.proofs.lemmas.Bool.{cases_Bool, and_parts}
+use Rattle.std.proofs.lemmas.Bool.{cases_Bool, and_parts, or_parts}
 use Rattle.std.proofs.lemmas.List.{append-nil}
 use Rattle.std.proofs.lemmas.List.Elements.{filter_map-append}
 use Rattle.std.specs.List.{AllByRecursion}
+use Rattle.std.proofs.Math.Bool.{and-true}
 use Rattle.of_types.specs.declared.journal.Stimulus.TheVariants.{Advance}
 use Rattle.of_match.specs.declared.key.Key.{Key}
 use Rattle.of_match.specs.Key.{key_number}
@@ -40,7 +41,6 @@ use Rattle.switch_laws.specs.laws.SoundLaws.{notice-message}
 use Rattle.batch_laws.specs.Knowledge.{Knowledge, told_read, handled, handled_all}
 use Rattle.batch_laws.specs.Calm.{known_ports}
 use Rattle.batch_laws.specs.laws.KeyLaws.{all-both, all-filter, all-map, all-by_deadline, filter-alike, has-by_deadline, distinct-by_deadline, distinct-filter, has-filter, without_all-filter, view-filter, table-filter, flags-kept, rows-ascend, asked-flags, asked-without}
-use Rattle.switch_laws.specs.laws.AbsentLaws.{neither}
 use Rattle.batch_laws.specs.Keys.{has_place, Distinct, entry_keys, notice_keys, without_all, AscendRows}
 use Rattle.batch_laws.specs.laws.TellLaws.{known-handled, is-known}
 use Rattle.batch_laws.specs.Tells.{ViewChanged, SwitchHandled, SwitchKnown}
@@ -87,7 +87,7 @@ AskedAs flags rows n = is_asked n.removed.key (Some rows) ≡ asks_notice (flags
 asked-later : (flags : Key → ℕ) (j : Key) (rows : List ViewRow) (ns : List Notice) → has_place j (notice_keys ns) ≡ false → AllByRecursion (AskedAs flags rows) ns → AllByRecursion (AskedAs flags (without_key j rows)) ns
 asked-later flags j rows [] new h = tt
 asked-later flags j rows (n ∷ ns) new h =
-    let parts = neither (key_number j == key_number n.removed.key) (has_place j (notice_keys ns)) new in
+    let parts = or_parts (key_number j == key_number n.removed.key) (has_place j (notice_keys ns)) new in
     (asked-without n.removed.key j rows parts.0 ∙ h.0, asked-later flags j rows ns parts.1 h.1)
 
 notice-handled : (flags : Key → ℕ) (d : ℕ) (n : Notice) (rows : List ViewRow) (k : Knowledge) → ReadNotice n → AskedAs flags rows n → rows_at d k.views ≡ Some rows
@@ -194,10 +194,6 @@ goes t e = is_due t e && asks_notice e.flags
 
 due-goes : (t : ℕ) (e : Entry) → SoundEntry e → goes t e ≡ is_due t e
 due-goes t e is = ap (λ (b : Bool). is_due t e && b) is.asks ∙ and-true (is_due t e)
-  where
-    and-true : (a : Bool) → (a && true) ≡ a
-    and-true true = refl
-    and-true false = refl
 
 abbrev going : ℕ → List Entry → List Entry
 going t es = by_deadline (filter (goes t) es)

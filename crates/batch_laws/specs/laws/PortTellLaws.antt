@@ -5,6 +5,7 @@ use Rattle.std.proofs.lemmas.List.{append-nil, length-replicate}
 use Rattle.std.proofs.lemmas.Fmt.{length-decimal-le}
 use Rattle.std.specs.Prelude.{is_none, codes, replicate}
 use Rattle.std.specs.Fmt.{decimal}
+use Rattle.std.proofs.lemmas.Option.{same_Some}
 use Rattle.of_types.specs.Fields.{number_bytes}
 use Rattle.of_types.specs.laws.FieldLaws.{length-number_bytes}
 use Rattle.of_types.specs.Layout.{AreFields}
@@ -77,15 +78,12 @@ known-here : (d : ℕ) (status : Status) (ks : List KnownPorts) (ps : List PortD
 known-here d status [] ps is = absurd cc
 known-here d status (k ∷ ks) ps is =
     elim (cases_Bool (k.dpid == d)) [
-      | inl here ↦ rw here (rw here (ap (λ (xs : List PortDesc). some_ports (ports_after status xs)) (one_list k.ports ps (rw here at is))))
+      | inl here ↦ rw here (rw here (ap (λ (xs : List PortDesc). some_ports (ports_after status xs)) (same_Some k.ports ps (rw here at is))))
       | inr other ↦ rw other (rw other (known-here d status ks ps (rw other at is)))
     ]
   where
     some_ports : List PortDesc → Option (List PortDesc)
     some_ports xs = Some xs
-
-    one_list : (xs ys : List PortDesc) → Some xs ≡ Some ys → xs ≡ ys
-    one_list xs ys e = cc
 
 known-other : (d e : ℕ) (status : Status) (ks : List KnownPorts) → e ≢ d → known_ports e (known_after d status ks) ≡ known_ports e ks
 known-other d e status [] other = refl

@@ -4,6 +4,7 @@ use Rattle.std.proofs.lemmas.Bool.{cases_Bool, eqb-true, eqb-false, eq-eqb, ne_e
 use Rattle.std.proofs.lemmas.List.{append-nil}
 use Rattle.std.specs.List.{AllByRecursion, flat_map}
 use Rattle.std.specs.Option.{option_map}
+use Rattle.std.proofs.lemmas.Option.{same_Some}
 use Rattle.of_types.specs.declared.journal.Stimulus.{Stimulus}
 use Rattle.flow_table.specs.View.{TableView}
 use Rattle.flow_table.specs.Switch.{Declared, SwitchState}
@@ -19,16 +20,13 @@ use Rattle.outside.specs.Conforming.{AreDeclaredFrom}
 use Rattle.switch_laws.specs.Shown.{flags_at, places}
 use Rattle.batch_laws.specs.LinkTells.{items_of, seen_events}
 use Rattle.batch_laws.specs.Waiting.{place_at, events_of_one, HasLink, waiting, NoneWait}
+use Rattle.net_txn.specs.laws.SaidLaws.{all_weaker}
 
 -- ---- Lists
 
 pub all-of : {X : Type 0} (P : X → Type 0) → ((x : X) → P x) → (xs : List X) → AllByRecursion P xs
 all-of P each [] = tt
 all-of P each (x ∷ xs) = (each x, all-of P each xs)
-
-pub all-each : {X : Type 0} (P Q : X → Type 0) → ((x : X) → P x → Q x) → (xs : List X) → AllByRecursion P xs → AllByRecursion Q xs
-all-each P Q each [] h = tt
-all-each P Q each (x ∷ xs) h = (each x h.0, all-each P Q each xs h.1)
 
 -- ---- Places
 
@@ -69,12 +67,12 @@ events-links x g views (l ∷ ls) h = ap₂ (λ (o : Option SwitchState) es. sen
 
 all-from : (least : ℕ) (ds : List Declared) → AreDeclaredFrom least ds → AllByRecursion (λ d. least ≤ d.dpid) ds
 all-from least [] are = tt
-all-from least (d ∷ ds) are = (are.0, all-each (λ x. d.dpid + 1 ≤ x.dpid) (λ x. least ≤ x.dpid) (λ x low. omega (arith, low, are.0)) ds (all-from (d.dpid + 1) ds are.2))
+all-from least (d ∷ ds) are = (are.0, all_weaker (λ x. d.dpid + 1 ≤ x.dpid) (λ x. least ≤ x.dpid) (λ x low. omega (arith, low, are.0)) ds (all-from (d.dpid + 1) ds are.2))
 
 links-from : (least : ℕ) (ls : List Link) → AreDeclaredFrom least (declared_in ls) → AllByRecursion (λ l. least ≤ l.declared.dpid) ls
 links-from least [] are = tt
 links-from least (l ∷ ls) are =
-    (are.0, all-each (λ m. l.declared.dpid + 1 ≤ m.declared.dpid) (λ m. least ≤ m.declared.dpid) (λ m low. omega (arith, low, are.0)) ls (links-from (l.declared.dpid + 1) ls are.2))
+    (are.0, all_weaker (λ m. l.declared.dpid + 1 ≤ m.declared.dpid) (λ m. least ≤ m.declared.dpid) (λ m low. omega (arith, low, are.0)) ls (links-from (l.declared.dpid + 1) ls are.2))
 
 -- each link is found under its number
 pub links-found : (least : ℕ) (ls : List Link) → AreDeclaredFrom least (declared_in ls) → AllByRecursion (λ l. link_of l.declared.dpid ls ≡ Some l) ls
@@ -99,10 +97,10 @@ declared-found d least [] l are is = tt
 declared-found d least (m ∷ ms) l are is =
     elim (cases_Bool (m.declared.dpid == d)) [
       | inl here ↦
-          let this : m ≡ l = one_link m l (rw here at is) in
+          let this : m ≡ l = same_Some m l (rw here at is) in
           let e : m.declared.dpid ≡ d = eqb-true m.declared.dpid d here in (
             (λ same. ap (λ (y : Link). y.declared) this),
-            all-each (λ x. m.declared.dpid + 1 ≤ x.dpid) (λ x. x.dpid ≡ d → x ≡ l.declared) (λ x low same. absurd (apart x e low same)) (declared_in ms) (all-from (m.declared.dpid + 1) (declared_in ms) are.2),
+            all_weaker (λ x. m.declared.dpid + 1 ≤ x.dpid) (λ x. x.dpid ≡ d → x ≡ l.declared) (λ x low same. absurd (apart x e low same)) (declared_in ms) (all-from (m.declared.dpid + 1) (declared_in ms) are.2),
           )
       | inr other ↦ (
         (λ same. absurd (eqb-false m.declared.dpid d other same)),
@@ -110,9 +108,6 @@ declared-found d least (m ∷ ms) l are is =
       )
     ]
   where
-    one_link : (a b : Link) → Some a ≡ Some b → a ≡ b
-    one_link a b e = cc
-
     apart : (x : Declared) → m.declared.dpid ≡ d → m.declared.dpid + 1 ≤ x.dpid → x.dpid ≡ d → ⊥
     apart x e low same = omega (arith, e, low, same)
 
@@ -120,10 +115,10 @@ pub has-link : (d : ℕ) (ls : List Link) → is_declared d (declared_in ls) ≡
 has-link d [] is = absurd cc
 has-link d (l ∷ ls) is =
     elim (cases_Bool (l.declared.dpid == d)) [
-      | inl here ↦ record { link = l; link_so = rw here refl; number = eqb-true l.declared.dpid d here }
+      | inl here ↦ record { link = l; link_is = rw here refl; number = eqb-true l.declared.dpid d here }
       | inr other ↦
           let h = has-link d ls (rw other at is) in
-          record { link = h.link; link_so = rw other h.link_so; number = h.number }
+          record { link = h.link; link_is = rw other h.link_is; number = h.number }
     ]
 
 -- what all links have in common has the one of a number
@@ -132,13 +127,10 @@ all-at P d [] l h is = absurd cc
 all-at P d (m ∷ ms) l h is =
     elim (cases_Bool (m.declared.dpid == d)) [
       | inl here ↦
-          let this : m ≡ l = one_link m l (rw here at is) in
+          let this : m ≡ l = same_Some m l (rw here at is) in
           (subst P this h.0, ap (λ (y : Link). y.declared.dpid) (sym this) ∙ eqb-true m.declared.dpid d here)
       | inr other ↦ all-at P d ms l h.1 (rw other at is)
     ]
-  where
-    one_link : (a b : Link) → Some a ≡ Some b → a ≡ b
-    one_link a b e = cc
 
 pub link_of-map : (g : Link → Link) → ((l : Link) → (g l).declared ≡ l.declared) → (d : ℕ) (ls : List Link) → link_of d (map g ls) ≡ option_map g (link_of d ls)
 link_of-map g keeps d [] = refl

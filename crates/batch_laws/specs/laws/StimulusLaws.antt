@@ -2,6 +2,7 @@
 -- that wait are what the reference controller has.
 use Rattle.std.proofs.Common.{◌≡◌, ℕ, List, [], ◌++◌, Option, Some, None, Result, Ok, Err, refl, sym, ap, ◌∙◌, subst, arith}
 use Rattle.std.specs.List.{AllByRecursion}
+use Rattle.std.proofs.lemmas.Option.{same_Some}
 use Rattle.of_types.specs.Fields.{IsBytes}
 use Rattle.of_types.specs.declared.journal.WorldStim.{WorldStim}
 use Rattle.of_types.specs.declared.journal.WorldStim.TheVariants.{Join, Leave, At, Of}
@@ -20,6 +21,7 @@ use Rattle.outside.specs.Seen.{Seen}
 use Rattle.outside.specs.State.{Link, State, link_of, waits_in, waits_of, switch_of, after_stim, upcoming, state, declared_in}
 use Rattle.outside.specs.Conforming.{AreDeclaredFrom, IsWorldStim, Conforming}
 use Rattle.net_txn.specs.Net.{NetState}
+use Rattle.net_txn.specs.laws.SaidLaws.{all_weaker}
 use Rattle.switch_laws.specs.Shown.{shown_places}
 use Rattle.switch_laws.specs.Sound.{AllSound}
 use Rattle.switch_laws.specs.laws.StandLaws.{all-stand}
@@ -28,7 +30,7 @@ use Rattle.batch_laws.specs.Calm.{Calm}
 use Rattle.batch_laws.specs.laws.HistoryLaws.{links-last, links-declared, switch-lasts}
 use Rattle.batch_laws.specs.Tells.{FitsMessage, FitsRead, FitsItem, StimulusHandled}
 use Rattle.batch_laws.specs.LinkTells.{StandsIn}
-use Rattle.batch_laws.specs.laws.ReferenceLaws.{all-each, links-found}
+use Rattle.batch_laws.specs.laws.ReferenceLaws.{links-found}
 use Rattle.batch_laws.specs.Waiting.{NoneWait}
 use Rattle.batch_laws.specs.laws.AfterLaws.{after-moment, after-happened}
 use Rattle.batch_laws.specs.After.{Facts, SoundIn, After}
@@ -80,7 +82,7 @@ stands-by seen net keeps calm d (Some y) is =
 pub none-wait : (s : State) → AreDeclaredFrom 1 (declared_in s.links) → ((d : ℕ) → waits_of d s ≡ []) → NoneWait s.links
 unfolding waits_of
 none-wait s ascend waits =
-    all-each (λ (l : Link). link_of l.declared.dpid s.links ≡ Some l) (λ l. l.waits ≡ []) (λ l is. sym (ap waits_in is) ∙ waits l.declared.dpid) s.links (links-found 1 s.links ascend)
+    all_weaker (λ (l : Link). link_of l.declared.dpid s.links ≡ Some l) (λ l. l.waits ≡ []) (λ l is. sym (ap waits_in is) ∙ waits l.declared.dpid) s.links (links-found 1 s.links ascend)
 
 pub facts-before : {Own : Type 0} (seen : Seen Own) (net : NetState) (queue : List Event) → Conforming seen → Calm seen net → Facts (state seen) (knowledge_of net queue)
 facts-before seen net queue keeps calm =
@@ -107,17 +109,14 @@ after-each (Of d x) s k facts may fits = after-happened d x s k facts may.0 may.
 
 sound-by : (o : Option SwitchState) (y : SwitchState) → SoundIn o → o ≡ Some y → AllSound y.table.entries
 sound-by None y sound is = absurd cc
-sound-by (Some z) y sound is = subst (λ (w : SwitchState). AllSound w.table.entries) (one_switch z y is) sound
-  where
-    one_switch : (a b : SwitchState) → Some a ≡ Some b → a ≡ b
-    one_switch a b e = cc
+sound-by (Some z) y sound is = subst (λ (w : SwitchState). AllSound w.table.entries) (same_Some z y is) sound
 
 handled-by : {Own : Type 0} (x : WorldStim) (seen : Seen Own) (net : NetState) (queue : List Event) (k : Knowledge) → KnowsOnce k → After x (state seen) (knowledge_of net queue) k → StimulusHandled x seen net queue k
 handled-by x seen net queue k once after =
     let s : State = state seen in
     let same = links-declared seen in
     record {
-      queue_so = subst (λ (ds : List Declared). k.queue ≡ queue ++ events_after x s.moment (shown_places ds net.views s)) same after.queue;
+      queue_is = subst (λ (ds : List Declared). k.queue ≡ queue ++ events_after x s.moment (shown_places ds net.views s)) same after.queue;
       places = subst (λ (ds : List Declared). shown_places ds k.views (after_stim x s) ≡ places_after x s.moment (shown_places ds net.views s)) same after.places;
       agrees = λ d. (after.known d).agrees;
       known = λ d. known-once d k (switch_of d (after_stim x s)) once (after.known d).ports;

@@ -10,6 +10,7 @@ use Rattle.outside.specs.declared.step.WorldStep.{WorldStep}
 use Rattle.outside.specs.declared.step.WorldStep.TheVariants.{From, Joined, Left, Moment}
 use Rattle.outside.specs.State.{Link, State, link_of, waits_in, switch_in, waits_of, switch_of, is_joined, with_link, switch_joined, link_joined, join_due, due_of, after_stim}
 use Rattle.outside.specs.laws.LinkLaws.{link_of-same, link_of-other}
+use Rattle.outside.specs.laws.LinkKeptLaws.{keeps_joined}
 use Rattle.batch_laws.specs.Items.{waiting, Fresh}
 
 -- ---- What is upcoming
@@ -86,15 +87,11 @@ unfolding link_joined
 joined_link moment None = refl
 joined_link moment (Some l) = refl
 
-joined_declared : (moment : ℕ) (l : Link) → (link_joined moment l).declared ≡ l.declared
-unfolding link_joined
-joined_declared moment l = refl
-
 join_waits : (d e moment : ℕ) (ls : List Link) → waits_in (link_of e (with_link d (link_joined moment) ls)) ≡ waits_in (link_of e ls)
 join_waits d e moment ls =
     elim (cases_Bool (e == d)) [
-      | inl here ↦ subst (λ (n : ℕ). waits_in (link_of n (with_link d (link_joined moment) ls)) ≡ waits_in (link_of n ls)) (sym (eqb-true e d here)) (ap waits_in (link_of-same d (link_joined moment) (joined_declared moment) ls) ∙ joined_link moment (link_of d ls))
-      | inr other ↦ ap waits_in (link_of-other d e (link_joined moment) (joined_declared moment) (eqb-false e d other) ls)
+      | inl here ↦ subst (λ (n : ℕ). waits_in (link_of n (with_link d (link_joined moment) ls)) ≡ waits_in (link_of n ls)) (sym (eqb-true e d here)) (ap waits_in (link_of-same d (link_joined moment) (keeps_joined moment) ls) ∙ joined_link moment (link_of d ls))
+      | inr other ↦ ap waits_in (link_of-other d e (link_joined moment) (keeps_joined moment) (eqb-false e d other) ls)
     ]
 
 joined_switch : (moment : ℕ) (l : Link) → is_some l.switch ≡ false → (link_joined moment l).switch ≡ Some (joined_at moment l.declared)
@@ -127,7 +124,7 @@ unfolding after_stim waits_of switch_of
 joins_fresh d s none now = record {
   waits = λ e. join_waits d e s.moment s.links ∙ none e;
   switch = joined_at s.moment now.link.declared;
-  joined = ap switch_in (link_of-same d (link_joined s.moment) (joined_declared s.moment) s.links) ∙ ap (λ (o : Option Link). switch_in (option_map (link_joined s.moment) o)) now.found ∙ joined_switch s.moment now.link now.out;
+  joined = ap switch_in (link_of-same d (link_joined s.moment) (keeps_joined s.moment) s.links) ∙ ap (λ (o : Option Link). switch_in (option_map (link_joined s.moment) o)) now.found ∙ joined_switch s.moment now.link now.out;
   empty = refl;
   config = refl;
 }

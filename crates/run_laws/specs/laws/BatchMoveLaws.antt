@@ -86,7 +86,7 @@ calm-lost x first now none l h = record {
   order = h.order;
   kept = l.kept;
   moment = h.moment ∙ sym l.stays.moment;
-  none_begun = l.begun_so;
+  none_begun = l.begun_is;
   none_due = l.due;
   held = l.held ∙ none;
   left = l.left;
@@ -155,18 +155,18 @@ happens-stands {Own} x first now e ss rs later r same_net same_queue done keeps_
     let declared : new.given.declared ≡ old.given.declared = ap (λ (g : Given Own). g.declared) done.given in
     let before : r.places ≡ shown_places old.given.declared first.net.views (state old) = s.places ∙ ap (λ (n : NetState). shown_places old.given.declared n.views (state old)) same_net in
     let own : own_acts new ≡ own_acts old = done.acts index in
-    subst (Stands new (engine_then e now.net now.queue) ss rs later) (sym (happen-by x r None (flag-so false later r x s.losses_so ∙ no_flag x))) (record {
+    subst (Stands new (engine_then e now.net now.queue) ss rs later) (sym (happen-by x r None (flag-so false later r x s.losses_is ∙ no_flag x))) (record {
       calm = calm-then x first now (subst (λ (n : NetState). n.held ≡ []) same_net s.calm.held) done h;
       moment = ap (moment_after x) s.moment ∙ sym (moment-then x (state old)) ∙ sym done.stays.moment;
       places = ap₂ (λ (m : ℕ) (ps : List Place). places_after x m ps) s.moment before ∙ sym h.places
           ∙ sym (shown-still old.given.declared now.net.views (after_stim x (state old)) (state new) done.switches)
           ∙ ap (λ (ds : List Declared). shown_places ds now.net.views (state new)) (sym declared);
-      queue = ap₂ (λ (q : List Event) (more : List Event). q ++ more) (s.queue ∙ same_queue) (ap₂ (λ (m : ℕ) (ps : List Place). events_after x m ps) s.moment before) ∙ sym h.queue_so;
+      queue = ap₂ (λ (q : List Event) (more : List Event). q ++ more) (s.queue ∙ same_queue) (ap₂ (λ (m : ℕ) (ps : List Place). events_after x m ps) s.moment before) ∙ sym h.queue_is;
       events = s.events;
       apps = s.apps ∙ ap (λ (given : List (List ℕ)). app_at (engine_then e now.net now.queue) given ss rs ∷ []) (sym (inputs-same old new own));
       released = s.released ∙ sym done.released;
       lost = s.lost ∙ sym done.lost;
-      losses_so = ap batch_fewer s.losses_so;
+      losses_is = ap batch_fewer s.losses_is;
       marks = marks-stand x first now e ss rs (ahead (false ∷ []) [] later) r keeps_old same_net done.stays s;
       life = λ alive. subst LastStands (sym own) (s.life alive);
     })
@@ -180,18 +180,18 @@ lost-stands {Own} x first now e ss rs later r same_net same_queue l keeps_old h 
     let d = l.dpid in
     let declared : new.given.declared ≡ old.given.declared = ap (λ (g : Given Own). g.declared) l.given in
     let before : r.places ≡ shown_places old.given.declared first.net.views (state old) = s.places ∙ ap (λ (n : NetState). shown_places old.given.declared n.views (state old)) same_net in
-    let after_so : places_after x r.moment r.places ≡ h.after = ap₂ (λ (m : ℕ) (ps : List Place). places_after x m ps) s.moment before ∙ sym h.after_so in
+    let after_is : places_after x r.moment r.places ≡ h.after = ap₂ (λ (m : ℕ) (ps : List Place). places_after x m ps) s.moment before ∙ sym h.after_is in
     let own : own_acts new ≡ own_acts old = l.acts index in
-    subst (Stands new (engine_then e now.net now.queue) ss rs later) (sym (happen-by x r (Some d) (flag-so true later r x s.losses_so ∙ l.of_stimulus))) (record {
+    subst (Stands new (engine_then e now.net now.queue) ss rs later) (sym (happen-by x r (Some d) (flag-so true later r x s.losses_is ∙ l.of_stimulus))) (record {
       calm = calm-lost x first now (subst (λ (n : NetState). n.held ≡ []) same_net s.calm.held) l h;
       moment = ap (moment_after x) s.moment ∙ sym (moment-then x (state old)) ∙ sym l.stays.moment;
-      places = ap (with_place d (λ o. None)) after_so ∙ sym h.places ∙ ap (λ (ds : List Declared). shown_places ds now.net.views (state new)) (sym declared);
-      queue = ap₂ (λ (q : List Event) (ps : List Place). q ++ left_at x d ps) (s.queue ∙ same_queue) after_so ∙ sym h.queue_so;
+      places = ap (with_place d (λ o. None)) after_is ∙ sym h.places ∙ ap (λ (ds : List Declared). shown_places ds now.net.views (state new)) (sym declared);
+      queue = ap₂ (λ (q : List Event) (ps : List Place). q ++ left_at x d ps) (s.queue ∙ same_queue) after_is ∙ sym h.queue_is;
       events = s.events;
       apps = s.apps ∙ ap (λ (given : List (List ℕ)). app_at (engine_then e now.net now.queue) given ss rs ∷ []) (sym (inputs-same old new own));
       released = s.released ∙ sym l.released;
       lost = ap (λ (ds : List ℕ). ds ++ d ∷ []) s.lost ∙ sym l.lost;
-      losses_so = ap batch_fewer s.losses_so;
+      losses_is = ap batch_fewer s.losses_is;
       marks = marks-stand x first now e ss rs (ahead (true ∷ []) [] later) r keeps_old same_net l.stays s;
       life = λ alive. subst LastStands (sym own) (s.life alive);
     })
@@ -222,7 +222,7 @@ talks-still Tells old new e net queue told later settled own calm orderly =
       life = λ alive. subst LastStands (sym own) (settled.life alive);
       speaks = record {
         at_once = others_at_once old new steps (later.told told).1 (none-own old new steps (later.told told).1 own) settled.speaks.at_once;
-        rest_so = settled.speaks.rest_so;
+        rest_is = settled.speaks.rest_is;
       };
       orderly = orderly-whole index old new settled.orderly orderly;
     }
@@ -249,9 +249,9 @@ batch-happens Tells x text first now e told later keeps_old settled same_net sam
           given = done.given;
           read_starts = ap (λ (acts : List Act). starts_in acts) own ∙ sym (append-nil (starts_in (own_acts old)));
           read_replies = ap (λ (acts : List Act). replies_in acts) own ∙ sym (append-nil (replies_in (own_acts old)));
-          read_stimuli = done.stimuli_so;
-          stands = λ ss rs more r starts_so replies_so s. happens-stands x first now e ss rs more r same_net same_queue done keeps_old h s;
-          says = λ ss rs more r starts_so replies_so s. happen-text x more r s.losses_so;
+          read_stimuli = done.stimuli_is;
+          stands = λ ss rs more r starts_is replies_is s. happens-stands x first now e ss rs more r same_net same_queue done keeps_old h s;
+          says = λ ss rs more r starts_is replies_is s. happen-text x more r s.losses_is;
         };
       };
     })
@@ -274,9 +274,9 @@ batch-happens Tells x text first now e told later keeps_old settled same_net sam
           given = l.given;
           read_starts = ap (λ (acts : List Act). starts_in acts) own ∙ sym (append-nil (starts_in (own_acts old)));
           read_replies = ap (λ (acts : List Act). replies_in acts) own ∙ sym (append-nil (replies_in (own_acts old)));
-          read_stimuli = l.stimuli_so;
-          stands = λ ss rs more r starts_so replies_so s. lost-stands x first now e ss rs more r same_net same_queue l keeps_old h s;
-          says = λ ss rs more r starts_so replies_so s. lost-text x l.dpid more r l.of_stimulus s.losses_so;
+          read_stimuli = l.stimuli_is;
+          stands = λ ss rs more r starts_is replies_is s. lost-stands x first now e ss rs more r same_net same_queue l keeps_old h s;
+          says = λ ss rs more r starts_is replies_is s. lost-text x l.dpid more r l.of_stimulus s.losses_is;
         };
       };
     })
@@ -295,14 +295,14 @@ batch-over {Own} text first now e settled same_net same_queue over noted =
     let journal_same : journal new.history ≡ journal old.history = over.acts in
     let own : own_acts new ≡ own_acts old = ap (λ (js : List Act). filter (is_of index) js) journal_same in
     let said = settled.speaks.at_once in
-    let calm_now : Calm new now_net = subst (λ (n : NetState). Calm new n) (sym over.net) (calm-still old new net over.state_so calm) in
+    let calm_now : Calm new now_net = subst (λ (n : NetState). Calm new n) (sym over.net) (calm-still old new net over.state_is calm) in
     subst (λ (t : List ℕ). Moved [] (λ r. r) t old new e (engine_then e now_net now_queue)) none (record {
       settled = record {
         calm = calm_now;
         life = λ alive. subst LastStands (sym own) (settled.life alive);
         speaks = record {
           at_once = record { last = said.last; dialogue = subst (λ (acts : List Act). Dialogue index at_first acts said.last) (sym journal_same) said.dialogue };
-          rest_so = settled.speaks.rest_so;
+          rest_is = settled.speaks.rest_is;
         };
         orderly = orderly-whole index old new settled.orderly (over.orderly index);
       };
@@ -315,21 +315,21 @@ batch-over {Own} text first now e settled same_net same_queue over noted =
         read_starts = ap (λ (acts : List Act). starts_in acts) own ∙ sym (append-nil (starts_in (own_acts old)));
         read_replies = ap (λ (acts : List Act). replies_in acts) own ∙ sym (append-nil (replies_in (own_acts old)));
         read_stimuli = ap (λ (js : List Act). stimuli js) journal_same ∙ sym (append-nil (stimuli_in old));
-        stands = λ ss rs more r starts_so replies_so s. record {
+        stands = λ ss rs more r starts_is replies_is s. record {
           calm = calm_now;
-          moment = s.moment ∙ sym (ap (λ (t : State). t.moment) over.state_so);
+          moment = s.moment ∙ sym (ap (λ (t : State). t.moment) over.state_is);
           places = s.places
-              ∙ ap₂ (λ (n : NetState) (t : State). shown_places old.given.declared n.views t) (same_net ∙ sym over.net) (sym over.state_so)
+              ∙ ap₂ (λ (n : NetState) (t : State). shown_places old.given.declared n.views t) (same_net ∙ sym over.net) (sym over.state_is)
               ∙ ap (λ (g : Given Own). shown_places g.declared now_net.views (state new)) (sym over.given);
           queue = s.queue ∙ same_queue ∙ sym over.queue;
           events = s.events;
           apps = s.apps ∙ ap (λ (js : List Act). app_at (engine_then e now_net now_queue) (inputs index js) ss rs ∷ []) (sym journal_same);
           released = s.released ∙ sym (ap (λ (js : List Act). released js) journal_same);
           lost = s.lost ∙ sym (ap (λ (js : List Act). losses js) journal_same);
-          losses_so = s.losses_so;
-          marks = subst (λ (t : State). AgreeMarks t.marks r.marks) (sym over.state_so) s.marks;
+          losses_is = s.losses_is;
+          marks = subst (λ (t : State). AgreeMarks t.marks r.marks) (sym over.state_is) s.marks;
           life = λ alive. subst LastStands (sym own) (s.life alive);
         };
-        says = λ ss rs more r starts_so replies_so s. sym (append-nil (text_of r));
+        says = λ ss rs more r starts_is replies_is s. sym (append-nil (text_of r));
       };
     })

@@ -24,12 +24,11 @@ use Rattle.switch_laws.specs.Released.{ReleaseShown}
 use Rattle.switch_laws.specs.Since.{ports_known, Ready, logged_since, Goes}
 use Rattle.switch_laws.specs.Sound.{Sound}
 use Rattle.switch_laws.specs.laws.SoundStepLaws.{undo-sound}
-use Rattle.switch_laws.specs.laws.ShownUndoLaws.{undo-ready}
+use Rattle.switch_laws.specs.laws.ShownUndoLaws.{undo-ready, no-rows}
 use Rattle.batch_laws.specs.Calm.{Calm}
 use Rattle.batch_laws.specs.laws.LeaveTellLaws.{filtered-order}
 use Rattle.run_laws.specs.LinkSteps.{Rests}
-use Rattle.batch_laws.specs.laws.InBatchLaws.{links_switch, links_waits}
-use Rattle.batch_laws.specs.laws.JoinTellLaws.{no-rows}
+use Rattle.switch_laws.specs.laws.LinkLaws.{links_switch, links_waits}
 
 -- ---- Where the switches stay
 
@@ -89,16 +88,12 @@ ascend_same least (v ∷ vs) (w ∷ ws) same all =
 
 -- ---- What stays where switches are lost
 
--- views without some of them stand in order
-order_without : (d least : ℕ) (views : List TableView) → ViewsAscend least views → ViewsAscend least (filter (λ v. not (v.dpid == d)) views)
-order_without d least views up = filtered-order d least views up
-
 -- what is kept of a network that lost these switches
-pub record StaysBut (net lost_so : NetState) : Type 0 where
-  pub moment : lost_so.moment ≡ net.moment
-  pub held : lost_so.held ≡ net.held
-  pub kept : net.kept ≡ [] → lost_so.kept ≡ []
-  pub order : ViewsAscend 0 net.views → ViewsAscend 0 lost_so.views
+pub record StaysBut (net lost_is : NetState) : Type 0 where
+  pub moment : lost_is.moment ≡ net.moment
+  pub held : lost_is.held ≡ net.held
+  pub kept : net.kept ≡ [] → lost_is.kept ≡ []
+  pub order : ViewsAscend 0 net.views → ViewsAscend 0 lost_is.views
 
 pub lost-stays : (lost : List ℕ) (net : NetState) → StaysBut net (lose_all lost net)
 lost-stays [] net = record { moment = refl; held = refl; kept = λ none. none; order = λ up. up }
@@ -108,7 +103,7 @@ lost-stays (d ∷ lost) net =
       moment = rest.moment;
       held = rest.held;
       kept = λ none. rest.kept (ap (filter (λ m. not (m.0 == d))) none);
-      order = λ up. rest.order (order_without d 0 net.views up);
+      order = λ up. rest.order (filtered-order d 0 net.views up);
     }
 
 -- ---- Behind a turn, where the switches that were lost in it are told
@@ -140,16 +135,16 @@ none_left net = record net { left = [] }
 pub calm_released : {Own : Type 0} (start : ℕ) (held sent : List Held) (first old new : Seen Own) (net now_net : NetState) (queue now_queue : List Event) → TurnStays first old net
     → ReleaseShown held sent old new (committed start net) now_net queue now_queue → Rests (state old) (state new) → Calm new (none_left now_net)
 calm_released start held sent first old new net now_net queue now_queue there shown rests =
-    let stays = lost-stays (leavers shown.release_so.left) (committed start net) in
+    let stays = lost-stays (leavers shown.release_is.left) (committed start net) in
     record {
       ready = record { waits = shown.ready.waits; agrees = shown.ready.agrees; known = shown.ready.known };
       sound = shown.sound;
-      order = subst (ViewsAscend 0) (sym (ap (λ (n : NetState). n.views) shown.net_so)) (stays.order there.order);
-      kept = ap (λ (n : NetState). n.kept) shown.net_so ∙ stays.kept there.kept;
-      moment = ap (λ (n : NetState). n.moment) shown.net_so ∙ stays.moment ∙ there.moment ∙ sym rests.moment;
+      order = subst (ViewsAscend 0) (sym (ap (λ (n : NetState). n.views) shown.net_is)) (stays.order there.order);
+      kept = ap (λ (n : NetState). n.kept) shown.net_is ∙ stays.kept there.kept;
+      moment = ap (λ (n : NetState). n.moment) shown.net_is ∙ stays.moment ∙ there.moment ∙ sym rests.moment;
       none_begun = rests.begun ∙ there.begun;
       none_due = rests.due ∙ there.due;
-      held = ap (λ (n : NetState). n.held) shown.net_so ∙ stays.held;
+      held = ap (λ (n : NetState). n.held) shown.net_is ∙ stays.held;
       left = refl;
     }
 
@@ -182,11 +177,11 @@ calm_undone Tells start lost first old new net0 net now_net told keeps goes u th
     record {
       ready = record { waits = ready.waits; agrees = ready.agrees; known = ready.known };
       sound = undo-sound Tells start lost first old new net0 net now_net told keeps goes.since goes.ready u sound;
-      order = subst (ViewsAscend 0) (sym (ap (λ (n : NetState). n.views) u.net_so)) (stays.order (ascend_same 0 undone.views net.views (dpids_without (map key_logged (drop start net.log)) net.views) there.order));
+      order = subst (ViewsAscend 0) (sym (ap (λ (n : NetState). n.views) u.net_is)) (stays.order (ascend_same 0 undone.views net.views (dpids_without (map key_logged (drop start net.log)) net.views) there.order));
       kept = kept;
-      moment = ap (λ (n : NetState). n.moment) u.net_so ∙ stays.moment ∙ there.moment ∙ sym rests.moment;
+      moment = ap (λ (n : NetState). n.moment) u.net_is ∙ stays.moment ∙ there.moment ∙ sym rests.moment;
       none_begun = rests.begun ∙ there.begun;
       none_due = rests.due ∙ there.due;
-      held = ap (λ (n : NetState). n.held) u.net_so ∙ stays.held;
+      held = ap (λ (n : NetState). n.held) u.net_is ∙ stays.held;
       left = refl;
     }

@@ -3,6 +3,7 @@ use Rattle.std.specs.List.{AllByRecursion, list_any}
 use Rattle.std.proofs.Common.{◌≡◌, ◌⊎◌, ℕ, ◌+◌, ◌≤◌, ◌||◌, Bool, true, false, List, [], ◌∷◌, ◌++◌, length, drop, Option, refl, sym, ap, ap₂, ◌∙◌, subst, arith, inl, inr}
 use Rattle.std.specs.Io.KnownBytes.{append_known}
 use Rattle.std.proofs.lemmas.List.{append-nil, append_assoc}
+use Rattle.std.proofs.Math.Seq.{drop-length}
 use Rattle.of_types.specs.declared.journal.WorldStim.{WorldStim}
 use Rattle.lego_io.specs.Sink.{TookPart}
 use Rattle.lego_io.specs.laws.ToldLaws.{append_known-nil}
@@ -20,7 +21,7 @@ use Rattle.run_laws.specs.Engine.{Engine, Stands, ahead}
 use Rattle.lego_model.specs.Application.{index}
 use Rattle.lego_model.specs.ReferenceRun.{text_of, dispatch_next, times, rounds, AreSaid, fresh, before_start, all_started, RunsAlike}
 use Rattle.run_laws.specs.Moves.{AtRest, Moves, Moved, Rounds, OneHappens}
-use Rattle.run_laws.specs.laws.MoveLaws.{moved-so, moved-then-losses, moved-as-losses, moved-so-losses, ahead-then, moved-none, moved-then, moved-as}
+use Rattle.run_laws.specs.laws.MoveLaws.{moved-so, moved-then-losses, moved-as-losses, moved-so-losses, ahead-then, moved-none, moved-then, moved-as, longer}
 use Rattle.run_laws.specs.laws.DispatchWaitingLaws.{settle-times, times-more}
 use Rattle.run_laws.specs.LastReport.{last_text}
 use Rattle.run_laws.specs.laws.LastReportLaws.{report-ends, last-shown}
@@ -135,14 +136,11 @@ ran-so f later xs text first last e starts replies is m said =
       starts = drop (length m.starts) starts;
       replies = drop (length m.replies) replies;
       stands = subst (λ (r : Run). Stands last e (drop (length m.starts) starts) (drop (length m.replies) replies) later (f r)) same (m.stands starts replies later r0 fronts.0 fronts.1 at_first);
-      text_so = subst (λ (r : Run). text_of (f r) ≡ text) same (m.says starts replies later r0 fronts.0 fronts.1 at_first);
+      text_is = subst (λ (r : Run). text_of (f r) ≡ text) same (m.says starts replies later r0 fronts.0 fronts.1 at_first);
     }
 
 pub ran-to : {Own : Type 0} (f : Run → Run) (later : Losses) (xs : List WorldStim) (text : List ℕ) (first last : Seen Own) (e : Engine) → IsOpened first → (m : Moves xs f text first last engine_at_first e) → RanTo f (ahead m.batches m.turns later) later text last e
 ran-to f later xs text first last e is m = record { as_said = λ starts replies said. ran-so f later xs text first last e starts replies is m said }
-
-longer : {A : Type 0} (p q r x y : List A) → q ≡ p ++ x → r ≡ q ++ y → r ≡ p ++ (x ++ y)
-longer {A} p q r x y h k = k ∙ ap (λ (l : List A). l ++ y) h ∙ append_assoc p x y
 
 -- what was said before the last part
 pub ran-before : {Own : Type 0} (f g : Run → Run) (later : Losses) (xs ys : List WorldStim) (text more : List ℕ) (first mid last : Seen Own) (e1 e2 : Engine) (starts : List Start) (replies : List Reply) → IsOpened first → (m : Moves xs f text first mid engine_at_first e1) → (n : Moves ys g more mid last e1 e2)
@@ -163,12 +161,12 @@ ran-before f g later xs ys text more first mid last e1 e2 starts replies is m n 
 -- ---- The point up to which all is alike
 
 leaves-nothing : {Own : Type 0} (seen : Seen Own) → Leaves [] seen seen
-leaves-nothing seen = record { given = refl; starts = refl; replies = refl; inputs = refl; stimuli = refl; released = refl; lost_so = sym (append-nil (lost_of seen)); marks = refl; switches = λ d. refl; at_once = λ said. said; orderly = orderly-none index seen }
+leaves-nothing seen = record { given = refl; starts = refl; replies = refl; inputs = refl; stimuli = refl; released = refl; lost_is = sym (append-nil (lost_of seen)); marks = refl; switches = λ d. refl; at_once = λ said. said; orderly = orderly-none index seen }
 
-stimuli-so : {Own : Type 0} (first last : Seen Own) (xs : List WorldStim) → IsOpened first → stimuli_in last ≡ stimuli_in first ++ xs → stimuli_in last ≡ xs
+pub stimuli-so : {Own : Type 0} (first last : Seen Own) (xs : List WorldStim) → IsOpened first → stimuli_in last ≡ stimuli_in first ++ xs → stimuli_in last ≡ xs
 stimuli-so first last xs is read = read ∙ ap (λ (ys : List WorldStim). ys ++ xs) (no-stimuli first is)
 
-runs-so : {Own : Type 0} {later : Losses} {text : List ℕ} (last : Seen Own) (e : Engine) (r : Run) → Conforming last → RanAs later text last e r → RunsAlike last r
+pub runs-so : {Own : Type 0} {later : Losses} {text : List ℕ} (last : Seen Own) (e : Engine) (r : Run) → Conforming last → RanAs later text last e r → RunsAlike last r
 runs-so {later = later} last e r keeps so = runs-alike last last e so.starts so.replies later r keeps (leaves-nothing last) so.stands
 
 -- the losses of these parts, and none behind them
@@ -186,7 +184,7 @@ far-of {started = started} {n = n} {first = first} {last = last} is g few = reco
   number = n;
   begun_one = g.begun_one;
   at_most = few;
-  stimuli_so = stimuli-so first last (g.stimuli ++ g.begun) is g.moved.moves.read_stimuli;
+  stimuli_is = stimuli-so first last (g.stimuli ++ g.begun) is g.moved.moves.read_stimuli;
   losses = losses_of g.moved;
 }
 
@@ -203,30 +201,22 @@ up-to {last = last} Claim far m so = record {
 
 -- ---- What a run that a fault ends comes to
 
-abbrev run-up-to : {Own : Type 0} (allows : List Place → Bool) (started : Bool) (n : ℕ) (text : List ℕ) (contents now_contents : Option (List ℕ)) (first last : Seen Own) (e : Engine) → IsOpened first → GoneSoFar allows started n text first last engine_at_first e → n ≤ 1000
+abbrev pub cut-so : {Own : Type 0} (allows : List Place → Bool) (started : Bool) (n : ℕ) (text : List ℕ) (contents now_contents : Option (List ℕ)) (first last : Seen Own) (e : Engine) → IsOpened first → GoneSoFar allows started n text first last engine_at_first e → n ≤ 1000
     → Conforming last → now_contents ≡ append_known contents text → CutBetweenLines allows last contents now_contents
-run-up-to allows started n text contents now_contents first last e is g few keeps written =
+cut-so allows started n text contents now_contents first last e is g few keeps written =
     let f = reference_so_far allows started g.stimuli g.begun n in
     let ran = ran-to f none_later (g.stimuli ++ g.begun) text first last e is g.moved.moves in
     up-to (WroteSoFar allows last contents now_contents) (far-of is g few) g.moved (λ starts replies said.
     let so = ran.as_said starts replies said in
     record {
       alike = runs-so last e (f (start_said (losses_of g.moved) last starts replies)) keeps so;
-      written = written ∙ ap (append_known contents) (sym so.text_so);
+      written = written ∙ ap (append_known contents) (sym so.text_is);
     })
-
-pub cut-so : {Own : Type 0} (allows : List Place → Bool) (started : Bool) (n : ℕ) (text : List ℕ) (contents now_contents : Option (List ℕ)) (first last : Seen Own) (e : Engine) → IsOpened first → GoneSoFar allows started n text first last engine_at_first e → n ≤ 1000
-    → Conforming last → now_contents ≡ append_known contents text → CutBetweenLines allows last contents now_contents
-cut-so allows started n text contents now_contents first last e is g few keeps written = run-up-to allows started n text contents now_contents first last e is g few keeps written
 
 -- ---- No line is missing
 
-nothing-behind : {X : Type 0} (xs : List X) → drop (length xs) xs ≡ []
-nothing-behind [] = refl
-nothing-behind (x ∷ xs) = nothing-behind xs
-
 used-up : {X : Type 0} (told before more : List X) → told ≡ before ++ more → before ≡ [] → drop (length more) told ≡ []
-used-up told before more is none = ap (drop (length more)) (is ∙ ap (λ (xs : List _). xs ++ more) none) ∙ nothing-behind more
+used-up told before more is none = ap (drop (length more)) (is ∙ ap (λ (xs : List _). xs ++ more) none) ∙ drop-length more
 
 -- how the reference controller stands over what is told
 stands-told : {Own : Type 0} (f : Run → Run) (later : Losses) (xs : List WorldStim) (text : List ℕ) (first last : Seen Own) (e : Engine) → IsOpened first → (m : Moves xs f text first last engine_at_first e)
@@ -263,7 +253,7 @@ module _ {Own : Type 0} (allows : List Place → Bool) where
   lines-so n text contents now_contents first last e is g few next keeps written =
       let f = reference_so_far allows true g.stimuli g.begun n in
       record {
-        run = run-up-to allows true n text contents now_contents first last e is g few keeps written;
+        run = cut-so allows true n text contents now_contents first last e is g few keeps written;
         done = all-done is g few;
         none_between = none-between (far-of is g few) e (stands-told f none_later (g.stimuli ++ g.begun) text first last e is g.moved.moves) next;
       }
@@ -280,12 +270,12 @@ module _ {Own : Type 0} (allows : List Place → Bool) where
   pub some-so : (n : ℕ) (text : List ℕ) (contents now_contents : Option (List ℕ)) (first last seen : Seen Own) (e : Engine) → IsOpened first → GoneSoFar allows true n text first last engine_at_first e → n ≤ 1000
       → Conforming last → now_contents ≡ append_known contents text → CutForMemory allows seen last contents now_contents
   some-so n text contents now_contents first last seen e is g few keeps written =
-      record { run = run-up-to allows true n text contents now_contents first last e is g few keeps written; done = inr (all-done is g few) }
+      record { run = cut-so allows true n text contents now_contents first last e is g few keeps written; done = inr (all-done is g few) }
 
   -- before any stimulus
   pub none-so : (contents now_contents : Option (List ℕ)) (first seen : Seen Own) → IsOpened first → AtRest first engine_at_first → NoneQuiescentSince first seen → Conforming first → now_contents ≡ contents → CutForMemory allows seen first contents now_contents
   none-so contents now_contents first seen is rest none keeps same = record {
-    run = run-up-to allows false 0 [] contents now_contents first first engine_at_first is (gone-none allows first engine_at_first rest) (omega arith) keeps (same ∙ sym (append_known-nil contents));
+    run = cut-so allows false 0 [] contents now_contents first first engine_at_first is (gone-none allows first engine_at_first rest) (omega arith) keeps (same ∙ sym (append_known-nil contents));
     done = inl (none-happened first seen none ∙ no-stimuli first is);
   }
 
@@ -296,7 +286,7 @@ pub start-so : {Own : Type 0} (allows : List Place → Bool) (more : List ℕ) (
     → CutInLines allows last contents now_contents
 start-so allows more contents now_contents first last e is m keeps part =
     let none = stimuli-so first last [] is m.moves.read_stimuli in
-    let far : Progress last = record { started = true; stimuli = []; begun = []; number = 0; begun_one = omega arith; at_most = omega arith; stimuli_so = none; losses = losses_of m } in
+    let far : Progress last = record { started = true; stimuli = []; begun = []; number = 0; begun_one = omega arith; at_most = omega arith; stimuli_is = none; losses = losses_of m } in
     let ran = ran-to all_started none_later [] more first last e is m.moves in
     record {
       run = record {
@@ -310,8 +300,8 @@ start-so allows more contents now_contents first last e is m keeps part =
                 is_started = refl;
                 none_happened = none;
                 none_dispatched = refl;
-                text_so = refl;
-                more_so = so.text_so;
+                text_is = refl;
+                more_is = so.text_is;
               });
             });
         part = subst (λ (held : Option (List ℕ)). TookPart held now_contents more) (sym (append_known-nil contents)) part;
@@ -337,7 +327,7 @@ loss-so allows text more contents now_contents first mid last e1 e2 is g none on
       number = 0;
       begun_one = omega arith;
       at_most = omega arith;
-      stimuli_so = stimuli-so first last (g.stimuli ++ x ∷ []) is next.moves.read_stimuli;
+      stimuli_is = stimuli-so first last (g.stimuli ++ x ∷ []) is next.moves.read_stimuli;
       losses = losses_of next;
     } in
     let ran = ran-to f none_later (g.stimuli ++ x ∷ []) (text ++ more) first last e2 is next.moves in
@@ -352,9 +342,9 @@ loss-so allows text more contents now_contents first mid last e1 e2 is g none on
                 alike = runs-so last e2 (f (start_said (losses_of next) last starts replies)) keeps so;
                 is_begun = refl;
                 none_dispatched = refl;
-                text_so = ap (λ (l : Losses). text_of (before (start_said l last starts replies))) (moved-then-losses g.stimuli (x ∷ []) before (happen x) text more first mid last engine_at_first e1 e2 first_part one.moved none_later)
+                text_is = ap (λ (l : Losses). text_of (before (start_said l last starts replies))) (moved-then-losses g.stimuli (x ∷ []) before (happen x) text more first mid last engine_at_first e1 e2 first_part one.moved none_later)
                     ∙ ran-before before (happen x) none_later g.stimuli (x ∷ []) text more first mid last e1 e2 starts replies is first_part.moves one.moved.moves said;
-                more_so = so.text_so;
+                more_is = so.text_is;
               }));
             });
         part = part;
@@ -375,7 +365,7 @@ event-so allows n text more contents now_contents first mid last e1 e2 is g m fe
       number = n + 1;
       begun_one = g.begun_one;
       at_most = omega (arith, few);
-      stimuli_so = stimuli-so first last (g.stimuli ++ g.begun) is next.moves.read_stimuli;
+      stimuli_is = stimuli-so first last (g.stimuli ++ g.begun) is next.moves.read_stimuli;
       losses = losses_of next;
     } in
     let ran = ran-to f none_later (g.stimuli ++ g.begun) (text ++ more) first last e2 is next.moves in
@@ -390,9 +380,9 @@ event-so allows n text more contents now_contents first mid last e1 e2 is g m fe
                 alike = runs-so last e2 (f (start_said (losses_of next) last starts replies)) keeps so;
                 before = n;
                 one_more = refl;
-                text_so = ap (λ (l : Losses). text_of (reference_so_far allows true g.stimuli g.begun n (start_said l last starts replies))) (gone-next-losses allows n text more first mid last engine_at_first e1 e2 g m none_later)
+                text_is = ap (λ (l : Losses). text_of (reference_so_far allows true g.stimuli g.begun n (start_said l last starts replies))) (gone-next-losses allows n text more first mid last engine_at_first e1 e2 g m none_later)
                     ∙ ran-before (reference_so_far allows true g.stimuli g.begun n) (dispatch_next allows) none_later (g.stimuli ++ g.begun) [] text more first mid last e1 e2 starts replies is g.moved.moves m.moves said;
-                more_so = so.text_so;
+                more_is = so.text_is;
               })));
             });
         part = part;
@@ -421,7 +411,7 @@ end-so {Own} allows lost text more contents now_contents first last stop e is g 
       number = 1000;
       begun_one = g.begun_one;
       at_most = omega arith;
-      stimuli_so = leaves.stimuli ∙ stimuli-so first last (g.stimuli ++ g.begun) is m.read_stimuli;
+      stimuli_is = leaves.stimuli ∙ stimuli-so first last (g.stimuli ++ g.begun) is m.read_stimuli;
       losses = losses;
     } in
     let so : (starts : List Start) (replies : List Reply) → AreSaid stop starts replies → WasWriting allows stop text more far (start_said losses stop starts replies) = λ starts replies said.
@@ -431,8 +421,8 @@ end-so {Own} allows lost text more contents now_contents first last stop e is g 
       lines = inr (inr (inr (record {
         alike = ends-so lost last stop e were.starts were.replies r keeps leaves were.stands;
         none_left = were.stands.queue ∙ none;
-        text_so = were.text_so;
-        more_so = report-ends r ∙ ap₂ (λ (a b : List ℕ). a ++ b) were.text_so (last-shown lost last e were.starts were.replies r were.stands ∙ sym ends);
+        text_is = were.text_is;
+        more_is = report-ends r ∙ ap₂ (λ (a b : List ℕ). a ++ b) were.text_is (last-shown lost last e were.starts were.replies r were.stands ∙ sym ends);
       })));
     }) in
     record {

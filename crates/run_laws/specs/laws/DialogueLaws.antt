@@ -66,7 +66,7 @@ speaks_on : {Own : Type 0} (old new : Seen Own) (now_e : Engine) (well : Bool) (
     → (now_e.alive ≡ true → (well ≡ true) × (now_e.rest ≡ unread)) → Conversing new now_e
 speaks_on old new now_e well unread a says so = record {
   at_once = at_once_then says.after old new a says.converses;
-  rest_so = λ alive. (says.runs (so alive).0, subst (Passes says.after.unread) (sym (so alive).1) (says.passes (so alive).0));
+  rest_is = λ alive. (says.runs (so alive).0, subst (Passes says.after.unread) (sym (so alive).1) (says.passes (so alive).0));
 }
 
 -- ---- Starts
@@ -74,7 +74,7 @@ speaks_on old new now_e well unread a says so = record {
 pub starts_converse : {Own : Type 0} (Tells : Type 0) (text : List ℕ) (old new : Seen Own) (e now_e : Engine) → Tells → AtOnce index (journal old.history) → StartsAgain Tells text old new e now_e → Conversing new now_e
 starts_converse Tells text old new e now_e told a s =
     let all = s.restarts.all in
-    let found = s.restarts.found_so in
+    let found = s.restarts.found_is in
     speaks_on old new now_e (is_some (ready_rest all)) (unwrap_or (ready_rest all) []) a (tries_speak Tells index e.kept attempts all old new a.last s.restarts.are told (runs_now old a))
     (λ alive. (sym (ap (λ (x : Engine). x.alive) s.engine ∙ ap (λ (o : Option (List ℕ)). is_some o) found) ∙ alive, ap (λ (x : Engine). x.rest) s.engine ∙ ap (λ (o : Option (List ℕ)). unwrap_or o []) found))
 
@@ -85,7 +85,7 @@ closed_converses : {Own : Type 0} (Tells : Type 0) (end : TurnEnd) (checkpoint :
 closed_converses Tells (ends.Done stop) checkpoint unread text start old mid new mid_net e now_e told a says closed =
     let there = speaks_on old mid now_e true unread a says (λ alive. (refl, ap (λ (x : Engine). x.rest) closed.engine)) in
     let only = closed.commits.links told in
-    record { at_once = others_at_once mid new only.steps only.history (link_steps-tell index only.steps only.all).acts there.at_once; rest_so = there.rest_so }
+    record { at_once = others_at_once mid new only.steps only.history (link_steps-tell index only.steps only.all).acts there.at_once; rest_is = there.rest_is }
 closed_converses Tells (ends.Failed cause) checkpoint unread text start old mid new mid_net e now_e told a says closed =
     let undone = closed.undone in
     let only = closed.undoes.links told in
@@ -96,7 +96,7 @@ turn_converses : {Own : Type 0} (Tells : Type 0) (accepts : List TableView → B
     → Conversing new now_e
 turn_converses Tells accepts event text old new e now_e told alive c turn =
     closed_converses Tells turn.end (handed turn.turns.outcome) turn.unread text (length e.net.log) old turn.mid new turn.mid_net e now_e told c.at_once
-    (turn.turns.speaks told (event_is e.events e.net.moment event) c.at_once.last (c.rest_so alive).0 (c.rest_so alive).1) turn.closed
+    (turn.turns.speaks told (event_is e.events e.net.moment event) c.at_once.last (c.rest_is alive).0 (c.rest_is alive).1) turn.closed
 
 -- whether it is alive or not
 pub turn_goes_on : {Own : Type 0} (Tells : Type 0) (accepts : List TableView → Bool) (event : Event) (alive : Bool) (text : List ℕ) (old new : Seen Own) (e now_e : Engine) → Tells → e.alive ≡ alive → Conversing old e

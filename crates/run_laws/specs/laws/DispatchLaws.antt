@@ -56,31 +56,31 @@ turned_of {old = old} {new = new} {now_e = now_e} alike later_starts later_repli
 }
 
 module _ {Own : Type 0} (allows : List Place → Bool) (event : Event) (text : List ℕ) (old new : Seen Own) (e now_e : Engine) (starts : List Start) (reply : Reply) (losses : TurnLosses) where
-  dispatched_so : e.alive ≡ true → (alike : TurnAlike allows event text old new (with_number e) now_e starts reply losses) → (said_starts : List Start) (said : Reply) (later_replies : List Reply) (later : Losses) (r : Run) → AreStartFronts starts said_starts → IsFront reply said → Stands old e said_starts (said ∷ later_replies) (ahead [] (losses ∷ []) later) r
+  dispatched_is : e.alive ≡ true → (alike : TurnAlike allows event text old new (with_number e) now_e starts reply losses) → (said_starts : List Start) (said : Reply) (later_replies : List Reply) (later : Losses) (r : Run) → AreStartFronts starts said_starts → IsFront reply said → Stands old e said_starts (said ∷ later_replies) (ahead [] (losses ∷ []) later) r
       → dispatch allows event r ≡ after_turn (turned_of alike (drop (length starts) said_starts) later_replies) (numbered event r)
-  dispatched_so alive alike said_starts said later_replies later r starts_so front s =
+  dispatched_is alive alike said_starts said later_replies later r starts_is front s =
       let a = app_at e (given_in old) said_starts (said ∷ later_replies) in
       dispatch_alive allows event a r (turned_of alike (drop (length starts) said_starts) later_replies) s.apps alive
-      (ap (λ (l : Losses). turn allows (r.events + 1) r.moment event (next_turn l.turns) r.places a) s.losses_so
+      (ap (λ (l : Losses). turn allows (r.events + 1) r.moment event (next_turn l.turns) r.places a) s.losses_is
       ∙ ap (λ (n : ℕ). turn allows (n + 1) r.moment event losses r.places a) s.events
       ∙ ap (λ (m : ℕ). turn allows (e.events + 1) m event losses r.places a) (s.moment ∙ sym s.calm.moment)
       ∙ ap (λ (ps : List Place). turn allows (e.events + 1) e.net.moment event losses ps a) s.places
-      ∙ alike.turned said_starts said later_replies starts_so front)
+      ∙ alike.turned said_starts said later_replies starts_is front)
 
-  marks_so : Conforming old → (alike : TurnAlike allows event text old new (with_number e) now_e starts reply losses) → (r : Run) → r.events ≡ e.events → r.places ≡ shown_places old.given.declared e.net.views (state old) → AgreeMarks (points_in old) r.marks
+  marks_is : Conforming old → (alike : TurnAlike allows event text old new (with_number e) now_e starts reply losses) → (r : Run) → r.events ≡ e.events → r.places ≡ shown_places old.given.declared e.net.views (state old) → AgreeMarks (points_in old) r.marks
       → AgreeMarks (points_in new) (marked alike.given (r.events + 1) r.places r.marks)
-  marks_so keeps alike r events places marks =
+  marks_is keeps alike r events places marks =
       subst (λ (ms : List Mark). AgreeMarks ms (marked alike.given (r.events + 1) r.places r.marks)) (sym alike.marks)
       (subst (λ (n : ℕ). AgreeMarks ((if alike.given then marks_at_event (Some (e.events + 1)) (state old) else (state old).marks)) (marked alike.given (n + 1) r.places r.marks)) (sym events)
       (subst (λ (ps : List Place). AgreeMarks ((if alike.given then marks_at_event (Some (e.events + 1)) (state old) else (state old).marks)) (marked alike.given (e.events + 1) ps r.marks)) (sym places)
-      (marks_at_events alike.given (e.events + 1) old.given.declared e.net.views (state old) r.marks (state-links old).declared_so keeps.declared marks)))
+      (marks_at_events alike.given (e.events + 1) old.given.declared e.net.views (state old) r.marks (state-links old).declared_is keeps.declared marks)))
 
   stands_alive : Conforming old → e.alive ≡ true → new.given ≡ old.given → (now_e.alive ≡ true → LastStands (own_acts new)) → (alike : TurnAlike allows event text old new (with_number e) now_e starts reply losses)
       → (said_starts : List Start) (said_replies : List Reply) (later : Losses) (r : Run) → AreStartFronts starts said_starts → AreFronts (reply ∷ []) said_replies → Stands old e said_starts said_replies (ahead [] (losses ∷ []) later) r
       → Stands new now_e (drop (length starts) said_starts) (drop 1 said_replies) later (dispatch allows event r)
-  stands_alive keeps alive given life alike said_starts [] later r starts_so fronts s = absurd fronts
-  stands_alive keeps alive given life alike said_starts (said ∷ later_replies) later r starts_so fronts s =
-      subst (λ (x : Run). Stands new now_e (drop (length starts) said_starts) later_replies later x) (sym (dispatched_so alive alike said_starts said later_replies later r starts_so fronts.0 s)) (record {
+  stands_alive keeps alive given life alike said_starts [] later r starts_is fronts s = absurd fronts
+  stands_alive keeps alive given life alike said_starts (said ∷ later_replies) later r starts_is fronts s =
+      subst (λ (x : Run). Stands new now_e (drop (length starts) said_starts) later_replies later x) (sym (dispatched_is alive alike said_starts said later_replies later r starts_is fronts.0 s)) (record {
         calm = alike.calm;
         moment = s.moment ∙ sym alike.moment;
         places = alike.places ∙ ap (λ (g : Given _). shown_places g.declared now_e.net.views (state new)) (sym given);
@@ -89,24 +89,24 @@ module _ {Own : Type 0} (allows : List Place → Bool) (event : Event) (text : L
         apps = refl;
         released = ap (λ (packets : List Held). packets ++ alike.release.packets) s.released ∙ sym alike.released;
         lost = ap (λ (ds : List ℕ). ds ++ leavers alike.left) s.lost ∙ sym alike.lost;
-        losses_so = ap turn_fewer s.losses_so;
-        marks = marks_so keeps alike r s.events s.places s.marks;
+        losses_is = ap turn_fewer s.losses_is;
+        marks = marks_is keeps alike r s.events s.places s.marks;
         life = life;
       })
 
   says_alive : e.alive ≡ true → (alike : TurnAlike allows event text old new (with_number e) now_e starts reply losses) → (said_starts : List Start) (said_replies : List Reply) (later : Losses) (r : Run) → AreStartFronts starts said_starts → AreFronts (reply ∷ []) said_replies → Stands old e said_starts said_replies (ahead [] (losses ∷ []) later) r
       → text_of (dispatch allows event r) ≡ text_of r ++ (event_line (e.events + 1) event.kind event.dpid ++ text)
-  says_alive alive alike said_starts [] later r starts_so fronts s = absurd fronts
-  says_alive alive alike said_starts (said ∷ later_replies) later r starts_so fronts s =
+  says_alive alive alike said_starts [] later r starts_is fronts s = absurd fronts
+  says_alive alive alike said_starts (said ∷ later_replies) later r starts_is fronts s =
       let later_starts = drop (length starts) said_starts in
       let ended : List Line = Ended 0 alike.outcome ∷ out_lines alike.release.packets in
       let lost : List Line = lost_lines (leavers alike.left) in
       let again : List Line = restart_lines 0 alike.outcome (app_at now_e (given_in new) later_starts later_replies, alike.tries) in
       let before : List Line = r.lines ++ Dispatched (r.events + 1) event ∷ [] in
-      ap text_of (dispatched_so alive alike said_starts said later_replies later r starts_so fronts.0 s)
+      ap text_of (dispatched_is alive alike said_starts said later_replies later r starts_is fronts.0 s)
       ∙ ap lines_text (ap (λ (lines : List Line). lines ++ again) (append_assoc before ended lost) ∙ append_assoc before (ended ++ lost) again)
       ∙ event_lines r.lines ((ended ++ lost) ++ again) (r.events + 1) event
-      ∙ ap₂ (λ (n : ℕ) (more : List ℕ). text_of r ++ (event_line (n + 1) event.kind event.dpid ++ more)) s.events (sym (alike.text_so later_starts later_replies))
+      ∙ ap₂ (λ (n : ℕ) (more : List ℕ). text_of r ++ (event_line (n + 1) event.kind event.dpid ++ more)) s.events (sym (alike.text_is later_starts later_replies))
 
 alive_moves : {Own : Type 0} (allows : List Place → Bool) (event : Event) (turn_text text : List ℕ) (old new : Seen Own) (e now_e : Engine) → Conforming old → e.alive ≡ true → text ≡ event_line (e.events + 1) event.kind event.dpid ++ turn_text
     → TurnMoves allows event turn_text old new (with_number e) now_e → Moves [] (dispatch allows event) text old new e now_e
@@ -119,10 +119,10 @@ alive_moves allows event turn_text text old new e now_e keeps alive text_is turn
   read_starts = turn.tells.read_starts;
   read_replies = turn.tells.read_replies;
   read_stimuli = turn.tells.read_stimuli ∙ sym (append-nil (stimuli_in old));
-  stands = λ said_starts said_replies later r starts_so replies_so s.
-      stands_alive allows event turn_text old new e now_e turn.starts turn.reply turn.losses keeps alive turn.tells.given turn.tells.life turn.alike said_starts said_replies later r starts_so replies_so s;
-  says = λ said_starts said_replies later r starts_so replies_so s.
-      says_alive allows event turn_text old new e now_e turn.starts turn.reply turn.losses alive turn.alike said_starts said_replies later r starts_so replies_so s ∙ ap (λ (more : List ℕ). text_of r ++ more) (sym text_is);
+  stands = λ said_starts said_replies later r starts_is replies_is s.
+      stands_alive allows event turn_text old new e now_e turn.starts turn.reply turn.losses keeps alive turn.tells.given turn.tells.life turn.alike said_starts said_replies later r starts_is replies_is s;
+  says = λ said_starts said_replies later r starts_is replies_is s.
+      says_alive allows event turn_text old new e now_e turn.starts turn.reply turn.losses alive turn.alike said_starts said_replies later r starts_is replies_is s ∙ ap (λ (more : List ℕ). text_of r ++ more) (sym text_is);
 }
 
 -- ---- It is gone
@@ -138,7 +138,7 @@ dead_moves allows event text seen e dead text_is = record {
   read_starts = sym (append-nil (starts_in (own_acts seen)));
   read_replies = sym (append-nil (replies_in (own_acts seen)));
   read_stimuli = sym (append-nil (stimuli_in seen));
-  stands = λ later_starts later_replies later r starts_so replies_so s.
+  stands = λ later_starts later_replies later r starts_is replies_is s.
       subst (λ (x : Run). Stands seen (with_number e) later_starts later_replies later x) (sym (dispatch_dead allows event (app_at e (given_in seen) later_starts later_replies) r s.apps dead)) (record {
         calm = s.calm;
         moment = s.moment;
@@ -148,11 +148,11 @@ dead_moves allows event text seen e dead text_is = record {
         apps = refl;
         released = s.released;
         lost = s.lost;
-        losses_so = s.losses_so;
+        losses_is = s.losses_is;
         marks = s.marks;
         life = s.life;
       });
-  says = λ later_starts later_replies later r starts_so replies_so s.
+  says = λ later_starts later_replies later r starts_is replies_is s.
       ap text_of (dispatch_dead allows event (app_at e (given_in seen) later_starts later_replies) r s.apps dead)
       ∙ sym (append-nil (text_of (without_turn (app_at e (given_in seen) later_starts later_replies) (numbered event r))))
       ∙ event_lines_alone r s.events
@@ -182,7 +182,7 @@ pub dispatch-moves : {Own : Type 0} (Tells : Type 0) (accepts : List TableView �
     → Tells → Conforming new → Continues Tells old new → JudgesAlike Own allows accepts → AreRead Own Tells accepts → e.events + 1 < 2 ^ 64 → (e.alive ≡ true → LastStands (own_acts old)) → Calm old e.net
     → Dispatches Tells accepts event text old new e now_e → Moves [] (dispatch allows event) text old new e now_e
 dispatch-moves Tells accepts allows event text old new e now_e told keeps continues judges reads few life calm d =
-    by_alive Tells accepts allows event d.turn_text text old new e now_e e.alive refl told keeps continues judges reads few life calm d.turn d.text_so
+    by_alive Tells accepts allows event d.turn_text text old new e now_e e.alive refl told keeps continues judges reads few life calm d.turn d.text_is
 
 -- ---- What the next event needs
 
@@ -218,13 +218,13 @@ takes_all-joins (m ∷ more) k =
 one-joins : {Own : Type 0} {Tells : Type 0} {held : Held} {sent : List Held} {old new : Seen Own} {net now_net : NetState} {queue now_queue : List Event} → ReleasesOne Tells held sent old new net now_net queue now_queue → Joins queue now_queue
 one-joins {net = net} {queue = queue} (inl (is, viewed, sends)) =
     subst (λ (k : Knows). Joins queue k.1) (sym sends.taken) (takes_all-joins sends.came (record net { xid = next_xid (next_xid net.xid) }, queue))
-one-joins {queue = queue} (inr (inl (is, over))) = ([], over.queue_so ∙ sym (append-nil queue))
-one-joins {queue = queue} (inr (inr (inl (is, lost)))) = ([], lost.queue_so ∙ sym (append-nil queue))
-one-joins {queue = queue} (inr (inr (inr (is, lost)))) = ([], lost.queue_so ∙ sym (append-nil queue))
+one-joins {queue = queue} (inr (inl (is, over))) = ([], over.queue_is ∙ sym (append-nil queue))
+one-joins {queue = queue} (inr (inr (inl (is, lost)))) = ([], lost.queue_is ∙ sym (append-nil queue))
+one-joins {queue = queue} (inr (inr (inr (is, lost)))) = ([], lost.queue_is ∙ sym (append-nil queue))
 
 release-joins : {Own : Type 0} (Tells : Type 0) (held sent : List Held) (old new : Seen Own) (net now_net : NetState) (queue now_queue : List Event) → ReleasesAll Tells held sent old new net now_net queue now_queue → Joins queue now_queue
 release-joins Tells [] sent old new net now_net queue now_queue all = ([], all.3 ∙ sym (append-nil queue))
-release-joins Tells (held ∷ more) sent old new net now_net queue now_queue (first, (later, (sent_so, (mid, (mid_net, (mid_queue, (one, rest))))))) =
+release-joins Tells (held ∷ more) sent old new net now_net queue now_queue (first, (later, (sent_is, (mid, (mid_net, (mid_queue, (one, rest))))))) =
     joins-then queue mid_queue now_queue (one-joins one) (release-joins Tells more later mid new mid_net now_net mid_queue now_queue rest)
 
 -- where none joined
@@ -263,14 +263,14 @@ queue_taken seen e queue starts replies later r s = record {
   apps = s.apps;
   released = s.released;
   lost = s.lost;
-  losses_so = s.losses_so;
+  losses_is = s.losses_is;
   marks = s.marks;
   life = s.life;
 }
 
-next_so : {Own : Type 0} (allows : List Place → Bool) (event : Event) (queue : List Event) (seen : Seen Own) (e : Engine) (starts : List Start) (replies : List Reply) (later : Losses) (r : Run) → e.queue ≡ event ∷ queue → Stands seen e starts replies later r
+next_is : {Own : Type 0} (allows : List Place → Bool) (event : Event) (queue : List Event) (seen : Seen Own) (e : Engine) (starts : List Start) (replies : List Reply) (later : Losses) (r : Run) → e.queue ≡ event ∷ queue → Stands seen e starts replies later r
     → dispatch_next allows r ≡ dispatch allows event (record r { queue = queue })
-next_so allows event queue seen e starts replies later r waits s = ap (λ (events : List Event). next_dispatched allows events r) (s.queue ∙ waits)
+next_is allows event queue seen e starts replies later r waits s = ap (λ (events : List Event). next_dispatched allows events r) (s.queue ∙ waits)
 
 -- it is taken out of the queue and dispatched
 pub next-moves : {Own : Type 0} (allows : List Place → Bool) (event : Event) (queue : List Event) (text : List ℕ) (old new : Seen Own) (e now_e : Engine) → e.queue ≡ event ∷ queue
@@ -284,14 +284,14 @@ next-moves allows event queue text old new e now_e waits moves = record {
   read_starts = moves.read_starts;
   read_replies = moves.read_replies;
   read_stimuli = moves.read_stimuli;
-  stands = λ said_starts said_replies later r starts_so replies_so s.
+  stands = λ said_starts said_replies later r starts_is replies_is s.
       let all = ahead moves.batches moves.turns later in
-      subst (λ (x : Run). Stands new now_e (drop (length moves.starts) said_starts) (drop (length moves.replies) said_replies) later x) (sym (next_so allows event queue old e said_starts said_replies all r waits s))
-      (moves.stands said_starts said_replies later (record r { queue = queue }) starts_so replies_so (queue_taken old e queue said_starts said_replies all r s));
-  says = λ said_starts said_replies later r starts_so replies_so s.
+      subst (λ (x : Run). Stands new now_e (drop (length moves.starts) said_starts) (drop (length moves.replies) said_replies) later x) (sym (next_is allows event queue old e said_starts said_replies all r waits s))
+      (moves.stands said_starts said_replies later (record r { queue = queue }) starts_is replies_is (queue_taken old e queue said_starts said_replies all r s));
+  says = λ said_starts said_replies later r starts_is replies_is s.
       let all = ahead moves.batches moves.turns later in
-      ap text_of (next_so allows event queue old e said_starts said_replies all r waits s)
-      ∙ moves.says said_starts said_replies later (record r { queue = queue }) starts_so replies_so (queue_taken old e queue said_starts said_replies all r s);
+      ap text_of (next_is allows event queue old e said_starts said_replies all r waits s)
+      ∙ moves.says said_starts said_replies later (record r { queue = queue }) starts_is replies_is (queue_taken old e queue said_starts said_replies all r s);
 }
 
 -- none waits
@@ -305,7 +305,7 @@ none-moves allows seen e none = record {
   read_starts = sym (append-nil (starts_in (own_acts seen)));
   read_replies = sym (append-nil (replies_in (own_acts seen)));
   read_stimuli = sym (append-nil (stimuli_in seen));
-  stands = λ later_starts later_replies later r starts_so replies_so s.
+  stands = λ later_starts later_replies later r starts_is replies_is s.
       subst (λ (x : Run). Stands seen e later_starts later_replies later x) (sym (ap (λ (events : List Event). next_dispatched allows events r) (s.queue ∙ none))) s;
-  says = λ later_starts later_replies later r starts_so replies_so s. ap text_of (ap (λ (events : List Event). next_dispatched allows events r) (s.queue ∙ none)) ∙ sym (append-nil (text_of r));
+  says = λ later_starts later_replies later r starts_is replies_is s. ap text_of (ap (λ (events : List Event). next_dispatched allows events r) (s.queue ∙ none)) ∙ sym (append-nil (text_of r));
 }

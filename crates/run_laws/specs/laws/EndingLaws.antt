@@ -33,7 +33,7 @@ known-append (Some xs) s t = ap (λ (l : List ℕ). Some l) (append_assoc xs s t
 pub whole-of : {Own : Type 0} (Tells : Type 0) (accepts : List TableView → Bool) (most : ℕ) (first second : List ℕ) (a b c : Seen Own) (e1 e2 e3 : Engine) → Continues Tells b c
     → ShownStart Tells first a b e1 e2 → ShownToEnd Tells accepts most second b c e2 e3 → ShownWhole Tells accepts most (first ++ second) a c e1 e3
 whole-of Tells accepts most first second a b c e1 e2 e3 later begins ends = record {
-  whole_so = λ allows told keeps judges settled few.
+  whole_is = λ allows told keeps judges settled few.
       let one = begins.moved told (Conforming-before told later keeps) settled in
       let two = ends.to_end allows told keeps judges one.settled few in
       record {
@@ -51,7 +51,7 @@ leaves-then lost a b c m n = record {
   inputs = n.inputs ∙ m.inputs;
   stimuli = n.stimuli ∙ m.stimuli;
   released = n.released ∙ m.released;
-  lost_so = n.lost_so ∙ append-nil (lost_of b) ∙ m.lost_so;
+  lost_is = n.lost_is ∙ append-nil (lost_of b) ∙ m.lost_is;
   marks = n.marks ∙ m.marks;
   switches = λ d. n.switches d ∙ m.switches d;
   at_once = λ said. n.at_once (m.at_once said);
@@ -64,7 +64,7 @@ pub ran-out : {Own : Type 0} (Tells : Type 0) (accepts : List TableView → Bool
     → length (stimuli_in new) < most → RanOut Tells accepts most contents now_contents old new engine_at_first e → EndsAlike allows new contents now_contents e.events
 ran-out Tells accepts allows most contents now_contents old new e told keeps judges opened few out =
     let few_last = fewer-before Tells out.last new told out.later few in
-    let moved = out.whole_so.whole_so allows told (Conforming-before told out.later keeps) judges (settled-first old opened) few_last in
+    let moved = out.whole_is.whole_is allows told (Conforming-before told out.later keeps) judges (settled-first old opened) few_last in
     let done = out.finish.shown told keeps moved.moved.settled.calm in
     ends-alike allows done.lost out.text out.last new e contents now_contents keeps done.leaves moved.moved.settled (ran allows done.lost moved.stimuli out.text old out.last e opened moved.moved.moves) (done.leaves.at_once moved.moved.settled.speaks.at_once) out.none_left
     (done.written ∙ known-append contents out.text (last_text done.lost out.last e))
@@ -73,6 +73,6 @@ pub ran-full : {Own : Type 0} (Tells : Type 0) (accepts : List TableView → Boo
     → length (stimuli_in new) < most → RanFull Tells accepts most left contents now_contents old new engine_at_first → LeavesAlike allows new contents now_contents left
 ran-full Tells accepts allows most left contents now_contents old new told keeps judges opened few full =
     let few_last = fewer-before Tells full.last new told full.later few in
-    let moved = full.whole_so.whole_so allows told (Conforming-before told full.later keeps) judges (settled-first old opened) few_last in
-    subst (λ (n : ℕ). LeavesAlike allows new contents now_contents n) (sym full.left_so)
-    (leaves-alike allows full.text full.last new full.now_engine contents now_contents keeps (full.leaves.shown told keeps) moved.moved.settled (ran allows [] moved.stimuli full.text old full.last full.now_engine opened moved.moved.moves) ((full.leaves.shown told keeps).at_once moved.moved.settled.speaks.at_once) full.contents_so)
+    let moved = full.whole_is.whole_is allows told (Conforming-before told full.later keeps) judges (settled-first old opened) few_last in
+    subst (λ (n : ℕ). LeavesAlike allows new contents now_contents n) (sym full.left_is)
+    (leaves-alike allows full.text full.last new full.now_engine contents now_contents keeps (full.leaves.shown told keeps) moved.moved.settled (ran allows [] moved.stimuli full.text old full.last full.now_engine opened moved.moved.moves) ((full.leaves.shown told keeps).at_once moved.moved.settled.speaks.at_once) full.contents_is)

@@ -48,7 +48,7 @@ are-read Tells accepts = record {
       record { starts = r.starts; replies = r.replies; heard = t.heard; life = r.life };
   tries = λ kept old new found tries told s.
       let r = tries_told Tells index kept attempts s.all old new s.are told in
-      record { starts = r.starts; replies = r.replies; heard = tries-heard Tells index kept attempts s.all old new s.are; life = λ some. r.life (sym (ap (λ (o : Option (List ℕ)). is_some o) s.found_so) ∙ some); own = r.own };
+      record { starts = r.starts; replies = r.replies; heard = tries-heard Tells index kept attempts s.all old new s.are; life = λ some. r.life (sym (ap (λ (o : Option (List ℕ)). is_some o) s.found_is) ∙ some); own = r.own };
 }
 
 -- ---- An event
@@ -67,7 +67,7 @@ dispatch-moved Tells accepts allows event text old new e now_e told keeps contin
   settled = record {
     calm = calm-by Tells accepts allows event d.turn_text old new e now_e e.alive refl told keeps judges few settled d.turn;
     life = dispatch-life Tells accepts allows event text old new e now_e told keeps judges (are-read Tells accepts) few settled.life settled.calm d;
-    speaks = turn_goes_on Tells accepts event e.alive d.turn_text old new (with_number e) now_e told refl (record { at_once = settled.speaks.at_once; rest_so = settled.speaks.rest_so }) d.turn;
+    speaks = turn_goes_on Tells accepts event e.alive d.turn_text old new (with_number e) now_e told refl (record { at_once = settled.speaks.at_once; rest_is = settled.speaks.rest_is }) d.turn;
     orderly = orderly-whole index old new settled.orderly (turn-orderly Tells accepts event e.alive d.turn_text old new (with_number e) now_e told keeps settled.calm (are-read Tells accepts) d.turn);
   };
 }
@@ -77,7 +77,7 @@ pub next-shown : {Own : Type 0} (Tells : Type 0) (accepts : List TableView → B
     → Dispatches Tells accepts event text old new (record e { queue = queue }) now_e → Shown Tells accepts [] dispatch_next text old new e now_e
 next-shown Tells accepts event queue text old new e now_e continues few waits d = record {
   moved = λ allows told keeps judges settled.
-      let taken : AtRest old (record e { queue = queue }) = record { calm = settled.calm; life = settled.life; speaks = record { at_once = settled.speaks.at_once; rest_so = settled.speaks.rest_so }; orderly = settled.orderly } in
+      let taken : AtRest old (record e { queue = queue }) = record { calm = settled.calm; life = settled.life; speaks = record { at_once = settled.speaks.at_once; rest_is = settled.speaks.rest_is }; orderly = settled.orderly } in
       let one = dispatch-moved Tells accepts allows event text old new (record e { queue = queue }) now_e told keeps continues judges few taken d in
       record { moves = next-moves allows event queue text old new e now_e waits one.moves; settled = one.settled };
 }

@@ -35,6 +35,7 @@ use Rattle.run_laws.specs.laws.WholeLaws.{told-said}
 use Rattle.run_laws.specs.Whole.{at_last, Ran}
 use Rattle.lego_model.specs.OrderlySteps.{IsOrderly}
 use Rattle.switch_laws.specs.laws.OrderlyLaws.{orderly-whole}
+use Rattle.switch_laws.specs.laws.PlaceLaws.{places-same}
 use Rattle.run_laws.specs.Moves.{AtRest}
 use Rattle.run_laws.specs.Endings.{Leaves}
 use Rattle.lego_model.specs.WholeRun.{EndsAs, LeavesAs, EndsAlike, LeavesAlike}
@@ -50,14 +51,10 @@ pub said-before : {Own : Type 0} (lost : List ℕ) (last new : Seen Own) (starts
 said-before lost last new starts replies l said =
     (subst (λ (told : List Start). AreStartFronts told starts) l.starts said.0, subst (λ (told : List Reply). AreFronts told replies) l.replies said.1)
 
-places-same : (f g : ℕ → Option SwitchState) (ds : List Declared) → ((d : ℕ) → f d ≡ g d) → places f ds ≡ places g ds
-places-same f g [] same = refl
-places-same f g (d ∷ ds) same = ap₂ (λ (o : Option SwitchState) (ps : List Place). record { declared = d; switch = o } ∷ ps) (same d.dpid) (places-same f g ds same)
-
 pub shown-still : (declared : List Declared) (views : List TableView) (s t : State) → ((d : ℕ) → switch_of d t ≡ switch_of d s) → shown_places declared views t ≡ shown_places declared views s
 unfolding shown_places
 shown-still declared views s t same =
-    places-same (shown_switch views t) (shown_switch views s) declared (λ d. ap (λ (o : Option SwitchState). option_map (owned_switch (flags_at d views)) o) (same d))
+    places-same (shown_switch views t) (shown_switch views s) (λ d. ap (λ (o : Option SwitchState). option_map (owned_switch (flags_at d views)) o) (same d)) declared
 
 -- some of them are out
 left-places : (lost : List ℕ) (f g : ℕ → Option SwitchState) (ds : List Declared) → ((d : ℕ) → g d ≡ (if is_among d lost then None else f d))
@@ -88,9 +85,9 @@ ends-so {Own} lost last new e starts replies r keeps l s =
     let declared = new.given.declared in
     let same_declared : declared ≡ last.given.declared = ap (λ (g : Given Own). g.declared) l.given in
     let ends : List Place = (at_end r).places in
-    let last_so : r.losses.last ≡ lost = ap (λ (x : Losses). x.last) s.losses_so in
+    let last_is : r.losses.last ≡ lost = ap (λ (x : Losses). x.last) s.losses_is in
     let here : ends ≡ shown_places declared e.net.views (state new) =
-    ap₂ (λ (ds : List ℕ) (ps : List Place). map (λ p. if is_among p.declared.dpid ds then out p else p) ps) last_so (s.places ∙ sym (ap (λ (ds : List Declared). shown_places ds e.net.views (state last)) same_declared))
+    ap₂ (λ (ds : List ℕ) (ps : List Place). map (λ p. if is_among p.declared.dpid ds then out p else p) ps) last_is (s.places ∙ sym (ap (λ (ds : List Declared). shown_places ds e.net.views (state last)) same_declared))
     ∙ shown-left lost declared e.net.views (state last) (state new) l.switches in
     let marks : AgreeMarks (points_in new) r.marks = subst (λ (ms : List Mark). AgreeMarks ms r.marks) (sym l.marks) s.marks in
     let end : AgreeMark (last_point new) (reference_mark None ends) =
@@ -99,7 +96,7 @@ ends-so {Own} lost last new e starts replies r keeps l s =
       tables = marks_more (points_in new) r.marks (last_point new) (reference_mark None ends) marks end;
       inputs = ap (λ (all : List App). map (λ a. a.inputs) all) s.apps ∙ ap (λ (given : List (List ℕ)). given ∷ []) (sym l.inputs);
       released = l.released ∙ sym s.released;
-      lost = l.lost_so ∙ ap₂ (λ (a b : List ℕ). a ++ b) (sym s.lost) (sym last_so);
+      lost = l.lost_is ∙ ap₂ (λ (a b : List ℕ). a ++ b) (sym s.lost) (sym last_is);
     }
 
 -- engine and reference controller ran alike
@@ -116,7 +113,7 @@ runs-alike {Own} last new e starts replies later r keeps l s =
       tables = marks_more (points_in new) r.marks (last_point new) (reference_mark None r.places) marks end;
       inputs = ap (λ (all : List App). map (λ a. a.inputs) all) s.apps ∙ ap (λ (given : List (List ℕ)). given ∷ []) (sym l.inputs);
       released = l.released ∙ sym s.released;
-      lost = l.lost_so ∙ append-nil (lost_of last) ∙ sym s.lost;
+      lost = l.lost_is ∙ append-nil (lost_of last) ∙ sym s.lost;
     }
 
 -- all steps were in order
@@ -131,11 +128,11 @@ ends-as allows lost text last new e contents now_contents starts replies keeps l
     let r = reference_said allows ran.losses last starts replies in
     let so = ran.as_said starts replies (said-before lost last new starts replies l said) in
     let report : run_report names r ≡ text ++ last_text lost last e =
-    report-ends r ∙ ap₂ (λ (a b : List ℕ). a ++ b) so.text_so (last-shown lost last e so.starts so.replies r so.stands) in
+    report-ends r ∙ ap₂ (λ (a b : List ℕ). a ++ b) so.text_is (last-shown lost last e so.starts so.replies r so.stands) in
     subst (EndsAs new contents now_contents e.events) (sym (reference-same allows ran.losses lost last new starts replies l)) (record {
       alike = ends-so lost last new e so.starts so.replies r keeps l so.stands;
       none_left = so.stands.queue ∙ none;
-      events_so = sym so.stands.events;
+      events_is = sym so.stands.events;
       report = written ∙ ap (append_known contents) (sym report);
     })
 
@@ -159,8 +156,8 @@ leaves-as allows text last new e contents now_contents starts replies keeps l ra
     let so = ran.as_said starts replies (said-before [] last new starts replies l said) in
     subst (LeavesAs new contents now_contents (length e.queue)) (sym (reference-same allows ran.losses [] last new starts replies l)) (record {
       alike = runs-alike last new e so.starts so.replies (at_last []) r keeps l so.stands;
-      left_so = ap (λ (q : List Event). length q) (sym so.stands.queue);
-      report = written ∙ ap (append_known contents) (sym so.text_so);
+      left_is = ap (λ (q : List Event). length q) (sym so.stands.queue);
+      report = written ∙ ap (append_known contents) (sym so.text_is);
     })
 
 pub leaves-alike : {Own : Type 0} (allows : List Place → Bool) (text : List ℕ) (last new : Seen Own) (e : Engine) (contents now_contents : Option (List ℕ)) → Conforming new → Leaves [] last new → AtRest last e → Ran allows [] text last e

@@ -4,6 +4,7 @@ use Rattle.std.proofs.Common.{◌≡◌, ◌==◌, ℕ, true, List, [], ◌∷�
 use Rattle.std.proofs.lemmas.Bool.{cases_Bool}
 use Rattle.std.specs.Option.{option_map}
 use Rattle.std.specs.List.{AllByRecursion}
+use Rattle.std.proofs.lemmas.Option.{none-some}
 use Rattle.flow_table.specs.Switch.{Declared, SwitchState}
 use Rattle.of_types.specs.declared.journal.Act.{Act}
 use Rattle.lego_model.specs.Journal.{Reply, Start, inputs, released, losses}
@@ -60,9 +61,6 @@ none-joined seen is d = ap (λ (s : State). switch_of d s) (state-opened seen is
 
 -- ---- All is calm
 
-no_some : (s : SwitchState) → None ≡ Some s → ⊥
-no_some s h = cc
-
 pub calm-first : {Own : Type 0} (seen : Seen Own) → IsOpened seen → Calm seen net_at_first
 unfolding at_first
 calm-first seen is = record {
@@ -71,7 +69,7 @@ calm-first seen is = record {
     agrees = λ d. sym (ap (λ (o : Option SwitchState). option_map (λ x. rows_of_table x.table.entries) o) (none-joined seen is d));
     known = λ d. sym (ap (ports_known d) (none-joined seen is d));
   };
-  sound = record { entries = λ d x here. absurd (no_some x (sym (none-joined seen is d) ∙ here)) };
+  sound = record { entries = λ d x here. absurd (none-some x (sym (none-joined seen is d) ∙ here)) };
   order = tt;
   kept = refl;
   moment = sym (ap (λ (s : State). s.moment) (state-opened seen is));
@@ -91,7 +89,7 @@ settled-first seen is = record {
   life = λ alive. absurd (true≢false (sym alive));
   speaks = record {
     at_once = record { last = nobody_yet; dialogue = subst (λ (acts : List Act). Dialogue index nobody_yet acts nobody_yet) (sym (no-acts seen is)) refl };
-    rest_so = λ alive. absurd (true≢false (sym alive));
+    rest_is = λ alive. absurd (true≢false (sym alive));
   };
   orderly = subst (λ (h : List WorldStep). AllByRecursion (IsOrderly index) h) (sym is) (tt, tt);
 }
@@ -127,7 +125,7 @@ stands-first seen starts replies losses is = record {
   apps = sym (ap (λ (given : List (List ℕ)). app_at engine_at_first given starts replies ∷ []) (given-first seen is));
   released = sym (released-first seen is);
   lost = sym (lost-first seen is);
-  losses_so = refl;
+  losses_is = refl;
   marks = subst (λ (s : State). AgreeMarks s.marks []) (sym (state-opened seen is)) tt;
   life = λ alive. absurd (true≢false (sym alive));
 }

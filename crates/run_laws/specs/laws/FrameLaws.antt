@@ -27,9 +27,9 @@ count_read kind count more few =
     ap (λ (bytes : List ℕ). number_at 8 5 bytes) (sym (append_assoc (number_bytes 4 (1 + length body)) (number_bytes 1 kind) body))
     ∙ number_at-number_bytes 8 5 count front more five (omega (arith, few))
 
-event_so : (count : ℕ) (more : List ℕ) → count < 2 ^ 64 → event_number (framed 2 (number_bytes 8 count ++ more)) ≡ Some count
+event_is : (count : ℕ) (more : List ℕ) → count < 2 ^ 64 → event_number (framed 2 (number_bytes 8 count ++ more)) ≡ Some count
 unfolding event_number
-event_so count more few = rw (kind_read 2 (number_bytes 8 count ++ more) (omega arith)) (ap (λ (n : ℕ). Some n) (count_read 2 count more few))
+event_is count more few = rw (kind_read 2 (number_bytes 8 count ++ more) (omega arith)) (ap (λ (n : ℕ). Some n) (count_read 2 count more few))
 
 pub restore_number : (checkpoint : List ℕ) → event_number (restore_frame checkpoint) ≡ None
 unfolding host_bytes event_number
@@ -48,4 +48,4 @@ pub event_numbered : (count moment : ℕ) (event : Event) → count < 2 ^ 64 →
 unfolding host_bytes
 event_numbered count moment event few =
     ap (λ (body : List ℕ). event_number (framed 2 body)) (event_body count moment event)
-    ∙ event_so count (spelled (number 8 moment ∷ number 1 (number_of_event event.kind) ∷ number 8 event.dpid ∷ []) ++ event.body) few
+    ∙ event_is count (spelled (number 8 moment ∷ number 1 (number_of_event event.kind) ∷ number 8 event.dpid ∷ []) ++ event.body) few

@@ -7,6 +7,7 @@ use Rattle.std.specs.Prelude.{filter}
 use Rattle.std.specs.List.{flat_map, AllByRecursion}
 use Rattle.std.specs.Option.{option_map}
 use Rattle.std.proofs.lemmas.List.Elements.{filter-append}
+use Rattle.std.proofs.lemmas.Option.{same_Some}
 use Rattle.of_types.specs.declared.journal.Act.{Act}
 use Rattle.of_types.specs.declared.journal.Act.TheVariants.{Stim, Started, Gave, Gone, Took, Ended, Sent, Got, Lost}
 use Rattle.of_types.specs.declared.journal.WorldStim.{WorldStim}
@@ -28,7 +29,7 @@ use Rattle.outside.specs.Seen.{Seen, Continues, is_declared, journal}
 use Rattle.outside.specs.State.{State, state, switch_of, is_joined, after_act, after_step, after_steps}
 use Rattle.outside.specs.Conforming.{AreDeclaredFrom, Conforming}
 use Rattle.net_txn.specs.Views.{rows_at, ViewsAscend}
-use Rattle.net_txn.specs.Agreement.{Agrees}
+use Rattle.net_txn.specs.ChangeSteps.{Agrees}
 use Rattle.net_txn.specs.AskSteps.{own_rows}
 use Rattle.switch_laws.specs.Shown.{rows_or_none, flags_in, flags_at, shown_switch, places, shown_places, Stand}
 use Rattle.switch_laws.specs.laws.FlagLaws.{flags_in-here, flags_in-there}
@@ -52,6 +53,7 @@ use Rattle.net_txn.specs.Asks.{GivesRows, AsksLost}
 use Rattle.lego_model.specs.FlowQueries.{asked_from, request_sent}
 use Rattle.lego_model.specs.OrderlySteps.{IsOrderly}
 use Rattle.switch_laws.specs.laws.OrderlyLaws.{orderly-none, orderly-then, rows-orderly, rows-release-none}
+use Rattle.switch_laws.specs.laws.ShownUndoLaws.{no-rows}
 use Rattle.run_laws.specs.Engine.{Engine, Stands}
 use Rattle.lego_model.specs.Application.{index, names, name}
 use Rattle.lego_model.specs.History.{own_acts, given_in, stimuli_in, lost_of}
@@ -103,15 +105,12 @@ table-shown d views vs s is same table number =
 
 -- ---- All of them
 
-one_rows : (a b : Rows) → Some a ≡ Some b → a ≡ b
-one_rows a b h = cc
-
 pub joined-with : (d : ℕ) (views : List TableView) (s : State) (vs : List ViewRow) → Agrees d views s → rows_at d views ≡ Some vs → JoinedWith vs (switch_of d s)
 joined-with d views s vs agrees is = joined_with (switch_of d s) (sym (ap (λ (o : Option (List ViewRow)). option_map rows_of_view o) is) ∙ agrees)
   where
     joined_with : {vs : List ViewRow} (o : Option SwitchState) → Some (rows_of_view vs) ≡ option_map (λ x. rows_of_table x.table.entries) o → JoinedWith vs o
     joined_with None h = absurd cc
-    joined_with {vs = vs} (Some x) h = record { switch = x; stands = refl; rows = one_rows (rows_of_view vs) (rows_of_table x.table.entries) h }
+    joined_with {vs = vs} (Some x) h = record { switch = x; stands = refl; rows = same_Some (rows_of_view vs) (rows_of_table x.table.entries) h }
 
 -- one that has none is out
 pub out-with : (d : ℕ) (views : List TableView) (s : State) → Agrees d views s → rows_at d views ≡ None → switch_of d s ≡ None
@@ -123,11 +122,7 @@ out-with d views s agrees is = out_with (switch_of d s) (sym (ap (λ (o : Option
 
 -- and one that is out has none
 none-viewed : (d : ℕ) (views : List TableView) (s : State) → Agrees d views s → switch_of d s ≡ None → rows_at d views ≡ None
-none-viewed d views s agrees out = none_viewed (rows_at d views) (agrees ∙ ap (option_map (λ x. rows_of_table x.table.entries)) out)
-  where
-    none_viewed : (o : Option (List ViewRow)) → option_map rows_of_view o ≡ None → o ≡ None
-    none_viewed None h = refl
-    none_viewed (Some x) h = absurd cc
+none-viewed d views s agrees out = no-rows (rows_at d views) (agrees ∙ ap (option_map (λ x. rows_of_table x.table.entries)) out)
 
 -- no view stands below the first
 none_below : (d least : ℕ) (views : List TableView) → ViewsAscend least views → d < least → rows_at d views ≡ None
@@ -232,10 +227,10 @@ report-ends r =
 -- Where engine and reference controller stand alike, they say the same at the end.
 pub last-shown : {Own : Type 0} (lost : List ℕ) (seen : Seen Own) (e : Engine) (starts : List Start) (replies : List Reply) (r : Run) → Stands seen e starts replies (at_last lost) r → last_lines r ≡ last_text lost seen e
 last-shown lost seen e starts replies r stands =
-    let last_so : r.losses.last ≡ lost = ap (λ (l : Losses). l.last) stands.losses_so in
+    let last_is : r.losses.last ≡ lost = ap (λ (l : Losses). l.last) stands.losses_is in
     let moment : r.moment ≡ e.net.moment = stands.moment ∙ sym stands.calm.moment in
     let first_text : List ℕ = flat_map (place_lines lost) (shown_places seen.given.declared e.net.views (state seen)) in
-    rw (last_so, stands.places, stands.apps, moment, stands.events)
+    rw (last_is, stands.places, stands.apps, moment, stands.events)
     (ap (λ (text : List ℕ). (first_text ++ text) ++ end_line e.net.moment e.events) (append-nil (app_line name e.alive e.done e.failed))
     ∙ append_assoc first_text (app_line name e.alive e.done e.failed) (end_line e.net.moment e.events))
 
@@ -333,7 +328,7 @@ only-asked old new steps given more are orderly none =
       inputs = ap (inputs index) longer ∙ inputs-append index (journal old.history) (journal steps) ∙ ap (λ (xs : List (List ℕ)). given_in old ++ xs) tells.given ∙ append-nil (given_in old);
       stimuli = ap stimuli longer ∙ stimuli-append (journal old.history) (journal steps) ∙ ap (λ (xs : List WorldStim). stimuli_in old ++ xs) tells.stims ∙ append-nil (stimuli_in old);
       released = released_same old new (journal steps) longer none;
-      lost_so = lost_more old new (journal steps) longer ∙ ap (λ (ds : List ℕ). lost_of old ++ ds) tells.lost;
+      lost_is = lost_more old new (journal steps) longer ∙ ap (λ (ds : List ℕ). lost_of old ++ ds) tells.lost;
       marks = ap (λ (s : State). s.marks) (state-append old new steps given more) ∙ talk-marks steps (state old) are;
       at_once = others_at_once old new steps more tells.acts;
       orderly = record { steps = steps; history = more; orderly = orderly };
@@ -363,15 +358,15 @@ lost-asked Tells d old new net now_net told keeps joined continues links places 
       acts = tells.acts;
       inputs = tells.given;
       stimuli = tells.stims;
-      released = released_same old new (journal out.steps) longer out.released_so;
-      lost_so = lost_more old new (journal out.steps) longer ∙ ap (λ (ds : List ℕ). lost_of old ++ ds) out.lost;
+      released = released_same old new (journal out.steps) longer out.released_is;
+      lost_is = lost_more old new (journal out.steps) longer ∙ ap (λ (ds : List ℕ). lost_of old ++ ds) out.lost;
       marks = (links_state old new continues.given only).marks;
       at_once = others_at_once old new only.steps only.history (link_steps-tell index only.steps only.all).acts;
       orderly = calls-orderly index old new only (places told (Conforming-in_order new keeps) joined);
     }
 
 pub asked-nothing : {Own : Type 0} (seen : Seen Own) → OnlyAsked [] seen seen
-asked-nothing seen = record { given = refl; acts = refl; inputs = refl; stimuli = refl; released = refl; lost_so = sym (append-nil (lost_of seen)); marks = refl; at_once = λ said. said; orderly = orderly-none index seen }
+asked-nothing seen = record { given = refl; acts = refl; inputs = refl; stimuli = refl; released = refl; lost_is = sym (append-nil (lost_of seen)); marks = refl; at_once = λ said. said; orderly = orderly-none index seen }
 
 pub asked-then : {Own : Type 0} (lost more : List ℕ) (old mid new : Seen Own) → OnlyAsked lost old mid → OnlyAsked more mid new → OnlyAsked (lost ++ more) old new
 asked-then lost more old mid new first rest = record {
@@ -380,7 +375,7 @@ asked-then lost more old mid new first rest = record {
   inputs = rest.inputs ∙ first.inputs;
   stimuli = rest.stimuli ∙ first.stimuli;
   released = rest.released ∙ first.released;
-  lost_so = rest.lost_so ∙ ap (λ (ds : List ℕ). ds ++ more) first.lost_so ∙ append_assoc (lost_of old) lost more;
+  lost_is = rest.lost_is ∙ ap (λ (ds : List ℕ). ds ++ more) first.lost_is ∙ append_assoc (lost_of old) lost more;
   marks = rest.marks ∙ first.marks;
   at_once = λ said. rest.at_once (first.at_once said);
   orderly = orderly-then index old mid new first.orderly rest.orderly;

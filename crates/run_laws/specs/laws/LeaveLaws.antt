@@ -33,7 +33,7 @@ asked-leaves lost old new asked switches = record {
   inputs = asked.inputs;
   stimuli = asked.stimuli;
   released = asked.released;
-  lost_so = asked.lost_so;
+  lost_is = asked.lost_is;
   marks = asked.marks;
   switches = switches;
   at_once = asked.at_once;
@@ -45,18 +45,18 @@ asked-leaves lost old new asked switches = record {
 -- an end, of an application that runs or of one that does not
 record IsEnd (running : Bool) : Type 0 where
   own : filter (is_of index) (journal (end_steps index running)) ≡ end_acts running index
-  inputs_so : inputs index (journal (end_steps index running)) ≡ []
-  stimuli_so : stimuli (journal (end_steps index running)) ≡ []
-  released_so : released (journal (end_steps index running)) ≡ []
-  lost_so : losses (journal (end_steps index running)) ≡ []
+  inputs_is : inputs index (journal (end_steps index running)) ≡ []
+  stimuli_is : stimuli (journal (end_steps index running)) ≡ []
+  released_is : released (journal (end_steps index running)) ≡ []
+  lost_is : losses (journal (end_steps index running)) ≡ []
   marks : (s : State) → (after_steps (end_steps index running) s).marks ≡ s.marks
   switches : (d : ℕ) (s : State) → switch_of d (after_steps (end_steps index running) s) ≡ switch_of d s
   orderly : AllByRecursion (IsOrderly index) (end_steps index running)
 
 is-end : (running : Bool) → IsEnd running
 unfolding end_steps journal inputs stimuli released losses switch_of after_act after_step
-is-end true = record { own = refl; inputs_so = refl; stimuli_so = refl; released_so = refl; lost_so = refl; marks = λ s. refl; switches = λ d s. refl; orderly = (refl, tt) }
-is-end false = record { own = refl; inputs_so = refl; stimuli_so = refl; released_so = refl; lost_so = refl; marks = λ s. refl; switches = λ d s. refl; orderly = tt }
+is-end true = record { own = refl; inputs_is = refl; stimuli_is = refl; released_is = refl; lost_is = refl; marks = λ s. refl; switches = λ d s. refl; orderly = (refl, tt) }
+is-end false = record { own = refl; inputs_is = refl; stimuli_is = refl; released_is = refl; lost_is = refl; marks = λ s. refl; switches = λ d s. refl; orderly = tt }
 
 -- The application is ended, if it runs.
 pub end-leaves : {Own : Type 0} (Tells : Type 0) (old new : Seen Own) → Tells → Ends Tells index old new → Leaves [] old new
@@ -73,10 +73,10 @@ end-leaves Tells old new told ends =
       given = ends.given;
       starts = reads.starts;
       replies = reads.replies;
-      inputs = ap (λ (acts : List Act). inputs index acts) longer ∙ inputs-append index (journal old.history) (journal steps) ∙ ap (λ (xs : List (List ℕ)). given_in old ++ xs) is.inputs_so ∙ append-nil (given_in old);
-      stimuli = ap (λ (acts : List Act). stimuli acts) longer ∙ stimuli-append (journal old.history) (journal steps) ∙ ap (λ (xs : List WorldStim). stimuli_in old ++ xs) is.stimuli_so ∙ append-nil (stimuli_in old);
-      released = released_same old new (journal steps) longer is.released_so;
-      lost_so = lost_same old new (journal steps) longer is.lost_so ∙ sym (append-nil (lost_of old));
+      inputs = ap (λ (acts : List Act). inputs index acts) longer ∙ inputs-append index (journal old.history) (journal steps) ∙ ap (λ (xs : List (List ℕ)). given_in old ++ xs) is.inputs_is ∙ append-nil (given_in old);
+      stimuli = ap (λ (acts : List Act). stimuli acts) longer ∙ stimuli-append (journal old.history) (journal steps) ∙ ap (λ (xs : List WorldStim). stimuli_in old ++ xs) is.stimuli_is ∙ append-nil (stimuli_in old);
+      released = released_same old new (journal steps) longer is.released_is;
+      lost_is = lost_same old new (journal steps) longer is.lost_is ∙ sym (append-nil (lost_of old));
       marks = ap (λ (s : State). s.marks) after ∙ is.marks (state old);
       switches = λ d. ap (λ (s : State). switch_of d s) after ∙ is.switches d (state old);
       at_once = λ said. let ended = converses_ended Tells index said.last old new ends told (runs_now old said) in at_once_then ended.0 old new said ended.1.0;

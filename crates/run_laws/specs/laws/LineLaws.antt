@@ -32,17 +32,17 @@ done_word true checkpoint rest = refl
 done_word false checkpoint rest = refl
 
 -- how a turn ended
-pub word_so : (end : TurnEnd) (unread : List ℕ) (outcome : Outcome) → IsEnd end unread outcome → turn_word end ≡ outcome_word outcome
-word_so (ends.Done stop) unread (Completed stops checkpoint rest) is =
+pub word_is : (end : TurnEnd) (unread : List ℕ) (outcome : Outcome) → IsEnd end unread outcome → turn_word end ≡ outcome_word outcome
+word_is (ends.Done stop) unread (Completed stops checkpoint rest) is =
     subst (λ (b : Bool). turn_word (ends.Done stop) ≡ outcome_word (Completed b checkpoint rest)) is.0 (done_word stop checkpoint rest)
-word_so (ends.Done stop) unread (Failed cause) is = absurd is
-word_so (ends.Failed why) unread (Completed stops checkpoint rest) is = absurd is
-word_so (ends.Failed why) unread (Failed cause) is = ap (λ c. words.Failed c) is
+word_is (ends.Done stop) unread (Failed cause) is = absurd is
+word_is (ends.Failed why) unread (Completed stops checkpoint rest) is = absurd is
+word_is (ends.Failed why) unread (Failed cause) is = ap (λ c. words.Failed c) is
 
 -- the lines of packets
-pub outs_so : (packets : List Held) → out_text (map (λ h. (h.0, length h.1.payload)) packets) ≡ lines_text (out_lines packets)
-outs_so [] = refl
-outs_so (h ∷ packets) = ap (λ (text : List ℕ). out_line h.0 (length h.1.payload) ++ text) (outs_so packets)
+pub outs_is : (packets : List Held) → out_text (map (λ h. (h.0, length h.1.payload)) packets) ≡ lines_text (out_lines packets)
+outs_is [] = refl
+outs_is (h ∷ packets) = ap (λ (text : List ℕ). out_line h.0 (length h.1.payload) ++ text) (outs_is packets)
 
 -- an event's line, and the lines behind it
 pub event_lines : (lines more : List Line) (number : ℕ) (event : Event) → lines_text ((lines ++ Dispatched number event ∷ []) ++ more) ≡ lines_text lines ++ (event_line number event.kind event.dpid ++ lines_text more)

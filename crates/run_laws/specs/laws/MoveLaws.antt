@@ -15,14 +15,14 @@ use Rattle.run_laws.specs.Engine.{Engine, Stands, ahead}
 use Rattle.lego_model.specs.ReferenceRun.{text_of}
 use Rattle.run_laws.specs.Moves.{AtRest, Moves, Moved, Shown}
 
--- none is in front
-pub ahead-none : (later : Losses) → ahead [] [] later ≡ later
-ahead-none later = refl
-
 -- those of one part, and then those of the next
 pub ahead-then : (bs cs : List Bool) (ts us : List TurnLosses) (later : Losses) → ahead (bs ++ cs) (ts ++ us) later ≡ ahead bs ts (ahead cs us later)
 ahead-then bs cs ts us later =
     ap₂ (λ (b : List Bool) (t : List TurnLosses). record { batches = b; turns = t; last = later.last }) (append_assoc bs cs later.batches) (append_assoc ts us later.turns)
+
+-- a list that grew twice
+pub longer : {A : Type 0} (p q r x y : List A) → q ≡ p ++ x → r ≡ q ++ y → r ≡ p ++ (x ++ y)
+longer {A} p q r x y h k = k ∙ ap (λ (l : List A). l ++ y) h ∙ append_assoc p x y
 
 pub moves-none : {Own : Type 0} (seen : Seen Own) (e : Engine) → Moves [] (λ r. r) [] seen seen e e
 moves-none seen e = record {
@@ -34,8 +34,8 @@ moves-none seen e = record {
   read_starts = sym (append-nil (starts_in (own_acts seen)));
   read_replies = sym (append-nil (replies_in (own_acts seen)));
   read_stimuli = sym (append-nil (stimuli_in seen));
-  stands = λ ss rs later r starts_so replies_so s. s;
-  says = λ ss rs later r starts_so replies_so s. sym (append-nil (text_of r));
+  stands = λ ss rs later r starts_is replies_is s. s;
+  says = λ ss rs later r starts_is replies_is s. sym (append-nil (text_of r));
 }
 
 pub moves-then : {Own : Type 0} (xs ys : List WorldStim) (f g : Run → Run) (first second : List ℕ) (a b c : Seen Own) (e1 e2 e3 : Engine)
@@ -49,24 +49,21 @@ moves-then {Own} xs ys f g first second a b c e1 e2 e3 m n = record {
   read_starts = longer (starts_in (own_acts a)) (starts_in (own_acts b)) (starts_in (own_acts c)) m.starts n.starts m.read_starts n.read_starts;
   read_replies = longer (replies_in (own_acts a)) (replies_in (own_acts b)) (replies_in (own_acts c)) m.replies n.replies m.read_replies n.read_replies;
   read_stimuli = longer (stimuli_in a) (stimuli_in b) (stimuli_in c) xs ys m.read_stimuli n.read_stimuli;
-  stands = λ ss rs later r starts_so replies_so s.
+  stands = λ ss rs later r starts_is replies_is s.
       let here = subst (λ (l : Losses). Stands a e1 ss rs l r) (ahead-then m.batches n.batches m.turns n.turns later) s in
-      let fs = start_fronts-parts m.starts n.starts ss starts_so in
-      let fr = fronts-parts m.replies n.replies rs replies_so in
+      let fs = start_fronts-parts m.starts n.starts ss starts_is in
+      let fr = fronts-parts m.replies n.replies rs replies_is in
       subst (λ (l : List Reply). Stands c e3 (drop (length (m.starts ++ n.starts)) ss) l later (g (f r))) (sym (drop-parts m.replies n.replies rs))
       (subst (λ (l : List Start). Stands c e3 l (drop (length n.replies) (drop (length m.replies) rs)) later (g (f r))) (sym (drop-parts m.starts n.starts ss))
       (n.stands (drop (length m.starts) ss) (drop (length m.replies) rs) later (f r) fs.1 fr.1 (m.stands ss rs (ahead n.batches n.turns later) r fs.0 fr.0 here)));
-  says = λ ss rs later r starts_so replies_so s.
+  says = λ ss rs later r starts_is replies_is s.
       let here = subst (λ (l : Losses). Stands a e1 ss rs l r) (ahead-then m.batches n.batches m.turns n.turns later) s in
-      let fs = start_fronts-parts m.starts n.starts ss starts_so in
-      let fr = fronts-parts m.replies n.replies rs replies_so in
+      let fs = start_fronts-parts m.starts n.starts ss starts_is in
+      let fr = fronts-parts m.replies n.replies rs replies_is in
       n.says (drop (length m.starts) ss) (drop (length m.replies) rs) later (f r) fs.1 fr.1 (m.stands ss rs (ahead n.batches n.turns later) r fs.0 fr.0 here)
       ∙ ap (λ (t : List ℕ). t ++ second) (m.says ss rs (ahead n.batches n.turns later) r fs.0 fr.0 here)
       ∙ append_assoc (text_of r) first second;
 }
-  where
-    longer : {A : Type 0} (p q r x y : List A) → q ≡ p ++ x → r ≡ q ++ y → r ≡ p ++ (x ++ y)
-    longer p q r x y h k = k ∙ ap (λ (l : List _). l ++ y) h ∙ append_assoc p x y
 
 -- another function that does the same wherever the two stand alike
 pub moves-as : {Own : Type 0} (xs : List WorldStim) (f g : Run → Run) (text : List ℕ) (a b : Seen Own) (e1 e2 : Engine)
@@ -80,9 +77,9 @@ moves-as xs f g text a b e1 e2 same m = record {
   read_starts = m.read_starts;
   read_replies = m.read_replies;
   read_stimuli = m.read_stimuli;
-  stands = λ ss rs later r starts_so replies_so s.
-      subst (Stands b e2 (drop (length m.starts) ss) (drop (length m.replies) rs) later) (same ss rs (ahead m.batches m.turns later) r s) (m.stands ss rs later r starts_so replies_so s);
-  says = λ ss rs later r starts_so replies_so s. subst (λ (q : Run). text_of q ≡ text_of r ++ text) (same ss rs (ahead m.batches m.turns later) r s) (m.says ss rs later r starts_so replies_so s);
+  stands = λ ss rs later r starts_is replies_is s.
+      subst (Stands b e2 (drop (length m.starts) ss) (drop (length m.replies) rs) later) (same ss rs (ahead m.batches m.turns later) r s) (m.stands ss rs later r starts_is replies_is s);
+  says = λ ss rs later r starts_is replies_is s. subst (λ (q : Run). text_of q ≡ text_of r ++ text) (same ss rs (ahead m.batches m.turns later) r s) (m.says ss rs later r starts_is replies_is s);
 }
 
 pub moved-none : {Own : Type 0} (seen : Seen Own) (e : Engine) → AtRest seen e → Moved [] (λ r. r) [] seen seen e e

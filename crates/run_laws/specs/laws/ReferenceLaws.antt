@@ -60,7 +60,7 @@ dispatch_dead allows event a r apps dead =
 
 -- ---- A turn
 
-pub turn_so : (allows : List Place → Bool) (number moment : ℕ) (event : Event) (losses : TurnLosses) (ps : List Place) (a : App) (reply : Reply) (played : Played Play) → next_reply a.replies ≡ reply
+pub turn_is : (allows : List Place → Bool) (number moment : ℕ) (event : Event) (losses : TurnLosses) (ps : List Place) (a : App) (reply : Reply) (played : Played Play) → next_reply a.replies ≡ reply
     → turn_of (table_of allows) a.budget a.rest reply (fresh_play losses.messages ps) ≡ played → turn allows number moment event losses ps a ≡ turned_by number moment event losses ps a reply played
 unfolding turn
-turn_so allows number moment event losses ps a reply played next is = rw (next, is) refl
+turn_is allows number moment event losses ps a reply played next is = rw (next, is) refl

@@ -15,7 +15,7 @@ use Rattle.run_laws.specs.laws.MoveLaws.{moved-none, moved-then, moved-as}
 -- no round
 pub rounds-none : {Own : Type 0} (Tells : Type 0) (accepts : List TableView → Bool) (seen : Seen Own) (e : Engine) → ShownRounds Tells accepts 0 [] seen seen e e
 rounds-none Tells accepts seen e = record {
-  rounds_so = λ allows told keeps judges settled. record { stimuli = []; number_so = refl; moved = moved-none seen e settled };
+  rounds_is = λ allows told keeps judges settled. record { stimuli = []; number_is = refl; moved = moved-none seen e settled };
 }
 
 -- one round more: a batch with its stimulus, and the events that wait then
@@ -23,9 +23,9 @@ pub rounds-more : {Own : Type 0} (Tells : Type 0) (accepts : List TableView → 
     → Continues Tells b c → Continues Tells c d → ShownRounds Tells accepts number first a b e1 e2 → ShownIdle Tells noted b c e2 e3 → Shown Tells accepts [] settle second c d e3 e4
     → ShownRounds Tells accepts (number + 1) ((first ++ noted) ++ second) a d e1 e4
 rounds-more Tells accepts number first noted second a b c d e1 e2 e3 e4 later last rs idle settles = record {
-  rounds_so = λ allows told keeps judges settled.
+  rounds_is = λ allows told keeps judges settled.
       let keeps_c = Conforming-before told last keeps in
-      let one = rs.rounds_so allows told (Conforming-before told later keeps_c) judges settled in
+      let one = rs.rounds_is allows told (Conforming-before told later keeps_c) judges settled in
       let two = idle.happens told keeps_c one.moved.settled in
       let x = two.stimulus in
       let three = settles.moved allows told keeps judges two.moved.settled in
@@ -33,7 +33,7 @@ rounds-more Tells accepts number first noted second a b c d e1 e2 e3 e4 later la
       (moved-then one.stimuli (x ∷ []) (rounds allows one.stimuli) (happen x) first noted a b c e1 e2 e3 one.moved two.moved) three in
       record {
         stimuli = one.stimuli ++ x ∷ [];
-        number_so = length-append one.stimuli (x ∷ []) ∙ ap (λ (n : ℕ). n + 1) one.number_so;
+        number_is = length-append one.stimuli (x ∷ []) ∙ ap (λ (n : ℕ). n + 1) one.number_is;
         moved = subst (λ (xs : List WorldStim). Moved xs (rounds allows (one.stimuli ++ x ∷ [])) ((first ++ noted) ++ second) a d e1 e4) (append-nil (one.stimuli ++ x ∷ []))
             (moved-as ((one.stimuli ++ x ∷ []) ++ []) (λ r. settle allows (happen x (rounds allows one.stimuli r))) (rounds allows (one.stimuli ++ x ∷ [])) ((first ++ noted) ++ second) a d e1 e4
             (λ ss rs l r s. sym (fold-append (round allows) r one.stimuli (x ∷ []))) all);
@@ -47,7 +47,7 @@ pub rounds-end : {Own : Type 0} (Tells : Type 0) (accepts : List TableView → B
 rounds-end Tells accepts number most first noted second a b c d e1 e2 e3 e4 later last rs over settles = record {
   to_end = λ allows told keeps judges settled few.
       let keeps_c = Conforming-before told last keeps in
-      let one = rs.rounds_so allows told (Conforming-before told later keeps_c) judges settled in
+      let one = rs.rounds_is allows told (Conforming-before told later keeps_c) judges settled in
       let two = over.moved told keeps_c one.moved.settled in
       let three = settles.moved allows told keeps judges two.settled in
       let all = moved-then (one.stimuli ++ []) [] (rounds allows one.stimuli) (settle allows) (first ++ noted) second a c d e1 e3 e4

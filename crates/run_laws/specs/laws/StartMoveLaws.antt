@@ -43,27 +43,27 @@ unfolding started
 started-first n a s more tried rest has is = rw (has, is) refl
 
 -- it is ready then
-ready_so : {Own : Type 0} (n : ℕ) (t : OneTry Own) (ts : List (OneTry Own)) (s : Start) (said : List Start) (a : App) → IsStartFront (start_of t.attempt) s → is_ready t.tried ≡ true → ts ≡ []
+ready_is : {Own : Type 0} (n : ℕ) (t : OneTry Own) (ts : List (OneTry Own)) (s : Start) (said : List Start) (a : App) → IsStartFront (start_of t.attempt) s → is_ready t.tried ≡ true → ts ≡ []
     → by_tried n t.tried (tried_first a s said t.rest) ≡ restarted (t ∷ ts) (drop (length (starts_of ts)) said) a
-ready_so n t ts s said a front ready last = rw (ready, last, append-nil, restored-same a.kept (start_of t.attempt) s front) refl
+ready_is n t ts s said a front ready last = rw (ready, last, append-nil, restored-same a.kept (start_of t.attempt) s front) refl
 
 -- it is tried again
-again_so : {Own : Type 0} (n : ℕ) (t : OneTry Own) (ts : List (OneTry Own)) (s : Start) (said : List Start) (a : App) → IsStartFront (start_of t.attempt) s → is_ready t.tried ≡ false
+again_is : {Own : Type 0} (n : ℕ) (t : OneTry Own) (ts : List (OneTry Own)) (s : Start) (said : List Start) (a : App) → IsStartFront (start_of t.attempt) s → is_ready t.tried ≡ false
     → started n (tried_first a s said t.rest) ≡ restarted ts (drop (length (starts_of ts)) said) (tried_first a s said t.rest) → by_tried n t.tried (tried_first a s said t.rest) ≡ restarted (t ∷ ts) (drop (length (starts_of ts)) said) a
-again_so n t ts s said a front unready then_so = rw (unready, then_so, append_assoc, restored-same a.kept (start_of t.attempt) s front) refl
+again_is n t ts s said a front unready then_is = rw (unready, then_is, append_assoc, restored-same a.kept (start_of t.attempt) s front) refl
 
-starts_so : {Own : Type 0} (Tells : Type 0) (app : ℕ) (kept : List ℕ) (n : ℕ) (ts : List (OneTry Own)) (old new : Seen Own) → AreTries Tells app kept n ts old new → AllByRecursion (λ t. is_start_heard (start_of t.attempt) ≡ true) ts → (a : App) (said : List Start) → a.starts ≡ said → AreStartFronts (starts_of ts) said
+starts_is : {Own : Type 0} (Tells : Type 0) (app : ℕ) (kept : List ℕ) (n : ℕ) (ts : List (OneTry Own)) (old new : Seen Own) → AreTries Tells app kept n ts old new → AllByRecursion (λ t. is_start_heard (start_of t.attempt) ≡ true) ts → (a : App) (said : List Start) → a.starts ≡ said → AreStartFronts (starts_of ts) said
     → started n a ≡ restarted ts (drop (length (starts_of ts)) said) a
 unfolding started
-starts_so Tells app kept zero [] old new are heard a said has fronts = rw (append-nil, ← has) refl
-starts_so Tells app kept zero (t ∷ ts) old new are heard a said has fronts = absurd are
-starts_so Tells app kept (suc n) [] old new are heard a said has fronts = absurd are
-starts_so Tells app kept (suc n) (t ∷ ts) old new are heard a [] has fronts = absurd fronts
-starts_so Tells app kept (suc n) (t ∷ ts) old new are heard a (s ∷ said) has fronts =
+starts_is Tells app kept zero [] old new are heard a said has fronts = rw (append-nil, ← has) refl
+starts_is Tells app kept zero (t ∷ ts) old new are heard a said has fronts = absurd are
+starts_is Tells app kept (suc n) [] old new are heard a said has fronts = absurd are
+starts_is Tells app kept (suc n) (t ∷ ts) old new are heard a [] has fronts = absurd fronts
+starts_is Tells app kept (suc n) (t ∷ ts) old new are heard a (s ∷ said) has fronts =
     started-first n a s said t.tried t.rest has (start-front (start_of t.attempt) s heard.0 fronts.0 ∙ are.0.outcome)
     ∙ elim are.1 [
-      | inl h ↦ ready_so n t ts s said a fronts.0 h.0 h.1
-      | inr h ↦ again_so n t ts s said a fronts.0 h.0 (starts_so Tells app kept n ts t.after new h.1 heard.1 (tried_first a s said t.rest) said refl fronts.1)
+      | inl h ↦ ready_is n t ts s said a fronts.0 h.0 h.1
+      | inr h ↦ again_is n t ts s said a fronts.0 h.0 (starts_is Tells app kept n ts t.after new h.1 heard.1 (tried_first a s said t.rest) said refl fronts.1)
     ]
 
 -- an application that was started so
@@ -103,11 +103,11 @@ starts_alike Tells accepts text old new e now_e told reads s =
       places = λ declared. shown-same declared e.net.views (state old) (state new) keeps.links;
       app = λ said_starts said_replies fronts.
           let later_starts = drop (length (starts_of all)) said_starts in
-          starts_so Tells index e.kept attempts all old new s.restarts.are read.heard (app_at e (given_in old) said_starts said_replies) said_starts refl fronts
-          ∙ ap (λ (f : Option (List ℕ)). started_as e later_starts said_replies f (given_in old ++ given_by e.kept all) (tries_of all)) (sym s.restarts.found_so)
+          starts_is Tells index e.kept attempts all old new s.restarts.are read.heard (app_at e (given_in old) said_starts said_replies) said_starts refl fronts
+          ∙ ap (λ (f : Option (List ℕ)). started_as e later_starts said_replies f (given_in old ++ given_by e.kept all) (tries_of all)) (sym s.restarts.found_is)
           ∙ ap (λ (i : List (List ℕ)). started_as e later_starts said_replies found i (tries_of all)) (sym tells.given)
-          ∙ ap (λ (t : List Tried). started_as e later_starts said_replies found (given_in new) t) (sym s.restarts.tries_so);
-      text_so = s.text_so ∙ sym (starts_lines s.tries (is_some found));
+          ∙ ap (λ (t : List Tried). started_as e later_starts said_replies found (given_in new) t) (sym s.restarts.tries_is);
+      text_is = s.text_is ∙ sym (starts_lines s.tries (is_some found));
       read_starts = read.starts;
       read_replies = read.replies;
       read_stimuli = tells.stims;

@@ -45,9 +45,9 @@ start-shown {Own} Tells text old new e now_e starts = record {
           read_starts = s.read_starts;
           read_replies = s.read_replies ∙ sym (append-nil (replies_in (own_acts old)));
           read_stimuli = s.read_stimuli ∙ sym (append-nil (stimuli_in old));
-          stands = λ ss rs later_losses r starts_so replies_so t.
+          stands = λ ss rs later_losses r starts_is replies_is t.
               let later = drop (length s.starts) ss in
-              subst (Stands new now_e later rs later_losses) (sym (start-one r (app_at e (given_in old) ss rs) (app_at now_e (given_in new) later rs) s.tries t.apps (s.app ss rs starts_so))) (record {
+              subst (Stands new now_e later rs later_losses) (sym (start-one r (app_at e (given_in old) ss rs) (app_at now_e (given_in new) later rs) s.tries t.apps (s.app ss rs starts_is))) (record {
                 calm = s.calm t.calm;
                 moment = t.moment ∙ sym s.keeps.rests.moment;
                 places = t.places ∙ sym (s.places old.given.declared) ∙ ap (λ (g : Given Own). shown_places g.declared now_e.net.views (state new)) (sym given);
@@ -56,14 +56,14 @@ start-shown {Own} Tells text old new e now_e starts = record {
                 apps = refl;
                 released = t.released ∙ sym s.released;
                 lost = t.lost ∙ sym s.lost;
-                losses_so = t.losses_so;
+                losses_is = t.losses_is;
                 marks = subst (λ (ms : List Mark). AgreeMarks ms r.marks) (sym s.keeps.marks) t.marks;
                 life = s.life;
               });
-          says = λ ss rs later_losses r starts_so replies_so t.
-              ap text_of (start-one r (app_at e (given_in old) ss rs) (app_at now_e (given_in new) (drop (length s.starts) ss) rs) s.tries t.apps (s.app ss rs starts_so))
+          says = λ ss rs later_losses r starts_is replies_is t.
+              ap text_of (start-one r (app_at e (given_in old) ss rs) (app_at now_e (given_in new) (drop (length s.starts) ss) rs) s.tries t.apps (s.app ss rs starts_is))
               ∙ flat_map-append (line_text names) r.lines (map (Started 0) s.tries ++ gone_line 0 now_e.alive)
-              ∙ ap (λ (more : List ℕ). text_of r ++ more) (sym s.text_so);
+              ∙ ap (λ (more : List ℕ). text_of r ++ more) (sym s.text_is);
         };
         settled = record { calm = s.calm settled.calm; life = s.life; speaks = starts_converse Tells text old new e now_e told settled.speaks.at_once starts; orderly = orderly-whole index old new settled.orderly (starts-orderly Tells (λ (views : List TableView). true) text old new e now_e told (are-read Tells (λ (views : List TableView). true)) starts) };
       };

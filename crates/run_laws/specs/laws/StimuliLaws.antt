@@ -18,14 +18,14 @@ use Rattle.outside.specs.Conforming.{MayAct, MayStep, MaySteps, Conforming}
 use Rattle.lego_model.specs.History.{stimuli_in}
 
 -- the stimuli of steps
-abbrev told_in : List WorldStep → List WorldStim
+abbrev pub told_in : List WorldStep → List WorldStim
 told_in steps = stimuli (journal steps)
 
 -- what a step tells, with what is to come behind it, was to come
 abbrev IsNextOf : WorldStep → State → Type 0
 IsNextOf step s = told_in (step ∷ []) ++ (after_step step s).to_come ≡ s.to_come
 
-first_to_come : (xs : List WorldStim) (x : WorldStim) → slice_get xs 0 ≡ Some x → x ∷ drop 1 xs ≡ xs
+pub first_to_come : (xs : List WorldStim) (x : WorldStim) → slice_get xs 0 ≡ Some x → x ∷ drop 1 xs ≡ xs
 first_to_come [] x is = absurd cc
 first_to_come (y ∷ ys) x is = cc
 
@@ -60,10 +60,10 @@ step_next declared (SendFailed d) s may = refl
 step_next declared (RecvFailed d) s may = refl
 
 -- one step, and those behind it
-told_more : (step : WorldStep) (steps : List WorldStep) → told_in (step ∷ steps) ≡ told_in (step ∷ []) ++ told_in steps
+pub told_more : (step : WorldStep) (steps : List WorldStep) → told_in (step ∷ steps) ≡ told_in (step ∷ []) ++ told_in steps
 told_more step steps = ap stimuli (journal-append (step ∷ []) steps) ∙ stimuli-append (journal (step ∷ [])) (journal steps)
 
-told_none : told_in [] ≡ []
+pub told_none : told_in [] ≡ []
 unfolding stimuli journal
 told_none = refl
 
@@ -116,13 +116,6 @@ steps_next declared (step ∷ steps) s may =
 pub told-and-to_come : {Own : Type 0} (seen : Seen Own) → Conforming seen → stimuli_in seen ++ (state seen).to_come ≡ seen.given.stimuli
 unfolding state at_first
 told-and-to_come seen keeps = steps_next seen.given.declared seen.history (at_first seen.given) keeps.steps
-
--- they are no more than these
-pub told-few : {Own : Type 0} (seen : Seen Own) → Conforming seen → length (stimuli_in seen) ≤ length seen.given.stimuli
-told-few seen keeps =
-    let all = ap (λ (xs : List WorldStim). length xs) (told-and-to_come seen keeps) in
-    let sum = length-append (stimuli_in seen) (state seen).to_come in
-    omega (arith, all, sum)
 
 -- where none is to come, they are all of them
 pub told-all : {Own : Type 0} (seen : Seen Own) → Conforming seen → (state seen).to_come ≡ [] → stimuli_in seen ≡ seen.given.stimuli

@@ -27,7 +27,7 @@ use Rattle.run_laws.specs.laws.ChainLaws.{links_tell, told_state, try_own, try_g
 use Rattle.run_laws.specs.laws.LinkStepLaws.{talk_step}
 use Rattle.run_laws.specs.LinkSteps.{TellsGiven, TellsNoLoss, ChainKeeps}
 use Rattle.app_visor.specs.laws.BeatLaws.{Chain-continues}
-use Rattle.batch_laws.specs.laws.InBatchLaws.{links_switch}
+use Rattle.switch_laws.specs.laws.LinkLaws.{links_switch}
 use Rattle.switch_laws.specs.Since.{Ready, Goes}
 use Rattle.switch_laws.specs.Sound.{Sound}
 use Rattle.switch_laws.specs.laws.SinceLaws.{goes-on}

@@ -56,7 +56,7 @@ use Rattle.batch_laws.specs.Knowledge.{left_events, lost_text}
 use Rattle.run_laws.specs.Facts.{turn_word, out_text, all_told, IsClosed, TakesTurn}
 use Rattle.run_laws.specs.Readings.{AreRead, JudgesAlike}
 use Rattle.run_laws.specs.laws.FrameLaws.{event_numbered}
-use Rattle.run_laws.specs.laws.ReferenceLaws.{turn_so}
+use Rattle.run_laws.specs.laws.ReferenceLaws.{turn_is}
 use Rattle.run_laws.specs.ReferenceTurn.{turned_by}
 use Rattle.run_laws.specs.laws.LinkStepLaws.{gave_first}
 use Rattle.run_laws.specs.LinkSteps.{NoEvents, Rests, TellsGiven, ChainKeeps}
@@ -64,7 +64,7 @@ use Rattle.run_laws.specs.laws.CalmLaws.{turn_stays, calm_released, calm_undone}
 use Rattle.run_laws.specs.laws.ChainLaws.{chain_rests, chain_marks, given_marks, answers_no_events, links_state, links_rest, links_tell}
 use Rattle.run_laws.specs.laws.TellLaws.{chain_tells, chain_keeps}
 use Rattle.run_laws.specs.LastReport.{lines_text}
-use Rattle.run_laws.specs.laws.LineLaws.{word_so, outs_so}
+use Rattle.run_laws.specs.laws.LineLaws.{word_is, outs_is}
 use Rattle.run_laws.specs.laws.StartMoveLaws.{starts_alike}
 use Rattle.run_laws.specs.EventMoves.{StartsAlike, TurnAlike, TurnMoves}
 
@@ -95,16 +95,16 @@ record AtEnd {Own : Type 0} (allows : List Place → Bool) (event : Event) (old 
       (played_on (play_at old mid mid_net [] left) answers outcome)
 
 -- nothing is held before
-fresh_so : {Own : Type 0} (old : Seen Own) (net : NetState) (losing : List Bool) → net.held ≡ [] → fresh_play losing (places_at old old net) ≡ play_at old old net losing []
-fresh_so old net losing none = ap (λ (held : List Held). record { places = places_at old old net; held = held; losing = losing; left = [] }) (sym none)
+fresh_is : {Own : Type 0} (old : Seen Own) (net : NetState) (losing : List Bool) → net.held ≡ [] → fresh_play losing (places_at old old net) ≡ play_at old old net losing []
+fresh_is old net losing none = ap (λ (held : List Held). record { places = places_at old old net; held = held; losing = losing; left = [] }) (sym none)
 
-tail_so : (frame : List ℕ) (xs ys : List (List ℕ)) → frame ∷ xs ≡ frame ∷ ys → xs ≡ ys
-tail_so frame xs ys is = cc
+tail_is : (frame : List ℕ) (xs ys : List (List ℕ)) → frame ∷ xs ≡ frame ∷ ys → xs ≡ ys
+tail_is frame xs ys is = cc
 
 behind_event : (given : Bool) (frame : List ℕ) (acts : List Act) (answers : List Answer) → inputs index (give_act given index frame ∷ acts) ≡ given_by_turn given frame answers → NoEvents (inputs index acts)
 unfolding inputs
 behind_event true frame acts answers is =
-    subst NoEvents (sym (tail_so frame (inputs index acts) (map answer_frame answers) (sym (gave_first index index frame acts (eq-eqb index index refl)) ∙ is))) (answers_no_events answers)
+    subst NoEvents (sym (tail_is frame (inputs index acts) (map answer_frame answers) (sym (gave_first index index frame acts (eq-eqb index index refl)) ∙ is))) (answers_no_events answers)
 behind_event false frame acts answers is = subst NoEvents (sym is) tt
 
 at_end : {Own : Type 0} (Tells : Type 0) (accepts : List TableView → Bool) (allows : List Place → Bool) (event : Event) (old mid : Seen Own) (e : Engine) (mid_net : NetState) (end : TurnEnd) (unread : List ℕ)
@@ -115,9 +115,9 @@ at_end Tells accepts allows event old mid e mid_net end unread told keeps judges
     let frame = event_frame e.events e.net.moment event in
     let whole = Talk (give_act t.given index frame) ∷ t.trace in
     let first : Goes (length e.net.log) [] old old e.net e.net = record { since = begun old e.net; ready = calm.ready } in
-    let given_so : mid.given ≡ old.given = (Chain-continues Tells index whole old mid e.net mid_net t.chain).given in
+    let given_is : mid.given ≡ old.given = (Chain-continues Tells index whole old mid e.net mid_net t.chain).given in
     let judged : allows (places_at old mid mid_net) ≡ accepts mid_net.views =
-    subst (λ (g : Given _). allows (shown_places g.declared mid_net.views (state mid)) ≡ accepts mid_net.views) given_so (judges.alike mid mid_net) in
+    subst (λ (g : Given _). allows (shown_places g.declared mid_net.views (state mid)) ≡ accepts mid_net.views) given_is (judges.alike mid mid_net) in
     let shown = turn-shown Tells accepts allows index budget e.rest frame old mid e.net mid_net end unread told keeps calm.ready t judged in
     record {
       messages = shown.messages;
@@ -126,23 +126,23 @@ at_end Tells accepts allows event old mid e mid_net end unread told keeps judges
       goes = shown.goes;
       chain = chain_keeps Tells (length e.net.log) [] old e.net whole old mid e.net mid_net told keeps t.chain first calm.sound;
       rests = chain_rests Tells index whole old mid e.net mid_net told t.chain;
-      marks = chain_marks Tells index t.trace t.chain.1.0 mid e.net mid_net told t.chain.1.1.1 (behind_event t.given frame (acts_in t.trace) t.answers t.inputs_so)
+      marks = chain_marks Tells index t.trace t.chain.1.0 mid e.net mid_net told t.chain.1.1.1 (behind_event t.given frame (acts_in t.trace) t.answers t.inputs_is)
           ∙ given_marks Tells t.given index e.events frame old t.chain.1.0 told t.chain.1.1.0 (event_numbered e.events e.net.moment event few);
       turned = λ packets undone starts said replies front.
           let losses : TurnLosses = record { messages = shown.messages; packets = packets; undone = undone } in
-          turn_so allows e.events e.net.moment event losses (places_at old old e.net) (app_at e (given_in old) starts (said ∷ replies)) said
+          turn_is allows e.events e.net.moment event losses (places_at old old e.net) (app_at e (given_in old) starts (said ∷ replies)) said
           (played_on (play_at old mid mid_net [] shown.left) t.answers t.outcome) refl
           (turn-front (table_of allows) budget e.rest (reply_by t.given t.trace) said (fresh_play shown.messages (places_at old old e.net)) heard front
-          ∙ ap (λ (p : Play). turn_of (table_of allows) budget e.rest (reply_by t.given t.trace) p) (fresh_so old e.net shown.messages calm.held)
+          ∙ ap (λ (p : Play). turn_of (table_of allows) budget e.rest (reply_by t.given t.trace) p) (fresh_is old e.net shown.messages calm.held)
           ∙ shown.played);
     }
 
 -- ---- What a turn tells, and what it leaves
 
-given_so : {Own : Type 0} (given : Bool) (trace : List (Beat Own)) → (reply_by given trace).given ≡ given
+given_is : {Own : Type 0} (given : Bool) (trace : List (Beat Own)) → (reply_by given trace).given ≡ given
 unfolding reply_of
-given_so true trace = refl
-given_so false trace = refl
+given_is true trace = refl
+given_is false trace = refl
 
 -- ---- A turn that was done
 
@@ -174,24 +174,24 @@ record AllLeft {Own : Type 0} (old new : Seen Own) (net : NetState) (left more :
 all_left : {Own : Type 0} (old mid new : Seen Own) (first_net mid_net then_net net : NetState) (left more : List Event) → first_net.left ≡ [] → LeavesBy old mid first_net mid_net left → then_net.left ≡ mid_net.left → LeavesBy mid new then_net net more
     → AllLeft old new net left more
 all_left old mid new first_net mid_net then_net net left more none first same later = record {
-  events = ap left_events (later.left_so ∙ ap (λ (ks : List KnownPorts). ks ++ later.gone) (same ∙ first.left_so ∙ ap (λ (ks : List KnownPorts). ks ++ first.gone) none))
-      ∙ map-append left_event first.gone later.gone ∙ ap₂ (λ (a b : List Event). a ++ b) first.events_so later.events_so;
-  lost = later.lost_so ∙ ap (λ (ds : List ℕ). ds ++ leavers more) first.lost_so ∙ append_assoc (lost_of old) (leavers left) (leavers more)
+  events = ap left_events (later.left_is ∙ ap (λ (ks : List KnownPorts). ks ++ later.gone) (same ∙ first.left_is ∙ ap (λ (ks : List KnownPorts). ks ++ first.gone) none))
+      ∙ map-append left_event first.gone later.gone ∙ ap₂ (λ (a b : List Event). a ++ b) first.events_is later.events_is;
+  lost = later.lost_is ∙ ap (λ (ds : List ℕ). ds ++ leavers more) first.lost_is ∙ append_assoc (lost_of old) (leavers left) (leavers more)
       ∙ ap (λ (ds : List ℕ). lost_of old ++ ds) (sym (map-append (λ (x : Event). x.dpid) left more));
 }
 
 -- their lines
-losts_so : (gone : List KnownPorts) → lost_text gone ≡ lines_text (lost_lines (leavers (left_events gone)))
-losts_so [] = refl
-losts_so (k ∷ gone) = ap (λ (text : List ℕ). lost_line k.dpid ++ text) (losts_so gone)
+losts_is : (gone : List KnownPorts) → lost_text gone ≡ lines_text (lost_lines (leavers (left_events gone)))
+losts_is [] = refl
+losts_is (k ∷ gone) = ap (λ (text : List ℕ). lost_line k.dpid ++ text) (losts_is gone)
 
 -- what the release of the held packets leaves, in the places of the beginning
-record ReleasedSince {Own : Type 0} (old mid new : Seen Own) (mid_net net : NetState) (losing : List PacketLoss) (release_so : Release) : Type 0 where
-  is : release_so ≡ release losing (places_at old mid mid_net) mid_net.held
-  places : release_so.places ≡ places_at old new net
+record ReleasedSince {Own : Type 0} (old mid new : Seen Own) (mid_net net : NetState) (losing : List PacketLoss) (release_is : Release) : Type 0 where
+  is : release_is ≡ release losing (places_at old mid mid_net) mid_net.held
+  places : release_is.places ≡ places_at old new net
 
 released_since : {Own : Type 0} (old mid new : Seen Own) (start : ℕ) (sent : List Held) (mid_net net : NetState) (queue now_queue : List Event) → mid.given ≡ old.given
-    → (shown : ReleaseShown mid_net.held sent mid new (committed start mid_net) net queue now_queue) → ReleasedSince old mid new mid_net net shown.losing shown.release_so
+    → (shown : ReleaseShown mid_net.held sent mid new (committed start mid_net) net queue now_queue) → ReleasedSince old mid new mid_net net shown.losing shown.release_is
 released_since {Own} old mid new start sent mid_net net queue now_queue given shown =
     let declared : mid.given.declared ≡ old.given.declared = ap (λ (g : Given Own). g.declared) given in
     record {
@@ -215,34 +215,34 @@ done_alike Tells allows event stop unread text old mid new e mid_net net queue s
     let ready : Ready mid (committed start mid_net) = record { waits = at.goes.ready.waits; agrees = at.goes.ready.agrees; known = at.goes.ready.known } in
     let shown = release-shown Tells mid_net.held commits.ended.sent mid new (committed start mid_net) net e.queue queue told keeps commits.ended.all ready at.chain.sound in
     let since = released_since old mid new start commits.ended.sent mid_net net e.queue queue given_stays shown in
-    let there_so = shown.release_so in
-    let all = all_left old mid new e.net mid_net (committed start mid_net) net at.left there_so.left calm.left at.leaves refl shown.leaves in
-    let left : List Event = at.left ++ there_so.left in
+    let there_is = shown.release_is in
+    let all = all_left old mid new e.net mid_net (committed start mid_net) net at.left there_is.left calm.left at.leaves refl shown.leaves in
+    let left : List Event = at.left ++ there_is.left in
     record {
       losses = record { messages = at.messages; packets = shown.losing; undone = [] };
       alike = record {
         outcome = outcome;
         tries = [];
         given = given;
-        release = there_so;
+        release = there_is;
         left = left;
         calm = calm_released start mid_net.held commits.ended.sent old mid new mid_net net e.queue queue there shown (links_rest mid new only);
         moment = only.moment ∙ at.rests.moment;
         places = since.places;
-        queue = ap₂ (λ (q more : List Event). q ++ more) shown.events all.events ∙ append_assoc e.queue there_so.events left;
-        released = shown.released_so ∙ ap (λ (ps : List Held). ps ++ there_so.packets) at.chain.released;
+        queue = ap₂ (λ (q more : List Event). q ++ more) shown.events all.events ∙ append_assoc e.queue there_is.events left;
+        released = shown.released_is ∙ ap (λ (ps : List Held). ps ++ there_is.packets) at.chain.released;
         lost = all.lost;
         events = refl;
         marks = only.marks ∙ at.marks;
-        turned = λ later_starts said later_replies starts_so front. at.turned shown.losing [] later_starts said later_replies front
-            ∙ ap₂ (λ (b : Bool) (r : Release). done_turn r (at.left ++ r.left) (done_app e checkpoint later_starts later_replies (given_in old ++ given_by_turn b frame answers) rest) outcome b) (front.given ∙ given_so given trace) (sym since.is)
-            ∙ ap₂ (λ (i : List (List ℕ)) (x : List ℕ). done_turn there_so left (done_app e checkpoint later_starts later_replies i x) outcome given) (sym (tells.given ∙ inputs_are)) (sym is.1);
-        text_so = λ later_starts later_replies. text_is
-            ∙ ap₂ (λ (word : TurnWord) (more : List ℕ). turn_line name word ++ more) (word_so (ends.Done stop) unread outcome is)
-            (ap₂ (λ (a b : List ℕ). a ++ b) (ap out_text (commits.ended.answer_so ∙ ap (λ (hs : List Held). map (λ h. (h.0, length h.1.payload)) hs) (sym shown.packets)) ∙ outs_so there_so.packets)
-            (losts_so net.left ∙ ap (λ (es : List Event). lines_text (lost_lines (leavers es))) all.events)
-            ∙ sym (flat_map-append (line_text names) (out_lines there_so.packets) (lost_lines (leavers left)))
-            ∙ ap lines_text (sym (append-nil (out_lines there_so.packets ++ lost_lines (leavers left)))));
+        turned = λ later_starts said later_replies starts_is front. at.turned shown.losing [] later_starts said later_replies front
+            ∙ ap₂ (λ (b : Bool) (r : Release). done_turn r (at.left ++ r.left) (done_app e checkpoint later_starts later_replies (given_in old ++ given_by_turn b frame answers) rest) outcome b) (front.given ∙ given_is given trace) (sym since.is)
+            ∙ ap₂ (λ (i : List (List ℕ)) (x : List ℕ). done_turn there_is left (done_app e checkpoint later_starts later_replies i x) outcome given) (sym (tells.given ∙ inputs_are)) (sym is.1);
+        text_is = λ later_starts later_replies. text_is
+            ∙ ap₂ (λ (word : TurnWord) (more : List ℕ). turn_line name word ++ more) (word_is (ends.Done stop) unread outcome is)
+            (ap₂ (λ (a b : List ℕ). a ++ b) (ap out_text (commits.ended.answer_is ∙ ap (λ (hs : List Held). map (λ h. (h.0, length h.1.payload)) hs) (sym shown.packets)) ∙ outs_is there_is.packets)
+            (losts_is net.left ∙ ap (λ (es : List Event). lines_text (lost_lines (leavers es))) all.events)
+            ∙ sym (flat_map-append (line_text names) (out_lines there_is.packets) (lost_lines (leavers left)))
+            ∙ ap lines_text (sym (append-nil (out_lines there_is.packets ++ lost_lines (leavers left)))));
       };
     }
 
@@ -287,8 +287,8 @@ failed_alike {Own} Tells allows event cause unread text later_text old mid undon
     let gone = lost_parts undoes.parts in
     let declared : mid.given.declared ≡ old.given.declared = ap (λ (g : Given Own). g.declared) given_stays in
     let after : List Place × List Event = undoing gone (places_at old old e.net) (places_at old mid mid_net) in
-    let after_so : after ≡ (places_at old undone undone_net, shown.left) =
-    subst (λ (ds : List Declared). undoing gone (shown_places ds e.net.views (state old)) (shown_places ds mid_net.views (state mid)) ≡ (shown_places ds undone_net.views (state undone), shown.left)) declared shown.undoing_so in
+    let after_is : after ≡ (places_at old undone undone_net, shown.left) =
+    subst (λ (ds : List Declared). undoing gone (shown_places ds e.net.views (state old)) (shown_places ds mid_net.views (state mid)) ≡ (shown_places ds undone_net.views (state undone), shown.left)) declared shown.undoing_is in
     let all = all_left old mid undone e.net mid_net mid_net undone_net at.left shown.left calm.left at.leaves refl shown.leaves in
     let left : List Event = at.left ++ shown.left in
     record {
@@ -307,13 +307,13 @@ failed_alike {Own} Tells allows event cause unread text later_text old mid undon
         lost = again.lost ∙ all.lost;
         events = again.events;
         marks = again.keeps.marks ∙ only.marks ∙ at.marks;
-        turned = λ said_starts said later_replies starts_so front. at.turned [] gone said_starts said later_replies front
-            ∙ ap₂ (λ (b : Bool) (r : List Place × List Event). failed_turn r (at.left ++ r.1) (started attempts (failed_app e said_starts later_replies (given_in old ++ given_by_turn b frame answers))) outcome b) (front.given ∙ given_so given trace) after_so
+        turned = λ said_starts said later_replies starts_is front. at.turned [] gone said_starts said later_replies front
+            ∙ ap₂ (λ (b : Bool) (r : List Place × List Event). failed_turn r (at.left ++ r.1) (started attempts (failed_app e said_starts later_replies (given_in old ++ given_by_turn b frame answers))) outcome b) (front.given ∙ given_is given trace) after_is
             ∙ ap (λ (i : List (List ℕ)). failed_turn (places_at old undone undone_net, shown.left) left (started attempts (failed_app e said_starts later_replies i)) outcome given) (sym (tells.given ∙ inputs_are))
-            ∙ ap (λ (a : App × List Tried). failed_turn (places_at old undone undone_net, shown.left) left a outcome given) (again.app said_starts later_replies starts_so);
-        text_so = λ later_starts later_replies. text_is
-            ∙ ap₂ (λ (word : TurnWord) (more : List ℕ). turn_line name word ++ more) (word_so (ends.Failed cause) unread outcome is)
-            (ap₂ (λ (a b : List ℕ). a ++ b) (losts_so undone_net.left ∙ ap (λ (es : List Event). lines_text (lost_lines (leavers es))) all.events) again.text_so
+            ∙ ap (λ (a : App × List Tried). failed_turn (places_at old undone undone_net, shown.left) left a outcome given) (again.app said_starts later_replies starts_is);
+        text_is = λ later_starts later_replies. text_is
+            ∙ ap₂ (λ (word : TurnWord) (more : List ℕ). turn_line name word ++ more) (word_is (ends.Failed cause) unread outcome is)
+            (ap₂ (λ (a b : List ℕ). a ++ b) (losts_is undone_net.left ∙ ap (λ (es : List Event). lines_text (lost_lines (leavers es))) all.events) again.text_is
             ∙ sym (flat_map-append (line_text names) (lost_lines (leavers left)) (map (Started 0) again.tries ++ gone_line 0 now_e.alive)));
       };
     }
@@ -324,7 +324,7 @@ turn_tells : {Own : Type 0} (Tells : Type 0) (accepts : List TableView → Bool)
     → (t : Turns Tells accepts index budget e.rest (event_frame e.events e.net.moment event) old mid e.net mid_net end unread)
     → TellsGiven old mid (given_by_turn t.given (event_frame e.events e.net.moment event) t.answers)
 turn_tells Tells accepts event old mid e mid_net end unread told t =
-    subst (TellsGiven old mid) t.inputs_so (chain_tells Tells (Talk (give_act t.given index (event_frame e.events e.net.moment event)) ∷ t.trace) old mid e.net mid_net told t.chain)
+    subst (TellsGiven old mid) t.inputs_is (chain_tells Tells (Talk (give_act t.given index (event_frame e.events e.net.moment event)) ∷ t.trace) old mid e.net mid_net told t.chain)
 
 closed_moves : {Own : Type 0} (Tells : Type 0) (accepts : List TableView → Bool) (allows : List Place → Bool) (event : Event) (text : List ℕ) (old mid new : Seen Own) (e now_e : Engine) (mid_net : NetState) (end : TurnEnd) (unread : List ℕ)
     → Tells → Conforming new → JudgesAlike Own allows accepts → AreRead Own Tells accepts → e.events < 2 ^ 64 → LastStands (own_acts old) → Calm old e.net
@@ -334,10 +334,10 @@ closed_moves Tells accepts allows event text old mid new e now_e mid_net (ends.D
     let read = reads.turn e.events e.net.moment event e.rest old mid e.net mid_net (ends.Done stop) unread told t stands in
     let commits = closed.commits in
     let keeps_mid = Conforming-before told commits.continues keeps in
-    let told_so = turn_tells Tells accepts event old mid e mid_net (ends.Done stop) unread told t in
+    let told_is = turn_tells Tells accepts event old mid e mid_net (ends.Done stop) unread told t in
     let given_stays : mid.given ≡ old.given = (Chain-continues Tells index (Talk (give_act t.given index (event_frame e.events e.net.moment event)) ∷ t.trace) old mid e.net mid_net t.chain).given in
     let tells = links_tell mid new (commits.links told) in
-    let by = done_alike Tells allows event stop unread text old mid new e mid_net closed.net closed.queue closed.sent t.given t.trace t.answers t.outcome told keeps given_stays commits t.ends closed.text_so told_so.given calm
+    let by = done_alike Tells allows event stop unread text old mid new e mid_net closed.net closed.queue closed.sent t.given t.trace t.answers t.outcome told keeps given_stays commits t.ends closed.text_is told_is.given calm
     (at_end Tells accepts allows event old mid e mid_net (ends.Done stop) unread told keeps_mid judges few calm t read.heard) in
     subst (λ (x : Engine). TurnMoves allows event text old new e x) (sym closed.engine) (record {
       starts = [];
@@ -346,7 +346,7 @@ closed_moves Tells accepts allows event text old mid new e now_e mid_net (ends.D
         given = commits.continues.given ∙ given_stays;
         read_starts = ap starts_in tells.acts ∙ read.starts ∙ sym (append-nil (starts_in (own_acts old)));
         read_replies = ap replies_in tells.acts ∙ read.replies;
-        read_stimuli = tells.stims ∙ told_so.stims;
+        read_stimuli = tells.stims ∙ told_is.stims;
         life = λ alive. subst LastStands (sym tells.acts) read.life;
       };
       losses = by.losses;
@@ -359,10 +359,10 @@ closed_moves Tells accepts allows event text old mid new e now_e mid_net (ends.F
     let again = starts_alike Tells accepts closed.later_text undone new (failed_engine undone_net e) now_e told reads closed.starts in
     let keeps_undone = Conforming-before told again.continues keeps in
     let keeps_mid = Conforming-before told closed.undoes.continues keeps_undone in
-    let told_so = turn_tells Tells accepts event old mid e mid_net (ends.Failed cause) unread told t in
+    let told_is = turn_tells Tells accepts event old mid e mid_net (ends.Failed cause) unread told t in
     let given_stays : mid.given ≡ old.given = (Chain-continues Tells index (Talk (give_act t.given index (event_frame e.events e.net.moment event)) ∷ t.trace) old mid e.net mid_net t.chain).given in
     let tells = links_tell mid undone (closed.undoes.links told) in
-    let by = failed_alike Tells allows event cause unread text closed.later_text old mid undone new e now_e mid_net undone_net t.given t.trace t.answers t.outcome told keeps_undone given_stays closed.undoes again t.ends closed.text_so told_so.given calm
+    let by = failed_alike Tells allows event cause unread text closed.later_text old mid undone new e now_e mid_net undone_net t.given t.trace t.answers t.outcome told keeps_undone given_stays closed.undoes again t.ends closed.text_is told_is.given calm
     (at_end Tells accepts allows event old mid e mid_net (ends.Failed cause) unread told keeps_mid judges few calm t read.heard) in
     record {
       starts = again.starts;
@@ -371,7 +371,7 @@ closed_moves Tells accepts allows event text old mid new e now_e mid_net (ends.F
         given = again.continues.given ∙ closed.undoes.continues.given ∙ given_stays;
         read_starts = again.read_starts ∙ ap (λ (acts : List Act). starts_in acts ++ again.starts) tells.acts ∙ ap (λ (xs : List Start). xs ++ again.starts) read.starts;
         read_replies = again.read_replies ∙ ap replies_in tells.acts ∙ read.replies;
-        read_stimuli = again.read_stimuli ∙ tells.stims ∙ told_so.stims;
+        read_stimuli = again.read_stimuli ∙ tells.stims ∙ told_is.stims;
         life = again.life;
       };
       losses = by.losses;

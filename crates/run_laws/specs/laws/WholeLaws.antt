@@ -58,7 +58,7 @@ ran-said {Own} allows lost xs text first last e starts replies is m said =
       starts = drop (length m.starts) starts;
       replies = drop (length m.replies) replies;
       stands = subst (Stands last e (drop (length m.starts) starts) (drop (length m.replies) replies) (at_last lost)) same (m.stands starts replies (at_last lost) r0 fronts.0 fronts.1 at_first);
-      text_so = subst (λ (r : Run). text_of r ≡ text) same (m.says starts replies (at_last lost) r0 fronts.0 fronts.1 at_first);
+      text_is = subst (λ (r : Run). text_of r ≡ text) same (m.says starts replies (at_last lost) r0 fronts.0 fronts.1 at_first);
     }
 
 pub ran : {Own : Type 0} (allows : List Place → Bool) (lost : List ℕ) (xs : List WorldStim) (text : List ℕ) (first last : Seen Own) (e : Engine) → IsOpened first → Moves xs (whole allows xs) text first last engine_at_first e

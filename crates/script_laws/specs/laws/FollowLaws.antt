@@ -1,8 +1,10 @@
 -- Laws of a history that keeps to the scripts: each act of an application is one that its lines say may come.
 use Rattle.std.specs.Prelude.{filter, slice_index}
+use Rattle.journal_laws.specs.laws.FrameLaws.{kind_byte}
 use Rattle.std.specs.List.{AllByRecursion}
 use Rattle.std.proofs.Common.{◌≡◌, ◌==◌, ◌≤◌, ◌+◌, ℕ, Bool, true, false, not, ◌&&◌, List, [], ◌∷◌, length, drop, refl, sym, ap, ap₂, ◌∙◌, subst, true≢false, arith, Ok, Some, None, is_some, if◌then◌else◌}
 use Rattle.std.proofs.lemmas.Bool.{eqb-true}
+use Rattle.std.proofs.Math.Bool.{and-true}
 use Rattle.of_types.specs.Fields.{number_at}
 use Rattle.of_types.specs.declared.journal.Act.{Act}
 use Rattle.of_types.specs.declared.journal.Act.TheVariants.{Stim, Started, Gave, Gone, Took, Ended, Sent, Got, Lost}
@@ -33,22 +35,13 @@ use Rattle.script_laws.specs.laws.ReadLaws.{reads, replies_all, not_true}
 
 -- ---- Events
 
-kind_at : (bytes : List ℕ) → number_at 1 4 bytes ≡ slice_index bytes 4
-unfolding number_at
-kind_at [] = refl
-kind_at (a ∷ []) = refl
-kind_at (a ∷ b ∷ []) = refl
-kind_at (a ∷ b ∷ c ∷ []) = refl
-kind_at (a ∷ b ∷ c ∷ d ∷ []) = refl
-kind_at (a ∷ b ∷ c ∷ d ∷ e ∷ rest) = omega arith
-
 is_number : (bytes : List ℕ) → is_event bytes ≡ true → is_some (event_number bytes) ≡ true
 unfolding event_number
-is_number bytes is = rw (kind_at bytes, is) refl
+is_number bytes is = rw (kind_byte bytes, is) refl
 
 no_number : (bytes : List ℕ) → is_event bytes ≡ false → is_some (event_number bytes) ≡ false
 unfolding event_number
-no_number bytes is = rw (kind_at bytes, is) refl
+no_number bytes is = rw (kind_byte bytes, is) refl
 
 -- a whole frame stands at the front, or none
 whole_or_none : (read : Reading (AppFrame × ℕ)) (x : AppFrame × ℕ) → read ≡ Ok (Some x) → read ≡ Ok None → ⊥
@@ -69,11 +62,7 @@ starts_by own app l stopped = rw (reached app l stopped) refl
 
 gives_by : (app : ℕ) (l : Life) → will_give [] app l ≡ l.running
 unfolding will_give
-gives_by app l = rw (none_told kinds.Give app (l.give_calls + 1)) (and_true l.running)
-  where
-    and_true : (b : Bool) → (b && true) ≡ b
-    and_true true = refl
-    and_true false = refl
+gives_by app l = rw (none_told kinds.Give app (l.give_calls + 1)) (and-true l.running)
 
 -- ---- One application
 
@@ -82,13 +71,13 @@ module _ (own : Scripts) (app : ℕ) where
   abbrev ahead : Life → Bool → Ahead
   ahead l ended = record { running = l.running; ended = ended; starts = drop l.starts (starts_of app own); replies = drop l.replies (replies_of app own); left = l.left }
 
-  start_so : (l : Life) → start_ahead (drop l.starts (starts_of app own)) ≡ next_start own app l
+  start_is : (l : Life) → start_ahead (drop l.starts (starts_of app own)) ≡ next_start own app l
   unfolding next_start
-  start_so l = ap start_or_ready (slice_get-drop (starts_of app own) l.starts)
+  start_is l = ap start_or_ready (slice_get-drop (starts_of app own) l.starts)
 
-  turn_so : (l : Life) → turn_ahead (drop l.replies (replies_of app own)) ≡ next_turn own app l
+  turn_is : (l : Life) → turn_ahead (drop l.replies (replies_of app own)) ≡ next_turn own app l
   unfolding next_turn
-  turn_so l = ap turn_or_plain (slice_get-drop (replies_of app own) l.replies)
+  turn_is l = ap turn_or_plain (slice_get-drop (replies_of app own) l.replies)
 
   -- A life stands as the dialogue has it; where its end was taken, no whole frame is unread.
   record Stands (l : Life) (s : Before) : Type 0 where
@@ -98,26 +87,26 @@ module _ (own : Scripts) (app : ℕ) where
   -- an act may come, and what is ahead then is so of the life after it
   record Moved (act : Act) (l next : Life) (s t : Before) : Type 0 where
     may : May act (ahead l s.ended)
-    ahead_so : after act (ahead l s.ended) ≡ ahead next t.ended
+    ahead_is : after act (ahead l s.ended) ≡ ahead next t.ended
     stands : Stands next t
 
   -- ---- A start
 
-  ready_so : (of : ℕ) (ended : Bool) (l : Life) → after (Started of true) (ahead l ended) ≡ ahead (after_start own [] app true l) false
+  ready_is : (of : ℕ) (ended : Bool) (l : Life) → after (Started of true) (ahead l ended) ≡ ahead (after_start own [] app true l) false
   unfolding after_start
-  ready_so of ended l =
+  ready_is of ended l =
       ap₂ (λ (starts : List StartScript) (left : List ScriptStep). record { running = true; ended = false; starts = starts; replies = drop l.replies (replies_of app own); left = left })
-      (sym (drop-next (starts_of app own) l.starts)) (ap steps_of_start (start_so l))
+      (sym (drop-next (starts_of app own) l.starts)) (ap steps_of_start (start_is l))
 
-  refused_so : (of : ℕ) (ended : Bool) (l : Life) → l.running ≡ false → is_refused (next_start own app l) ≡ true → after (Started of false) (ahead l ended) ≡ ahead (after_start own [] app false l) false
-  refused_so of ended l stopped refused =
+  refused_is : (of : ℕ) (ended : Bool) (l : Life) → l.running ≡ false → is_refused (next_start own app l) ≡ true → after (Started of false) (ahead l ended) ≡ ahead (after_start own [] app false l) false
+  refused_is of ended l stopped refused =
       let same : after_start own [] app false l ≡ record l { starts = l.starts + 1; start_calls = l.start_calls + 1 } = after_start-refused own [] app l (rw (reached app l stopped, refused) refl) in
       ap₂ (λ (running : Bool) (starts : List StartScript). record { running = running; ended = false; starts = starts; replies = drop l.replies (replies_of app own); left = l.left })
       (sym stopped) (sym (drop-next (starts_of app own) l.starts))
       ∙ ap (λ (m : Life). ahead m false) (sym same)
 
   started_may : (of : ℕ) (stands : Bool) (ended : Bool) (l : Life) → l.running ≡ false → stands ≡ will_start own [] app l → May (Started of stands) (ahead l ended)
-  started_may of stands ended l stopped is = (stopped, is ∙ starts_by own app l stopped ∙ ap (λ (s : StartScript). not (is_refused s)) (sym (start_so l)))
+  started_may of stands ended l stopped is = (stopped, is ∙ starts_by own app l stopped ∙ ap (λ (s : StartScript). not (is_refused s)) (sym (start_is l)))
 
   stopped_still : (l : Life) → l.running ≡ false → (after_start own [] app false l).running ≡ false
   unfolding after_start
@@ -130,14 +119,14 @@ module _ (own : Scripts) (app : ℕ) where
   own_started : (of : ℕ) (stands : Bool) (l : Life) (s : Before) → Stands l s → s.running ≡ false → stands ≡ will_start own [] app l → Moved (Started of stands) l (after_start own [] app stands l) s (attempted stands)
   own_started of true l s so stopped is = record {
     may = started_may of true s.ended l (so.running ∙ stopped) is;
-    ahead_so = ready_so of s.ended l;
+    ahead_is = ready_is of s.ended l;
     stands = record { running = starts_running l; waits = λ e. absurd (true≢false (sym e)) };
   }
   own_started of false l s so stopped is =
       let idle = so.running ∙ stopped in
       record {
         may = started_may of false s.ended l idle is;
-        ahead_so = refused_so of s.ended l idle (not_true (is_refused (next_start own app l)) (is ∙ starts_by own app l idle));
+        ahead_is = refused_is of s.ended l idle (not_true (is_refused (next_start own app l)) (is ∙ starts_by own app l idle));
         stands = record { running = stopped_still l idle; waits = λ e. absurd (true≢false (sym e)) };
       }
 
@@ -149,8 +138,8 @@ module _ (own : Scripts) (app : ℕ) where
   took_may : (of : ℕ) (what : TookWhat) (ended : Bool) (l : Life) → l.running ≡ true → ended ≡ false → what ≡ next_taken [] app 65536 l → May (Took of what) (ahead l ended)
   took_may of what ended l runs more is = (runs, (more, is ∙ taken-left [] app 65536 l (plain_take l runs)))
 
-  took_so : (of : ℕ) (what : TookWhat) (ended : Bool) (l : Life) → l.running ≡ true → after (Took of what) (ahead l ended) ≡ ahead (after_take [] app what l) (is_end what)
-  took_so of what ended l runs = ap (λ (m : Life). ahead m (is_end what)) (sym (kept-left [] app l what (plain_take l runs)))
+  took_is : (of : ℕ) (what : TookWhat) (ended : Bool) (l : Life) → l.running ≡ true → after (Took of what) (ahead l ended) ≡ ahead (after_take [] app what l) (is_end what)
+  took_is of what ended l runs = ap (λ (m : Life). ahead m (is_end what)) (sym (kept-left [] app l what (plain_take l runs)))
 
   still_runs : (what : TookWhat) (l : Life) → (after_take [] app what l).running ≡ l.running
   unfolding after_take
@@ -162,7 +151,7 @@ module _ (own : Scripts) (app : ℕ) where
       let up : l.running ≡ true = so.running ∙ runs in
       record {
         may = took_may of (took.Bytes bytes) s.ended l up looks.not_ended is;
-        ahead_so = took_so of (took.Bytes bytes) s.ended l up ∙ ap (λ (e : Bool). ahead (after_take [] app (took.Bytes bytes) l) e) (sym looks.not_ended);
+        ahead_is = took_is of (took.Bytes bytes) s.ended l up ∙ ap (λ (e : Bool). ahead (after_take [] app (took.Bytes bytes) l) e) (sym looks.not_ended);
         stands = record { running = still_runs (took.Bytes bytes) l ∙ so.running; waits = λ e. absurd (true≢false (sym e ∙ looks.not_ended)) };
       }
 
@@ -172,7 +161,7 @@ module _ (own : Scripts) (app : ℕ) where
       let up : l.running ≡ true = so.running ∙ runs in
       record {
         may = took_may of what s.ended l up looks.not_ended is;
-        ahead_so = took_so of what s.ended l up ∙ ap (λ (e : Bool). ahead (after_take [] app what l) e) end;
+        ahead_is = took_is of what s.ended l up ∙ ap (λ (e : Bool). ahead (after_take [] app what l) e) end;
         stands = record { running = still_runs what l ∙ so.running; waits = λ e. looks.none_whole };
       }
 
@@ -186,16 +175,16 @@ module _ (own : Scripts) (app : ℕ) where
 
   -- ---- A frame
 
-  event_so : (of : ℕ) (frame : List ℕ) (ended : Bool) (l : Life) → is_event frame ≡ true → after (Gave of frame) (ahead l ended) ≡ ahead (after_gave own app true l) false
+  event_is : (of : ℕ) (frame : List ℕ) (ended : Bool) (l : Life) → is_event frame ≡ true → after (Gave of frame) (ahead l ended) ≡ ahead (after_gave own app true l) false
   unfolding after_gave
-  event_so of frame ended l event =
+  event_is of frame ended l event =
       rw event
       (ap₂ (λ (replies : List (List ScriptStep)) (left : List ScriptStep). record { running = l.running; ended = false; starts = drop l.starts (starts_of app own); replies = replies; left = left })
-      (sym (drop-next (replies_of app own) l.replies)) (turn_so l))
+      (sym (drop-next (replies_of app own) l.replies)) (turn_is l))
 
-  frame_so : (of : ℕ) (frame : List ℕ) (ended : Bool) (l : Life) → is_event frame ≡ false → after (Gave of frame) (ahead l ended) ≡ ahead (after_gave own app false l) ended
+  frame_is : (of : ℕ) (frame : List ℕ) (ended : Bool) (l : Life) → is_event frame ≡ false → after (Gave of frame) (ahead l ended) ≡ ahead (after_gave own app false l) ended
   unfolding after_gave
-  frame_so of frame ended l other = rw other refl
+  frame_is of frame ended l other = rw other refl
 
   gave_runs : (event : Bool) (l : Life) → (after_gave own app event l).running ≡ l.running
   unfolding after_gave
@@ -210,25 +199,25 @@ module _ (own : Scripts) (app : ℕ) where
 
   given_frame : (answer : Bool) (frame : List ℕ) (s t : Before) → is_answer frame ≡ answer → (s.ended ≡ true → app_reading s.unread ≡ Ok None) → GivesFrame answer frame s t → Given frame s t
   given_frame true frame s t is waits gives = record {
-    running = ap (λ (b : Before). b.running) gives.then_so;
-    ended = ap (λ (b : Before). b.ended) gives.then_so;
+    running = ap (λ (b : Before). b.running) gives.then_is;
+    ended = ap (λ (b : Before). b.ended) gives.then_is;
     within = λ other. not_ended s.ended refl;
   }
     where
       not_ended : (b : Bool) → s.ended ≡ b → s.ended ≡ false
       not_ended false e = e
       not_ended true e = absurd (whole_or_none (app_reading s.unread) (frames.Message gives.dpid gives.bytes, gives.size) gives.read (waits e))
-  given_frame false frame s t is waits gives = record { running = gives.running_so; ended = gives.ended_so; within = gives.not_ended }
+  given_frame false frame s t is waits gives = record { running = gives.running_is; ended = gives.ended_is; within = gives.not_ended }
 
   own_given : (of : ℕ) (frame : List ℕ) (event : Bool) (l : Life) (s t : Before) → is_event frame ≡ event → Stands l s → s.running ≡ true → Given frame s t → Moved (Gave of frame) l (after_gave own app event l) s t
   own_given of frame true l s t is so runs given = record {
     may = so.running ∙ runs;
-    ahead_so = event_so of frame s.ended l is ∙ ap (λ (e : Bool). ahead (after_gave own app true l) e) (sym given.ended);
+    ahead_is = event_is of frame s.ended l is ∙ ap (λ (e : Bool). ahead (after_gave own app true l) e) (sym given.ended);
     stands = record { running = gave_runs true l ∙ so.running ∙ runs ∙ sym given.running; waits = λ e. absurd (true≢false (sym e ∙ given.ended)) };
   }
   own_given of frame false l s t is so runs given = record {
     may = so.running ∙ runs;
-    ahead_so = frame_so of frame s.ended l is ∙ ap (λ (e : Bool). ahead (after_gave own app false l) e) (given.within is ∙ sym given.ended);
+    ahead_is = frame_is of frame s.ended l is ∙ ap (λ (e : Bool). ahead (after_gave own app false l) e) (given.within is ∙ sym given.ended);
     stands = record { running = gave_runs false l ∙ so.running ∙ runs ∙ sym given.running; waits = λ e. absurd (true≢false (sym e ∙ given.ended)) };
   }
 
@@ -246,7 +235,7 @@ module _ (own : Scripts) (app : ℕ) where
   own_ended : (of : ℕ) (l : Life) (s t : Before) → Stands l s → Says true (Ended of) s t → Moved (Ended of) l (after_end l) s t
   unfolding after_end
   own_ended of l s t so says =
-      subst (λ (b : Before). Moved (Ended of) l (after_end l) s b) (sym says.1) (record { may = so.running ∙ says.0; ahead_so = refl; stands = record { running = refl; waits = so.waits } })
+      subst (λ (b : Before). Moved (Ended of) l (after_end l) s b) (sym says.1) (record { may = so.running ∙ says.0; ahead_is = refl; stands = record { running = refl; waits = so.waits } })
 
   -- ---- One act, of the application or not
 
@@ -257,7 +246,7 @@ module _ (own : Scripts) (app : ℕ) where
   by_own : (act : Act) (l next : Life) (s t : Before) → is_of app act ≡ true → Moved act l next s t → GoesOn act l next s t
   by_own act l next s t is m = record {
     stands = m.stands;
-    goes = λ acts rest. rw is (m.may, subst (λ (p : Ahead). Goes p (filter (is_of app) acts)) (sym m.ahead_so) rest);
+    goes = λ acts rest. rw is (m.may, subst (λ (p : Ahead). Goes p (filter (is_of app) acts)) (sym m.ahead_is) rest);
   }
 
   by_other : (act : Act) (l : Life) (s t : Before) → is_of app act ≡ false → Stands l s → t ≡ besides s act → GoesOn act l l s t
@@ -266,8 +255,8 @@ module _ (own : Scripts) (app : ℕ) where
   -- of one application or another
   by_test : (of : ℕ) (act : Act) (l next : Life) (s t : Before) → is_of app act ≡ (of == app) → Stands l s → Says (is_of app act) act s t → (of ≡ app → Says true act s t → Moved act l next s t)
       → GoesOn act l (if of == app then next else l) s t
-  by_test of act l next s t is so says own_so = elim (of == app) as (λ (b : Bool). (of == app) ≡ b → GoesOn act l (if b then next else l) s t) [
-    | true ↦ λ e. by_own act l next s t (is ∙ e) (own_so (eqb-true of app e) (subst (λ (b : Bool). Says b act s t) (is ∙ e) says))
+  by_test of act l next s t is so says own_is = elim (of == app) as (λ (b : Bool). (of == app) ≡ b → GoesOn act l (if b then next else l) s t) [
+    | true ↦ λ e. by_own act l next s t (is ∙ e) (own_is (eqb-true of app e) (subst (λ (b : Bool). Says b act s t) (is ∙ e) says))
     | false ↦ λ e. by_other act l s t (is ∙ e) so (subst (λ (b : Bool). Says b act s t) (is ∙ e) says)
   ] refl
 

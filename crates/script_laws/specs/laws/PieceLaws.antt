@@ -37,10 +37,10 @@ drop_taken (suc n) (b ∷ bytes) = drop_taken n bytes
 -- ---- Acts that take
 
 pub looks_none : (left : List ScriptStep) (acts : List Act) → TakesNothing acts → LooksAt left acts
-looks_none left acts q = (pieces_said left, sym (ap (λ (ps : List (List ℕ)). ps ++ pieces_said left) q.pieces_so), inl (q.end_so Untold))
+looks_none left acts q = (pieces_said left, sym (ap (λ (ps : List (List ℕ)). ps ++ pieces_said left) q.pieces_is), inl (q.end_is Untold))
 
 ends_here : (end : End) (acts : List Act) → TakesNothing acts → IsLookedAt (pieces acts) (end_from end acts) [] end
-ends_here end acts q = ([], sym (ap (λ (ps : List (List ℕ)). ps ++ []) q.pieces_so), inr (refl, sym (q.end_so end)))
+ends_here end acts q = ([], sym (ap (λ (ps : List (List ℕ)). ps ++ []) q.pieces_is), inr (refl, sym (q.end_is end)))
 
 -- a step of no bytes says nothing
 none_said : (of : ℕ) (steps : List ScriptStep) (acts : List Act) → LooksAt steps (Took of (given_of 65536 steps) ∷ acts) → LooksAt (Bytes [] ∷ steps) (Took of (given_of 65536 (Bytes [] ∷ steps)) ∷ acts)

@@ -19,7 +19,7 @@ use Rattle.script_laws.specs.Looks.{TakesNothing, Looks, LooksAt}
 -- ---- What is read from a place on
 
 nothing_quiet : TakesNothing []
-nothing_quiet = record { pieces_so = refl; end_so = λ before. refl }
+nothing_quiet = record { pieces_is = refl; end_is = λ before. refl }
 
 nothing_looks : (ended : Bool) (left : List ScriptStep) → Looks ended left []
 nothing_looks ended left = record { quiet = λ is. nothing_quiet; looked = λ is. looks_none left [] nothing_quiet }
@@ -140,7 +140,7 @@ reads_frame p of frame acts event may r =
     }
   where
     given_quiet : TakesNothing (hand acts) → TakesNothing (Gave of frame ∷ hand acts)
-    given_quiet q = record { pieces_so = q.pieces_so; end_so = q.end_so }
+    given_quiet q = record { pieces_is = q.pieces_is; end_is = q.end_is }
 
     given_looks : Looks p.ended p.left (hand acts) → Looks p.ended p.left (Gave of frame ∷ hand acts)
     given_looks l = record { quiet = λ is. given_quiet (l.quiet is); looked = l.looked }
@@ -157,7 +157,7 @@ reads_gave p of frame acts may = elim (is_event frame) as (λ (b : Bool). is_eve
 reads_ended : (p : Ahead) (of : ℕ) (acts : List Act) → May (Ended of) p → Reads (after (Ended of) p) acts → Reads p (Ended of ∷ acts)
 reads_ended p of acts may r =
     let none : hand acts ≡ [] = ap (λ (xs : List Act). (in_turns xs).0) (r.idle refl) in
-    let quiet : TakesNothing (Ended of ∷ hand acts) = subst (λ (xs : List Act). TakesNothing (Ended of ∷ xs)) (sym none) (record { pieces_so = refl; end_so = λ before. refl }) in
+    let quiet : TakesNothing (Ended of ∷ hand acts) = subst (λ (xs : List Act). TakesNothing (Ended of ∷ xs)) (sym none) (record { pieces_is = refl; end_is = λ before. refl }) in
     record {
       idle = λ is. absurd (true≢false (sym may ∙ is));
       none_gone = r.none_gone;

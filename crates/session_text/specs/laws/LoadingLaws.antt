@@ -27,7 +27,7 @@ pub record IsNewSwitch (declared : List Declared) (d : ℕ × ℕ × List ℕ) :
   pub number : 1 ≤ d.0
   pub cap : d.1 ≤ 4096
   pub ports : length d.2 ≤ 64
-  pub ports_so : ArePortsFrom 1 d.2
+  pub ports_is : ArePortsFrom 1 d.2
   pub absent : is_declared d.0 declared ≡ false
   pub few : length declared < 64
 
@@ -80,7 +80,7 @@ may_declare declared (d ∷ ds) are differ absent few =
         number = is.numbered.0;
         cap = is.roomy.1;
         ports = is.few_ports;
-        ports_so = ports_from 1 d.2 is.ports is.ascending (λ i e less. (is.ports i e less).0);
+        ports_is = ports_from 1 d.2 is.ports is.ascending (λ i e less. (is.ports i e less).0);
         absent = All-head (λ e. is_declared e.0 declared ≡ false) d ds absent;
         few = omega (arith, few);
       },

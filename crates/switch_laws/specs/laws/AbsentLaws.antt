@@ -1,7 +1,7 @@
 -- What follows about a change that was neither stopped by the host nor refused: unless it is a DELETE, its key was in neither table nor
 -- view before.
-use Rattle.std.proofs.Common.{◌≡◌, ◌==◌, ℕ, ◌+◌, ◌-◌, ◌*◌, ◌/◌, ◌%◌, ◌^◌, ◌≤◌, Bool, true, false, not, ◌&&◌, ◌||◌, List, [], ◌∷◌, map, Option, Some, None, nat_lt, if◌then◌else◌, refl, sym, ap, ◌∙◌, subst, arith, inl, inr, true≢false}
-use Rattle.std.proofs.lemmas.Bool.{cases_Bool, eqb-true, eqb-false, le-ltb}
+use Rattle.std.proofs.Common.{◌≡◌, ◌==◌, ℕ, ◌+◌, ◌-◌, ◌*◌, ◌/◌, ◌%◌, ◌^◌, ◌≤◌, Bool, true, false, not, ◌&&◌, List, [], ◌∷◌, Option, Some, None, nat_lt, if◌then◌else◌, refl, sym, ap, ◌∙◌, subst, arith, inl, inr, true≢false}
+use Rattle.std.proofs.lemmas.Bool.{cases_Bool, eqb-true, le-ltb, or_parts}
 use Rattle.std.specs.List.{list_any}
 use Rattle.of_types.specs.declared.errors.OfError.{OfError}
 use Rattle.of_match.specs.declared.flow_match.Match.{Match}
@@ -17,7 +17,7 @@ use Rattle.flow_table.specs.declared.view.ViewRow.{ViewRow}
 use Rattle.flow_table.specs.Table.{has_key, entry_at}
 use Rattle.flow_table.specs.Change.{key_in, is_modify, is_delete, is_strict, describes, adds, clashes, refusal}
 use Rattle.lego_model.specs.Answers.{Rows, rows_of_table, rows_of_view, would_clash, would_touch}
-use Rattle.net_txn.specs.laws.RowLaws.{known_command}
+use Rattle.net_txn.specs.laws.RowLaws.{known_command, any_of_map, modifies_or_adds}
 use Rattle.switch_laws.specs.Shown.{Passes, has_row}
 
 -- ---- Keys of one place have one match
@@ -41,19 +41,11 @@ one_match a b same =
 
 -- ---- Tests of lists
 
-pub any-map : {X Y : Type 0} (f : Y → Bool) (g : X → Y) (xs : List X) → list_any f (map g xs) ≡ list_any (λ x. f (g x)) xs
-any-map f g [] = refl
-any-map f g (x ∷ xs) = ap (λ (b : Bool). f (g x) || b) (any-map f g xs)
-
-pub neither : (a b : Bool) → (a || b) ≡ false → (a ≡ false) × (b ≡ false)
-neither true b h = absurd (true≢false h)
-neither false b h = (refl, h)
-
 -- what implies a test that none passes is passed by none
 any-implied : {X : Type 0} (p q : X → Bool) → ((x : X) → p x ≡ true → q x ≡ true) → (xs : List X) → list_any q xs ≡ false → list_any p xs ≡ false
 any-implied p q implies [] h = refl
 any-implied p q implies (x ∷ xs) h =
-    let n = neither (q x) (list_any q xs) h in
+    let n = or_parts (q x) (list_any q xs) h in
     elim (cases_Bool (p x)) [
       | inl passes ↦ absurd (true≢false (sym (implies x passes) ∙ n.0))
       | inr fails ↦ rw fails (any-implied p q implies xs n.1)
@@ -62,7 +54,7 @@ any-implied p q implies (x ∷ xs) h =
 pub none_at : (k : Key) (es : List Entry) → list_any (has_key k) es ≡ false → entry_at k es ≡ None
 none_at k [] h = refl
 none_at k (e ∷ es) h =
-    let n = neither (has_key k e) (list_any (has_key k) es) h in
+    let n = or_parts (has_key k e) (list_any (has_key k) es) h in
     rw n.0 (none_at k es n.1)
 
 -- ---- An ADD
@@ -72,7 +64,7 @@ at_key k r = key_number r.0 == key_number k
 
 clash-same : (m : Change) (es : List Entry) → would_clash m (rows_of_table es) ≡ clashes m es
 unfolding clashes
-clash-same m es = ap (λ (b : Bool). checks b) (any-map _ _ es)
+clash-same m es = ap (λ (b : Bool). checks b) (any_of_map _ _ es)
   where
     checks : Bool → Bool
     checks b = m.flags / 2 % 2 == 1 && b
@@ -109,7 +101,7 @@ absent-add cap_of m es p add none =
     elim (cases_Bool (list_any (has_key (key_in m)) es)) [
       | inr absent ↦ absent
       | inl held ↦
-          let held_row : list_any (at_key (key_in m)) (rows_of_table es) ≡ true = any-map (at_key (key_in m)) (λ e. (e.key, e.actions)) es ∙ held in
+          let held_row : list_any (at_key (key_in m)) (rows_of_table es) ≡ true = any_of_map (at_key (key_in m)) (λ e. (e.key, e.actions)) es ∙ held in
           let clash : would_clash m (rows_of_table es) ≡ true = both_if (list_any (at_key (key_in m)) (rows_of_table es)) (would_clash m (rows_of_table es)) (touch-add m (rows_of_table es) add p.untouched) held_row in
           absurd (clash-refused cap_of m es (known_command m p.unrefused) add (sym (clash-same m es) ∙ clash) none)
     ]
@@ -134,20 +126,9 @@ touch-modify m rows not_add modifies h = rw (not_add, modifies) at h
 absent-modify : (m : Change) (es : List Entry) → Passes m (rows_of_table es) → (m.command == 0) ≡ false → is_modify m ≡ true → list_any (has_key (key_in m)) es ≡ false
 absent-modify m es p not_add modifies =
     any-implied (has_key (key_in m)) (λ e. describes m e.key) (λ e here. describes-own m e.key here) es
-    (sym (any-map (λ (r : Key × List Action). describes m r.0) (λ e. (e.key, e.actions)) es) ∙ touch-modify m (rows_of_table es) not_add modifies p.untouched)
+    (sym (any_of_map (λ (r : Key × List Action). describes m r.0) (λ e. (e.key, e.actions)) es) ∙ touch-modify m (rows_of_table es) not_add modifies p.untouched)
 
 -- ---- The whole
-
-modifies_or_adds : (m : Change) → is_delete m ≡ false → m.command ≤ 4 → (m.command == 0) ≡ false → is_modify m ≡ true
-modifies_or_adds m other known not_add =
-    let n = neither (m.command == 3) (m.command == 4) other in
-    elim (cases_Bool (m.command == 1)) [
-      | inl one ↦ rw one refl
-      | inr not_one ↦ elim (cases_Bool (m.command == 2)) [
-        | inl two ↦ rw (not_one, two) refl
-        | inr not_two ↦ absurd (omega (arith, known, eqb-false m.command 0 not_add, eqb-false m.command 1 not_one, eqb-false m.command 2 not_two, eqb-false m.command 3 n.0, eqb-false m.command 4 n.1))
-      ]
-    ]
 
 pub absent : (cap_of : ℕ) (m : Change) (es : List Entry) → Passes m (rows_of_table es) → is_delete m ≡ false → refusal cap_of m es ≡ None → list_any (has_key (key_in m)) es ≡ false
 absent cap_of m es p other none =
@@ -161,7 +142,7 @@ absent-entry cap_of m es p other none = none_at (key_in m) es (absent cap_of m e
 
 pub absent-row : (cap_of : ℕ) (m : Change) (es : List Entry) (rows : List ViewRow) → rows_of_view rows ≡ rows_of_table es → Passes m (rows_of_table es) → is_delete m ≡ false → refusal cap_of m es ≡ None → has_row (key_in m) rows ≡ false
 absent-row cap_of m es rows same p other none =
-    sym (any-map (at_key (key_in m)) (λ (r : ViewRow). (r.key, r.actions)) rows)
+    sym (any_of_map (at_key (key_in m)) (λ (r : ViewRow). (r.key, r.actions)) rows)
     ∙ ap (list_any (at_key (key_in m))) same
-    ∙ any-map (at_key (key_in m)) (λ e. (e.key, e.actions)) es
+    ∙ any_of_map (at_key (key_in m)) (λ e. (e.key, e.actions)) es
     ∙ absent cap_of m es p other none

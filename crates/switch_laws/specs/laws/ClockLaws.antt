@@ -40,11 +40,11 @@ Lasting moment d f = (s : SwitchState) → StandsAt moment d s → StandsAt mome
 outputs-stand : (in_port : ℕ) (outs : List (ℕ × List ℕ)) (moment : ℕ) (d : Declared) → Lasting moment d (after_outputs in_port outs)
 unfolding after_outputs
 outputs-stand in_port [] moment d s is = is
-outputs-stand in_port (out ∷ outs) moment d s is = outputs-stand in_port outs moment d (after_output in_port out s) (record { moment_so = is.moment_so; declared = is.declared })
+outputs-stand in_port (out ∷ outs) moment d s is = outputs-stand in_port outs moment d (after_output in_port out s) (record { moment_is = is.moment_is; declared = is.declared })
 
 counts-stand : (in_port : ℕ) (frame : List ℕ) (moment : ℕ) (d : Declared) → Lasting moment d (after_counts in_port frame)
 unfolding after_counts
-counts-stand in_port frame moment d s is = record { moment_so = is.moment_so; declared = is.declared }
+counts-stand in_port frame moment d s is = record { moment_is = is.moment_is; declared = is.declared }
 
 lookup-stands : (in_port : ℕ) (frame : List ℕ) (moment : ℕ) (d : Declared) → Lasting moment d (after_lookup in_port frame)
 unfolding after_lookup
@@ -56,7 +56,7 @@ unfolding after_packet_output
 packet_output-stands in_port out moment d s is =
     elim (cases_Bool (out.0 == 0xfff9)) [
       | inl table ↦ rw table (lookup-stands in_port out.1 moment d s is)
-      | inr other ↦ rw other (record { moment_so = is.moment_so; declared = is.declared })
+      | inr other ↦ rw other (record { moment_is = is.moment_is; declared = is.declared })
     ]
 
 packet_outputs-stand : (in_port : ℕ) (outs : List (ℕ × List ℕ)) (moment : ℕ) (d : Declared) → Lasting moment d (after_packet_outputs in_port outs)
@@ -68,40 +68,40 @@ frame-stands : (port : ℕ) (bytes : List ℕ) (moment : ℕ) (d : Declared) →
 unfolding after_frame
 frame-stands port bytes moment d s is =
     elim (cases_Bool (takes (port_at port s.ports))) [
-      | inl taken ↦ rw taken (lookup-stands port bytes moment d (after_arrival port bytes s) (record { moment_so = is.moment_so; declared = is.declared }))
+      | inl taken ↦ rw taken (lookup-stands port bytes moment d (after_arrival port bytes s) (record { moment_is = is.moment_is; declared = is.declared }))
       | inr dropped ↦ rw dropped is
     ]
 
 port-stands : (port : ℕ) (change : PortChange) (moment : ℕ) (d : Declared) → Lasting moment d (after_port_change port change)
 unfolding after_port_change
-port-stands port changes.Up moment d s is = record { moment_so = is.moment_so; declared = is.declared }
-port-stands port changes.Down moment d s is = record { moment_so = is.moment_so; declared = is.declared }
+port-stands port changes.Up moment d s is = record { moment_is = is.moment_is; declared = is.declared }
+port-stands port changes.Down moment d s is = record { moment_is = is.moment_is; declared = is.declared }
 port-stands port changes.Add moment d s is =
     elim (cases_Bool (can_add port s.ports)) [
-      | inl can ↦ rw can (record { moment_so = is.moment_so; declared = is.declared })
+      | inl can ↦ rw can (record { moment_is = is.moment_is; declared = is.declared })
       | inr cannot ↦ rw cannot is
     ]
-port-stands port changes.Delete moment d s is = record { moment_so = is.moment_so; declared = is.declared }
+port-stands port changes.Delete moment d s is = record { moment_is = is.moment_is; declared = is.declared }
 
 stimulus-stands : (x : Stimulus) → IsStimulus x → (moment : ℕ) (d : Declared) → Lasting moment d (after_stimulus x)
 unfolding after_stimulus IsStimulus
 stimulus-stands (Frame port bytes) may moment d s is = frame-stands port bytes moment d s is
 stimulus-stands (Advance t) may moment d s is = absurd may
 stimulus-stands (Port port change) may moment d s is = port-stands port change moment d s is
-stimulus-stands (Counts priority packets bytes) may moment d s is = record { moment_so = is.moment_so; declared = is.declared }
+stimulus-stands (Counts priority packets bytes) may moment d s is = record { moment_is = is.moment_is; declared = is.declared }
 stimulus-stands (Raw bytes) may moment d s is = is
 
 -- time passes
 passed-stands : (t moment : ℕ) (d : Declared) (s : SwitchState) → StandsAt moment d s → StandsAt t d (after_stimulus (Advance t) s)
 unfolding after_stimulus
-passed-stands t moment d s is = record { moment_so = refl; declared = is.declared }
+passed-stands t moment d s is = record { moment_is = refl; declared = is.declared }
 
 taken-stands : (m : Message) (moment : ℕ) (d : Declared) → Lasting moment d (after_taken m)
 unfolding after_taken
-taken-stands (FlowMod m) moment d s is = record { moment_so = is.moment_so; declared = is.declared }
+taken-stands (FlowMod m) moment d s is = record { moment_is = is.moment_is; declared = is.declared }
 taken-stands (PacketOut m) moment d s is = packet_outputs-stand m.in_port _ moment d s is
-taken-stands (PortMod m) moment d s is = record { moment_so = is.moment_so; declared = is.declared }
-taken-stands (SetConfig c) moment d s is = record { moment_so = is.moment_so; declared = is.declared }
+taken-stands (PortMod m) moment d s is = record { moment_is = is.moment_is; declared = is.declared }
+taken-stands (SetConfig c) moment d s is = record { moment_is = is.moment_is; declared = is.declared }
 taken-stands (Hello payload) moment d s is = is
 taken-stands (Error kind code payload) moment d s is = is
 taken-stands (EchoRequest payload) moment d s is = is
@@ -151,7 +151,7 @@ unfolding link_stimulated
 keeps-stimulated x may moment l is = stimulated x may moment l.declared l.switch is
 
 joins : (moment : ℕ) (d : Declared) (o : Option SwitchState) → StandsIn moment d o → StandsIn moment d (switch_joined moment d o)
-joins moment d None is = record { moment_so = refl; declared = refl }
+joins moment d None is = record { moment_is = refl; declared = refl }
 joins moment d (Some s) is = is
 
 keeps-joined : (moment : ℕ) → KeepsTime moment (link_joined moment)
@@ -278,7 +278,7 @@ switch_in_time moment d (l ∷ ls) x all is =
     in_time moment d c None x is stands same = absurd cc
     in_time moment d c (Some s) x is stands same =
         let one : s ≡ x = cc in
-        record { number = ap (λ (y : SwitchState). y.declared.dpid) (sym one) ∙ ap (λ (y : Declared). y.dpid) stands.declared ∙ same; moment_so = ap (λ (y : SwitchState). y.moment) (sym one) ∙ stands.moment_so }
+        record { number = ap (λ (y : SwitchState). y.declared.dpid) (sym one) ∙ ap (λ (y : Declared). y.dpid) stands.declared ∙ same; moment_is = ap (λ (y : SwitchState). y.moment) (sym one) ∙ stands.moment_is }
 
 pub switch-in_time : {Own : Type 0} (seen : Seen Own) → Conforming seen → (d : ℕ) (x : SwitchState) → switch_of d (state seen) ≡ Some x → InTime d (state seen).moment x
 unfolding switch_of

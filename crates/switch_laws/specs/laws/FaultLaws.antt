@@ -5,6 +5,8 @@ use Rattle.std.proofs.lemmas.Bool.{cases_Bool, cases_eq, eqb-true, or_cases, or_
 use Rattle.std.proofs.lemmas.List.{append-nil, append_cancel_left}
 use Rattle.std.specs.List.{list_any}
 use Rattle.std.specs.Option.{is_some, option_map}
+use Rattle.std.proofs.lemmas.Option.{same_Some}
+use Rattle.std.proofs.Math.Bool.{or-false}
 use Rattle.of_types.specs.declared.errors.OfError.{OfError}
 use Rattle.of_match.specs.declared.key.Key.{Key}
 use Rattle.of_match.specs.Key.{key_number}
@@ -38,34 +40,36 @@ use Rattle.net_txn.specs.Net.{NetState}
 use Rattle.net_txn.specs.Answering.{known_rows}
 use Rattle.net_txn.specs.Changes.{answer_of_host, log_in_flight, MayMove, ChangesJoined, Changes}
 use Rattle.net_txn.specs.Losing.{is_among}
-use Rattle.net_txn.specs.Agreement.{Agrees}
+use Rattle.net_txn.specs.ChangeSteps.{Agrees}
 use Rattle.net_txn.specs.Undos.{key_logged, keys_of, is_stuck, parts_of, lost_parts, is_lost_in, AreJoined, Undoes}
 use Rattle.lego_model.specs.AfterFault.{FailsInUndo, HasEntriesAgain, WasLost, UndoneButFailed}
 use Rattle.net_txn.specs.laws.LostPartLaws.{among-append}
-use Rattle.net_txn.specs.laws.RowLaws.{sent}
+use Rattle.net_txn.specs.laws.RowLaws.{sent, any_of_map}
 use Rattle.net_txn.specs.laws.AgreeLaws.{viewed as viewed_rows}
 use Rattle.net_txn.specs.laws.ChangeFlightLaws.{flight_moves}
+use Rattle.net_txn.specs.laws.LostLaws.{losses_then}
+use Rattle.net_txn.specs.laws.TableBoundLaws.{second_none}
 use Rattle.lego_model.specs.laws.SwitchFaultLaws.{failed_behind}
 use Rattle.switch_laws.specs.Shown.{Passes, has_row, Known}
 use Rattle.switch_laws.specs.laws.ShownChangeLaws.{asks_the_same}
 use Rattle.switch_laws.specs.laws.AskedLaws.{asked}
-use Rattle.switch_laws.specs.laws.AbsentLaws.{any-map, at_key, none_at, absent}
-use Rattle.switch_laws.specs.laws.LossLaws.{losses-on, losses-append}
+use Rattle.switch_laws.specs.laws.AbsentLaws.{at_key, none_at, absent}
+use Rattle.switch_laws.specs.laws.LossLaws.{losses-append}
 use Rattle.switch_laws.specs.laws.StandLaws.{table-serialed}
 use Rattle.switch_laws.specs.laws.ShownExchangeLaws.{known}
 use Rattle.switch_laws.specs.laws.ShownUndoLaws.{viewed, unviewed}
 use Rattle.undo_laws.specs.laws.CorrectedLaws.{refusal-asked}
-use Rattle.switch_laws.specs.laws.SinceLaws.{keys_then, logged_here, logged_elsewhere, taken-added, table_refusal, stays, takes}
+use Rattle.switch_laws.specs.laws.SinceLaws.{keys_then, logged_here, logged_elsewhere, taken-added, stays, takes}
 use Rattle.switch_laws.specs.Since.{logged_since, SwitchSince, JoinedSince, Goes, TablesSince, keys_by}
 
 -- ---- Switches that were lost
 
 was-lost : {Own : Type 0} (first now : Seen Own) (lost : List ℕ) (d : ℕ) → Longer first.history now.history → lost_of now ≡ lost_of first ++ lost → is_among d lost ≡ true → switch_of d (state now) ≡ None → WasLost d first now
-was-lost first now lost d longer losses_so among out = record {
+was-lost first now lost d longer losses_is among out = record {
   steps = longer.0;
   history = longer.1;
   lost =
-      ap (λ (ds : List ℕ). list_any (λ e. e == d) ds) (append_cancel_left (lost_of first) (losses (journal longer.0)) lost (sym (losses-on first now longer.0 longer.1) ∙ losses_so))
+      ap (λ (ds : List ℕ). list_any (λ e. e == d) ds) (append_cancel_left (lost_of first) (losses (journal longer.0)) lost (sym (losses_then first now longer.0 longer.1) ∙ losses_is))
       ∙ among;
   out = out;
 }
@@ -108,11 +112,7 @@ tables-since Tells start lost first now net0 net told later goes = record {
 -- ---- A key that no entry has, logged or not, leaves a table such that only keys were added.
 
 one_of : (ks : List Key) (l k : Key) → is_key_among (ks ++ l ∷ []) k ≡ (is_key_among ks k || (key_number l == key_number k))
-one_of ks l k = is_among-append ks (l ∷ []) k ∙ ap (λ (b : Bool). is_key_among ks k || b) (or_false (key_number l == key_number k))
-  where
-    or_false : (a : Bool) → (a || false) ≡ a
-    or_false true = refl
-    or_false false = refl
+one_of ks l k = is_among-append ks (l ∷ []) k ∙ ap (λ (b : Bool). is_key_among ks k || b) (or-false (key_number l == key_number k))
 
 added-absent : (ks : List Key) (l : Key) (before now : List Entry) → entry_at l now ≡ None → OnlyAdded ks before now → OnlyAdded (ks ++ l ∷ []) before now
 added-absent ks l before now absent only = record {
@@ -157,9 +157,9 @@ flight_elsewhere start d e m views log other le =
 -- a key that no row has, no entry has
 unheld : (k : Key) (rows : List ViewRow) (es : List Entry) → rows_of_view rows ≡ rows_of_table es → has_row k rows ≡ list_any (has_key k) es
 unheld k rows es same =
-    sym (any-map (at_key k) (λ (r : ViewRow). (r.key, r.actions)) rows)
+    sym (any_of_map (at_key k) (λ (r : ViewRow). (r.key, r.actions)) rows)
     ∙ ap (list_any (at_key k)) same
-    ∙ any-map (at_key k) (λ (e : Entry). (e.key, e.actions)) es
+    ∙ any_of_map (at_key k) (λ (e : Entry). (e.key, e.actions)) es
 
 -- it did not move
 still-since : (m : Change) (keys : List Key) (before s : SwitchState) (rows : List ViewRow) → rows_of_view rows ≡ rows_of_table s.table.entries → SwitchSince keys before s → SwitchSince (keys ++ keys_in_flight (has_row (key_in m) rows) m) before s
@@ -184,7 +184,7 @@ taken-new m s rows same p none =
         | inr new ↦ rw (new, deletes) refl
       ]
       | inr adds ↦
-          let refused : refusal s.declared.cap m s.table.entries ≡ None = sym (refusal-asked s.declared.cap (sent m) m s.table.entries (asks_the_same m)) ∙ table_refusal _ _ none in
+          let refused : refusal s.declared.cap m s.table.entries ≡ None = sym (refusal-asked s.declared.cap (sent m) m s.table.entries (asks_the_same m)) ∙ second_none _ _ none in
           let new : has_row (key_in m) rows ≡ false = unheld (key_in m) rows s.table.entries same ∙ absent s.declared.cap m s.table.entries p adds refused in
           rw new refl
     ]
@@ -199,19 +199,13 @@ moved-by None m keys before s rows is same p since =
 moved-by (Some e) m keys before s rows is same p since =
     subst (SwitchSince (keys ++ keys_in_flight (has_row (key_in m) rows) m) before) (sym (stays m s e is)) (still-since m keys before s rows same since)
 
-one_switch : (x y : SwitchState) → Some x ≡ Some y → x ≡ y
-one_switch x y h = cc
-
-one_list : {X : Type 0} (x y : List X) → Some x ≡ Some y → x ≡ y
-one_list x y h = cc
-
 row_is : (d : ℕ) (k : Key) (views : List TableView) (rows : List ViewRow) → rows_at d views ≡ Some rows → is_row_at d k views ≡ has_row k rows
 row_is d k views rows is = ap (has_key_in k) is
 
 module _ {Own : Type 0} (Tells : Type 0) (d start : ℕ) (lost : List ℕ) (first old new : Seen Own) (net0 net now_net : NetState) (m : Change) where
   rows-shown : (k : Known d m net.views (state old)) → Agrees d net.views (state old) → rows_of_view k.rows ≡ rows_of_table k.switch.table.entries
   rows-shown k agrees =
-      one_list (rows_of_view k.rows) (rows_of_table k.switch.table.entries)
+      same_Some (rows_of_view k.rows) (rows_of_table k.switch.table.entries)
       (sym (ap (option_map rows_of_view) k.rows_are) ∙ agrees ∙ ap (option_map (λ x. rows_of_table x.table.entries)) k.switch_is)
 
   -- the switch of the change, whether or not it moved
@@ -229,30 +223,30 @@ module _ {Own : Type 0} (Tells : Type 0) (d start : ℕ) (lost : List ℕ) (firs
 
   -- how the keys of each switch are logged then
   flown-log : start ≤ length net.log → now_net.log ≡ log_in_flight d m net.views net.log → (e : ℕ) → e ≢ d → keys_of e (logged_since start now_net) ≡ keys_of e (logged_since start net)
-  flown-log started log_so e other =
-      ap (λ (log : List Logged). keys_of e (map key_logged (drop start log))) log_so ∙ flight_elsewhere start d e m net.views net.log other started
+  flown-log started log_is e other =
+      ap (λ (log : List Logged). keys_of e (map key_logged (drop start log))) log_is ∙ flight_elsewhere start d e m net.views net.log other started
 
   flown-here : (k : Known d m net.views (state old)) → Agrees d net.views (state old) → start ≤ length net.log → MayMove d (as_sent (FlowMod m)) (state old) (state new) → now_net.log ≡ log_in_flight d m net.views net.log
       → (s : SwitchState) → JoinedSince (keys_of d (logged_since start net)) s (switch_of d (state old)) → JoinedSince (keys_of d (logged_since start now_net)) s (switch_of d (state new))
-  flown-here k agrees started moves log_so s j =
-      let this : j.switch ≡ k.switch = one_switch j.switch k.switch (sym j.stands ∙ k.switch_is) in
+  flown-here k agrees started moves log_is s j =
+      let this : j.switch ≡ k.switch = same_Some j.switch k.switch (sym j.stands ∙ k.switch_is) in
       let keys : keys_of d (logged_since start now_net) ≡ keys_of d (logged_since start net) ++ keys_in_flight (has_row (key_in m) k.rows) m =
-      ap (λ (log : List Logged). keys_of d (map key_logged (drop start log))) log_so ∙ flight_here start d m net.views net.log started
+      ap (λ (log : List Logged). keys_of d (map key_logged (drop start log))) log_is ∙ flight_here start d m net.views net.log started
       ∙ ap (λ (b : Bool). keys_of d (logged_since start net) ++ keys_in_flight b m) (row_is d (key_in m) net.views k.rows k.rows_are) in
       let there = flown k agrees moves (keys_of d (logged_since start net)) s (subst (SwitchSince (keys_of d (logged_since start net)) s) this j.since) in
       subst (λ (ks : List Key). JoinedSince ks s (switch_of d (state new))) (sym keys) there
 
   flown-joined : (k : Known d m net.views (state old)) → Agrees d net.views (state old) → start ≤ length net.log → MayMove d (as_sent (FlowMod m)) (state old) (state new) → now_net.log ≡ log_in_flight d m net.views net.log
       → (e : ℕ) (s : SwitchState) → JoinedSince (keys_of e (logged_since start net)) s (switch_of e (state old)) → JoinedSince (keys_of e (logged_since start now_net)) s (switch_of e (state new))
-  flown-joined k agrees started moves log_so e s j =
+  flown-joined k agrees started moves log_is e s j =
       elim (cases_eq e d) [
         | inl same ↦
             subst (λ (n : ℕ). JoinedSince (keys_of n (logged_since start now_net)) s (switch_of n (state new))) (sym same)
-            (flown-here k agrees started moves log_so s (subst (λ (n : ℕ). JoinedSince (keys_of n (logged_since start net)) s (switch_of n (state old))) same j))
+            (flown-here k agrees started moves log_is s (subst (λ (n : ℕ). JoinedSince (keys_of n (logged_since start net)) s (switch_of n (state old))) same j))
         | inr other ↦ record {
           switch = j.switch;
           stands = moves.others e other ∙ j.stands;
-          since = subst (λ (ks : List Key). SwitchSince ks s j.switch) (sym (flown-log started log_so e other)) j.since;
+          since = subst (λ (ks : List Key). SwitchSince ks s j.switch) (sym (flown-log started log_is e other)) j.since;
         }
       ]
 
@@ -305,7 +299,7 @@ module _ {Own : Type 0} (Tells : Type 0) (d : ℕ) (bytes : List ℕ) (start : �
             let k = known d bytes read.change read.xid net (state old) (goes.ready.agrees d) host read.read in
             let moves = flight_moves d read.change (log_in_flight d read.change net.views net.log) old new net now_net fault told flight in
             carried views longer (flown-out Tells d start lost first old new net0 net now_net read.change moves)
-            (flown-joined Tells d start lost first old new net0 net now_net read.change k (goes.ready.agrees d) goes.since.started moves flight.log_so) before
+            (flown-joined Tells d start lost first old new net0 net now_net read.change k (goes.ready.agrees d) goes.since.started moves flight.log_is) before
       ]
 
   -- A message that ended in a fault leaves the transaction so.
@@ -336,11 +330,11 @@ module _ {Own : Type 0} (Tells : Type 0) (start : ℕ) (first old new : Seen Own
   again-by : Tells → Continues Tells first old → AreJoined net.views (state old) → (u : Undoes Tells start old new net now_net result) → (d : ℕ) (s : SwitchState) → switch_of d (state first) ≡ Some s
       → is_viewed d net.views ≡ true → JoinedSince (keys_of d (logged_since start net)) s (switch_of d (state old)) → (stuck lost : Bool) → is_stuck (parts_of d u.parts) ≡ stuck → is_lost_in d u.parts ≡ lost
       → FailsInUndo Tells d first new ⊎ HasEntriesAgain s (switch_of d (state new)) ⊎ WasLost d first new
-  again-by told before joined u d s is view j stuck true stuck_so lost_so =
+  again-by told before joined u d s is view j stuck true stuck_is lost_is =
       inr (inr (lost-later first old new d (before.told told)
-      (was-lost old new (lost_parts u.parts) d (u.continues.told told) (u.losses told joined) lost_so (u.lost_out d told joined lost_so).0)))
-  again-by told before joined u d s is view j true false stuck_so lost_so = inl (failed_behind d first old new before (u.failed_by d stuck_so lost_so))
-  again-by told before joined u d s is view j false false free lost_so =
+      (was-lost old new (lost_parts u.parts) d (u.continues.told told) (u.losses told joined) lost_is (u.lost_out d told joined lost_is).0)))
+  again-by told before joined u d s is view j true false stuck_is lost_is = inl (failed_behind d first old new before (u.failed_by d stuck_is lost_is))
+  again-by told before joined u d s is view j false false free lost_is =
       let was = (table-serialed first d s is).table in
       let now = table-serialed old d j.switch j.stands in
       let back = u.tables_restored d j.switch s.table told view free j.stands was now j.since.added in

@@ -3,9 +3,8 @@ use Rattle.std.proofs.Common.{◌≡◌, ◌≢◌, ◌==◌, ℕ, true, false, 
 use Rattle.std.proofs.lemmas.Bool.{cases_Bool, cases_eq, eqb-true, eq-eqb, ne_eqb}
 use Rattle.std.proofs.lemmas.List.{append-nil, map-append}
 use Rattle.std.proofs.lemmas.List.Sums.{fold-append}
-use Rattle.std.proofs.lemmas.List.Elements.{filter_map-append}
 use Rattle.std.specs.Option.{is_some, option_map}
-use Rattle.of_types.specs.declared.journal.Act.{Act}
+use Rattle.std.proofs.lemmas.Option.{none-some, same_Some}
 use Rattle.of_types.specs.declared.port_desc.PortDesc.{PortDesc}
 use Rattle.of_match.specs.declared.key.Key.{Key}
 use Rattle.of_wire.specs.Spelling.{ports_bytes}
@@ -19,7 +18,7 @@ use Rattle.lego_model.specs.Answers.{rows_of_table, rows_of_view}
 use Rattle.lego_model.specs.Controller.{left_of, leavers, lose_at, lose}
 use Rattle.lego_model.specs.Events.{ports_of, leave_event}
 use Rattle.lego_model.specs.History.{lost_of}
-use Rattle.lego_model.specs.Journal.{lost_in, losses}
+use Rattle.lego_model.specs.Journal.{losses}
 use Rattle.lego_model.specs.Packets.{Held}
 use Rattle.lego_model.specs.Places.{Place, switch_at, with_place}
 use Rattle.outside.specs.declared.step.WorldStep.{WorldStep}
@@ -29,7 +28,7 @@ use Rattle.outside.specs.State.{state, switch_of, waits_of}
 use Rattle.outside.specs.Conforming.{AreDeclaredFrom}
 use Rattle.outside.specs.laws.SeenLaws.{journal-append}
 use Rattle.net_txn.specs.declared.ports.KnownPorts.{KnownPorts}
-use Rattle.net_txn.specs.Agreement.{Agrees}
+use Rattle.net_txn.specs.ChangeSteps.{Agrees}
 use Rattle.net_txn.specs.Arriving.{without_key}
 use Rattle.net_txn.specs.Leaving.{port_text, ports_text, left_event}
 use Rattle.net_txn.specs.Losing.{lost_net, lose_all, GoesOut, is_among}
@@ -39,11 +38,12 @@ use Rattle.net_txn.specs.Views.{rows_at, with_rows}
 use Rattle.net_txn.specs.laws.AgreeLaws.{viewed as viewed_rows}
 use Rattle.net_txn.specs.laws.LostPartLaws.{not_first, Distinct}
 use Rattle.net_txn.specs.laws.ViewLaws.{with_rows-none}
+use Rattle.net_txn.specs.laws.LostLaws.{losses_two, losses_then}
 use Rattle.switch_laws.specs.Lost.{LeavesBy}
 use Rattle.switch_laws.specs.Released.{lost_by, LosesNone}
 use Rattle.switch_laws.specs.Shown.{rows_or_none, flags_in, flags_at, shown_switch, places}
 use Rattle.switch_laws.specs.Since.{ports_known, Ready}
-use Rattle.switch_laws.specs.laws.PlaceLaws.{switch_at-declared, switch_at-undeclared, with_place-places}
+use Rattle.switch_laws.specs.laws.PlaceLaws.{places-same, switch_at-declared, switch_at-undeclared, with_place-places}
 
 -- ---- The views of the others
 
@@ -120,30 +120,9 @@ pub lose_all-views : (ds : List ℕ) (m n : NetState) → m.views ≡ n.views �
 lose_all-views [] m n same = same
 lose_all-views (d ∷ ds) m n same = lose_all-views ds (lost_net d m) (lost_net d n) (ap (λ (vs : List TableView). filter (λ v. not (v.dpid == d)) vs) same)
 
-pub lose_all-kept : (ds : List ℕ) (m n : NetState) → m.kept ≡ n.kept → (lose_all ds m).kept ≡ (lose_all ds n).kept
-lose_all-kept [] m n same = same
-lose_all-kept (d ∷ ds) m n same = lose_all-kept ds (lost_net d m) (lost_net d n) (ap (λ (ms : List (ℕ × List ℕ)). filter (λ m. not (m.0 == d)) ms) same)
-
--- where nothing is kept, nothing is kept
-pub lose_all-none_kept : (ds : List ℕ) (net : NetState) → net.kept ≡ [] → (lose_all ds net).kept ≡ []
-lose_all-none_kept [] net none = none
-lose_all-none_kept (d ∷ ds) net none = lose_all-none_kept ds (lost_net d net) (ap (λ (ms : List (ℕ × List ℕ)). filter (λ m. not (m.0 == d)) ms) none)
-
-pub lose_all-log : (ds : List ℕ) (net : NetState) → (lose_all ds net).log ≡ net.log
-lose_all-log [] net = refl
-lose_all-log (d ∷ ds) net = lose_all-log ds (lost_net d net)
-
 pub lose_all-moment : (ds : List ℕ) (net : NetState) → (lose_all ds net).moment ≡ net.moment
 lose_all-moment [] net = refl
 lose_all-moment (d ∷ ds) net = lose_all-moment ds (lost_net d net)
-
-pub lose_all-held : (ds : List ℕ) (net : NetState) → (lose_all ds net).held ≡ net.held
-lose_all-held [] net = refl
-lose_all-held (d ∷ ds) net = lose_all-held ds (lost_net d net)
-
-pub lose_all-room : (ds : List ℕ) (net : NetState) → (lose_all ds net).room ≡ net.room
-lose_all-room [] net = refl
-lose_all-room (d ∷ ds) net = lose_all-room ds (lost_net d net)
 
 pub lose_all-rows : (ds : List ℕ) (e : ℕ) (net : NetState) → is_among e ds ≡ false → rows_at e (lose_all ds net).views ≡ rows_at e net.views
 lose_all-rows [] e net none = refl
@@ -192,12 +171,8 @@ ports_lost-same (d ∷ ds) m n same =
 
 -- ---- What a history lost
 
-losses-acts : (xs ys : List Act) → losses (xs ++ ys) ≡ losses xs ++ losses ys
-unfolding losses
-losses-acts xs ys = filter_map-append lost_in xs ys
-
 pub losses-append : (xs ys : List WorldStep) → losses (journal (xs ++ ys)) ≡ losses (journal xs) ++ losses (journal ys)
-losses-append xs ys = ap losses (journal-append xs ys) ∙ losses-acts (journal xs) (journal ys)
+losses-append xs ys = ap losses (journal-append xs ys) ∙ losses_two (journal xs) (journal ys)
 
 losses-step : (step : WorldStep) (steps : List WorldStep) → lost_by step ≡ None → losses (journal (step ∷ steps)) ≡ losses (journal steps)
 unfolding losses journal
@@ -226,21 +201,18 @@ pub losses-none : (steps : List WorldStep) → LosesNone steps → losses (journ
 losses-none [] all = losses-nil
 losses-none (step ∷ steps) all = losses-step step steps all.0 ∙ losses-none steps all.1
 
-pub losses-on : {Own : Type 0} (old new : Seen Own) (steps : List WorldStep) → new.history ≡ old.history ++ steps → lost_of new ≡ lost_of old ++ losses (journal steps)
-losses-on old new steps history = ap (λ (h : List WorldStep). losses (journal h)) history ∙ losses-append old.history steps
-
 pub losses-still : {Own : Type 0} (old new : Seen Own) (steps : List WorldStep) → new.history ≡ old.history ++ steps → LosesNone steps → lost_of new ≡ lost_of old
 losses-still old new steps history none =
-    losses-on old new steps history ∙ ap (λ (ds : List ℕ). lost_of old ++ ds) (losses-none steps none) ∙ append-nil (lost_of old)
+    losses_then old new steps history ∙ ap (λ (ds : List ℕ). lost_of old ++ ds) (losses-none steps none) ∙ append-nil (lost_of old)
 
 -- ---- None was lost, and one stretch behind the other
 
 pub leaves-none : {Own : Type 0} (old new : Seen Own) (net now_net : NetState) → now_net.left ≡ net.left → lost_of new ≡ lost_of old → LeavesBy old new net now_net []
 leaves-none old new net now_net left lost = record {
   gone = [];
-  left_so = left ∙ sym (append-nil net.left);
-  events_so = refl;
-  lost_so = lost ∙ sym (append-nil (lost_of old));
+  left_is = left ∙ sym (append-nil net.left);
+  events_is = refl;
+  lost_is = lost ∙ sym (append-nil (lost_of old));
 }
 
 pub leavers-append : (xs ys : List Event) → leavers (xs ++ ys) ≡ leavers xs ++ leavers ys
@@ -249,14 +221,14 @@ leavers-append xs ys = map-append (λ (e : Event). e.dpid) xs ys
 pub leaves-then : {Own : Type 0} (old mid new : Seen Own) (net mid_net now_net : NetState) (first later : List Event) → LeavesBy old mid net mid_net first → LeavesBy mid new mid_net now_net later → LeavesBy old new net now_net (first ++ later)
 leaves-then old mid new net mid_net now_net first later a b = record {
   gone = a.gone ++ b.gone;
-  left_so = b.left_so ∙ ap (λ (ks : List KnownPorts). ks ++ b.gone) a.left_so ∙ append_assoc net.left a.gone b.gone;
-  events_so = map-append left_event a.gone b.gone ∙ ap₂ (λ (xs ys : List Event). xs ++ ys) a.events_so b.events_so;
-  lost_so = b.lost_so ∙ ap (λ (ds : List ℕ). ds ++ leavers later) a.lost_so ∙ append_assoc (lost_of old) (leavers first) (leavers later) ∙ ap (λ (ds : List ℕ). lost_of old ++ ds) (sym (leavers-append first later));
+  left_is = b.left_is ∙ ap (λ (ks : List KnownPorts). ks ++ b.gone) a.left_is ∙ append_assoc net.left a.gone b.gone;
+  events_is = map-append left_event a.gone b.gone ∙ ap₂ (λ (xs ys : List Event). xs ++ ys) a.events_is b.events_is;
+  lost_is = b.lost_is ∙ ap (λ (ds : List ℕ). ds ++ leavers later) a.lost_is ∙ append_assoc (lost_of old) (leavers first) (leavers later) ∙ ap (λ (ds : List ℕ). lost_of old ++ ds) (sym (leavers-append first later));
 }
 
 -- ---- Leave events
 
-text-bytes : (ps : List PortDesc) → ports_text ps ≡ ports_bytes ps
+pub text-bytes : (ps : List PortDesc) → ports_text ps ≡ ports_bytes ps
 unfolding ports_text port_text
 text-bytes ps = refl
 
@@ -325,7 +297,7 @@ losable-then declared f ports d can = record {
     | inr other ↦ out-other d e f other ∙ can.undeclared e none
   ];
   numbered = λ e s is. elim (cases_eq e d) [
-    | inl same ↦ absurd (no_switch s (sym (subst (λ (n : ℕ). out_at d f n ≡ None) (sym same) (out-here d f)) ∙ is))
+    | inl same ↦ absurd (none-some s (sym (subst (λ (n : ℕ). out_at d f n ≡ None) (sym same) (out-here d f)) ∙ is))
     | inr other ↦ can.numbered e s (sym (out-other d e f other) ∙ is)
   ];
   known = λ e. elim (cases_eq e d) [
@@ -334,9 +306,6 @@ losable-then declared f ports d can = record {
     | inr other ↦ known-stay d e other ports ∙ can.known e ∙ sym (ap (ports_known e) (out-other d e f other))
   ];
 }
-  where
-    no_switch : (s : SwitchState) → None ≡ Some s → ⊥
-    no_switch s h = cc
 
 -- the host's Leave events are these
 pub events-lost : (declared : List Declared) (ds : List ℕ) (f : ℕ → Option SwitchState) (net : NetState) → Losable declared f net.ports → map left_event (ports_lost ds net) ≡ lost_events ds f
@@ -345,10 +314,6 @@ events-lost declared (d ∷ ds) f net can =
     map-append left_event (filter (λ k. k.dpid == d) net.ports) (ports_lost ds (lost_net d net))
     ∙ ap₂ (λ (xs ys : List Event). xs ++ ys) (ap (map left_event) (can.known d) ∙ left-known d (f d) (can.numbered d))
     (events-lost declared ds (out_at d f) (lost_net d net) (losable-then declared f net.ports d can))
-
-places-where : (f g : ℕ → Option SwitchState) → ((d : ℕ) → f d ≡ g d) → (ds : List Declared) → places f ds ≡ places g ds
-places-where f g same [] = refl
-places-where f g same (d ∷ ds) = ap₂ (λ (s : Option SwitchState) (ps : List Place). record { declared = d; switch = s } ∷ ps) (same d.dpid) (places-where f g same ds)
 
 pub there-at : (declared : List Declared) (f : ℕ → Option SwitchState) (ports : List KnownPorts) (d : ℕ) → Losable declared f ports → switch_at d (places f declared) ≡ f d
 there-at declared f ports d can =
@@ -361,7 +326,7 @@ lose-by : (declared : List Declared) → AreDeclaredFrom 1 declared → (f : ℕ
     → lose_at d o (places f declared, base) ≡ (places (out_at d f) declared, base ++ left_of o)
 lose-by declared are f ports d base can None is =
     ap₂ (λ (ps : List Place) (es : List Event). (ps, es))
-    (places-where f (out_at d f) (λ e. elim (cases_eq e d) [
+    (places-same f (out_at d f) (λ e. elim (cases_eq e d) [
       | inl same ↦ subst (λ (n : ℕ). f n ≡ out_at d f n) (sym same) (is ∙ sym (out-here d f))
       | inr other ↦ sym (out-other d e f other)
     ]) declared)
@@ -369,13 +334,10 @@ lose-by declared are f ports d base can None is =
 lose-by declared are f ports d base can (Some s) is =
     let there : is_declared d declared ≡ true = elim (cases_Bool (is_declared d declared)) [
       | inl yes_it_is ↦ yes_it_is
-      | inr other ↦ absurd (no_switch s (sym (can.undeclared d other) ∙ is))
+      | inr other ↦ absurd (none-some s (sym (can.undeclared d other) ∙ is))
     ] in
     ap (λ (ps : List Place). (ps, base ++ leave_event s ∷ []))
     (with_place-places f (out_at d f) d (λ o. None) 1 declared are there (out-here d f) (λ e other. out-other d e f other))
-  where
-    no_switch : (s : SwitchState) → None ≡ Some s → ⊥
-    no_switch s h = cc
 
 pub lose-shown : (declared : List Declared) → AreDeclaredFrom 1 declared → (ds : List ℕ) (f : ℕ → Option SwitchState) (ports : List KnownPorts) (base : List Event) → Losable declared f ports
     → fold lose (places f declared, base) ds ≡ (places (out_all ds f) declared, base ++ lost_events ds f)
@@ -395,10 +357,7 @@ pub record Stays (o : Option SwitchState) : Type 0 where
   pub stands : o ≡ Some switch
 
 leavers-one : (d : ℕ) (o : Option SwitchState) → Stays o → ((s : SwitchState) → o ≡ Some s → s.declared.dpid ≡ d) → leavers (left_of o) ≡ d ∷ []
-leavers-one d None there numbered = absurd (no_switch there.switch there.stands)
-  where
-    no_switch : (s : SwitchState) → None ≡ Some s → ⊥
-    no_switch s h = cc
+leavers-one d None there numbered = absurd (none-some there.switch there.stands)
 leavers-one d (Some s) there numbered = ap (λ (n : ℕ). n ∷ []) (numbered s refl)
 
 pub leavers-lost : (declared : List Declared) (ds : List ℕ) (f : ℕ → Option SwitchState) (ports : List KnownPorts) → Losable declared f ports → Distinct ds → ((e : ℕ) → is_among e ds ≡ true → Stays (f e)) → leavers (lost_events ds f) ≡ ds
@@ -436,9 +395,9 @@ joined-stays (Some s) is = record { switch = s; stands = refl }
 
 -- ---- One switch that is lost, where all was ready
 
-module _ {Own : Type 0} (d : ℕ) (packets : List Held) (s : SwitchState) (old new : Seen Own) (net now_net : NetState) (is : switch_of d (state old) ≡ Some s) (out : GoesOut d packets old new) (net_so : now_net ≡ record (lost_net d net) { xid = now_net.xid }) where
+module _ {Own : Type 0} (d : ℕ) (packets : List Held) (s : SwitchState) (old new : Seen Own) (net now_net : NetState) (is : switch_of d (state old) ≡ Some s) (out : GoesOut d packets old new) (net_is : now_net ≡ record (lost_net d net) { xid = now_net.xid }) where
   lost-views : now_net.views ≡ filter (λ v. not (v.dpid == d)) net.views
-  lost-views = ap (λ (n : NetState). n.views) net_so
+  lost-views = ap (λ (n : NetState). n.views) net_is
 
   lost-here : shown_switch now_net.views (state new) d ≡ None
   lost-here = ap (option_map (owned_switch (flags_at d now_net.views))) out.out
@@ -459,7 +418,7 @@ module _ {Own : Type 0} (d : ℕ) (packets : List Held) (s : SwitchState) (old n
           (ap (option_map rows_of_view) (ap (rows_at d) lost-views ∙ rows-gone d net.views) ∙ sym (ap (option_map (λ x. rows_of_table x.table.entries)) out.out))
       | inr other ↦ ap (option_map rows_of_view) (ap (rows_at e) lost-views ∙ rows-stay d e other net.views) ∙ ready.agrees e ∙ sym (ap (option_map (λ x. rows_of_table x.table.entries)) (out.others e other))
     ];
-    known = λ e. ap (λ (n : NetState). filter (λ k. k.dpid == e) n.ports) net_so ∙ elim (cases_eq e d) [
+    known = λ e. ap (λ (n : NetState). filter (λ k. k.dpid == e) n.ports) net_is ∙ elim (cases_eq e d) [
       | inl same ↦ subst (λ (n : ℕ). filter (λ k. k.dpid == n) (filter (λ k. not (k.dpid == d)) net.ports) ≡ ports_known n (switch_of n (state new))) (sym same)
           (known-gone d net.ports ∙ sym (ap (ports_known d) out.out))
       | inr other ↦ known-stay d e other net.ports ∙ ready.known e ∙ sym (ap (ports_known e) (out.others e other))
@@ -470,13 +429,10 @@ module _ {Own : Type 0} (d : ℕ) (packets : List Held) (s : SwitchState) (old n
   pub lost-leaves : (flags : Key → ℕ) → s.declared.dpid ≡ d → Ready old net → LeavesBy old new net now_net (leave_event (owned_switch flags s) ∷ [])
   lost-leaves flags number ready = record {
     gone = ports_known d (Some s);
-    left_so = ap (λ (n : NetState). n.left) net_so ∙ ap (λ (ks : List KnownPorts). net.left ++ ks) (ready.known d ∙ ap (ports_known d) is);
-    events_so = left-known d (Some s) (λ t same. ap (λ (x : SwitchState). x.declared.dpid) (sym (one_switch s t same)) ∙ number);
-    lost_so = losses-on old new out.steps out.history ∙ ap (λ (ds : List ℕ). lost_of old ++ ds) (out.lost ∙ ap (λ (n : ℕ). n ∷ []) (sym number));
+    left_is = ap (λ (n : NetState). n.left) net_is ∙ ap (λ (ks : List KnownPorts). net.left ++ ks) (ready.known d ∙ ap (ports_known d) is);
+    events_is = left-known d (Some s) (λ t same. ap (λ (x : SwitchState). x.declared.dpid) (sym (same_Some s t same)) ∙ number);
+    lost_is = losses_then old new out.steps out.history ∙ ap (λ (ds : List ℕ). lost_of old ++ ds) (out.lost ∙ ap (λ (n : ℕ). n ∷ []) (sym number));
   }
-    where
-      one_switch : (a b : SwitchState) → Some a ≡ Some b → a ≡ b
-      one_switch a b same = cc
 
   pub lost-places : (declared : List Declared) → AreDeclaredFrom 1 declared → is_declared d declared ≡ true → with_place d (λ o. None) (places (shown_switch net.views (state old)) declared) ≡ places (shown_switch now_net.views (state new)) declared
   lost-places declared are there =

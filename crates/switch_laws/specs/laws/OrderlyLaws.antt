@@ -6,9 +6,7 @@ use Rattle.std.specs.Option.{is_some}
 use Rattle.std.specs.List.{AllByRecursion}
 use Rattle.std.proofs.lemmas.Bool.{cases_Bool}
 use Rattle.std.proofs.lemmas.List.{append-nil}
-use Rattle.std.proofs.lemmas.List.Elements.{filter_map-append}
 use Rattle.of_types.specs.Fields.{number_at}
-use Rattle.of_types.specs.declared.journal.Act.{Act}
 use Rattle.of_types.specs.declared.journal.Act.TheVariants.{Stim, Started, Gave, Gone, Took, Ended, Sent, Got, Lost}
 use Rattle.of_action.specs.declared.action.Action.{Action}
 use Rattle.of_action.specs.Reading.{◌>>=◌, actions_of}
@@ -29,7 +27,7 @@ use Rattle.of_wire.specs.Spelling.{body_bytes, message_bytes}
 use Rattle.app_frames.specs.declared.frame.Answer.{Answer}
 use Rattle.app_frames.specs.declared.frame.Event.{Event}
 use Rattle.lego_model.specs.History.{released_of}
-use Rattle.lego_model.specs.Journal.{packet_read, released_in, released}
+use Rattle.lego_model.specs.Journal.{packet_read, released}
 use Rattle.lego_model.specs.Packets.{Held}
 use Rattle.outside.specs.declared.step.WorldStep.{WorldStep}
 use Rattle.outside.specs.declared.step.WorldStep.TheVariants.{Acted, TookInto, From, Joined, Left, Moment, Idle, End, Opened, NotOpened, NextFailed, SendLost, RecvLost, SendFailed, RecvFailed}
@@ -37,7 +35,6 @@ use Rattle.flow_table.specs.declared.view.ViewRow.{ViewRow}
 use Rattle.outside.specs.InOrder.{InOrder}
 use Rattle.outside.specs.Seen.{Seen, journal}
 use Rattle.outside.specs.State.{State, state, after_step}
-use Rattle.outside.specs.laws.SeenLaws.{journal-append}
 use Rattle.lego_model.specs.declared.fault.TxnFault.{TxnFault}
 use Rattle.lego_model.specs.declared.wait.Awaited.{Awaited}
 use Rattle.lego_model.specs.declared.wait.Heard.{Heard}
@@ -55,6 +52,7 @@ use Rattle.net_txn.specs.Releases.{packet_awaited, packet_steps, Commits}
 use Rattle.net_txn.specs.Views.{rows_at, is_viewed}
 use Rattle.net_txn.specs.laws.AgreeLaws.{viewed as viewed_rows}
 use Rattle.net_txn.specs.laws.NoticeLaws.{kind_of_header}
+use Rattle.net_txn.specs.laws.LostLaws.{released_two}
 use Rattle.switch_laws.specs.laws.AskedLaws.{asked}
 use Rattle.switch_laws.specs.Orderly.{OrderlySince}
 use Rattle.lego_model.specs.OrderlySteps.{IsOrderly}
@@ -215,14 +213,6 @@ wait-loses-none a (b ∷ bs) = (refl, loses-none-both (steps_by a.dpid (heard a 
 ended-loses-none : (a : Awaited) (got : List (List ℕ)) → LosesNone (wait_steps a got ++ reply_got a ∷ [])
 ended-loses-none a got = loses-none-both (wait_steps a got) (reply_got a ∷ []) (wait-loses-none a got) (refl, tt)
 
--- a switch joins
-pub join-steps-lose-none : (d xid : ℕ) (got : List (List ℕ)) → LosesNone (greeting d xid ++ (wait_steps (greeted_from d xid) got ++ reply_got (greeted_from d xid) ∷ []))
-join-steps-lose-none d xid got = (refl, (refl, (refl, ended-loses-none (greeted_from d xid) got)))
-
--- rows are asked for
-pub rows-lose-none : (d xid : ℕ) (got : List (List ℕ)) → LosesNone ((request_sent d xid ∷ barrier_sent (asked_from d xid) ∷ []) ++ (wait_steps (asked_from d xid) got ++ reply_got (asked_from d xid) ∷ []))
-rows-lose-none d xid got = (refl, (refl, ended-loses-none (asked_from d xid) got))
-
 -- a packet is sent
 pub packet-loses-none : (d xid : ℕ) (packet : Packet) (got : List (List ℕ)) → LosesNone (packet_steps d xid packet ++ (wait_steps (packet_awaited d xid) got ++ reply_got (packet_awaited d xid) ∷ []))
 packet-loses-none d xid packet got = (refl, (refl, ended-loses-none (packet_awaited d xid) got))
@@ -256,16 +246,8 @@ pub released-none : (steps : List WorldStep) → ReleasesNone steps → released
 released-none [] all = released-nil
 released-none (step ∷ steps) all = released-step step steps all.0 ∙ released-none steps all.1
 
-released-acts : (xs ys : List Act) → released (xs ++ ys) ≡ released xs ++ released ys
-unfolding released
-released-acts xs ys = filter_map-append released_in xs ys
-
--- What a longer history released goes on.
-pub released-append : (xs ys : List WorldStep) → released (journal (xs ++ ys)) ≡ released (journal xs) ++ released (journal ys)
-released-append xs ys = ap released (journal-append xs ys) ∙ released-acts (journal xs) (journal ys)
-
 pub released-on : {Own : Type 0} (old new : Seen Own) (steps : List WorldStep) → new.history ≡ old.history ++ steps → released_of new ≡ released_of old ++ released (journal steps)
-released-on old new steps history = ap (λ (h : List WorldStep). released (journal h)) history ∙ released-append old.history steps
+released-on old new steps history = ap (λ (h : List WorldStep). released (journal h)) history ∙ released_two old.history steps
 
 pub released-still : {Own : Type 0} (old new : Seen Own) (steps : List WorldStep) → new.history ≡ old.history ++ steps → ReleasesNone steps → released_of new ≡ released_of old
 released-still old new steps history none =
@@ -281,10 +263,10 @@ abbrev asked_steps : ℕ → ℕ → Change → List (List ℕ) → List WorldSt
 asked_steps d xid m got = change_sent d xid m ∷ barrier_sent (awaited_from d xid) ∷ (wait_steps (awaited_from d xid) got ++ reply_got (awaited_from d xid) ∷ [])
 
 asked-none : (d xid : ℕ) (m : Change) (got : List (List ℕ)) → ReleasesNone (asked_steps d xid m got)
-asked-none d xid m got = (sent_so d xid m, (barrier-none d (awaited_from d xid).barrier, ended-none (awaited_from d xid) got))
+asked-none d xid m got = (sent_is d xid m, (barrier-none d (awaited_from d xid).barrier, ended-none (awaited_from d xid) got))
   where
-    sent_so : (d xid : ℕ) (m : Change) → released_by (change_sent d xid m) ≡ None
-    sent_so d xid m = change-none d xid _
+    sent_is : (d xid : ℕ) (m : Change) → released_by (change_sent d xid m) ≡ None
+    sent_is d xid m = change-none d xid _
 
 module _ {Own : Type 0} (Tells : Type 0) (d : ℕ) (bytes : List ℕ) (old new : Seen Own) (net now_net : NetState) (given : Answer) where
   -- where its switch was not lost
@@ -300,7 +282,7 @@ module _ {Own : Type 0} (Tells : Type 0) (d : ℕ) (bytes : List ℕ) (old new :
     | inl stays ↦ joined-by-none told stays (answer_of_host d bytes net) refl
     | inr lost ↦
         let out = lost.2.is_lost.out told (joined d lost.2.viewed) in
-        released-on old new out.steps out.history ∙ ap (λ (ps : List Held). released_of old ++ ps) out.released_so ∙ append-nil (released_of old)
+        released-on old new out.steps out.history ∙ ap (λ (ps : List Held). released_of old ++ ps) out.released_is ∙ append-nil (released_of old)
   ]
 
 -- ---- An undo

@@ -26,6 +26,11 @@ switch_at-undeclared f d (x ∷ xs) is =
     true_is_not : true ≡ false → ⊥
     true_is_not e = cc
 
+-- where all switches are the same, all places are
+pub places-same : (f g : ℕ → Option SwitchState) → ((d : ℕ) → f d ≡ g d) → (ds : List Declared) → places f ds ≡ places g ds
+places-same f g same [] = refl
+places-same f g same (d ∷ ds) = ap₂ (λ (s : Option SwitchState) ps. record { declared = d; switch = s } ∷ ps) (same d.dpid) (places-same f g same ds)
+
 -- above a number all stand the same where those do that are not below it
 pub places-above : (f g : ℕ → Option SwitchState) (least : ℕ) (ds : List Declared) → AreDeclaredFrom least ds → ((e : ℕ) → least ≤ e → g e ≡ f e) → places f ds ≡ places g ds
 places-above f g least [] are same = refl

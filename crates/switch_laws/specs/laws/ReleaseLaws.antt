@@ -7,6 +7,7 @@ use Rattle.std.specs.List.{list_any}
 use Rattle.std.proofs.lemmas.List.{append-nil}
 use Rattle.std.proofs.lemmas.List.Sums.{fold-append}
 use Rattle.std.specs.Option.{is_some, option_map}
+use Rattle.std.proofs.lemmas.Option.{same_Some}
 use Rattle.of_types.specs.declared.journal.Act.TheVariants.{Sent}
 use Rattle.of_match.specs.declared.key.Key.{Key}
 use Rattle.of_wire.specs.declared.message.Envelope.{Envelope}
@@ -40,7 +41,7 @@ use Rattle.outside.specs.State.{State, state, switch_of, waits_of}
 use Rattle.outside.specs.Conforming.{AreDeclaredFrom, Conforming}
 use Rattle.outside.specs.laws.SeenLaws.{Continues-refl, Continues-trans}
 use Rattle.outside.specs.laws.StateLaws.{Conforming-front, Conforming-before}
-use Rattle.net_txn.specs.Agreement.{Agrees}
+use Rattle.net_txn.specs.ChangeSteps.{Agrees}
 use Rattle.net_txn.specs.Answering.{known_rows}
 use Rattle.net_txn.specs.Losing.{lost_net, lose_all, GoesOut}
 use Rattle.net_txn.specs.Net.{NetState}
@@ -50,6 +51,7 @@ use Rattle.net_txn.specs.Views.{rows_at, is_viewed}
 use Rattle.net_txn.specs.Waits.{IfFlooded}
 use Rattle.net_txn.specs.laws.AbreastLaws.{arrival_viewed}
 use Rattle.net_txn.specs.laws.AgreeLaws.{viewed as viewed_rows}
+use Rattle.net_txn.specs.laws.LostLaws.{released_two}
 use Rattle.switch_laws.specs.Lost.{LeavesBy}
 use Rattle.switch_laws.specs.Released.{MovesOrLoses, ReleaseShown, StopsFor}
 use Rattle.switch_laws.specs.Shown.{flags_at, shown_switch, places, shown_places, Stand}
@@ -59,7 +61,7 @@ use Rattle.switch_laws.specs.laws.ClockLaws.{switch-in_time}
 use Rattle.switch_laws.specs.laws.FaceLaws.{face-packet, face-ports_of}
 use Rattle.switch_laws.specs.laws.FaultLaws.{lost-still, lost-later}
 use Rattle.switch_laws.specs.laws.LossLaws.{rows-gone, rows-stay, losses-still, leaves-none, leaves-then, leavers-append, lose_all-append, lose_all-xid, ready-joined, lost-ready, lost-leaves, lost-places}
-use Rattle.switch_laws.specs.laws.OrderlyLaws.{released-nil, released-append, released-on, packet-loses-none}
+use Rattle.switch_laws.specs.laws.OrderlyLaws.{released-nil, released-on, packet-loses-none}
 use Rattle.switch_laws.specs.laws.PlaceLaws.{with_place-places}
 use Rattle.switch_laws.specs.laws.ShownExchangeLaws.{some_switch, switch_at-shown, declared_of}
 use Rattle.switch_laws.specs.laws.ShownUndoLaws.{viewed, unviewed}
@@ -73,7 +75,7 @@ use Rattle.switch_laws.specs.laws.StandLaws.{all-stand}
 record First {Own : Type 0} (Tells : Type 0) (h : Held) (more sent : List Held) (old new : Seen Own) (net now_net : NetState) (queue now_queue : List Event) : Type 0 where
   first : List Held
   later : List Held
-  sent_so : sent ≡ first ++ later
+  sent_is : sent ≡ first ++ later
   mid : Seen Own
   mid_net : NetState
   mid_queue : List Event
@@ -85,7 +87,7 @@ first-of : {Own : Type 0} (Tells : Type 0) (h : Held) (more sent : List Held) (o
 first-of Tells h more sent old new net now_net queue now_queue all = record {
   first = all.0;
   later = all.1.0;
-  sent_so = all.1.1.0;
+  sent_is = all.1.1.0;
   mid = all.1.1.1.0;
   mid_net = all.1.1.1.1.0;
   mid_queue = all.1.1.1.1.1.0;
@@ -122,17 +124,17 @@ other_packet h e None other = refl
 other_packet h e (Some s) other = rw (ne_eqb h.0 e (λ same. other (sym same))) refl
 
 moves-none : {Own : Type 0} (seen : Seen Own) → MovesOrLoses [] seen seen
-moves-none seen = record { steps = []; history = sym (append-nil seen.history); released_so = released-nil; moved = λ e. inl (no_packets e (switch_of e (state seen))) }
+moves-none seen = record { steps = []; history = sym (append-nil seen.history); released_is = released-nil; moved = λ e. inl (no_packets e (switch_of e (state seen))) }
 
 pub moves-or : {Own : Type 0} (packets : List Held) (old new : Seen Own) → MovesBy packets old new → MovesOrLoses packets old new
-moves-or packets old new moves = record { steps = moves.steps; history = moves.history; released_so = moves.released_so; moved = λ e. inl (moves.moved e) }
+moves-or packets old new moves = record { steps = moves.steps; history = moves.history; released_is = moves.released_is; moved = λ e. inl (moves.moved e) }
 
 -- one that goes out moves no other one, nor do packets for it
 loses-or : {Own : Type 0} (d : ℕ) (packets : List Held) (old new : Seen Own) → ((e : ℕ) (o : Option SwitchState) → e ≢ d → o ≡ option_map (after_packets e packets) o) → GoesOut d packets old new → MovesOrLoses packets old new
 loses-or d packets old new others out = record {
   steps = out.steps;
   history = out.history;
-  released_so = out.released_so;
+  released_is = out.released_is;
   moved = λ e. elim (cases_eq e d) [
     | inl same ↦ inr (record {
       steps = out.steps;
@@ -155,7 +157,7 @@ module _ {Own : Type 0} (old mid new : Seen Own) (ps qs : List Held) (first : Mo
   moves-then = record {
     steps = first.steps ++ later.steps;
     history = later.history ∙ ap (λ h. h ++ later.steps) first.history ∙ append_assoc old.history first.steps later.steps;
-    released_so = released-append first.steps later.steps ∙ ap₂ (λ (xs zs : List Held). xs ++ zs) first.released_so later.released_so;
+    released_is = released_two first.steps later.steps ∙ ap₂ (λ (xs zs : List Held). xs ++ zs) first.released_is later.released_is;
     moved = λ e. moved-then e (first.moved e) (later.moved e);
   }
 
@@ -180,8 +182,8 @@ sends-joined {h = h} old new net now_net told sends joined e is =
     ap (λ (o : Option SwitchState). is_some o) ((sends.moves told).moved e) ∙ still-some (after_packets e (h ∷ [])) (switch_of e (state old)) (joined e before)
 
 loses-joined : {Own : Type 0} (d : ℕ) (packets : List Held) (old new : Seen Own) (net now_net : NetState) → GoesOut d packets old new → now_net ≡ record (lost_net d net) { xid = now_net.xid } → AreJoined net.views (state old) → AreJoined now_net.views (state new)
-loses-joined d packets old new net now_net out net_so joined e is =
-    let rows : rows_at e now_net.views ≡ rows_at e (lost_net d net).views = ap (λ (n : NetState). rows_at e n.views) net_so in
+loses-joined d packets old new net now_net out net_is joined e is =
+    let rows : rows_at e now_net.views ≡ rows_at e (lost_net d net).views = ap (λ (n : NetState). rows_at e n.views) net_is in
     elim (cases_eq e d) [
       | inl same ↦
           let gone : rows_at e now_net.views ≡ None = rows ∙ subst (λ (n : ℕ). rows_at n (lost_net d net).views ≡ None) (sym same) (rows-gone d net.views) in
@@ -207,19 +209,19 @@ one-moves Tells h sent old new net now_net queue now_queue told joined (inl send
 }
 one-moves Tells h sent old new net now_net queue now_queue told joined (inr (inl passes)) =
     subst (λ (s : Seen _). OneMoves sent old s now_net) (sym passes.1.seen)
-    (subst (λ (n : NetState). OneMoves sent old old n) (sym passes.1.net_so)
+    (subst (λ (n : NetState). OneMoves sent old old n) (sym passes.1.net_is)
     (subst (λ (ps : List Held). OneMoves ps old old net) (sym passes.0) (record { moves = moves-none old; joined = joined })))
 one-moves Tells h sent old new net now_net queue now_queue told joined (inr (inr (inl loses))) =
     let out = loses.1.is_lost.out told (joined h.0 loses.1.viewed) in
     record {
       moves = subst (λ (ps : List Held). MovesOrLoses ps old new) (sym loses.0) (loses-or h.0 [] old new (λ e o other. no_packets e o) out);
-      joined = loses-joined h.0 [] old new net now_net out loses.1.net_so joined;
+      joined = loses-joined h.0 [] old new net now_net out loses.1.net_is joined;
     }
 one-moves Tells h sent old new net now_net queue now_queue told joined (inr (inr (inr loses))) =
     let out = loses.1.is_lost.out told (joined h.0 loses.1.viewed) in
     record {
       moves = subst (λ (ps : List Held). MovesOrLoses ps old new) (sym loses.0) (loses-or h.0 (h ∷ []) old new (λ e o other. other_packet h e o other) out);
-      joined = loses-joined h.0 (h ∷ []) old new net now_net out loses.1.net_so joined;
+      joined = loses-joined h.0 (h ∷ []) old new net now_net out loses.1.net_is joined;
     }
 
 -- Each switch moved by the packets that were sent to it alone, or was lost, and the history released them.
@@ -231,7 +233,7 @@ release-moves Tells (h ∷ more) sent old new net now_net queue now_queue told j
     let f = first-of Tells h more sent old new net now_net queue now_queue all in
     let one = one-moves Tells h f.first old f.mid net f.mid_net queue f.mid_queue told joined f.one in
     let rest = release-moves Tells more f.later f.mid new f.mid_net now_net f.mid_queue now_queue told one.joined f.rest in
-    subst (λ (ps : List Held). MovesOrLoses ps old new) (sym f.sent_so) (moves-then old f.mid new f.first f.later one.moves rest)
+    subst (λ (ps : List Held). MovesOrLoses ps old new) (sym f.sent_is) (moves-then old f.mid new f.first f.later one.moves rest)
 
 -- ---- Where the world keeps its word: which switches are joined
 
@@ -252,7 +254,7 @@ unviewed-out d views s agrees out (Some x) is = absurd (true≢false (sym (viewe
 
 module _ {Own : Type 0} (h : Held) (s : SwitchState) (old new : Seen Own) (net now_net : NetState) (queue now_queue : List Event) (is : switch_of h.0 (state old) ≡ Some s) (step : PacketInStep h.0 h.1 s old new net now_net queue now_queue) where
   views-so : now_net.views ≡ net.views
-  views-so = ap (λ (n : NetState). n.views) step.net_so
+  views-so = ap (λ (n : NetState). n.views) step.net_is
 
   rows-so : (e : ℕ) → option_map (λ x. rows_of_table x.table.entries) (switch_of e (state new)) ≡ option_map (λ x. rows_of_table x.table.entries) (switch_of e (state old))
   rows-so e = elim (cases_eq e h.0) [
@@ -282,19 +284,16 @@ module _ {Own : Type 0} (h : Held) (s : SwitchState) (old new : Seen Own) (net n
       | inr other ↦ step.others_wait e other ∙ ready.waits e
     ];
     agrees = λ e. ap (known_rows e) views-so ∙ ready.agrees e ∙ sym (rows-so e);
-    known = λ e. ap (λ (n : NetState). filter (λ k. k.dpid == e) n.ports) step.net_so ∙ ready.known e ∙ step-known e;
+    known = λ e. ap (λ (n : NetState). filter (λ k. k.dpid == e) n.ports) step.net_is ∙ ready.known e ∙ step-known e;
   }
 
   step-sound : Sound (state old) → Sound (state new)
   step-sound all = record {
     entries = λ e x here. elim (cases_eq e h.0) [
-      | inl same ↦ subst (λ (y : SwitchState). AllSound y.table.entries) (one_switch _ x (sym step.moved ∙ ap (λ (n : ℕ). switch_of n (state new)) (sym same) ∙ here)) (packet-sound h.1 s (all.entries h.0 s is))
+      | inl same ↦ subst (λ (y : SwitchState). AllSound y.table.entries) (same_Some _ x (sym step.moved ∙ ap (λ (n : ℕ). switch_of n (state new)) (sym same) ∙ here)) (packet-sound h.1 s (all.entries h.0 s is))
       | inr other ↦ all.entries e x (sym (step.others e other) ∙ here)
     ];
   }
-    where
-      one_switch : (a b : SwitchState) → Some a ≡ Some b → a ≡ b
-      one_switch a b same = cc
 
   -- how the reference controller's switches stand then
   step-places : (declared : List Declared) → AreDeclaredFrom 1 declared → Stand declared (state old)
@@ -311,21 +310,21 @@ module _ {Own : Type 0} (h : Held) (s : SwitchState) (old new : Seen Own) (net n
 
 -- So the release of the reference controller goes on, behind these events: its packets are these.
 record GoesOn {Own : Type 0} (declared : List Declared) (packets : List Held) (base : List Event) (old new : Seen Own) (net now_net : NetState) (now_queue : List Event) (r next : Release) : Type 0 where
-  places_so : next.places ≡ shown_places declared now_net.views (state new)
-  events_so : now_queue ≡ base ++ next.events
-  packets_so : next.packets ≡ r.packets ++ packets
+  places_is : next.places ≡ shown_places declared now_net.views (state new)
+  events_is : now_queue ≡ base ++ next.events
+  packets_is : next.packets ≡ r.packets ++ packets
   left : List Event
-  left_so : next.left ≡ r.left ++ left
+  left_is : next.left ≡ r.left ++ left
   leaves : LeavesBy old new net now_net left
   ready : Ready new now_net
   sound : Sound (state new)
-  net_so : now_net ≡ record (lose_all (leavers left) net) { xid = now_net.xid }
+  net_is : now_net ≡ record (lose_all (leavers left) net) { xid = now_net.xid }
 
 -- where it stands before
 record Stands {Own : Type 0} (declared : List Declared) (base : List Event) (old : Seen Own) (net : NetState) (queue : List Event) (r : Release) : Type 0 where
   given : declared ≡ old.given.declared
-  places_so : r.places ≡ shown_places declared net.views (state old)
-  events_so : queue ≡ base ++ r.events
+  places_is : r.places ≡ shown_places declared net.views (state old)
+  events_is : queue ≡ base ++ r.events
   ready : Ready old net
   sound : Sound (state old)
 
@@ -335,16 +334,16 @@ stand-of declared seen same = subst (λ (ds : List Declared). Stand ds (state se
 -- nothing was done
 stays-on : {Own : Type 0} (declared : List Declared) (base : List Event) (old : Seen Own) (net : NetState) (queue : List Event) (r : Release) → queue ≡ base ++ r.events → r.places ≡ shown_places declared net.views (state old) → Ready old net → Sound (state old)
     → GoesOn declared [] base old old net net queue r r
-stays-on declared base old net queue r events_so places_so ready sound = record {
-  places_so = places_so;
-  events_so = events_so;
-  packets_so = sym (append-nil r.packets);
+stays-on declared base old net queue r events_is places_is ready sound = record {
+  places_is = places_is;
+  events_is = events_is;
+  packets_is = sym (append-nil r.packets);
   left = [];
-  left_so = sym (append-nil r.left);
+  left_is = sym (append-nil r.left);
   leaves = leaves-none old old net net refl refl;
   ready = ready;
   sound = sound;
-  net_so = refl;
+  net_is = refl;
 }
 
 -- what becomes of a packet, by what becomes of its switch
@@ -362,7 +361,7 @@ module _ {Own : Type 0} (h : Held) (declared : List Declared) (base : List Event
   -- the switch there
   at-shown : switch_at h.0 r.places ≡ shown_switch net.views (state old) h.0
   unfolding shown_places
-  at-shown = ap (switch_at h.0) at.places_so ∙ switch_at-shown declared net.views (state old) h.0 (stand-of declared old at.given)
+  at-shown = ap (switch_at h.0) at.places_is ∙ switch_at-shown declared net.views (state old) h.0 (stand-of declared old at.given)
 
   at-joined : (loss : PacketLoss) (s : SwitchState) → switch_of h.0 (state old) ≡ Some s → next_release loss r h ≡ release_at (Some (owned_switch (flags_at h.0 net.views) s)) loss r h
   at-joined loss s is = ap (λ (o : Option SwitchState). release_at o loss r h) (at-shown ∙ ap (option_map (owned_switch (flags_at h.0 net.views))) is)
@@ -372,49 +371,49 @@ module _ {Own : Type 0} (h : Held) (declared : List Declared) (base : List Event
         → with_place h.0 (λ o. Some (after_message (PacketOut h.1) (owned_switch (flags_at h.0 net.views) s))) r.places ≡ shown_places declared now_net.views (state new)
     unfolding shown_places
     sent-places s is step =
-        ap (with_place h.0 (λ o. Some (after_message (PacketOut h.1) (owned_switch (flags_at h.0 net.views) s)))) at.places_so
+        ap (with_place h.0 (λ o. Some (after_message (PacketOut h.1) (owned_switch (flags_at h.0 net.views) s)))) at.places_is
         ∙ step-places h s old new net now_net queue now_queue is step declared are (stand-of declared old at.given)
 
     sent-on : (s : SwitchState) → switch_of h.0 (state old) ≡ Some s → lost_of new ≡ lost_of old → PacketInStep h.0 h.1 s old new net now_net queue now_queue
         → GoesOn declared (h ∷ []) base old new net now_net now_queue r (next_release Stays r h)
     sent-on s is none_lost step =
         subst (λ (next : Release). GoesOn declared (h ∷ []) base old new net now_net now_queue r next) (sym (at-joined Stays s is)) (record {
-          places_so = sent-places s is step;
-          events_so = step.queue_so ∙ ap (λ (q : List Event). q ++ events_of h.0 (sent_by_message 0 (PacketOut h.1) s)) at.events_so
+          places_is = sent-places s is step;
+          events_is = step.queue_is ∙ ap (λ (q : List Event). q ++ events_of h.0 (sent_by_message 0 (PacketOut h.1) s)) at.events_is
               ∙ append_assoc base r.events (events_of h.0 (sent_by_message 0 (PacketOut h.1) s))
               ∙ ap (λ (sent : List (List ℕ)). base ++ (r.events ++ events_of h.0 sent)) (sym (packet_sent-owned (flags_at h.0 net.views) 0 h.1 s));
-          packets_so = refl;
+          packets_is = refl;
           left = [];
-          left_so = sym (append-nil r.left);
-          leaves = leaves-none old new net now_net (ap (λ (n : NetState). n.left) step.net_so) none_lost;
+          left_is = sym (append-nil r.left);
+          leaves = leaves-none old new net now_net (ap (λ (n : NetState). n.left) step.net_is) none_lost;
           ready = step-ready h s old new net now_net queue now_queue is step at.ready;
           sound = step-sound h s old new net now_net queue now_queue is step at.sound;
-          net_so = step.net_so;
+          net_is = step.net_is;
         })
 
     -- its switch goes out, whether or not it was sent
     lost-away : (packets : List Held) (s : SwitchState) → switch_of h.0 (state old) ≡ Some s → GoesOut h.0 packets old new → now_net ≡ record (lost_net h.0 net) { xid = now_net.xid }
         → with_place h.0 (λ o. None) r.places ≡ shown_places declared now_net.views (state new)
     unfolding shown_places
-    lost-away packets s is out net_so =
-        ap (with_place h.0 (λ o. None)) at.places_so
-        ∙ lost-places h.0 packets s old new net now_net is out net_so declared are (declared_of h.0 declared (state old) (stand-of declared old at.given) s is)
+    lost-away packets s is out net_is =
+        ap (with_place h.0 (λ o. None)) at.places_is
+        ∙ lost-places h.0 packets s old new net now_net is out net_is declared are (declared_of h.0 declared (state old) (stand-of declared old at.given) s is)
 
     out-on : (packets : List Held) (s : SwitchState) → switch_of h.0 (state old) ≡ Some s → s.declared.dpid ≡ h.0 → GoesOut h.0 packets old new → now_net ≡ record (lost_net h.0 net) { xid = now_net.xid } → now_queue ≡ queue
         → (q : Release) → q.places ≡ r.places → q.events ≡ r.events → q.left ≡ r.left → q.packets ≡ r.packets ++ packets
         → GoesOn declared packets base old new net now_net now_queue r (went_out h.0 (owned_switch (flags_at h.0 net.views) s) q)
-    out-on packets s is number out net_so queue_so q places_so events_so left_so packets_so =
+    out-on packets s is number out net_is queue_is q places_is events_is left_is packets_is =
         let gone : List Event = leave_event (owned_switch (flags_at h.0 net.views) s) ∷ [] in
         record {
-          places_so = ap (with_place h.0 (λ o. None)) places_so ∙ lost-away packets s is out net_so;
-          events_so = queue_so ∙ at.events_so ∙ ap (λ (es : List Event). base ++ es) (sym events_so);
-          packets_so = packets_so;
+          places_is = ap (with_place h.0 (λ o. None)) places_is ∙ lost-away packets s is out net_is;
+          events_is = queue_is ∙ at.events_is ∙ ap (λ (es : List Event). base ++ es) (sym events_is);
+          packets_is = packets_is;
           left = gone;
-          left_so = ap (λ (es : List Event). es ++ gone) left_so;
-          leaves = lost-leaves h.0 packets s old new net now_net is out net_so (flags_at h.0 net.views) number at.ready;
-          ready = lost-ready h.0 packets s old new net now_net is out net_so at.ready;
+          left_is = ap (λ (es : List Event). es ++ gone) left_is;
+          leaves = lost-leaves h.0 packets s old new net now_net is out net_is (flags_at h.0 net.views) number at.ready;
+          ready = lost-ready h.0 packets s old new net now_net is out net_is at.ready;
           sound = lost-sound h.0 packets old new out at.sound;
-          net_so = net_so ∙ ap (λ (n : ℕ). record (lost_net n net) { xid = now_net.xid }) (sym number);
+          net_is = net_is ∙ ap (λ (n : ℕ). record (lost_net n net) { xid = now_net.xid }) (sym number);
         }
 
 passed-on : {Own : Type 0} (h : Held) (declared : List Declared) (base : List Event) (old new : Seen Own) (net now_net : NetState) (queue now_queue : List Event) (r : Release) → PassesOver h old new net now_net queue now_queue → Stands declared base old net queue r
@@ -425,7 +424,7 @@ passed-on h declared base old new net now_net queue now_queue r passes at =
     let one : next_release Stays r h ≡ r = ap (λ (o : Option SwitchState). release_at o Stays r h) there in
     subst (λ (next : Release). GoesOn declared [] base old new net now_net now_queue r next) (sym one)
     (subst (λ (w : Seen _). GoesOn declared [] base old w net now_net now_queue r r) (sym passes.seen)
-    (subst (λ (n : NetState). GoesOn declared [] base old old net n now_queue r r) (sym passes.net_so) (stays-on declared base old net now_queue r (passes.queue_so ∙ at.events_so) at.places_so at.ready at.sound)))
+    (subst (λ (n : NetState). GoesOn declared [] base old old net n now_queue r r) (sym passes.net_is) (stays-on declared base old net now_queue r (passes.queue_is ∙ at.events_is) at.places_is at.ready at.sound)))
 
 -- one packet of it
 record OneOn {Own : Type 0} (h : Held) (declared : List Declared) (packets : List Held) (base : List Event) (old new : Seen Own) (net now_net : NetState) (now_queue : List Event) (r : Release) : Type 0 where
@@ -439,13 +438,13 @@ module _ {Own : Type 0} (Tells : Type 0) (h : Held) (sent : List Held) (declared
 
   loses-on : (packets : List Held) (loss : PacketLoss) (q : Release) → ((s : SwitchState) → release_at (Some s) loss r h ≡ went_out h.0 s q) → q.places ≡ r.places → q.events ≡ r.events → q.left ≡ r.left → q.packets ≡ r.packets ++ packets
       → LosesPacket Tells packets h old new net now_net queue now_queue → GoesOn declared packets base old new net now_net now_queue r (next_release loss r h)
-  loses-on packets loss q by places_so events_so left_so packets_so loses =
+  loses-on packets loss q by places_is events_is left_is packets_is loses =
       let s = there loses.viewed in
       let out = loses.is_lost.out told (ready-joined old net at.ready h.0 loses.viewed) in
       let number = (switch-in_time old (Conforming-before told loses.continues keeps) h.0 s.switch s.stands).number in
       subst (λ (next : Release). GoesOn declared packets base old new net now_net now_queue r next)
       (sym (at-joined h declared base old net queue r at loss s.switch s.stands ∙ by (owned_switch (flags_at h.0 net.views) s.switch)))
-      (out-on h declared base old net queue r at new now_net now_queue are packets s.switch s.stands number out loses.net_so loses.queue_so q places_so events_so left_so packets_so)
+      (out-on h declared base old net queue r at new now_net now_queue are packets s.switch s.stands number out loses.net_is loses.queue_is q places_is events_is left_is packets_is)
 
   one-on : ReleasesOne Tells h sent old new net now_net queue now_queue → OneOn h declared sent base old new net now_net now_queue r
   one-on (inl sends) =
@@ -467,16 +466,16 @@ module _ {Own : Type 0} (Tells : Type 0) (h : Held) (sent : List Held) (declared
 on-then : {Own : Type 0} (declared : List Declared) (ps qs : List Held) (base : List Event) (old mid new : Seen Own) (net mid_net now_net : NetState) (mid_queue now_queue : List Event) (r middle next : Release) → GoesOn declared ps base old mid net mid_net mid_queue r middle
     → GoesOn declared qs base mid new mid_net now_net now_queue middle next → GoesOn declared (ps ++ qs) base old new net now_net now_queue r next
 on-then declared ps qs base old mid new net mid_net now_net mid_queue now_queue r middle next first later = record {
-  places_so = later.places_so;
-  events_so = later.events_so;
-  packets_so = later.packets_so ∙ ap (λ (xs : List Held). xs ++ qs) first.packets_so ∙ append_assoc r.packets ps qs;
+  places_is = later.places_is;
+  events_is = later.events_is;
+  packets_is = later.packets_is ∙ ap (λ (xs : List Held). xs ++ qs) first.packets_is ∙ append_assoc r.packets ps qs;
   left = first.left ++ later.left;
-  left_so = later.left_so ∙ ap (λ (es : List Event). es ++ later.left) first.left_so ∙ append_assoc r.left first.left later.left;
+  left_is = later.left_is ∙ ap (λ (es : List Event). es ++ later.left) first.left_is ∙ append_assoc r.left first.left later.left;
   leaves = leaves-then old mid new net mid_net now_net first.left later.left first.leaves later.leaves;
   ready = later.ready;
   sound = later.sound;
-  net_so = later.net_so
-      ∙ ap (λ (n : NetState). record (lose_all (leavers later.left) n) { xid = now_net.xid }) first.net_so
+  net_is = later.net_is
+      ∙ ap (λ (n : NetState). record (lose_all (leavers later.left) n) { xid = now_net.xid }) first.net_is
       ∙ ap (λ (n : NetState). record n { xid = now_net.xid }) (lose_all-xid (leavers later.left) (lose_all (leavers first.left) net) mid_net.xid)
       ∙ ap (λ (n : NetState). record n { xid = now_net.xid }) (sym (lose_all-append (leavers first.left) (leavers later.left) net))
       ∙ ap (λ (ds : List ℕ). record (lose_all ds net) { xid = now_net.xid }) (sym (leavers-append first.left later.left));
@@ -500,16 +499,16 @@ all-on Tells [] sent declared base old new net now_net queue now_queue r told ke
       final = record r { losing = [] };
       is = refl;
       none_more = refl;
-      on = let stays = stays-on declared base old net now_queue r (all.3 ∙ at.events_so) at.places_so at.ready at.sound in record {
-        places_so = stays.places_so;
-        events_so = stays.events_so;
-        packets_so = stays.packets_so;
+      on = let stays = stays-on declared base old net now_queue r (all.3 ∙ at.events_is) at.places_is at.ready at.sound in record {
+        places_is = stays.places_is;
+        events_is = stays.events_is;
+        packets_is = stays.packets_is;
         left = stays.left;
-        left_so = stays.left_so;
+        left_is = stays.left_is;
         leaves = stays.leaves;
         ready = stays.ready;
         sound = stays.sound;
-        net_so = stays.net_so;
+        net_is = stays.net_is;
       };
     })))
 all-on Tells (h ∷ more) sent declared base old new net now_net queue now_queue r told keeps are all at =
@@ -519,9 +518,9 @@ all-on Tells (h ∷ more) sent declared base old new net now_net queue now_queue
     let first = one-on Tells h f.first declared base old f.mid net f.mid_net queue f.mid_queue r told (Conforming-before told later keeps) are at f.one in
     let middle = next_release first.loss r h in
     let stands : Stands declared base f.mid f.mid_net f.mid_queue middle =
-    record { given = at.given ∙ ap (λ (g : Given _). g.declared) (sym before.given); places_so = first.on.places_so; events_so = first.on.events_so; ready = first.on.ready; sound = first.on.sound } in
+    record { given = at.given ∙ ap (λ (g : Given _). g.declared) (sym before.given); places_is = first.on.places_is; events_is = first.on.events_is; ready = first.on.ready; sound = first.on.sound } in
     let rest = all-on Tells more f.later declared base f.mid new f.mid_net now_net f.mid_queue now_queue middle told keeps are f.rest stands in
-    subst (λ (ps : List Held). AllOn (h ∷ more) declared ps base old new net now_net now_queue r) (sym f.sent_so) (record {
+    subst (λ (ps : List Held). AllOn (h ∷ more) declared ps base old new net now_net now_queue r) (sym f.sent_is) (record {
       losing = first.loss ∷ rest.losing;
       final = rest.final;
       is = ap (λ (q : Release). fold release_one q more) (losing-kept (switch_at h.0 r.places) first.loss r h rest.losing) ∙ rest.is;
@@ -532,7 +531,7 @@ all-on Tells (h ∷ more) sent declared base old new net now_net queue now_queue
 -- ---- The whole
 
 begins : {Own : Type 0} (old : Seen Own) (net : NetState) (queue : List Event) (losing : List PacketLoss) → Ready old net → Sound (state old) → Stands old.given.declared queue old net queue (none_released losing (shown_places old.given.declared net.views (state old)))
-begins old net queue losing ready sound = record { given = refl; places_so = refl; events_so = sym (append-nil queue); ready = ready; sound = sound }
+begins old net queue losing ready sound = record { given = refl; places_is = refl; events_is = sym (append-nil queue); ready = ready; sound = sound }
 
 -- A release: the reference controller releases the same and loses the same, and its switches stand then as the world's do.
 pub release-shown : {Own : Type 0} (Tells : Type 0) (held sent : List Held) (old new : Seen Own) (net now_net : NetState) (queue now_queue : List Event) → Tells → Conforming new
@@ -547,17 +546,17 @@ release-shown Tells held sent old new net now_net queue now_queue told keeps all
     let moves = release-moves Tells held sent old new net now_net queue now_queue told (ready-joined old net ready) all in
     record {
       losing = whole.losing;
-      release_so = whole.final;
+      release_is = whole.final;
       is = sym whole.is;
-      places = sym whole.on.places_so;
-      events = whole.on.events_so;
-      packets = whole.on.packets_so;
+      places = sym whole.on.places_is;
+      events = whole.on.events_is;
+      packets = whole.on.packets_is;
       none_more = whole.none_more;
-      leaves = subst (λ (es : List Event). LeavesBy old new net now_net es) (sym whole.on.left_so) whole.on.leaves;
-      released_so = released-on old new moves.steps moves.history ∙ ap (λ (ps : List Held). released_of old ++ ps) (moves.released_so ∙ sym whole.on.packets_so);
+      leaves = subst (λ (es : List Event). LeavesBy old new net now_net es) (sym whole.on.left_is) whole.on.leaves;
+      released_is = released-on old new moves.steps moves.history ∙ ap (λ (ps : List Held). released_of old ++ ps) (moves.released_is ∙ sym whole.on.packets_is);
       ready = whole.on.ready;
       sound = whole.on.sound;
-      net_so = whole.on.net_so ∙ ap (λ (es : List Event). record (lose_all (leavers es) net) { xid = now_net.xid }) (sym whole.on.left_so);
+      net_is = whole.on.net_is ∙ ap (λ (es : List Event). record (lose_all (leavers es) net) { xid = now_net.xid }) (sym whole.on.left_is);
     }
 
 -- ---- Whether all is ready, whatever the entries are
@@ -567,13 +566,13 @@ one-ready Tells h sent old new net now_net queue now_queue told keeps (inl sends
     let s = viewed-joined h.0 net.views (state old) (ready.agrees h.0) sends.1 (switch_of h.0 (state old)) refl in
     step-ready h s.switch old new net now_net queue now_queue s.stands (sends.2.in_step s.switch told keeps s.stands (ready.waits h.0)) ready
 one-ready Tells h sent old new net now_net queue now_queue told keeps (inr (inl passes)) ready =
-    subst (λ (n : NetState). Ready new n) (sym passes.1.net_so) (subst (λ (w : Seen _). Ready w net) (sym passes.1.seen) ready)
+    subst (λ (n : NetState). Ready new n) (sym passes.1.net_is) (subst (λ (w : Seen _). Ready w net) (sym passes.1.seen) ready)
 one-ready Tells h sent old new net now_net queue now_queue told keeps (inr (inr (inl loses))) ready =
     let s = viewed-joined h.0 net.views (state old) (ready.agrees h.0) loses.1.viewed (switch_of h.0 (state old)) refl in
-    lost-ready h.0 [] s.switch old new net now_net s.stands (loses.1.is_lost.out told (ready-joined old net ready h.0 loses.1.viewed)) loses.1.net_so ready
+    lost-ready h.0 [] s.switch old new net now_net s.stands (loses.1.is_lost.out told (ready-joined old net ready h.0 loses.1.viewed)) loses.1.net_is ready
 one-ready Tells h sent old new net now_net queue now_queue told keeps (inr (inr (inr loses))) ready =
     let s = viewed-joined h.0 net.views (state old) (ready.agrees h.0) loses.1.viewed (switch_of h.0 (state old)) refl in
-    lost-ready h.0 (h ∷ []) s.switch old new net now_net s.stands (loses.1.is_lost.out told (ready-joined old net ready h.0 loses.1.viewed)) loses.1.net_so ready
+    lost-ready h.0 (h ∷ []) s.switch old new net now_net s.stands (loses.1.is_lost.out told (ready-joined old net ready h.0 loses.1.viewed)) loses.1.net_is ready
 
 pub releases-ready : {Own : Type 0} (Tells : Type 0) (held sent : List Held) (old new : Seen Own) (net now_net : NetState) (queue now_queue : List Event) → Tells → Conforming new → ReleasesAll Tells held sent old new net now_net queue now_queue → Ready old net → Ready new now_net
 releases-ready Tells [] sent old new net now_net queue now_queue told keeps all ready =

@@ -15,6 +15,7 @@ use Rattle.flow_table.specs.Change.{key_in, is_delete, describes, checks_overlap
 use Rattle.flow_table.specs.Switch.{SwitchState}
 use Rattle.flow_table.specs.Refusals.{or_else, no_buffer, is_emergency, flow_actions_refusal, flow_refusal, message_refusal}
 use Rattle.flow_table.specs.Step.{after_taken, after_message}
+use Rattle.flow_table.specs.laws.RefusalLaws.{first_none}
 use Rattle.undo_laws.specs.Corrected.{AgreeBut, corrected, AsksTheSame}
 use Rattle.undo_laws.specs.laws.CorrectedLaws.{refusal-corrected, refusal-asked, kept-corrected, addition-corrected}
 use Rattle.undo_laws.specs.Owned.{owned, owned_switch}
@@ -37,10 +38,6 @@ pub asks_the_same : (m : Change) → AsksTheSame (sent m) m
 asks_the_same m = record { command = refl; matching = refl; priority = refl; out_port = refl; actions = refl; checks = checks-sent m.flags }
 
 -- ---- What the host let pass
-
-first_none : (a b : Option OfError) → or_else a b ≡ None → (a ≡ None) × (b ≡ None)
-first_none None b h = (refl, h)
-first_none (Some e) b h = absurd cc
 
 no_refusal : (o : Option OfError) → refused_or o None ≡ None → o ≡ None
 no_refusal None h = refl

@@ -35,7 +35,7 @@ use Rattle.net_txn.specs.Views.{rows_at, rows_after}
 use Rattle.net_txn.specs.Net.{NetState}
 use Rattle.net_txn.specs.Answering.{known_rows}
 use Rattle.net_txn.specs.Changes.{answer_of_host, error_in, views_by, Asked, ChangesJoined, ChangesLost, Changes}
-use Rattle.net_txn.specs.Agreement.{Agrees, InStep}
+use Rattle.net_txn.specs.ChangeSteps.{Agrees, InStep}
 use Rattle.net_txn.specs.Losing.{lost_net, GoesOut}
 use Rattle.net_txn.specs.laws.ViewLaws.{rows_at-same, rows_at-other}
 use Rattle.switch_laws.specs.Shown.{rows_or_none, flags_in, flags_at, shown_switch, places, shown_places, Stand, Passes, Known}
@@ -138,24 +138,24 @@ module _ {Own : Type 0} (Tells : Type 0) (d : ℕ) (old new : Seen Own) (net now
   pub judged : (k : Known d m net.views (state old)) → Asked Tells d m old new net now_net given → InStep d (as_sent (FlowMod m)) old new net now_net given → (refusal : Option Refusal) → now_net.views ≡ views_by refusal d m net.views
       → given ≡ answer_by (error_in refusal) → error_in refusal ≡ message_refusal k.switch (as_sent (FlowMod m))
   unfolding switch_answer
-  judged k is step refusal views_so answer_so =
-      let by_switch_is : given ≡ answer_by (message_refusal k.switch (as_sent (FlowMod m))) = rw k.switch_is at step.answer_so in
-      answer_by-one (error_in refusal) (message_refusal k.switch (as_sent (FlowMod m))) (sym answer_so ∙ by_switch_is)
+  judged k is step refusal views_is answer_is =
+      let by_switch_is : given ≡ answer_by (message_refusal k.switch (as_sent (FlowMod m))) = rw k.switch_is at step.answer_is in
+      answer_by-one (error_in refusal) (message_refusal k.switch (as_sent (FlowMod m))) (sym answer_is ∙ by_switch_is)
 
   -- the switches of the reference controller after the change
   places-then : (declared : List Declared) → AreDeclaredFrom 1 declared → Stand declared (state old) → (k : Known d m net.views (state old)) → InStep d (as_sent (FlowMod m)) old new net now_net given → (refusal : Option Refusal)
       → now_net.views ≡ views_by refusal d m net.views → error_in refusal ≡ message_refusal k.switch (as_sent (FlowMod m))
       → with_place d (λ o. Some (after_message (FlowMod m) (owned_switch (flags_in k.rows) k.switch))) (places (shown_switch net.views (state old)) declared) ≡ places (shown_switch now_net.views (state new)) declared
-  places-then declared are stand k step refusal views_so refused =
+  places-then declared are stand k step refusal views_is refused =
       let is : is_declared d declared ≡ true = declared_of d declared (state old) stand k.switch k.switch_is in
       let after : SwitchState = after_message (as_sent (FlowMod m)) k.switch in
       let moved : switch_of d (state new) ≡ Some after = step.moved ∙ ap (option_map (after_message (as_sent (FlowMod m)))) k.switch_is in
-      let flags : flags_at d now_net.views ≡ flags_in (rows_by refusal m k.rows) = ap (flags_at d) views_so ∙ flags-here refusal d m net.views k.rows k.rows_are in
+      let flags : flags_at d now_net.views ≡ flags_in (rows_by refusal m k.rows) = ap (flags_at d) views_is ∙ flags-here refusal d m net.views k.rows k.rows_are in
       let shown : after_message (FlowMod m) (owned_switch (flags_in k.rows) k.switch) ≡ owned_switch (flags_in (rows_by refusal m k.rows)) after = moved-shown refusal m k.rows k.switch (stand.table d k.switch k.switch_is) k.passes refused in
       let here : shown_switch now_net.views (state new) d ≡ Some (after_message (FlowMod m) (owned_switch (flags_in k.rows) k.switch)) =
       ap₂ (λ (f : Key → ℕ) (o : Option SwitchState). option_map (owned_switch f) o) flags moved ∙ ap some_switch (sym shown) in
       let others : (e : ℕ) → e ≢ d → shown_switch now_net.views (state new) e ≡ shown_switch net.views (state old) e =
-      λ e other. ap₂ (λ (f : Key → ℕ) (o : Option SwitchState). option_map (owned_switch f) o) (ap (flags_at e) views_so ∙ flags-elsewhere refusal d e m net.views other) (step.others e other) in
+      λ e other. ap₂ (λ (f : Key → ℕ) (o : Option SwitchState). option_map (owned_switch f) o) (ap (flags_at e) views_is ∙ flags-elsewhere refusal d e m net.views other) (step.others e other) in
       with_place-places (shown_switch net.views (state old)) (shown_switch now_net.views (state new)) d (λ o. Some (after_message (FlowMod m) (owned_switch (flags_in k.rows) k.switch))) 1 declared are is here others
 
   by_switch-shown : (declared : List Declared) → AreDeclaredFrom 1 declared → Stand declared (state old) → (bytes : List ℕ) (xid : ℕ) → reading_of bytes ≡ Ok (enveloped xid (FlowMod m)) → (k : Known d m net.views (state old))
@@ -165,8 +165,8 @@ module _ {Own : Type 0} (Tells : Type 0) (d : ℕ) (old new : Seen Own) (net now
       let at : switch_at d (places (shown_switch net.views (state old)) declared) ≡ Some (owned_switch (flags_in k.rows) k.switch) =
       switch_at-shown declared net.views (state old) d stand
       ∙ ap₂ (λ (f : Key → ℕ) (o : Option SwitchState). option_map (owned_switch f) o) (ap (λ (o : Option (List ViewRow)). flags_in (rows_or_none o)) k.rows_are) k.switch_is in
-      let refused = judged k asks step asks.refusal asks.views asks.answer_so in
-      let answered : given ≡ switch_answer k.switch (as_sent (FlowMod m)) = rw k.switch_is at step.answer_so in
+      let refused = judged k asks step asks.refusal asks.views asks.answer_is in
+      let answered : given ≡ switch_answer k.switch (as_sent (FlowMod m)) = rw k.switch_is at step.answer_is in
       rw (read, at)
       (ap₂ (λ (a : Answer) (ps : List Place). (a, ps)) (answer-shown (flags_in k.rows) m k.switch (rows_of_table k.switch.table.entries) k.passes ∙ sym answered)
       (places-then declared are stand k step asks.refusal asks.views refused))
@@ -219,14 +219,14 @@ module _ {Own : Type 0} (Tells : Type 0) (d : ℕ) (bytes : List ℕ) (old new :
   lost-played : (s : SwitchState) → switch_of d (state old) ≡ Some s → is_declared d old.given.declared ≡ true → AreDeclaredFrom 1 old.given.declared → GoesOut d [] old new → now_net ≡ record (lost_net d net) { xid = now_net.xid } → (losing : List Bool) (before : List Event)
       → play (shown_play old.given.declared old net (true ∷ losing) before) d bytes ≡ (Unknown, shown_play old.given.declared new now_net losing (before ++ leave_event (owned_switch (flags_at d net.views) s) ∷ []))
   unfolding play shown_places
-  lost-played s is there are out net_so losing before =
+  lost-played s is there are out net_is losing before =
       let declared = old.given.declared in
       let owned = owned_switch (flags_at d net.views) s in
       let ps = places (shown_switch net.views (state old)) declared in
       let at : switch_at d ps ≡ Some owned = switch_at-shown declared net.views (state old) d (all-stand old) ∙ ap (option_map (owned_switch (flags_at d net.views))) is in
       ap (λ (o : Option SwitchState). playing true o (record { places = ps; held = net.held; losing = losing; left = before }) d bytes) at
       ∙ ap₂ (λ (qs : List Place) (held : List Held). (Unknown, record { places = qs; held = held; losing = losing; left = before ++ leave_event owned ∷ [] }))
-      (lost-places d [] s old new net now_net is out net_so declared are there) (sym (ap (λ (n : NetState). n.held) net_so))
+      (lost-places d [] s old new net now_net is out net_is declared are there) (sym (ap (λ (n : NetState). n.held) net_is))
 
   lost-shown : Tells → Conforming new → Continues Tells old new → ChangesLost Tells d old new net now_net → given ≡ Unknown → Ready old net → ExchangeShown old.given.declared d bytes old new net now_net given
   lost-shown told keeps later changes unknown ready =
@@ -238,9 +238,9 @@ module _ {Own : Type 0} (Tells : Type 0) (d : ℕ) (bytes : List ℕ) (old new :
       record {
         lost = true;
         left = leave_event (owned_switch (flags_at d net.views) s) ∷ [];
-        leaves = lost-leaves d [] s old new net now_net there.stands out changes.net_so (flags_at d net.views) number ready;
+        leaves = lost-leaves d [] s old new net now_net there.stands out changes.net_is (flags_at d net.views) number ready;
         played = λ losing before.
-            lost-played s there.stands declared (declared_before old new later.given keeps) out changes.net_so losing before
+            lost-played s there.stands declared (declared_before old new later.given keeps) out changes.net_is losing before
             ∙ ap (λ (a : Answer). (a, shown_play old.given.declared new now_net losing (before ++ leave_event (owned_switch (flags_at d net.views) s) ∷ []))) (sym unknown);
       }
 

@@ -3,6 +3,7 @@
 use Rattle.std.proofs.Common.{◌≡◌, ◌==◌, ℕ, Bool, true, false, List, [], ◌∷◌, ◌++◌, map, filter, fold, Option, Some, None, Ok, if◌then◌else◌, refl, sym, ap, ap₂, ◌∙◌, subst, inl, inr, true≢false}
 use Rattle.std.proofs.lemmas.Bool.{cases_Bool}
 use Rattle.std.specs.Option.{option_map}
+use Rattle.std.proofs.lemmas.Option.{none-some, same_Some}
 use Rattle.of_match.specs.declared.key.Key.{Key}
 use Rattle.flow_table.specs.declared.entry.Entry.{Entry}
 use Rattle.flow_table.specs.declared.view.ViewRow.{ViewRow}
@@ -23,7 +24,7 @@ use Rattle.outside.specs.laws.StateLaws.{Conforming-before}
 use Rattle.net_txn.specs.declared.ports.KnownPorts.{KnownPorts}
 use Rattle.net_txn.specs.Views.{rows_at, is_viewed}
 use Rattle.net_txn.specs.Net.{NetState}
-use Rattle.net_txn.specs.Agreement.{Agrees}
+use Rattle.net_txn.specs.ChangeSteps.{Agrees}
 use Rattle.net_txn.specs.Losing.{lose_all, is_among}
 use Rattle.net_txn.specs.Undos.{parts_of, is_stuck, lost_parts, keys_of, Undoes}
 use Rattle.net_txn.specs.laws.LostPartLaws.{free-among, lost-distinct}
@@ -33,6 +34,7 @@ use Rattle.switch_laws.specs.Since.{ports_known, Ready, logged_since, JoinedSinc
 use Rattle.switch_laws.specs.laws.ClockLaws.{switch-in_time}
 use Rattle.switch_laws.specs.laws.LossLaws.{lose_all-views, lose_all-rows, lose_all-rows_gone, lose_all-known, lose_all-known_gone, ports_lost, lose_all-left, ports_lost-same, known-owned, out_all, lost_events, out_all-stays, out_all-gone, Losable, events-lost, lose-shown, Stays, leavers-lost, ready-joined, joined-stays}
 use Rattle.switch_laws.specs.laws.StandLaws.{table-serialed, all-stand}
+use Rattle.switch_laws.specs.laws.PlaceLaws.{places-same}
 
 -- ---- A restored table, with the flags of the owners
 
@@ -55,10 +57,6 @@ undone-all : (f g : ℕ → Option SwitchState) (ds : List Declared) → undone_
 unfolding undone_places
 undone-all f g [] = refl
 undone-all f g (d ∷ ds) = ap (λ (ps : List Place). record { declared = d; switch = switch_undone (f d.dpid) (g d.dpid) } ∷ ps) (undone-all f g ds)
-
-pub places-same : (f g : ℕ → Option SwitchState) → ((d : ℕ) → f d ≡ g d) → (ds : List Declared) → places f ds ≡ places g ds
-places-same f g same [] = refl
-places-same f g same (d ∷ ds) = ap₂ (λ (s : Option SwitchState) (ps : List Place). record { declared = d; switch = s } ∷ ps) (same d.dpid) (places-same f g same ds)
 
 -- ---- Which switches are joined
 
@@ -87,18 +85,16 @@ viewed d views s x agrees is =
       | inl there ↦ there
       | inr not_there ↦
           let none : rows_at d views ≡ None = rows_of_none d views not_there in
-          absurd (no_value (rows_of_table x.table.entries) (sym (ap (option_map rows_of_view) none) ∙ agrees ∙ ap (option_map (λ y. rows_of_table y.table.entries)) is))
+          absurd (none-some (rows_of_table x.table.entries) (sym (ap (option_map rows_of_view) none) ∙ agrees ∙ ap (option_map (λ y. rows_of_table y.table.entries)) is))
     ]
-  where
-    no_value : (rows : Rows) → None ≡ Some rows → ⊥
-    no_value rows h = cc
+
+-- a switch whose rows would be none has no view
+pub no-rows : (rows : Option (List ViewRow)) → option_map rows_of_view rows ≡ None → rows ≡ None
+no-rows None h = refl
+no-rows (Some rows) h = absurd cc
 
 pub unviewed : (d : ℕ) (views : List TableView) (s : State) → Agrees d views s → switch_of d s ≡ None → is_viewed d views ≡ false
-unviewed d views s agrees out = unviewed-rows d views (no_map (rows_at d views) (agrees ∙ ap (option_map (λ y. rows_of_table y.table.entries)) out))
-  where
-    no_map : (o : Option (List ViewRow)) → option_map rows_of_view o ≡ None → o ≡ None
-    no_map None h = refl
-    no_map (Some rows) h = absurd cc
+unviewed d views s agrees out = unviewed-rows d views (no-rows (rows_at d views) (agrees ∙ ap (option_map (λ y. rows_of_table y.table.entries)) out))
 
 -- ---- Switches of which some are out
 
@@ -109,12 +105,6 @@ undone-out (Some s) = refl
 undone-there : (o : Option SwitchState) (x : SwitchState) → Stays (switch_undone o (Some x))
 undone-there None x = record { switch = x; stands = refl }
 undone-there (Some s) x = record { switch = record s { table = undone s.table x.table x.moment }; stands = refl }
-
-no_switch : (x : SwitchState) → None ≡ Some x → ⊥
-no_switch x h = cc
-
-one_switch : (a b : SwitchState) → Some a ≡ Some b → a ≡ b
-one_switch a b h = cc
 
 -- ---- The whole
 
@@ -151,7 +141,7 @@ module _ {Own : Type 0} (Tells : Type 0) (start : ℕ) (lost : List ℕ) (first 
 
   -- the views, too
   views-again : Since start lost first old net0 net → (u : Undoes Tells start old new net now_net (Ok tt)) → now_net.views ≡ (lose_all (lost_parts u.parts) (lose_all lost net0)).views
-  views-again since u = ap (λ (n : NetState). n.views) u.net_so ∙ lose_all-views (lost_parts u.parts) _ (lose_all lost net0) since.views
+  views-again since u = ap (λ (n : NetState). n.views) u.net_is ∙ lose_all-views (lost_parts u.parts) _ (lose_all lost net0) since.views
 
   flags-again : Since start lost first old net0 net → (u : Undoes Tells start old new net now_net (Ok tt)) → (d : ℕ) → is_among d lost ≡ false → is_among d (lost_parts u.parts) ≡ false → flags_at d now_net.views ≡ flags_at d net0.views
   flags-again since u d stays_there stays_here =
@@ -161,33 +151,33 @@ module _ {Own : Type 0} (Tells : Type 0) (start : ℕ) (lost : List ℕ) (first 
   -- a switch that is not lost in the undo
   shown-again : Tells → Conforming new → Since start lost first old net0 net → Ready old net → (u : Undoes Tells start old new net now_net (Ok tt)) → (d : ℕ) → is_among d (lost_parts u.parts) ≡ false
       → (o : Option SwitchState) → switch_of d (state first) ≡ o → (gone : Bool) → is_among d lost ≡ gone → given_back d ≡ shown_switch now_net.views (state new) d
-  shown-again told keeps since ready u d here None is gone lost_so =
+  shown-again told keeps since ready u d here None is gone lost_is =
       let out : switch_of d (state old) ≡ None = since.out d is in
       back-out d out ∙ sym (ap (option_map (owned_switch (flags_at d now_net.views))) (out-again told ready u d out))
-  shown-again told keeps since ready u d here (Some s0) is true lost_so =
-      let out : switch_of d (state old) ≡ None = since.lost_out d lost_so in
+  shown-again told keeps since ready u d here (Some s0) is true lost_is =
+      let out : switch_of d (state old) ≡ None = since.lost_out d lost_is in
       back-out d out ∙ sym (ap (option_map (owned_switch (flags_at d now_net.views))) (out-again told ready u d out))
-  shown-again told keeps since ready u d here (Some s0) is false lost_so =
-      let j = since.joined d s0 lost_so is in
+  shown-again told keeps since ready u d here (Some s0) is false lost_is =
+      let j = since.joined d s0 lost_is is in
       let stands = again told keeps ready u d s0 is (u.none_failed refl d ∙ here) j in
       back-there d s0 is j
-      ∙ sym (ap₂ (λ (h : Key → ℕ) (o : Option SwitchState). option_map (owned_switch h) o) (flags-again since u d lost_so here) stands)
+      ∙ sym (ap₂ (λ (h : Key → ℕ) (o : Option SwitchState). option_map (owned_switch h) o) (flags-again since u d lost_is here) stands)
 
   -- a switch given back is the one that was joined before the undo
   back-numbered : Conforming old → Since start lost first old net0 net → (d : ℕ) (s : SwitchState) → given_back d ≡ Some s → (o : Option SwitchState) → switch_of d (state first) ≡ o → (gone : Bool) → is_among d lost ≡ gone → s.declared.dpid ≡ d
-  back-numbered keeps since d s here None is gone lost_so = absurd (no_switch s (sym (back-out d (since.out d is)) ∙ here))
-  back-numbered keeps since d s here (Some s0) is true lost_so = absurd (no_switch s (sym (back-out d (since.lost_out d lost_so)) ∙ here))
-  back-numbered keeps since d s here (Some s0) is false lost_so =
-      let j = since.joined d s0 lost_so is in
-      ap (λ (x : SwitchState). x.declared.dpid) (sym (one_switch _ s (sym (back-there d s0 is j) ∙ here)))
+  back-numbered keeps since d s here None is gone lost_is = absurd (none-some s (sym (back-out d (since.out d is)) ∙ here))
+  back-numbered keeps since d s here (Some s0) is true lost_is = absurd (none-some s (sym (back-out d (since.lost_out d lost_is)) ∙ here))
+  back-numbered keeps since d s here (Some s0) is false lost_is =
+      let j = since.joined d s0 lost_is is in
+      ap (λ (x : SwitchState). x.declared.dpid) (sym (same_Some _ s (sym (back-there d s0 is j) ∙ here)))
       ∙ sym (ap (λ (x : SwitchState). x.declared.dpid) j.since.rest)
       ∙ (switch-in_time old keeps d j.switch j.stands).number
 
   back-known : Since start lost first old net0 net → (d : ℕ) → (o : Option SwitchState) → switch_of d (state first) ≡ o → (gone : Bool) → is_among d lost ≡ gone → ports_known d (switch_of d (state old)) ≡ ports_known d (given_back d)
-  back-known since d None is gone lost_so = let out = since.out d is in ap (ports_known d) out ∙ sym (ap (ports_known d) (back-out d out))
-  back-known since d (Some s0) is true lost_so = let out = since.lost_out d lost_so in ap (ports_known d) out ∙ sym (ap (ports_known d) (back-out d out))
-  back-known since d (Some s0) is false lost_so =
-      let j = since.joined d s0 lost_so is in
+  back-known since d None is gone lost_is = let out = since.out d is in ap (ports_known d) out ∙ sym (ap (ports_known d) (back-out d out))
+  back-known since d (Some s0) is true lost_is = let out = since.lost_out d lost_is in ap (ports_known d) out ∙ sym (ap (ports_known d) (back-out d out))
+  back-known since d (Some s0) is false lost_is =
+      let j = since.joined d s0 lost_is is in
       ap (ports_known d) j.stands ∙ ap (λ (x : SwitchState). ports_known d (Some x)) j.since.rest ∙ sym (ap (ports_known d) (back-there d s0 is j))
 
   back-losable : Conforming old → Since start lost first old net0 net → Ready old net → Losable old.given.declared given_back net.ports
@@ -230,17 +220,17 @@ module _ {Own : Type 0} (Tells : Type 0) (start : ℕ) (lost : List ℕ) (first 
       let ds : List ℕ = lost_parts u.parts in
       let before = Conforming-before told u.continues keeps in
       let can = back-losable before since ready in
-      let leavers_so = leavers-lost declared ds given_back net.ports can (lost-distinct old.counts new.counts u.parts (λ d. (u.each d).run)) (lost-there ready u) in
+      let leavers_is = leavers-lost declared ds given_back net.ports can (lost-distinct old.counts new.counts u.parts (λ d. (u.each d).run)) (lost-there ready u) in
       record {
         left = lost_events ds given_back;
         leaves = record {
           gone = ports_lost ds net;
-          left_so = ap (λ (n : NetState). n.left) u.net_so ∙ lose_all-left ds _ ∙ ap (λ (ks : List KnownPorts). net.left ++ ks) (ports_lost-same ds _ net refl);
-          events_so = events-lost declared ds given_back net can;
-          lost_so = u.losses told (ready-joined old net ready) ∙ ap (λ (es : List ℕ). lost_of old ++ es) (sym leavers_so);
+          left_is = ap (λ (n : NetState). n.left) u.net_is ∙ lose_all-left ds _ ∙ ap (λ (ks : List KnownPorts). net.left ++ ks) (ports_lost-same ds _ net refl);
+          events_is = events-lost declared ds given_back net can;
+          lost_is = u.losses told (ready-joined old net ready) ∙ ap (λ (es : List ℕ). lost_of old ++ es) (sym leavers_is);
         };
-        leavers_so = leavers_so;
-        undoing_so = ap (λ (ps : List Place). fold lose (ps, []) ds) (undone-all (shown_switch net0.views (state first)) (shown_switch net.views (state old)) declared)
+        leavers_is = leavers_is;
+        undoing_is = ap (λ (ps : List Place). fold lose (ps, []) ds) (undone-all (shown_switch net0.views (state first)) (shown_switch net.views (state old)) declared)
             ∙ lose-shown declared before.declared ds given_back net.ports [] can
             ∙ ap (λ (ps : List Place). (ps, lost_events ds given_back)) (places-same (out_all ds given_back) (shown_switch now_net.views (state new)) (shown-then told keeps since ready u) declared);
       }
@@ -258,7 +248,7 @@ module _ {Own : Type 0} (Tells : Type 0) (start : ℕ) (lost : List ℕ) (first 
           ∙ sym (ap (option_map (λ x. rows_of_table x.table.entries)) (u.lost_out d told (ready-joined old net ready) gone).0)
       | inr here ↦ (u.agrees d told keeps (u.none_failed refl d ∙ here) (ready.waits d) (ready.agrees d)).agrees
     ];
-    known = λ d. ap (λ (n : NetState). filter (λ k. k.dpid == d) n.ports) u.net_so ∙ elim (cases_Bool (is_among d (lost_parts u.parts))) [
+    known = λ d. ap (λ (n : NetState). filter (λ k. k.dpid == d) n.ports) u.net_is ∙ elim (cases_Bool (is_among d (lost_parts u.parts))) [
       | inl gone ↦
           lose_all-known_gone (lost_parts u.parts) d _ gone ∙ sym (ap (ports_known d) (u.lost_out d told (ready-joined old net ready) gone).0)
       | inr here ↦

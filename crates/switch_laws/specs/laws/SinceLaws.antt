@@ -1,10 +1,12 @@
 -- What follows about a transaction that is open: it stands so where it began, and each message that was answered keeps it so, whether or not
 -- its switch was lost.
 use Rattle.std.proofs.Common.{◌≡◌, ◌≢◌, ◌==◌, ℕ, ◌≤◌, Bool, true, false, not, ◌&&◌, ◌||◌, List, [], ◌∷◌, ◌++◌, length, drop, map, filter, Option, Some, None, Ok, refl, sym, ap, ap₂, ◌∙◌, subst, append_assoc, inl, inr, arith, true≢false}
-use Rattle.std.proofs.lemmas.Bool.{cases_Bool, cases_eq, eqb-true, eq-eqb, ne_eqb}
+use Rattle.std.proofs.lemmas.Bool.{cases_Bool, cases_eq, eqb-true, eq-eqb, ne_eqb, or_parts}
 use Rattle.std.proofs.lemmas.List.{drop-append-le, map-append, length-append, append-nil}
 use Rattle.std.specs.List.{list_any}
 use Rattle.std.specs.Option.{option_map}
+use Rattle.std.proofs.lemmas.Option.{same_Some}
+use Rattle.std.proofs.Math.Seq.{drop-length}
 use Rattle.of_types.specs.declared.errors.OfError.{OfError}
 use Rattle.of_match.specs.declared.key.Key.{Key}
 use Rattle.of_action.specs.declared.action.Action.{Action}
@@ -13,9 +15,9 @@ use Rattle.of_wire.specs.declared.message.Message.TheVariants.{FlowMod}
 use Rattle.flow_table.specs.declared.entry.Entry.{Entry}
 use Rattle.flow_table.specs.declared.view.ViewRow.{ViewRow}
 use Rattle.flow_table.specs.View.{TableView}
-use Rattle.flow_table.specs.Change.{key_in, is_modify, is_delete, describes, sends_to, deletes, adds, entries_after, changed}
+use Rattle.flow_table.specs.Change.{key_in, is_delete, describes, sends_to, deletes, adds, entries_after, changed}
 use Rattle.flow_table.specs.Switch.{SwitchState}
-use Rattle.flow_table.specs.Refusals.{or_else, message_refusal}
+use Rattle.flow_table.specs.Refusals.{message_refusal}
 use Rattle.flow_table.specs.Step.{after_taken, after_message}
 use Rattle.undo_laws.specs.Removal.{OnlyAdded}
 use Rattle.undo_laws.specs.laws.RemovalLaws.{OnlyAdded-nothing, OnlyAdded-more}
@@ -32,35 +34,33 @@ use Rattle.net_txn.specs.declared.logged.Logged.{Logged}
 use Rattle.net_txn.specs.Views.{rows_at, with_rows, with_row, row_in, rows_after}
 use Rattle.net_txn.specs.laws.LostPartLaws.{among-last}
 use Rattle.net_txn.specs.laws.ViewLaws.{with_rows-kept}
-use Rattle.net_txn.specs.laws.RowLaws.{sent, sent_adds, known_command}
+use Rattle.net_txn.specs.laws.RowLaws.{sent, sent_adds, known_command, filter_all, no_command, any_of_map}
 use Rattle.net_txn.specs.Net.{NetState, logged_at}
 use Rattle.net_txn.specs.declared.ports.KnownPorts.{KnownPorts}
 use Rattle.net_txn.specs.Answering.{known_rows}
 use Rattle.net_txn.specs.Changes.{answer_of_host, error_in, views_by, log_by, Asked, ChangesJoined, Changes}
-use Rattle.net_txn.specs.Agreement.{Agrees, InStep}
+use Rattle.net_txn.specs.ChangeSteps.{Agrees, InStep}
 use Rattle.net_txn.specs.Losing.{lost_net, lose_all, GoesOut, is_among}
 use Rattle.net_txn.specs.Undos.{key_logged, without_keys, keys_of}
+use Rattle.net_txn.specs.laws.TableBoundLaws.{second_none}
+use Rattle.net_txn.specs.laws.LostLaws.{losses_then}
 use Rattle.switch_laws.specs.Shown.{Passes, has_row, Known}
 use Rattle.switch_laws.specs.laws.ShownChangeLaws.{asks_the_same}
 use Rattle.switch_laws.specs.laws.AskedLaws.{asked}
 use Rattle.switch_laws.specs.laws.ViewLaws.{without-added}
-use Rattle.switch_laws.specs.laws.LossLaws.{without_keys-lost, lose_all-append, losses-on, ready-joined, joined-stays, lost-ready}
-use Rattle.switch_laws.specs.laws.AbsentLaws.{absent-entry, absent-row, any-map, neither}
+use Rattle.switch_laws.specs.laws.LossLaws.{without_keys-lost, lose_all-append, ready-joined, joined-stays, lost-ready}
+use Rattle.switch_laws.specs.laws.AbsentLaws.{absent-entry, absent-row}
 use Rattle.switch_laws.specs.laws.ShownExchangeLaws.{known, judged}
 use Rattle.switch_laws.specs.Since.{ports_known, Ready, logged_since, SwitchSince, JoinedSince, Since, Goes, GoesOn, keys_by}
 
 -- ---- Where it begins
-
-nothing_behind : {X : Type 0} (xs : List X) → drop (length xs) xs ≡ []
-nothing_behind [] = refl
-nothing_behind (x ∷ xs) = nothing_behind xs
 
 begun-switch : (s : SwitchState) → SwitchSince [] s s
 begun-switch s = record { rest = refl; added = OnlyAdded-nothing s.table.entries }
 
 pub begun : {Own : Type 0} (seen : Seen Own) (net : NetState) → Since (length net.log) [] seen seen net net
 begun seen net =
-    let none : logged_since (length net.log) net ≡ [] = ap (map key_logged) (nothing_behind net.log) in
+    let none : logged_since (length net.log) net ≡ [] = ap (map key_logged) (drop-length net.log) in
     record {
       started = omega arith;
       given = refl;
@@ -96,25 +96,11 @@ logged_more start log x le = ap (map key_logged) (drop-append-le start log (x �
 
 -- ---- A DELETE that touches no row
 
-filter_all : (p : Entry → Bool) (es : List Entry) → list_any p es ≡ false → filter (λ e. not (p e)) es ≡ es
-filter_all p [] none = refl
-filter_all p (e ∷ es) none = let n = neither (p e) (list_any p es) none in rw n.0 (ap (λ (fs : List Entry). e ∷ fs) (filter_all p es n.1))
-
-no_command : (m : Change) → is_delete m ≡ true → ((m.command == 0) ≡ false) × (is_modify m ≡ false)
-no_command m is =
-    elim (cases_Bool (m.command == 3)) [
-      | inl three ↦ let c : m.command ≡ 3 = eqb-true m.command 3 three in (rw c refl, rw c refl)
-      | inr not_three ↦ elim (cases_Bool (m.command == 4)) [
-        | inl four ↦ let c : m.command ≡ 4 = eqb-true m.command 4 four in (rw c refl, rw c refl)
-        | inr not_four ↦ absurd (true≢false (sym is ∙ (rw (not_three, not_four) refl)))
-      ]
-    ]
-
 deletes_none : (m : Change) (es : List Entry) → is_delete m ≡ true → would_touch m (rows_of_table es) ≡ false → list_any (deletes (sent m)) es ≡ false
 unfolding would_touch describes
 deletes_none m es is none =
     let c = no_command m is in
-    sym (any-map (λ (r : Key × List Action). describes m r.0 && sends_to m.out_port r.1) (λ e. (e.key, e.actions)) es) ∙ (rw (c.0, c.1) at none)
+    sym (any_of_map (λ (r : Key × List Action). describes m r.0 && sends_to m.out_port r.1) (λ e. (e.key, e.actions)) es) ∙ (rw (c.0, c.1) at none)
 
 delete_leaves : (now serial : ℕ) (m : Change) (es : List Entry) → is_delete m ≡ true → would_touch m (rows_of_table es) ≡ false → entries_after now serial (sent m) es ≡ es
 unfolding entries_after adds
@@ -123,10 +109,6 @@ delete_leaves now serial m es is none =
     rw (c.0, c.1) (filter_all (deletes (sent m)) es (deletes_none m es is none))
 
 -- ---- The table of a switch that took a change
-
-pub table_refusal : (a b : Option OfError) → or_else a b ≡ None → b ≡ None
-table_refusal None b h = h
-table_refusal (Some e) b h = absurd cc
 
 taken-entries : (m : Change) (s : SwitchState) → (changed s.moment (sent m) s.table).entries ≡ entries_after s.moment s.table.next (sent m) s.table.entries
 unfolding changed
@@ -141,7 +123,7 @@ taken-added m keys before s p none only =
           let same : (changed s.moment (sent m) s.table).entries ≡ s.table.entries = taken-entries m s ∙ delete_leaves s.moment s.table.next m s.table.entries deletes_it p.untouched in
           rw (deletes_it) (subst (λ (es : List Entry). OnlyAdded (keys ++ []) before es) (sym same) (subst (λ (ks : List Key). OnlyAdded ks before s.table.entries) (sym (append-nil keys)) only))
       | inr other ↦
-          let new = absent-entry s.declared.cap m s.table.entries p other (sym (refusal-asked s.declared.cap (sent m) m s.table.entries (asks_the_same m)) ∙ table_refusal _ _ none) in
+          let new = absent-entry s.declared.cap m s.table.entries p other (sym (refusal-asked s.declared.cap (sent m) m s.table.entries (asks_the_same m)) ∙ second_none _ _ none) in
           rw other (OnlyAdded-more s.moment keys (sent m) before s.table only (sent_adds m s.table.entries other (known_command m p.unrefused) p.untouched) new)
     ]
 
@@ -212,13 +194,10 @@ switch_then m keys before s (Some r) p refused since =
     subst (λ (ks : List Key). SwitchSince ks before (after_message (as_sent (FlowMod m)) s)) (sym (append-nil keys))
     (subst (SwitchSince keys before) (sym (stays m s r.error (sym refused))) since)
 
-one_value : {X : Type 0} (x y : X) → Some x ≡ Some y → x ≡ y
-one_value x y h = cc
-
 module _ {Own : Type 0} (Tells : Type 0) (d start : ℕ) (lost : List ℕ) (first old new : Seen Own) (net0 net now_net : NetState) (m : Change) (given : Answer) where
   rows-same : (k : Known d m net.views (state old)) → Agrees d net.views (state old) → rows_of_view k.rows ≡ rows_of_table k.switch.table.entries
   rows-same k agrees =
-      one_value (rows_of_view k.rows) (rows_of_table k.switch.table.entries)
+      same_Some (rows_of_view k.rows) (rows_of_table k.switch.table.entries)
       (sym (ap (option_map rows_of_view) k.rows_are) ∙ agrees ∙ ap (option_map (λ x. rows_of_table x.table.entries)) k.switch_is)
 
   -- the key is new where the change was taken
@@ -228,18 +207,18 @@ module _ {Own : Type 0} (Tells : Type 0) (d start : ℕ) (lost : List ℕ) (firs
   new-row k agrees refusal_of refused other taken =
       let none : message_refusal k.switch (as_sent (FlowMod m)) ≡ None = sym refused ∙ ap error_in taken in
       absent-row k.switch.declared.cap m k.switch.table.entries k.rows (rows-same k agrees) k.passes other
-      (sym (refusal-asked k.switch.declared.cap (sent m) m k.switch.table.entries (asks_the_same m)) ∙ table_refusal _ _ none)
+      (sym (refusal-asked k.switch.declared.cap (sent m) m k.switch.table.entries (asks_the_same m)) ∙ second_none _ _ none)
 
   joined-then : (k : Known d m net.views (state old)) → Since start lost first old net0 net → Asked Tells d m old new net now_net given → InStep d (as_sent (FlowMod m)) old new net now_net given → (refusal_of : Option Refusal)
       → now_net.log ≡ log_by refusal_of d m net.log → error_in refusal_of ≡ message_refusal k.switch (as_sent (FlowMod m)) → (e : ℕ) (s : SwitchState) → is_among e lost ≡ false → switch_of e (state first) ≡ Some s
       → JoinedSince (keys_of e (logged_since start now_net)) s (switch_of e (state new))
-  joined-then k since asks step refusal_of log_so refused e s stays_in is =
+  joined-then k since asks step refusal_of log_is refused e s stays_in is =
       elim (cases_eq e d) [
         | inl same ↦
             let j = since.joined d s (ap (λ (n : ℕ). is_among n lost) (sym same) ∙ stays_in) (ap (λ (n : ℕ). switch_of n (state first)) (sym same) ∙ is) in
-            let this : j.switch ≡ k.switch = one_value j.switch k.switch (sym j.stands ∙ k.switch_is) in
+            let this : j.switch ≡ k.switch = same_Some j.switch k.switch (sym j.stands ∙ k.switch_is) in
             let keys : keys_of d (logged_since start now_net) ≡ keys_of d (logged_since start net) ++ keys_then refusal_of m =
-            ap (λ (log : List Logged). keys_of d (map key_logged (drop start log))) log_so ∙ logged_here start d m net.log refusal_of since.started in
+            ap (λ (log : List Logged). keys_of d (map key_logged (drop start log))) log_is ∙ logged_here start d m net.log refusal_of since.started in
             let after = switch_then m (keys_of d (logged_since start net)) s k.switch refusal_of k.passes refused (subst (SwitchSince (keys_of d (logged_since start net)) s) this j.since) in
             subst (λ (n : ℕ). JoinedSince (keys_of n (logged_since start now_net)) s (switch_of n (state new))) (sym same)
             (record {
@@ -250,7 +229,7 @@ module _ {Own : Type 0} (Tells : Type 0) (d start : ℕ) (lost : List ℕ) (firs
         | inr other ↦
             let j = since.joined e s stays_in is in
             let keys : keys_of e (logged_since start now_net) ≡ keys_of e (logged_since start net) =
-            ap (λ (log : List Logged). keys_of e (map key_logged (drop start log))) log_so ∙ logged_elsewhere start d e m net.log refusal_of other since.started in
+            ap (λ (log : List Logged). keys_of e (map key_logged (drop start log))) log_is ∙ logged_elsewhere start d e m net.log refusal_of other since.started in
             record {
               switch = j.switch;
               stands = step.others e other ∙ j.stands;
@@ -271,15 +250,15 @@ module _ {Own : Type 0} (Tells : Type 0) (d start : ℕ) (lost : List ℕ) (firs
   -- A message that the switch judged keeps the transaction so.
   since-asked : (k : Known d m net.views (state old)) → Since start lost first old net0 net → Agrees d net.views (state old) → new.given ≡ old.given → now_net.moment ≡ net.moment → lost_of new ≡ lost_of old
       → Asked Tells d m old new net now_net given → InStep d (as_sent (FlowMod m)) old new net now_net given → Since start lost first new net0 now_net
-  since-asked k since agrees given_so moment_so lost_so asks step =
-      let refused = judged Tells d old new net now_net m given k asks step asks.refusal asks.views asks.answer_so in
+  since-asked k since agrees given_is moment_is lost_is asks step =
+      let refused = judged Tells d old new net now_net m given k asks step asks.refusal asks.views asks.answer_is in
       record {
         started = subst (λ (log : List Logged). start ≤ length log) (sym asks.log) (longer start d m net.log asks.refusal since.started);
-        given = given_so ∙ since.given;
-        moment = moment_so ∙ since.moment;
+        given = given_is ∙ since.given;
+        moment = moment_is ∙ since.moment;
         kept = step.kept ∙ since.kept;
         views = rw (asks.log, asks.views) (views_then start d m net.log asks.refusal k.rows net.views since.started k.rows_are (new-row k agrees asks.refusal refused)) ∙ since.views;
-        losses = lost_so ∙ since.losses;
+        losses = lost_is ∙ since.losses;
         joined = joined-then k since asks step asks.refusal asks.log refused;
         lost_out = λ e is. still-out step e (since.lost_out e is);
         out = λ e is. still-out step e (since.out e is);
@@ -326,16 +305,16 @@ goes-held start lost first now net0 net held goes =
 module _ {Own : Type 0} (Tells : Type 0) (d : ℕ) (bytes : List ℕ) (start : ℕ) (lost : List ℕ) (first old new : Seen Own) (net0 net now_net : NetState) (given : Answer) where
   goes-by : Tells → Conforming new → new.given ≡ old.given → now_net.moment ≡ net.moment → ChangesJoined Tells d bytes old new net now_net (Ok given) → Goes start lost first old net0 net
       → (o : Option Answer) → answer_of_host d bytes net ≡ o → Goes start lost first new net0 now_net
-  goes-by told keeps given_so moment_so changes goes (Some a) host =
+  goes-by told keeps given_is moment_is changes goes (Some a) host =
       let by = changes.by_host a host in
       subst (λ (n : NetState). Goes start lost first new net0 n) (sym by.stays) (goes-held start lost first new net0 net _ (subst (λ (w : Seen _). Goes start lost first w net0 net) (sym by.world) goes))
-  goes-by told keeps given_so moment_so changes goes None host =
+  goes-by told keeps given_is moment_is changes goes None host =
       let read = asked (known_rows d net.views) bytes host in
       let k = known d bytes read.change read.xid net (state old) (goes.ready.agrees d) host read.read in
       let asks = changes.by_switch read.xid read.change host read.read in
       let step = changes.in_step read.xid read.change told host read.read keeps (goes.ready.waits d) (goes.ready.agrees d) in
       record {
-        since = since-asked Tells d start lost first old new net0 net now_net read.change given k goes.since (goes.ready.agrees d) given_so moment_so (changes.losses told) asks step;
+        since = since-asked Tells d start lost first old new net0 net now_net read.change given k goes.since (goes.ready.agrees d) given_is moment_is (changes.losses told) asks step;
         ready = ready-asked d read.change old new net now_net given goes.ready changes.ports step;
       }
 
@@ -345,16 +324,16 @@ or_left : (a b : Bool) → (a || b) ≡ true → a ≡ false → b ≡ true
 or_left true b is none = absurd (true≢false none)
 or_left false b is none = is
 
-module _ {Own : Type 0} (d start : ℕ) (lost : List ℕ) (first old new : Seen Own) (net0 net now_net : NetState) (packets : List Held) (out : GoesOut d packets old new) (net_so : now_net ≡ record (lost_net d net) { xid = now_net.xid }) where
+module _ {Own : Type 0} (d start : ℕ) (lost : List ℕ) (first old new : Seen Own) (net0 net now_net : NetState) (packets : List Held) (out : GoesOut d packets old new) (net_is : now_net ≡ record (lost_net d net) { xid = now_net.xid }) where
   log-same : logged_since start now_net ≡ logged_since start net
-  log-same = ap (λ (n : NetState). logged_since start n) net_so
+  log-same = ap (λ (n : NetState). logged_since start n) net_is
 
   one-more : lose_all (lost ++ d ∷ []) net0 ≡ lost_net d (lose_all lost net0)
   one-more = lose_all-append lost (d ∷ []) net0
 
   joined-still : Since start lost first old net0 net → (e : ℕ) (s : SwitchState) → is_among e (lost ++ d ∷ []) ≡ false → switch_of e (state first) ≡ Some s → JoinedSince (keys_of e (logged_since start now_net)) s (switch_of e (state new))
   joined-still since e s among is =
-      let n = neither (is_among e lost) (d == e) (sym (among-last e d lost) ∙ among) in
+      let n = or_parts (is_among e lost) (d == e) (sym (among-last e d lost) ∙ among) in
       let j = since.joined e s n.0 is in
       record {
         switch = j.switch;
@@ -369,16 +348,16 @@ module _ {Own : Type 0} (d start : ℕ) (lost : List ℕ) (first old new : Seen 
   ]
 
   pub since-lost : Since start lost first old net0 net → new.given ≡ old.given → Since start (lost ++ d ∷ []) first new net0 now_net
-  since-lost since given_so = record {
-    started = subst (λ (log : List Logged). start ≤ length log) (sym (ap (λ (n : NetState). n.log) net_so)) since.started;
-    given = given_so ∙ since.given;
-    moment = ap (λ (n : NetState). n.moment) net_so ∙ since.moment;
-    kept = ap (λ (n : NetState). n.kept) net_so ∙ ap (λ (ms : List (ℕ × List ℕ)). filter (λ m. not (m.0 == d)) ms) since.kept ∙ sym (ap (λ (n : NetState). n.kept) one-more);
-    views = ap₂ (λ (ps : List (ℕ × Key)) (vs : List TableView). without_keys ps vs) log-same (ap (λ (n : NetState). n.views) net_so)
+  since-lost since given_is = record {
+    started = subst (λ (log : List Logged). start ≤ length log) (sym (ap (λ (n : NetState). n.log) net_is)) since.started;
+    given = given_is ∙ since.given;
+    moment = ap (λ (n : NetState). n.moment) net_is ∙ since.moment;
+    kept = ap (λ (n : NetState). n.kept) net_is ∙ ap (λ (ms : List (ℕ × List ℕ)). filter (λ m. not (m.0 == d)) ms) since.kept ∙ sym (ap (λ (n : NetState). n.kept) one-more);
+    views = ap₂ (λ (ps : List (ℕ × Key)) (vs : List TableView). without_keys ps vs) log-same (ap (λ (n : NetState). n.views) net_is)
         ∙ without_keys-lost d (logged_since start net) net.views
         ∙ ap (λ (vs : List TableView). filter (λ v. not (v.dpid == d)) vs) since.views
         ∙ sym (ap (λ (n : NetState). n.views) one-more);
-    losses = losses-on old new out.steps out.history ∙ ap₂ (λ (xs ys : List ℕ). xs ++ ys) since.losses out.lost ∙ append_assoc (lost_of first) lost (d ∷ []);
+    losses = losses_then old new out.steps out.history ∙ ap₂ (λ (xs ys : List ℕ). xs ++ ys) since.losses out.lost ∙ append_assoc (lost_of first) lost (d ∷ []);
     joined = joined-still since;
     lost_out = λ e among. gone-out e (λ other. since.lost_out e (elim (cases_Bool (is_among e lost)) [
       | inl before ↦ before
@@ -404,10 +383,10 @@ module _ {Own : Type 0} (Tells : Type 0) (d : ℕ) (bytes : List ℕ) (start : �
         let out = gone.2.is_lost.out told joined in
         record {
           more = d ∷ [];
-          losses = losses-on old new out.steps out.history ∙ ap (λ (ds : List ℕ). lost_of old ++ ds) out.lost;
+          losses = losses_then old new out.steps out.history ∙ ap (λ (ds : List ℕ). lost_of old ++ ds) out.lost;
           goes = record {
-            since = since-lost d start lost first old new net0 net now_net [] out gone.2.net_so goes.since changes.continues.given;
-            ready = lost-ready d [] there.switch old new net now_net there.stands out gone.2.net_so goes.ready;
+            since = since-lost d start lost first old new net0 net now_net [] out gone.2.net_is goes.since changes.continues.given;
+            ready = lost-ready d [] there.switch old new net now_net there.stands out gone.2.net_is goes.ready;
           };
         }
   ]

@@ -2,6 +2,7 @@
 -- messages, and the rows of their statistics are spelled and read again.
 use Rattle.std.proofs.Common.{◌≡◌, ◌≢◌, ◌==◌, ℕ, ◌+◌, ◌*◌, ◌/◌, ◌%◌, ◌^◌, ◌<◌, ◌≤◌, Bool, true, false, not, ◌&&◌, ◌||◌, nat_lt, List, [], ◌∷◌, map, filter, Option, Some, None, if◌then◌else◌, refl, sym, ◌∙◌, subst, inl, inr, arith, true≢false}
 use Rattle.std.proofs.lemmas.Bool.{cases_Bool, eq-eqb, eqb-true, ne_eqb, leb-true, ltb-false}
+use Rattle.std.proofs.lemmas.Option.{same_Some}
 use Rattle.of_types.specs.declared.errors.OfError.{OfError}
 use Rattle.of_types.specs.declared.journal.PortChange.{PortChange}
 use Rattle.of_types.specs.declared.journal.PortChange.TheVariants as changes
@@ -166,9 +167,6 @@ change-sound m s is all =
 
 -- ---- Stimuli
 
-one_entry : (a b : Entry) → Some a ≡ Some b → a ≡ b
-one_entry a b h = cc
-
 best-sound : (k : PacketKey) (es : List Entry) → AllSound es → (e : Entry) → best k es ≡ Some e → SoundEntry e
 unfolding best
 best-sound k [] all e is = absurd cc
@@ -179,11 +177,11 @@ best-sound k (f ∷ fs) all e is =
     ]
   where
     better-sound : (f : Entry) (o : Option Entry) (e : Entry) → SoundEntry f → ((g : Entry) → o ≡ Some g → SoundEntry g) → better f o ≡ Some e → SoundEntry e
-    better-sound f None e first rest is = subst SoundEntry (one_entry f e is) first
+    better-sound f None e first rest is = subst SoundEntry (same_Some f e is) first
     better-sound f (Some g) e first rest is =
         elim (cases_Bool (nat_lt (rank f) (rank g))) [
-          | inl less ↦ subst SoundEntry (one_entry g e (rw less at is)) (rest g refl)
-          | inr not_less ↦ subst SoundEntry (one_entry f e (rw not_less at is)) first
+          | inl less ↦ subst SoundEntry (same_Some g e (rw less at is)) (rest g refl)
+          | inr not_less ↦ subst SoundEntry (same_Some f e (rw not_less at is)) first
         ]
 
 below : (n : ℕ) → n % 2 ^ 64 < 2 ^ 64

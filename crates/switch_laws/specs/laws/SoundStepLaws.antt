@@ -3,6 +3,7 @@
 use Rattle.std.proofs.Common.{◌≡◌, ℕ, Bool, true, false, List, [], Option, Some, None, Ok, refl, sym, ap, ◌∙◌, subst, inl, inr}
 use Rattle.std.proofs.lemmas.Bool.{cases_eq}
 use Rattle.std.specs.Option.{option_map}
+use Rattle.std.proofs.lemmas.Option.{none-some, same_Some}
 use Rattle.of_wire.specs.declared.bodies.FlowMod.{FlowMod as Change}
 use Rattle.of_wire.specs.declared.message.Message.TheVariants.{FlowMod}
 use Rattle.of_wire.specs.Grammar.{IsMessage}
@@ -17,7 +18,7 @@ use Rattle.outside.specs.Conforming.{Conforming}
 use Rattle.net_txn.specs.Net.{NetState}
 use Rattle.net_txn.specs.Answering.{known_rows}
 use Rattle.net_txn.specs.Changes.{answer_of_host, ChangesJoined, Changes}
-use Rattle.net_txn.specs.Agreement.{InStep}
+use Rattle.net_txn.specs.ChangeSteps.{InStep}
 use Rattle.net_txn.specs.Losing.{GoesOut, is_among}
 use Rattle.net_txn.specs.Undos.{parts_of, is_stuck, Undoes}
 use Rattle.switch_laws.specs.laws.AskedLaws.{asked}
@@ -27,15 +28,9 @@ use Rattle.switch_laws.specs.laws.ShownUndoLaws.{again, out-again}
 use Rattle.switch_laws.specs.Sound.{AllSound, Sound}
 use Rattle.switch_laws.specs.laws.SoundLaws.{change-sound, undone-sound}
 
-one_switch : (a b : SwitchState) → Some a ≡ Some b → a ≡ b
-one_switch a b h = cc
-
-no_switch : (x : SwitchState) → None ≡ Some x → ⊥
-no_switch x h = cc
-
 moved-sound : (m : Change) (o : Option SwitchState) (x : SwitchState) → IsMessage (FlowMod m) → ((s : SwitchState) → o ≡ Some s → AllSound s.table.entries) → option_map (after_message (as_sent (FlowMod m))) o ≡ Some x → AllSound x.table.entries
 moved-sound m None x is all h = absurd cc
-moved-sound m (Some s) x is all h = subst (λ (y : SwitchState). AllSound y.table.entries) (one_switch _ x h) (change-sound m s is (all s refl))
+moved-sound m (Some s) x is all h = subst (λ (y : SwitchState). AllSound y.table.entries) (same_Some _ x h) (change-sound m s is (all s refl))
 
 step-sound : {Own : Type 0} (d : ℕ) (m : Change) (old new : Seen Own) (net now_net : NetState) (given : Answer) → IsMessage (FlowMod m) → InStep d (as_sent (FlowMod m)) old new net now_net given → Sound (state old) → Sound (state new)
 step-sound d m old new net now_net given is step all = record {
@@ -49,7 +44,7 @@ step-sound d m old new net now_net given is step all = record {
 pub lost-sound : {Own : Type 0} (d : ℕ) (packets : List Held) (old new : Seen Own) → GoesOut d packets old new → Sound (state old) → Sound (state new)
 lost-sound d packets old new out all = record {
   entries = λ e x here. elim (cases_eq e d) [
-    | inl same ↦ absurd (no_switch x (sym out.out ∙ ap (λ (n : ℕ). switch_of n (state new)) (sym same) ∙ here))
+    | inl same ↦ absurd (none-some x (sym out.out ∙ ap (λ (n : ℕ). switch_of n (state new)) (sym same) ∙ here))
     | inr other ↦ all.entries e x (sym (out.others e other) ∙ here)
   ];
 }
@@ -71,18 +66,18 @@ module _ {Own : Type 0} (Tells : Type 0) (d : ℕ) (bytes : List ℕ) (old new :
 module _ {Own : Type 0} (Tells : Type 0) (start : ℕ) (lost : List ℕ) (first old new : Seen Own) (net0 net now_net : NetState) where
   -- a switch that was out before the undo
   still-sound : Tells → Ready old net → Undoes Tells start old new net now_net (Ok tt) → (d : ℕ) → switch_of d (state old) ≡ None → (x : SwitchState) → switch_of d (state new) ≡ Some x → AllSound x.table.entries
-  still-sound told ready undoes d out x here = absurd (no_switch x (sym (out-again Tells start lost first old new net0 net now_net told ready undoes d out) ∙ here))
+  still-sound told ready undoes d out x here = absurd (none-some x (sym (out-again Tells start lost first old new net0 net now_net told ready undoes d out) ∙ here))
 
   undo-by-sound : Tells → Conforming new → Since start lost first old net0 net → Ready old net → (u : Undoes Tells start old new net now_net (Ok tt)) → Sound (state first)
       → (d : ℕ) (o : Option SwitchState) → switch_of d (state first) ≡ o → (gone left : Bool) → is_among d lost ≡ gone → is_stuck (parts_of d u.parts) ≡ left → (x : SwitchState) → switch_of d (state new) ≡ Some x → AllSound x.table.entries
-  undo-by-sound told keeps since ready u all d None is gone left lost_so left_so x here = still-sound told ready u d (since.out d is) x here
-  undo-by-sound told keeps since ready u all d (Some s) is true left lost_so left_so x here = still-sound told ready u d (since.lost_out d lost_so) x here
-  undo-by-sound told keeps since ready u all d (Some s) is false true lost_so left_so x here =
-      absurd (no_switch x (sym (u.lost_out d told (ready-joined old net ready) (sym (u.none_failed refl d) ∙ left_so)).0 ∙ here))
-  undo-by-sound told keeps since ready u all d (Some s) is false false lost_so left_so x here =
-      let j = since.joined d s lost_so is in
-      let stands = again Tells start lost first old new net0 net now_net told keeps ready u d s is left_so j in
-      subst (λ (y : SwitchState). AllSound y.table.entries) (one_switch _ x (sym stands ∙ here)) (undone-sound s.table j.switch.table j.switch.moment (all.entries d s is))
+  undo-by-sound told keeps since ready u all d None is gone left lost_is left_is x here = still-sound told ready u d (since.out d is) x here
+  undo-by-sound told keeps since ready u all d (Some s) is true left lost_is left_is x here = still-sound told ready u d (since.lost_out d lost_is) x here
+  undo-by-sound told keeps since ready u all d (Some s) is false true lost_is left_is x here =
+      absurd (none-some x (sym (u.lost_out d told (ready-joined old net ready) (sym (u.none_failed refl d) ∙ left_is)).0 ∙ here))
+  undo-by-sound told keeps since ready u all d (Some s) is false false lost_is left_is x here =
+      let j = since.joined d s lost_is is in
+      let stands = again Tells start lost first old new net0 net now_net told keeps ready u d s is left_is j in
+      subst (λ (y : SwitchState). AllSound y.table.entries) (same_Some _ x (sym stands ∙ here)) (undone-sound s.table j.switch.table j.switch.moment (all.entries d s is))
 
   pub undo-sound : Tells → Conforming new → Since start lost first old net0 net → Ready old net → Undoes Tells start old new net now_net (Ok tt) → Sound (state first) → Sound (state new)
   undo-sound told keeps since ready u all = record {

@@ -1,16 +1,12 @@
 -- In every history the switches that are joined are declared ones, and their tables stand in key order with serials that differ.
-use Rattle.std.proofs.Common.{◌≡◌, ◌==◌, ℕ, false, List, [], ◌∷◌, map, Option, Some, None, Result, Ok, Err, refl, ap, ap₂, ◌∙◌, subst, inl, inr, true≢false}
+use Rattle.std.proofs.Common.{◌≡◌, ◌==◌, ℕ, false, List, [], ◌∷◌, map, Option, Some, None, Result, Ok, Err, refl, ap, ◌∙◌, subst, inl, inr, true≢false}
 use Rattle.std.proofs.lemmas.Bool.{cases_Bool}
 use Rattle.std.specs.Option.{option_map}
 use Rattle.of_types.specs.declared.errors.OfError.{OfError}
-use Rattle.of_types.specs.declared.journal.Act.{Act}
-use Rattle.of_types.specs.declared.journal.Act.TheVariants.{Stim, Started, Gave, Gone, Took, Ended, Sent, Got, Lost}
 use Rattle.of_types.specs.declared.journal.PortChange.{PortChange}
 use Rattle.of_types.specs.declared.journal.PortChange.TheVariants as changes
 use Rattle.of_types.specs.declared.journal.Stimulus.{Stimulus}
 use Rattle.of_types.specs.declared.journal.Stimulus.TheVariants.{Frame, Advance, Port, Counts, Raw}
-use Rattle.of_types.specs.declared.journal.WorldStim.{WorldStim}
-use Rattle.of_types.specs.declared.journal.WorldStim.TheVariants.{Join, Leave, At, Of}
 use Rattle.of_wire.specs.declared.message.Message.{Message}
 use Rattle.of_wire.specs.declared.message.Message.TheVariants.{Hello, Error, EchoRequest, EchoReply, Vendor, FeaturesRequest, FeaturesReply, GetConfigRequest, GetConfigReply, SetConfig, PacketIn, FlowRemoved, PortStatus, PacketOut, FlowMod, PortMod, StatsRequest, StatsReply, BarrierRequest, BarrierReply, QueueGetConfigRequest, QueueGetConfigReply}
 use Rattle.of_wire.specs.declared.message.Envelope.{Envelope}
@@ -25,11 +21,11 @@ use Rattle.flow_table.specs.Step.{can_add, after_taken, after_message, after_por
 use Rattle.undo_laws.specs.Serials.{IsSerialed}
 use Rattle.undo_laws.specs.laws.SerialsLaws.{IsSerialed-empty, IsSerialed-changed, IsSerialed-expire, IsSerialed-hit, IsSerialed-with_counts}
 use Rattle.outside.specs.declared.step.WorldStep.{WorldStep}
-use Rattle.outside.specs.declared.step.WorldStep.TheVariants.{Acted, TookInto, From, Joined, Left, Moment, Idle, End, Opened, NotOpened, NextFailed, SendLost, RecvLost, SendFailed, RecvFailed}
 use Rattle.outside.specs.Seen.{Given, Seen, is_declared}
-use Rattle.outside.specs.State.{Link, State, link_at_first, at_first, link_of, switch_in, switch_of, with_link, switch_joined, link_joined, link_left, link_stimulated, switch_told, link_sent, link_got, link_told, link_lost, link_failed, links_after, after_stim, after_act, after_step, after_steps, state, declared_in}
+use Rattle.outside.specs.State.{Link, State, link_at_first, at_first, link_of, switch_in, switch_of, switch_joined, link_joined, link_left, link_stimulated, switch_told, link_sent, link_got, link_told, link_lost, link_failed, after_steps, state, declared_in}
+use Rattle.outside.specs.laws.LinkKeptLaws.{EachKeeps, steps-kept, steps-declared}
 use Rattle.switch_laws.specs.Shown.{Stand}
-use Rattle.switch_laws.specs.Standing.{Serialed, SerialedIn, Tables, Keeps, AreLinks}
+use Rattle.switch_laws.specs.Standing.{Serialed, SerialedIn, Tables, AreLinks}
 
 -- ---- One switch
 
@@ -122,21 +118,9 @@ stimulated : (x : Stimulus) (o : Option SwitchState) → SerialedIn o → Serial
 stimulated x None h = tt
 stimulated x (Some s) h = stimulus-serialed x s h
 
-keeps-stimulated : (x : Stimulus) → Keeps (link_stimulated x)
-unfolding link_stimulated
-keeps-stimulated x = record { declared = λ l. refl; table = λ l h. stimulated x l.switch h }
-
 joins : (moment : ℕ) (d : Declared) (o : Option SwitchState) → SerialedIn o → SerialedIn (switch_joined moment d o)
 joins moment d None h = IsSerialed-empty
 joins moment d (Some s) h = h
-
-keeps-joined : (moment : ℕ) → Keeps (link_joined moment)
-unfolding link_joined
-keeps-joined moment = record { declared = λ l. refl; table = λ l h. joins moment l.declared l.switch h }
-
-keeps-left : Keeps link_left
-unfolding link_left
-keeps-left = record { declared = λ l. refl; table = λ l h. tt }
 
 told : (r : Result Envelope WireFault) (o : Option SwitchState) → SerialedIn o → SerialedIn (switch_told r o)
 told (Ok e) None h = tt
@@ -144,105 +128,32 @@ told (Ok e) (Some s) h = message-serialed e.message s h
 told (Err fault) None h = tt
 told (Err fault) (Some s) h = h
 
-keeps-sent : (bytes : List ℕ) → Keeps (link_sent bytes)
-unfolding link_sent
-keeps-sent bytes = record { declared = λ l. refl; table = λ l h. told (reading_of bytes) l.switch h }
-
-keeps-got : Keeps link_got
-unfolding link_got
-keeps-got = record { declared = λ l. refl; table = λ l h. h }
-
-keeps-told : Keeps link_told
-unfolding link_told
-keeps-told = record { declared = λ l. refl; table = λ l h. h }
-
-keeps-lost : Keeps link_lost
-unfolding link_lost
-keeps-lost = record { declared = λ l. refl; table = λ l h. tt }
-
-keeps-failed : Keeps link_failed
-unfolding link_failed
-keeps-failed = record { declared = λ l. refl; table = λ l h. h }
+keeps-serials : EachKeeps (λ l. SerialedIn l.switch)
+unfolding link_stimulated link_joined link_left link_sent link_got link_told link_lost link_failed
+keeps-serials = record {
+  stimulated = λ x l h. stimulated x l.switch h;
+  joined = λ moment l h. joins moment l.declared l.switch h;
+  left = λ l h. tt;
+  sent = λ bytes l h. told (reading_of bytes) l.switch h;
+  got = λ l h. h;
+  told = λ l h. h;
+  lost = λ l h. tt;
+  failed = λ l h. h;
+}
 
 -- ---- All links
 
-with_link-declared : (d : ℕ) (change : Link → Link) → Keeps change → (ls : List Link) → declared_in (with_link d change ls) ≡ declared_in ls
-with_link-declared d change keeps [] = refl
-with_link-declared d change keeps (l ∷ ls) =
-    elim (cases_Bool (l.declared.dpid == d)) [
-      | inl here ↦ rw here (ap (λ (x : Declared). x ∷ declared_in ls) (keeps.declared l))
-      | inr other ↦ rw other (ap (λ (xs : List Declared). l.declared ∷ xs) (with_link-declared d change keeps ls))
-    ]
-
-with_link-tables : (d : ℕ) (change : Link → Link) → Keeps change → (ls : List Link) → Tables ls → Tables (with_link d change ls)
-with_link-tables d change keeps [] h = tt
-with_link-tables d change keeps (l ∷ ls) h =
-    elim (cases_Bool (l.declared.dpid == d)) [
-      | inl here ↦ rw here (keeps.table l h.0, h.1)
-      | inr other ↦ rw other (h.0, with_link-tables d change keeps ls h.1)
-    ]
-
-map-declared : (change : Link → Link) → Keeps change → (ls : List Link) → declared_in (map change ls) ≡ declared_in ls
-map-declared change keeps [] = refl
-map-declared change keeps (l ∷ ls) = ap₂ (λ (x : Declared) (xs : List Declared). x ∷ xs) (keeps.declared l) (map-declared change keeps ls)
-
-map-tables : (change : Link → Link) → Keeps change → (ls : List Link) → Tables ls → Tables (map change ls)
-map-tables change keeps [] h = tt
-map-tables change keeps (l ∷ ls) h = (keeps.table l h.0, map-tables change keeps ls h.1)
-
-one : (declared : List Declared) (d : ℕ) (change : Link → Link) → Keeps change → (ls : List Link) → AreLinks declared ls → AreLinks declared (with_link d change ls)
-one declared d change keeps ls are = record { declared_so = with_link-declared d change keeps ls ∙ are.declared_so; tables = with_link-tables d change keeps ls are.tables }
-
-all : (declared : List Declared) (change : Link → Link) → Keeps change → (ls : List Link) → AreLinks declared ls → AreLinks declared (map change ls)
-all declared change keeps ls are = record { declared_so = map-declared change keeps ls ∙ are.declared_so; tables = map-tables change keeps ls are.tables }
-
--- ---- Steps
-
-stim-links : (declared : List Declared) (x : WorldStim) (moment : ℕ) (ls : List Link) → AreLinks declared ls → AreLinks declared (links_after x moment ls)
-stim-links declared (Join d) moment ls are = one declared d (link_joined moment) (keeps-joined moment) ls are
-stim-links declared (Leave d) moment ls are = one declared d link_left keeps-left ls are
-stim-links declared (At t) moment ls are = all declared (link_stimulated (Advance t)) (keeps-stimulated (Advance t)) ls are
-stim-links declared (Of d x) moment ls are = one declared d (link_stimulated x) (keeps-stimulated x) ls are
-
-act-links : (declared : List Declared) (act : Act) (s : State) → AreLinks declared s.links → AreLinks declared (after_act act s).links
-unfolding after_act after_stim
-act-links declared (Stim x) s are = stim-links declared x s.moment s.links are
-act-links declared (Started app ok) s are = are
-act-links declared (Gave app bytes) s are = are
-act-links declared (Gone app bytes) s are = are
-act-links declared (Took app what) s are = are
-act-links declared (Ended app) s are = are
-act-links declared (Sent d bytes) s are = one declared d (link_sent bytes) (keeps-sent bytes) s.links are
-act-links declared (Got d bytes) s are = one declared d link_got keeps-got s.links are
-act-links declared (Lost d) s are = one declared d link_lost keeps-lost s.links are
-
-step-links : (declared : List Declared) (step : WorldStep) (s : State) → AreLinks declared s.links → AreLinks declared (after_step step s).links
-unfolding after_step
-step-links declared (Acted act) s are = act-links declared act s are
-step-links declared (TookInto app what room) s are = are
-step-links declared (From d bytes) s are = one declared d link_told keeps-told s.links are
-step-links declared (Joined d bytes) s are = are
-step-links declared (Left d) s are = are
-step-links declared (Moment t) s are = are
-step-links declared Idle s are = are
-step-links declared End s are = are
-step-links declared Opened s are = are
-step-links declared NotOpened s are = are
-step-links declared NextFailed s are = are
-step-links declared (SendLost d) s are = one declared d link_lost keeps-lost s.links are
-step-links declared (RecvLost d) s are = one declared d link_lost keeps-lost s.links are
-step-links declared (SendFailed d) s are = one declared d link_failed keeps-failed s.links are
-step-links declared (RecvFailed d) s are = one declared d link_failed keeps-failed s.links are
-
 steps-links : (declared : List Declared) (steps : List WorldStep) (s : State) → AreLinks declared s.links → AreLinks declared (after_steps steps s).links
-steps-links declared [] s are = are
-steps-links declared (step ∷ steps) s are = steps-links declared steps (after_step step s) (step-links declared step s are)
+steps-links declared steps s are = record {
+  declared_is = steps-declared steps s ∙ are.declared_is;
+  tables = steps-kept (λ l. SerialedIn l.switch) keeps-serials steps s are.tables;
+}
 
 first-links : {Own : Type 0} (given : Given Own) (ds : List Declared) → AreLinks ds (map (link_at_first given.fails) ds)
-first-links given [] = record { declared_so = refl; tables = tt }
+first-links given [] = record { declared_is = refl; tables = tt }
 first-links given (d ∷ ds) =
     let rest = first-links given ds in
-    record { declared_so = ap (λ (xs : List Declared). d ∷ xs) rest.declared_so; tables = (tt, rest.tables) }
+    record { declared_is = ap (λ (xs : List Declared). d ∷ xs) rest.declared_is; tables = (tt, rest.tables) }
 
 pub state-links : {Own : Type 0} (seen : Seen Own) → AreLinks seen.given.declared (state seen).links
 unfolding state at_first
@@ -274,6 +185,6 @@ table-serialed seen d x is = table_in d (state seen).links x (state-links seen).
 pub all-stand : {Own : Type 0} (seen : Seen Own) → Stand seen.given.declared (state seen)
 unfolding switch_of
 all-stand seen = record {
-  undeclared = λ d other. ap switch_in (none_declared d (state seen).links (ap (is_declared d) (state-links seen).declared_so ∙ other));
+  undeclared = λ d other. ap switch_in (none_declared d (state seen).links (ap (is_declared d) (state-links seen).declared_is ∙ other));
   table = λ d x is. (table-serialed seen d x is).table;
 }

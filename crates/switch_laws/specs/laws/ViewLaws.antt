@@ -1,6 +1,7 @@
 -- What follows about views from which the keys of a log are taken out again: where all of them were added since, the earlier views.
-use Rattle.std.proofs.Common.{◌≡◌, ◌≢◌, ◌==◌, ℕ, Bool, true, false, not, nat_lt, List, [], ◌∷◌, ◌++◌, filter, Some, refl, sym, ap, ◌∙◌, inl, inr}
-use Rattle.std.proofs.lemmas.Bool.{cases_Bool, eqb-true, eqb-false, eq-eqb, ne_eqb}
+use Rattle.std.proofs.Common.{◌≡◌, ◌≢◌, ◌==◌, ℕ, true, false, not, nat_lt, List, [], ◌∷◌, ◌++◌, Some, refl, sym, ap, ◌∙◌, inl, inr}
+use Rattle.std.proofs.lemmas.Bool.{cases_Bool, eqb-true, eqb-false, eq-eqb, ne_eqb, or_parts}
+use Rattle.std.proofs.lemmas.Option.{same_Some}
 use Rattle.of_match.specs.declared.key.Key.{Key}
 use Rattle.of_match.specs.Key.{key_number}
 use Rattle.flow_table.specs.declared.view.ViewRow.{ViewRow}
@@ -8,36 +9,22 @@ use Rattle.flow_table.specs.View.{TableView}
 use Rattle.net_txn.specs.Views.{rows_at, with_rows, with_row}
 use Rattle.net_txn.specs.Arriving.{without_key}
 use Rattle.net_txn.specs.Undos.{without_keys}
+use Rattle.net_txn.specs.laws.AgreeLaws.{swap}
 use Rattle.switch_laws.specs.Shown.{has_row}
-use Rattle.switch_laws.specs.laws.AbsentLaws.{neither}
 
 -- ---- Rows without a key
-
-swap : {X : Type 0} (p q : X → Bool) (xs : List X) → filter p (filter q xs) ≡ filter q (filter p xs)
-swap p q [] = refl
-swap p q (x ∷ xs) =
-    elim (cases_Bool (p x)) [
-      | inl first ↦ elim (cases_Bool (q x)) [
-        | inl second ↦ rw (first, second) (rw first (ap (λ ys. x ∷ ys) (swap p q xs)))
-        | inr not_second ↦ rw (first, not_second) (swap p q xs)
-      ]
-      | inr not_first ↦ elim (cases_Bool (q x)) [
-        | inl second ↦ rw (not_first, second) (rw not_first (swap p q xs))
-        | inr not_second ↦ rw (not_first, not_second) (swap p q xs)
-      ]
-    ]
 
 without_none : (k : Key) (rows : List ViewRow) → has_row k rows ≡ false → without_key k rows ≡ rows
 without_none k [] h = refl
 without_none k (r ∷ rs) h =
-    let n = neither (key_number r.key == key_number k) (has_row k rs) h in
+    let n = or_parts (key_number r.key == key_number k) (has_row k rs) h in
     rw n.0 (ap (λ (xs : List ViewRow). r ∷ xs) (without_none k rs n.1))
 
 -- a row that was added is taken out again
 without_added : (r : ViewRow) (rows : List ViewRow) → has_row r.key rows ≡ false → without_key r.key (with_row r rows) ≡ rows
 without_added r [] h = rw (eq-eqb (key_number r.key) (key_number r.key) refl) refl
 without_added r (s ∷ ss) h =
-    let n = neither (key_number s.key == key_number r.key) (has_row r.key ss) h in
+    let n = or_parts (key_number s.key == key_number r.key) (has_row r.key ss) h in
     let here : (key_number r.key == key_number r.key) ≡ true = eq-eqb (key_number r.key) (key_number r.key) refl in
     elim (cases_Bool (nat_lt (key_number r.key) (key_number s.key))) [
       | inl before ↦ rw before (rw (here, n.0) (ap (λ (xs : List ViewRow). s ∷ xs) (without_none r.key ss n.1)))
@@ -83,13 +70,10 @@ still d f rows [] is same = absurd cc
 still d f rows (v ∷ vs) is same =
     elim (cases_Bool (v.dpid == d)) [
       | inl here ↦
-          let these : v.rows ≡ rows = value_of v.rows rows (rw here at is) in
+          let these : v.rows ≡ rows = same_Some v.rows rows (rw here at is) in
           rw here (ap (λ (xs : List ViewRow). record v { rows = xs } ∷ vs) (ap f these ∙ same ∙ sym these))
       | inr other ↦ rw other (ap (λ (ws : List TableView). v ∷ ws) (still d f rows vs (rw other at is) same))
     ]
-  where
-    value_of : (a b : List ViewRow) → Some a ≡ Some b → a ≡ b
-    value_of a b h = cc
 
 abbrev remove : ℕ × Key → List TableView → List TableView
 remove p views = with_rows p.0 (without_key p.1) views

@@ -22,7 +22,7 @@ use Rattle.outside.specs.laws.StateLaws.{state-append, Conforming-before}
 use Rattle.outside.specs.Conforming.{Conforming}
 use Rattle.net_txn.specs.Net.{NetState}
 use Rattle.net_txn.specs.Answering.{known_rows}
-use Rattle.net_txn.specs.Agreement.{Agrees}
+use Rattle.net_txn.specs.ChangeSteps.{Agrees}
 use Rattle.app_visor.specs.declared.state.TurnEnd.{TurnEnd}
 use Rattle.app_visor.specs.Talks.{step_of, Told, give_act}
 use Rattle.app_visor.specs.Beats.{Exchange, IsExchange, Beat, Talk, Asks, Chain, exchanges_in}
@@ -37,7 +37,8 @@ use Rattle.switch_laws.specs.Since.{ports_known, Ready, Goes}
 use Rattle.switch_laws.specs.laws.LossLaws.{losses-still, leaves-none, leaves-then, leavers-append}
 use Rattle.switch_laws.specs.laws.SinceLaws.{begun, goes-on}
 use Rattle.turn_laws.specs.Chain.{play_at, Leads, PlayedAlike}
-use Rattle.switch_laws.specs.laws.ShownUndoLaws.{places-same}
+use Rattle.switch_laws.specs.laws.PlaceLaws.{places-same}
+use Rattle.switch_laws.specs.laws.LinkLaws.{links_switch, links_waits}
 
 -- ---- Calls for an application move no switch
 
@@ -72,26 +73,18 @@ pub links-then : {Own : Type 0} (Tells : Type 0) (app : ℕ) (act : Act) (old ne
 links-then Tells app act old new told is t =
     ap (λ (s : State). s.links) (state-append old new (step_of act ∷ []) t.continues.given (t.history told)) ∙ talk-links app act is (state old)
 
-switch-same : (d : ℕ) (s t : State) → t.links ≡ s.links → switch_of d t ≡ switch_of d s
-unfolding switch_of
-switch-same d s t same = ap (λ (ls : List Link). switch_in (link_of d ls)) same
-
-waits-same : (d : ℕ) (s t : State) → t.links ≡ s.links → waits_of d t ≡ waits_of d s
-unfolding waits_of
-waits-same d s t same = ap (λ (ls : List Link). waits_in (link_of d ls)) same
-
 -- the reference controller's switches stay where links do
 pub shown-same : (declared : List Declared) (views : List TableView) (s t : State) → t.links ≡ s.links → shown_places declared views t ≡ shown_places declared views s
 unfolding shown_places
 shown-same declared views s t same =
     places-same (shown_switch views t) (shown_switch views s)
-    (λ d. ap (λ (o : Option SwitchState). option_map_owned views d o) (switch-same d s t same)) declared
+    (λ d. ap (λ (o : Option SwitchState). option_map_owned views d o) (links_switch d s t same)) declared
   where
     option_map_owned : List TableView → ℕ → Option SwitchState → Option SwitchState
     option_map_owned vs d o = option_map (owned_switch (flags_at d vs)) o
 
 agrees-same : (d : ℕ) (views : List TableView) (s t : State) → t.links ≡ s.links → Agrees d views s → Agrees d views t
-agrees-same d views s t same agrees = subst (λ (o : Option SwitchState). known_rows d views ≡ option_map (λ x. rows_of_table x.table.entries) o) (sym (switch-same d s t same)) agrees
+agrees-same d views s t same agrees = subst (λ (o : Option SwitchState). known_rows d views ≡ option_map (λ x. rows_of_table x.table.entries) o) (sym (links_switch d s t same)) agrees
 
 -- all stays ready, and the transaction stands
 pub goes-same : {Own : Type 0} (start : ℕ) (lost : List ℕ) (first old new : Seen Own) (net0 net : NetState) → new.given ≡ old.given → (state new).links ≡ (state old).links → lost_of new ≡ lost_of old → Goes start lost first old net0 net
@@ -104,14 +97,14 @@ goes-same start lost first old new net0 net given same none_lost goes = record {
     kept = goes.since.kept;
     views = goes.since.views;
     losses = none_lost ∙ goes.since.losses;
-    joined = λ d s stays is. let j = goes.since.joined d s stays is in record { switch = j.switch; stands = switch-same d (state old) (state new) same ∙ j.stands; since = j.since };
-    lost_out = λ d is. switch-same d (state old) (state new) same ∙ goes.since.lost_out d is;
-    out = λ d is. switch-same d (state old) (state new) same ∙ goes.since.out d is;
+    joined = λ d s stays is. let j = goes.since.joined d s stays is in record { switch = j.switch; stands = links_switch d (state old) (state new) same ∙ j.stands; since = j.since };
+    lost_out = λ d is. links_switch d (state old) (state new) same ∙ goes.since.lost_out d is;
+    out = λ d is. links_switch d (state old) (state new) same ∙ goes.since.out d is;
   };
   ready = record {
-    waits = λ d. waits-same d (state old) (state new) same ∙ goes.ready.waits d;
+    waits = λ d. links_waits d (state old) (state new) same ∙ goes.ready.waits d;
     agrees = λ d. agrees-same d net.views (state old) (state new) same (goes.ready.agrees d);
-    known = λ d. goes.ready.known d ∙ sym (ap (ports_known d) (switch-same d (state old) (state new) same));
+    known = λ d. goes.ready.known d ∙ sym (ap (ports_known d) (links_switch d (state old) (state new) same));
   };
 }
 
@@ -130,7 +123,7 @@ leads-one : {Own : Type 0} (Tells : Type 0) (start : ℕ) (lost : List ℕ) (fir
 leads-one {Own} Tells start lost first net0 x told keeps is goes =
     let shown = exchange-shown Tells x.dpid x.bytes x.before x.after x.net x.now_net x.answer told keeps is.changes goes.ready in
     let on = goes-on Tells x.dpid x.bytes start lost first x.before x.after net0 x.net x.now_net x.answer told keeps is.changes goes in
-    let same : on.more ≡ leavers shown.left = append_cancel_left (lost_of x.before) on.more (leavers shown.left) (sym on.losses ∙ shown.leaves.lost_so) in
+    let same : on.more ≡ leavers shown.left = append_cancel_left (lost_of x.before) on.more (leavers shown.left) (sym on.losses ∙ shown.leaves.lost_is) in
     let declared : x.before.given.declared ≡ first.given.declared = ap (λ (g : Given _). g.declared) goes.since.given in
     record {
       flag = shown.lost;

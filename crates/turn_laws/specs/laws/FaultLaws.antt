@@ -127,7 +127,7 @@ module _ {Own : Type 0} (old mid new : Seen Own) where
 
 -- A whole turn whose packets were being released: nothing was done since, or the release was begun.
 pub moves-left : {Own : Type 0} (old mid new : Seen Own) (packets : List Held) → new.given ≡ mid.given → TurnDone old mid → MovesOrLoses packets mid new → ((new.history ≡ mid.history) × TurnKept old new) ⊎ TurnReleasing old new
-moves-left old mid new packets given done moves = moved-left old mid new packets moves.steps given done moves.history moves.released_so moves.moved
+moves-left old mid new packets given done moves = moved-left old mid new packets moves.steps given done moves.history moves.released_is moves.moved
 
 nothing-behind : {X : Type 0} (xs ys : List X) → xs ++ ys ≡ [] → ys ≡ []
 nothing-behind [] ys none = none

@@ -86,7 +86,7 @@ flooded-since old mid new longer f = record {
 pub commit-plain : {Own : Type 0} (Tells : Type 0) (accepts : List TableView → Bool) (app budget : ℕ) (rest frame : List ℕ) (old mid new : Seen Own) (net mid_net now_net : NetState) (end : TurnEnd) (unread : List ℕ) (queue now_queue : List Event) (fault : TxnFault) → Tells
     → Conforming new → Ready old net → Turns Tells accepts app budget rest frame old mid net mid_net end unread → Commits Tells (length net.log) mid new mid_net now_net queue now_queue (Err fault) → StopsFor old new fault
 commit-plain Tells accepts app budget rest frame old mid new net mid_net now_net end unread queue now_queue fault told keeps ready t commits = elim commits.ended [
-  | inl u ↦ inl (no_memory fault u.fault_so)
+  | inl u ↦ inl (no_memory fault u.fault_is)
   | inr stops ↦
       (let there = turn-ready Tells accepts app budget rest frame old mid net mid_net end unread told (Conforming-before told commits.continues keeps) ready t in
       let before = Chain-continues Tells app (Talk (give_act t.given app frame) ∷ t.trace) old mid net mid_net t.chain in

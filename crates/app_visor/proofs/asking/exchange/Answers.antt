@@ -1,11 +1,11 @@
 use Rattle.std.proofs.Common.{◌∙◌}
 use Rattle.std.proofs.lemmas.Result.{err_from_is_err_and}
 use Rattle.lego_model.specs.declared.fault.TxnFault.TheVariants.{NoMemory}
-use Rattle.app_visor.specs.laws.ResultLaws.{err_so}
+use Rattle.app_visor.specs.laws.ResultLaws.{err_is}
 use Rattle.app_visor.specs.laws.ReadLaws.{Wants-refl}
 use Rattle.app_visor.specs.Beats.{IsExchange, exchange_of}
 use Rattle.app_visor.specs.laws.BeatLaws.{stops_wanting}
-use Rattle.app_visor.specs.laws.PlayLaws.{stops_at_change, leads_asked, exchanges_so}
+use Rattle.app_visor.specs.laws.PlayLaws.{stops_at_change, leads_asked, exchanges_is}
 use Rattle.app_visor.specs.laws.AnswerLaws.{answer_fits}
 use Rattle.app_visor.specs.laws.LeadsOnLaws.{leads_on_wanting, leads_on_links, leads_on_then}
 use Rattle.app_visor.specs.laws.CalmLaws.{calm_then, calm_links, calm_wanting, calm_answered}
@@ -28,7 +28,7 @@ returns-in_err-frame-clause-err g c =
     let after = g.W.World.seen c.change.new.world in
     let is : IsExchange g.W.World.Tells (exchange_of c.args.dpid c.args.bytes.now c.in_ok-answer.answer old after c.args.txn.now.net.now c.change.new.self.net.now) =
     record { changes = c.in_ok-answer.ensures.changes } in
-    err_so _ c.from_residual-in_err-frame.result p.0 NoMemory p.1 p.2
+    err_is _ c.from_residual-in_err-frame.result p.0 NoMemory p.1 p.2
     (stops_wanting (leads_asked c.args.app c.args.dpid c.args.bytes.now c.in_ok-answer.answer old after c.args.txn.now.net.now c.change.new.self.net.now is) (Wants-refl after))
 
 pub returns-in_err-give-clause-err : goal.returns-in_err-give-clause-err
@@ -38,7 +38,7 @@ returns-in_err-give-clause-err g c =
     let after = g.W.World.seen c.change.new.world in
     let is : IsExchange g.W.World.Tells (exchange_of c.args.dpid c.args.bytes.now c.in_ok-answer.answer old after c.args.txn.now.net.now c.change.new.self.net.now) =
     record { changes = c.in_ok-answer.ensures.changes } in
-    err_so _ c.from_residual-in_err-give.result p.0 NoMemory p.1 p.2
+    err_is _ c.from_residual-in_err-give.result p.0 NoMemory p.1 p.2
     (stops_wanting (leads_asked c.args.app c.args.dpid c.args.bytes.now c.in_ok-answer.answer old after c.args.txn.now.net.now c.change.new.self.net.now is) c.in_err-give.ensures.err)
 
 pub returns-clause-ok : goal.returns-clause-ok
@@ -47,7 +47,7 @@ returns-clause-ok g c =
     let after = g.W.World.seen c.change.new.world in
     let is : IsExchange g.W.World.Tells (exchange_of c.args.dpid c.args.bytes.now c.in_ok-answer.answer old after c.args.txn.now.net.now c.change.new.self.net.now) =
     record { changes = c.in_ok-answer.ensures.changes } in
-    exchanges_so g.W.World.Tells c.args.app c.args.dpid c.args.bytes.now c.in_ok-give.field-0 c.in_ok-answer.answer c.as_slice.result.now old after (g.W.World.seen c.give.new.world) c.args.txn.now.net.now
+    exchanges_is g.W.World.Tells c.args.app c.args.dpid c.args.bytes.now c.in_ok-give.field-0 c.in_ok-answer.answer c.as_slice.result.now old after (g.W.World.seen c.give.new.world) c.args.txn.now.net.now
     c.change.new.self.net.now is (c.as_slice.ensures ∙ c.in_ok-frame.ensures) c.in_ok-give.ensures.ok
 
 pub returns-in_err-answer-clause-talks : goal.returns-in_err-answer-clause-talks

@@ -1,7 +1,7 @@
 use Rattle.std.proofs.Common.{◌≡◌, ◌+◌, ◌-◌, zero, suc, refl, ◌∙◌, arith}
 use Rattle.std.proofs.lemmas.Result.{err_from_is_err_and}
 use Rattle.lego_model.specs.declared.fault.TxnFault.TheVariants.{NoMemory}
-use Rattle.app_visor.specs.laws.ResultLaws.{err_so}
+use Rattle.app_visor.specs.laws.ResultLaws.{err_is}
 use Rattle.app_visor.specs.laws.BeatLaws.{Leads-refl, Leads-trans, stops_then, stops_breaking}
 use Rattle.app_visor.specs.laws.PlayLaws.{goes_none, goes_more, ends_then, spent_then}
 use Rattle.app_visor.specs.laws.LeadsOnLaws.{leads_on_breaking, leads_on_played}
@@ -20,7 +20,7 @@ loop-played-init g c = record {
 pub returns-in_err-end-clause-err : goal.returns-in_err-end-clause-err
 returns-in_err-end-clause-err g c =
     let p = err_from_is_err_and c.from_residual.result c.from_residual.ensures.1 in
-    err_so _ c.from_residual.result p.0 c.in_err-end.field-0.0 p.1 p.2 (stops_then c.loop-played.invariant.leads c.in_err-end.ensures.err)
+    err_is _ c.from_residual.result p.0 c.in_err-end.field-0.0 p.1 p.2 (stops_then c.loop-played.invariant.leads c.in_err-end.ensures.err)
 
 pub returns-in-Some-clause-ok : goal.returns-in-Some-clause-ok
 returns-in-Some-clause-ok g c =
@@ -41,7 +41,7 @@ loop-played-preserved g c =
 pub returns-in_err-next_frame-clause-err : goal.returns-in_err-next_frame-clause-err
 returns-in_err-next_frame-clause-err g c =
     let p = err_from_is_err_and c.from_residual-in_err-next_frame.result c.from_residual-in_err-next_frame.ensures.1 in
-    err_so _ c.from_residual-in_err-next_frame.result p.0 NoMemory p.1 p.2 (stops_then c.loop-played.invariant.leads (stops_breaking c.loop-played.txn.net.now c.in_err-next_frame.ensures.err))
+    err_is _ c.from_residual-in_err-next_frame.result p.0 NoMemory p.1 p.2 (stops_then c.loop-played.invariant.leads (stops_breaking c.loop-played.txn.net.now c.in_err-next_frame.ensures.err))
 
 pub returns-clause-ok : goal.returns-clause-ok
 returns-clause-ok g c =

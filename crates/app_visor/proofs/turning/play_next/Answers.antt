@@ -1,7 +1,7 @@
 use Rattle.std.proofs.Common.{refl}
 use Rattle.std.proofs.lemmas.Result.{err_from_is_err_and, IfOk-weaker, on_ok_weaker, on_err_weaker}
 use Rattle.lego_model.specs.declared.fault.TxnFault.TheVariants.{NoMemory}
-use Rattle.app_visor.specs.laws.ResultLaws.{err_so, err_then}
+use Rattle.app_visor.specs.laws.ResultLaws.{err_is, err_then}
 use Rattle.app_visor.specs.laws.BeatLaws.{Leads-trans, leads_comes, stops_then, stops_breaking}
 use Rattle.app_visor.specs.laws.PlayLaws.{plays_came, ends_over, not_frame}
 use Rattle.app_visor.specs.laws.LeadsOnLaws.{leads_on_breaking, leads_on_came}
@@ -11,7 +11,7 @@ use Rattle.app_visor.proofs.turning.play_next.Goals as goal
 pub returns-in_err-came-clause-err : goal.returns-in_err-came-clause-err
 returns-in_err-came-clause-err g c =
     let p = err_from_is_err_and c.from_residual.result c.from_residual.ensures.1 in
-    err_so _ c.from_residual.result p.0 NoMemory p.1 p.2 (stops_breaking c.args.txn.now.net.now c.in_err-came.ensures.err)
+    err_is _ c.from_residual.result p.0 NoMemory p.1 p.2 (stops_breaking c.args.txn.now.net.now c.in_err-came.ensures.err)
 
 pub returns-in-Frame-clause-leads : goal.returns-in-Frame-clause-leads
 returns-in-Frame-clause-leads g c =

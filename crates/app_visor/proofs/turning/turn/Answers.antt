@@ -3,7 +3,7 @@ use Rattle.std.proofs.lemmas.Result.{err_from_is_err_and}
 use Rattle.lego_model.specs.Controller.{event_frame}
 use Rattle.outside.specs.laws.SeenLaws.{Continues-refl, Continues-trans}
 use Rattle.lego_model.specs.declared.fault.TxnFault.TheVariants.{NoMemory}
-use Rattle.app_visor.specs.laws.ResultLaws.{err_so}
+use Rattle.app_visor.specs.laws.ResultLaws.{err_is}
 use Rattle.app_visor.specs.laws.ReadLaws.{Wants-refl}
 use Rattle.app_visor.specs.laws.BeatLaws.{Leads-refl, Leads-trans, Leads-continues, stops_wanting, stops_then, Stops-continues, Leads-stays, Stops-stays}
 use Rattle.app_visor.specs.laws.PlayLaws.{turns_gone, turns_given, leads_turn, leads_told}
@@ -16,18 +16,18 @@ pub returns-in_err-frame-clause-err : goal.returns-in_err-frame-clause-err
 returns-in_err-frame-clause-err g c =
     let p = err_from_is_err_and c.from_residual.result c.from_residual.ensures.1 in
     let seen = g.W.World.seen c.args.world.now in
-    err_so _ c.from_residual.result p.0 NoMemory p.1 p.2 (stops_wanting (Leads-refl c.args.app.now.index seen c.args.txn.now.net.now) (Wants-refl seen))
+    err_is _ c.from_residual.result p.0 NoMemory p.1 p.2 (stops_wanting (Leads-refl c.args.app.now.index seen c.args.txn.now.net.now) (Wants-refl seen))
 
 pub returns-in_err-intake-clause-err : goal.returns-in_err-intake-clause-err
 returns-in_err-intake-clause-err g c =
     let p = err_from_is_err_and c.from_residual-in_err-intake.result c.from_residual-in_err-intake.ensures.1 in
     let seen = g.W.World.seen c.args.world.now in
-    err_so _ c.from_residual-in_err-intake.result p.0 NoMemory p.1 p.2 (stops_wanting (Leads-refl c.args.app.now.index seen c.args.txn.now.net.now) (Wants-refl seen))
+    err_is _ c.from_residual-in_err-intake.result p.0 NoMemory p.1 p.2 (stops_wanting (Leads-refl c.args.app.now.index seen c.args.txn.now.net.now) (Wants-refl seen))
 
 pub returns-in_err-give-clause-err : goal.returns-in_err-give-clause-err
 returns-in_err-give-clause-err g c =
     let p = err_from_is_err_and c.from_residual-in_err-give.result c.from_residual-in_err-give.ensures.1 in
-    err_so _ c.from_residual-in_err-give.result p.0 NoMemory p.1 p.2
+    err_is _ c.from_residual-in_err-give.result p.0 NoMemory p.1 p.2
     (stops_wanting (Leads-refl c.args.app.now.index (g.W.World.seen c.args.world.now) c.args.txn.now.net.now) c.in_err-give.ensures.err)
 
 pub returns-then-not-branch-clause-ok : goal.returns-then-not-branch-clause-ok
@@ -39,7 +39,7 @@ returns-then-not-branch-clause-ok g c =
 pub returns-in_err-end-clause-err : goal.returns-in_err-end-clause-err
 returns-in_err-end-clause-err g c =
     let p = err_from_is_err_and c.from_residual-in_err-end.result c.from_residual-in_err-end.ensures.1 in
-    err_so _ c.from_residual-in_err-end.result p.0 c.in_err-end.field-0.0 p.1 p.2 (stops_then (leads_told c.args.txn.now.net.now (rw c.if-not-branch.false at c.in_ok-give.ensures.ok)) c.in_err-end.ensures.err)
+    err_is _ c.from_residual-in_err-end.result p.0 c.in_err-end.field-0.0 p.1 p.2 (stops_then (leads_told c.args.txn.now.net.now (rw c.if-not-branch.false at c.in_ok-give.ensures.ok)) c.in_err-end.ensures.err)
 
 pub returns-in_err-end-clause-continues : goal.returns-in_err-end-clause-continues
 returns-in_err-end-clause-continues g c =
@@ -48,13 +48,13 @@ returns-in_err-end-clause-continues g c =
 pub returns-in_err-rest-clause-err : goal.returns-in_err-rest-clause-err
 returns-in_err-rest-clause-err g c =
     let p = err_from_is_err_and c.from_residual-in_err-rest.result c.from_residual-in_err-rest.ensures.1 in
-    err_so _ c.from_residual-in_err-rest.result p.0 NoMemory p.1 p.2
+    err_is _ c.from_residual-in_err-rest.result p.0 NoMemory p.1 p.2
     (stops_wanting (Leads-trans (leads_told c.args.txn.now.net.now (rw c.if-not-branch.false at c.in_ok-give.ensures.ok)) (leads_turn c.in_ok-end.ensures.ok)) (Wants-refl (g.W.World.seen c.play_all.new.world)))
 
 pub returns-in_err-end-2-clause-err : goal.returns-in_err-end-2-clause-err
 returns-in_err-end-2-clause-err g c =
     let p = err_from_is_err_and c.from_residual-in_err-end-2.result c.from_residual-in_err-end-2.ensures.1 in
-    err_so _ c.from_residual-in_err-end-2.result p.0 NoMemory p.1 p.2
+    err_is _ c.from_residual-in_err-end-2.result p.0 NoMemory p.1 p.2
     (stops_wanting (Leads-trans (leads_told c.args.txn.now.net.now (rw c.if-not-branch.false at c.in_ok-give.ensures.ok)) (leads_turn c.in_ok-end.ensures.ok)) (Wants-refl (g.W.World.seen c.play_all.new.world)))
 
 pub returns-in_err-rest-clause-continues : goal.returns-in_err-rest-clause-continues

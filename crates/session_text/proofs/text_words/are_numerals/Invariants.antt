@@ -1,6 +1,6 @@
 use Rattle.std.proofs.Common.{◌≡◌, map, drop}
 use Rattle.std.specs.List.{list_all}
-use Rattle.lego_model.specs.Words.{is_numeral}
+use Rattle.of_types.specs.Numerals.{is_numeral}
 use Rattle.session_text.proofs.text_words.are_numerals.Given as goal
 
 abbrev pub invariant-loop-word : goal.invariant-loop-word
