@@ -54,7 +54,7 @@ pub record NextTaken {Own : Type 0} (Tells : Type 0) (rest : Option Rest) (old n
   pub text : List ℕ
   pub takes : TakesNext Tells item text old new run.net now_run.net run.queue now_run.queue
   pub lines : now_run.lines.items ≡ run.lines.items ++ text
-  pub rest_so : rest ≡ rest_by item
+  pub rest_is : rest ≡ rest_by item
 
 -- ---- The messages that were kept
 
@@ -64,7 +64,7 @@ as_told messages = map (λ m. From m.0 m.1) messages
 
 -- In every world: these were taken, oldest first, and the others are kept still. None of them is an ECHO_REQUEST, so that no switch is lost.
 pub record TakesFirst (taken : List (ℕ × List ℕ)) (run now_run : Run) : Type 0 where
-  pub kept_so : run.net.kept ≡ taken ++ now_run.net.kept
+  pub kept_is : run.net.kept ≡ taken ++ now_run.net.kept
   pub knowledge : knowledge_of now_run.net now_run.queue ≡ handled_all (as_told taken) (knowledge_of run.net run.queue)
 
 -- where there is none, nothing is done
@@ -75,7 +75,7 @@ IsAsBefore old new run now_run = (new ≡ old) × (now_run.net ≡ run.net) × (
 -- after so many of them
 pub record KeptSoFar {Own : Type 0} (n : ℕ) (old new : Seen Own) (run now_run : Run) : Type 0 where
   pub taken : List (ℕ × List ℕ)
-  pub number_so : length taken ≡ n
+  pub number_is : length taken ≡ n
   pub first : TakesFirst taken run now_run
   pub none : run.net.kept ≡ [] → (n ≡ 0) × IsAsBefore old new run now_run
 
@@ -92,7 +92,7 @@ pub record KeptComesFirst (run now_run : Run) : Type 0 where
   pub taken : List (ℕ × List ℕ)
   pub others : List (ℕ × List ℕ)
   pub told : List WorldStep
-  pub kept_so : run.net.kept ≡ taken ++ others
+  pub kept_is : run.net.kept ≡ taken ++ others
   pub all : (others ≡ []) ⊎ (1000000 ≤ length taken)
   pub handled : HandledTo told (handled_all (as_told taken) (knowledge_of run.net run.queue)) (knowledge_of now_run.net now_run.queue)
 

@@ -144,7 +144,7 @@ CutStart Tells other contents now_contents old new e = ⊥
 -- what is said at the end, where these switches are lost
 pub record EndSaid {Own : Type 0} (more : List ℕ) (last new : Seen Own) (e : Engine) : Type 0 where
   pub lost : List ℕ
-  pub text_so : more ≡ last_text lost last e
+  pub text_is : more ≡ last_text lost last e
   pub leaves : Leaves lost last new
 
 -- the sink took a part of the lines of the end, for which switches were asked
@@ -162,7 +162,7 @@ CutEnd Tells other contents now_contents last new e = (now_contents ≡ contents
 -- of a report to which no event is left
 pub record CutFinish {Own : Type 0} (Tells : Type 0) (end : Served) (contents now_contents : Option (List ℕ)) (last new : Seen Own) (e : Engine) : Type 0 where
   pub fault : Fault
-  pub end_so : end ≡ served_by fault
+  pub end_is : end ≡ served_by fault
   pub none_left : e.queue ≡ []
   pub ends : CutEnd Tells fault contents now_contents last new e
 
@@ -220,7 +220,7 @@ CutGoes Tells accepts most fault contents now_contents old new e = CutStart Tell
 -- what ended the run, and all that came behind it, as the end of the application
 pub record CutRun {Own : Type 0} (Tells : Type 0) (accepts : List TableView → Bool) (most : ℕ) (end : Served) (contents now_contents : Option (List ℕ)) (old new : Seen Own) (e : Engine) : Type 0 where
   pub fault : Fault
-  pub end_so : end ≡ served_by fault
+  pub end_is : end ≡ served_by fault
   pub stop : Seen Own
   pub before : Continues Tells old stop
   pub later : Continues Tells stop new

@@ -28,7 +28,7 @@ pub record FindsFlags (from : ℕ) (key : Key) (rows : List ViewRow) (found : �
 
 -- the first rows are told so far
 pub record FlowsSoFar (rows : List FlowRow) (vs : List ViewRow) (place from : ℕ) (r now_r : Run) : Type 0 where
-  pub from_so : from ≡ place
+  pub from_is : from ≡ place
   pub adds : Adds (flow_lines (take place rows) vs) r now_r
 
 pub record FlowsSaid (d : ℕ) (rows : List FlowRow) (r now_r : Run) : Type 0 where

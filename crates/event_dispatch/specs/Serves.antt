@@ -189,7 +189,7 @@ Finishes Tells (Err other) contents now_contents last new r now_r = Unit {0}
 pub record RunsOut {Own : Type 0} (Tells : Type 0) (accepts : List TableView → Bool) (most events : ℕ) (contents now_contents : Option (List ℕ)) (old new : Seen Own) (e : Engine) : Type 0 where
   pub last : Engine
   pub out : RanOut Tells accepts most contents now_contents old new e last
-  pub events_so : events ≡ last.events
+  pub events_is : events ≡ last.events
   pub none_to_come : NoneToCome Tells accepts most old new e
 
 -- so many were left

@@ -24,7 +24,7 @@ ghost use Rattle.event_dispatch.specs.Cut.{FailsIn, CutOne, CutSome};
 
 use crate::closing::Closing;
 use crate::fault::Fault;
-use crate::limits::{BUDGET, MOST_BODY, MOST_EVENTS};
+use crate::limits::{MOST_BODY, MOST_EVENTS};
 use crate::run::{NAME, Run};
 use app_frames::Event;
 use app_visor::{AppState, Back, TurnEnd, restart, turn};
@@ -32,12 +32,15 @@ use checkpoint_store::Store;
 use lego_io::Sink;
 use net_txn::{EventQueue, Net, Txn};
 use of_types::Dpid;
+use of_types::limits::BUDGET;
 use outside::{Judge, World};
 use report_text::{TurnWord, event_line, gone_line, out_line, start_line, turn_line};
 use std::alloc::{AllocError, Global};
 
-/// What a turn is held for: an event, which one of the run it is, and who judges the tables that the turn leaves.
+/// What a turn is held for: an event, which one of the run it is, who judges the tables that the turn leaves, and where its
+/// memory comes from.
 struct Occasion<'a, J> {
+    alloc: Global,
     number: u64,
     event: &'a Event,
     judge: &'a J,
@@ -47,7 +50,6 @@ struct Occasion<'a, J> {
 /// changes are undone. The checkpoint that it hands over is staged, and no more.
 #[tactic(auto, using(crate::specs::laws::WhyLaws::continues_then, crate::specs::laws::WhyLaws::why_then, crate::specs::laws::WhyLaws::why_before, crate::specs::laws::FaultLaws::undo_why, crate::specs::laws::FaultLaws::stops_why))]
 fn play_turn<W: World, J: Judge>(
-    alloc: Global,
     world: &mut W,
     net: &mut Net,
     queue: &mut EventQueue,
@@ -76,6 +78,7 @@ fn play_turn<W: World, J: Judge>(
     ensures left { IfErr result (λ fault. TurnLeft W.Tells (IsShort fault) app.old.rest (W.seen world.old) (W.seen world.new) net.old) }
 {
     let Occasion {
+        alloc,
         number,
         event,
         judge,
@@ -113,7 +116,6 @@ fn close_store(store: &mut Store, app: u32, closing: &Result<Closing, Fault>)
 /// Holds a turn of the application: where it was done, what it did is kept, with the checkpoint that it handed over, and its
 /// packets are released; where it failed, what it did is undone.
 fn hold_turn<W: World, J: Judge>(
-    alloc: Global,
     world: &mut W,
     net: &mut Net,
     queue: &mut EventQueue,
@@ -144,7 +146,7 @@ fn hold_turn<W: World, J: Judge>(
     ensures left { IfErr result (λ fault. TurnLeft W.Tells (IsShort fault) app.old.rest (W.seen world.old) (W.seen world.new) net.old) }
 {
     let index = app.index;
-    let closing = play_turn(alloc, world, net, queue, store, app, occasion);
+    let closing = play_turn(world, net, queue, store, app, occasion);
     close_store(store, index, &closing);
     closing
 }
@@ -286,13 +288,13 @@ impl Run {
         ensures left { IfErr result (λ fault. TurnLeft W.Tells (IsShort fault) self.old.app.state.rest (W.seen world.old) (W.seen world.new) self.old.net) }
     {
         let closing = hold_turn(
-            self.alloc,
             world,
             &mut self.net,
             &mut self.queue,
             &mut self.store,
             &mut self.app.state,
             Occasion {
+                alloc: self.alloc,
                 number: self.events,
                 event,
                 judge,

@@ -19,6 +19,6 @@ mod run;
 mod served;
 mod whole;
 
-pub use limits::{BUDGET, MOST_BODY, MOST_EVENTS, MOST_ITEMS, MOST_MESSAGE, MOST_ROUNDS};
+pub use limits::{MOST_BODY, MOST_EVENTS, MOST_ITEMS};
 pub use served::Served;
 pub use whole::serve;

@@ -24,10 +24,10 @@ ghost use Rattle.event_dispatch.specs.Serves.{Writes, GoesRound, GoesToEnd, Begi
 
 use crate::batch::Rest;
 use crate::fault::Fault;
-use crate::limits::MOST_MESSAGE;
 use crate::run::{INDEX, Run};
 use crate::served::Served;
 use lego_io::{Sink, WriteFault};
+use of_types::limits::MOST_MESSAGE_BYTES;
 use outside::{Judge, OpenFault, World};
 use std::alloc::Global;
 
@@ -280,7 +280,7 @@ fn run<W: World, J: Judge, K: Sink>(
     ensures plain { IfErr result (PlainWhole W.Tells (J.accepts judge.now) rounds (W.seen world.old) (W.seen world.new) engine_at_first) }
 {
     let mut run = Run::new(alloc, command)?;
-    let mut buf = vec![in alloc; 0; MOST_MESSAGE]?;
+    let mut buf = vec![in alloc; 0; MOST_MESSAGE_BYTES]?;
     run_then_end(&mut run, world, judge, sink, &mut buf, rounds)?;
     Ok(run.events)
 }

@@ -2,10 +2,11 @@
 
 use crate::steady::steady;
 use crate::trouble::Trouble;
-use event_dispatch::{MOST_ROUNDS, Served, serve};
+use event_dispatch::{Served, serve};
 use lego_io::MemSink;
 use live_stage::{Bounded, Bounds, Player, SteadyClock, free_port, own_words};
 use live_world::LiveWorld;
+use of_types::limits::MOST_ROUNDS;
 use outside::AllowAll;
 use std::net::Net;
 use std::process::{Processes, SystemProcess};

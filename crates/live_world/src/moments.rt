@@ -3,8 +3,7 @@
 ghost use Rattle.std.specs.Prelude.{◌≡◌};
 ghost use Rattle.live_world.specs.Moments.{moment_at, changed};
 
-/// The last moment.
-const LAST_MOMENT: u64 = 4_294_967_295;
+use flow_timeouts::LAST_MOMENT;
 
 /// The moments of a world. They never go back.
 #[derive(Clone, Copy, Debug, PartialEq, Eq)]

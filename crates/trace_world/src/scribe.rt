@@ -1,6 +1,8 @@
 //! The lines of what happened.
 
-use app_frames::{AppFrame, AppFrameError, FrameFault, HostFrame, decode_app, decode_host};
+use app_frames::{
+    AppFrame, AppFrameError, FrameFault, HostFrame, MOST_CHECKPOINT_BYTES, decode_app, decode_host,
+};
 use bytes::BytesMut;
 use lego_io::{Sink, write_all};
 use of_types::Dpid;
@@ -11,7 +13,7 @@ use trace_words::{AppWords, HostWords, MessageWords};
 
 /// How many bytes are kept of an application whose frame is yet to come: the longest frame and a piece of 65,536 bytes
 /// fit. Our own choice.
-const MOST_UNREAD: usize = 18 * 65_536;
+const MOST_UNREAD: usize = MOST_CHECKPOINT_BYTES + 2 * 65_536;
 
 /// Writes a line for each act to a sink. A line that memory is short for, or that the sink does not take, is left out.
 #[derive(Drop)]

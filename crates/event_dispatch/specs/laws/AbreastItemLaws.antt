@@ -26,6 +26,7 @@ use Rattle.outside.specs.laws.CallLaws.{Nexts-state}
 use Rattle.outside.specs.Conforming.{AreDeclaredFrom, MayStep}
 use Rattle.outside.specs.InOrder.{MayCome, MayComeAll, InOrder}
 use Rattle.outside.specs.laws.InOrderLaws.{InOrder-rest, InOrder-before}
+use Rattle.outside.specs.laws.LinkKeptLaws.{keeps_joined, keeps_left, keeps_stimulated}
 use Rattle.net_txn.specs.Net.{NetState}
 use Rattle.net_txn.specs.Views.{is_viewed}
 use Rattle.net_txn.specs.Abreast.{Abreast}
@@ -101,18 +102,6 @@ abbrev DueBy : List WorldStep → State → State → Type 0
 DueBy [] s t = (e : ℕ) → is_joined e t ≡ is_joined e s
 DueBy (item ∷ []) s t = OneDue item s t
 DueBy (item ∷ more ∷ rest) s t = ⊥
-
-keeps_joined : (moment : ℕ) → KeepsDeclared (link_joined moment)
-unfolding link_joined
-keeps_joined moment l = refl
-
-keeps_left : KeepsDeclared link_left
-unfolding link_left
-keeps_left l = refl
-
-keeps_stimulated : (x : Stimulus) → KeepsDeclared (link_stimulated x)
-unfolding link_stimulated
-keeps_stimulated x l = refl
 
 -- other switches stay as they are
 other_stays : (d e : ℕ) (change : Link → Link) → KeepsDeclared change → (ls : List Link) → e ≢ d → is_some (switch_in (link_of e (with_link d change ls))) ≡ is_some (switch_in (link_of e ls))
@@ -346,7 +335,7 @@ begun_told Tells declared (Some x) item buf s views none viewed asc empty fits m
 ascend_steps : {Own : Type 0} (seen : Seen Own) (steps : List WorldStep) → AreDeclaredFrom 1 seen.given.declared → Ascend 1 (after_steps steps (state seen)).links
 ascend_steps seen steps declared =
     let next : Seen _ = record seen { history = seen.history ++ steps } in
-    subst (λ (s : State). Ascend 1 s.links) (state-append seen next steps refl refl) (subst (λ (ds : List Declared). AreDeclaredFrom 1 ds) (sym (state-links next).declared_so) declared)
+    subst (λ (s : State). Ascend 1 s.links) (state-append seen next steps refl refl) (subst (λ (ds : List Declared). AreDeclaredFrom 1 ds) (sym (state-links next).declared_is) declared)
 
 -- what was appended to what was seen
 pub next_may : {Own Tells : Type 0} {old mid : Seen Own} {item : Item} {buf : List ℕ} (told : Tells) (call : Nexts Tells old mid (Ok item) buf) → InOrder mid → MayComeAll old.given.declared (stim_steps (call.told told).begun ++ item_step item buf ∷ []) (state old)

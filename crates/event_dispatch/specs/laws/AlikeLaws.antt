@@ -239,7 +239,7 @@ begun_moved : {Own : Type 0} {Tells : Type 0} {accepts : List TableView → Bool
 begun_moved {first = first} p g keeps = g.starts.moved p.told (Conforming-before p.told g.rounds.on keeps) (settled-first first p.opened)
 
 rounds_moved : {Own : Type 0} {Tells : Type 0} {accepts : List TableView → Bool} {allows : List Place → Bool} {most : ℕ} {fault : Fault} {a b : Option (List ℕ)} {first stop seen : Seen Own} (p : Supposed Tells accepts allows most first stop seen) (g : CutGoing Tells accepts fault a b first stop engine_at_first) → Conforming g.rounds.mid → Rounds allows g.rounds.number g.rounds.rounds.text g.begun g.rounds.mid (engine_of g.begun_run) (engine_of g.rounds.mid_run)
-rounds_moved {allows = allows} p g keeps = g.rounds.rounds.shown.rounds_so allows p.told keeps p.judges (begun_moved p g keeps).settled
+rounds_moved {allows = allows} p g keeps = g.rounds.rounds.shown.rounds_is allows p.told keeps p.judges (begun_moved p g keeps).settled
 
 rounds_held : {Own : Type 0} {Tells : Type 0} {accepts : List TableView → Bool} {allows : List Place → Bool} {most : ℕ} {fault : Fault} {a b : Option (List ℕ)} {first stop seen : Seen Own} (p : Supposed Tells accepts allows most first stop seen) (g : CutGoing Tells accepts fault a b first stop engine_at_first) → g.rounds.held ≡ append_known a (g.text ++ g.rounds.rounds.text)
 rounds_held {a = a} p g = (writes_then g.text g.rounds.rounds.text a g.held g.rounds.held g.begun_run g.rounds.mid_run g.writes g.rounds.rounds.writes).written
@@ -380,7 +380,7 @@ last_gone : {Own : Type 0} {Tells : Type 0} {accepts : List TableView → Bool} 
 last_gone {Tells = Tells} {accepts = accepts} {allows = allows} {most = most} {first = first} {stop = stop} {seen = seen} p n keeps =
     let later = Continues-trans Tells n.last stop seen n.later p.later in
     gone-whole allows (n.text ++ n.rounds.text) first n.last engine_at_first (engine_of n.last_run)
-    ((whole-of Tells accepts most n.text n.rounds.text first n.begun n.last engine_at_first (engine_of n.begun_run) (engine_of n.last_run) n.on n.starts n.rounds.shown).whole_so allows p.told keeps p.judges (settled-first first p.opened)
+    ((whole-of Tells accepts most n.text n.rounds.text first n.begun n.last engine_at_first (engine_of n.begun_run) (engine_of n.last_run) n.on n.starts n.rounds.shown).whole_is allows p.told keeps p.judges (settled-first first p.opened)
     (p.few n.last keeps later.given (later.told p.told)))
 
 last_held : {Own : Type 0} {Tells : Type 0} {accepts : List TableView → Bool} {allows : List Place → Bool} {most : ℕ} {fault : Fault} {a b : Option (List ℕ)} {first stop seen : Seen Own} (p : Supposed Tells accepts allows most first stop seen) (n : CutEnding Tells accepts most fault a b first stop engine_at_first) → n.last_held ≡ append_known a (n.text ++ n.rounds.text)
@@ -423,7 +423,7 @@ end_writing {allows = allows} {a = a} {b = b} {first = first} {stop = stop} {see
     writing_at a b first stop seen p (keeps_to first stop p.told p.opened p.before reads) (λ keeps.
     let gone = last_gone p n (Conforming-before p.told n.later keeps) in
     let shown = cut.shown p.told keeps gone.moved.settled.calm in
-    end-so allows shown.lost (n.text ++ n.rounds.text) cut.more a b first n.last stop (engine_of n.last_run) p.opened gone n.none_left shown.text_so shown.leaves keeps
+    end-so allows shown.lost (n.text ++ n.rounds.text) cut.more a b first n.last stop (engine_of n.last_run) p.opened gone n.none_left shown.text_is shown.leaves keeps
     (subst (λ (held : Option (List ℕ)). TookPart held b cut.more) (last_held p n) cut.part))
 
 -- ---- All of it
@@ -455,4 +455,4 @@ pub so_cut : {Own : Type 0} (Tells : Type 0) (accepts : List TableView → Bool)
     → Continues Tells first seen → CutRun Tells accepts most end a b first seen engine_at_first → IsCut allows seen a b end
 so_cut Tells accepts allows most end a b old first seen premise opened whole cut =
     let p : Supposed Tells accepts allows most first cut.stop seen = record { told = premise.told; judges = premise.judges; opened = opened; few = premise.few; whole = whole; before = cut.before; later = cut.later; talks = cut.talks; no_point = cut.no_point; none_moves = cut.none_moves } in
-    subst (IsCut allows seen a b) (sym cut.end_so) (by_fault cut.fault p cut.goes)
+    subst (IsCut allows seen a b) (sym cut.end_is) (by_fault cut.fault p cut.goes)

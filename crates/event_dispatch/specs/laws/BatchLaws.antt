@@ -1,7 +1,8 @@
 -- Laws of a batch: one item more takes it on or ends it, and it ends before so many items were told.
-use Rattle.std.specs.Prelude.{◌≡◌, ◌==◌, IsSome, ℕ, ◌+◌, ◌-◌, ◌≤◌, ◌⊎◌, Bool, true, List, [], ◌∷◌, ◌++◌, length, drop, slice_get, take, Option, Some, None, is_some, Result, Ok, Err, OnOk, false, refl}
+use Rattle.std.specs.Prelude.{◌≡◌, ◌==◌, IsSome, ℕ, ◌+◌, ◌-◌, ◌≤◌, ◌⊎◌, Bool, true, List, [], ◌∷◌, ◌++◌, drop, slice_get, take, Option, Some, None, is_some, Result, Ok, Err, OnOk, false, refl}
 use Rattle.std.proofs.Common.{sym, ap, ap₂, ◌∙◌, subst, arith, inl, inr, true≢false, append_assoc}
 use Rattle.std.proofs.lemmas.List.{append-nil, length-append}
+use Rattle.std.proofs.lemmas.Option.{same_Some}
 use Rattle.of_wire.specs.declared.message.Envelope.{Envelope}
 use Rattle.of_wire.specs.declared.fault.WireFault.{WireFault}
 use Rattle.of_wire.specs.declared.fault.WireFault.TheVariants.{BadVersion, BadType, BadLength, BadAction, NoMemory}
@@ -40,7 +41,7 @@ use Rattle.net_txn.specs.LinkSteps.{OnLinks, AsksWithoutStrays}
 -- ---- What was kept
 
 pub kept_at_first : {Own : Type 0} (seen : Seen Own) (run : Run) → KeptSoFar 0 seen seen run run
-kept_at_first seen run = record { taken = []; number_so = refl; first = record { kept_so = refl; knowledge = refl }; none = λ is. (refl, (refl, refl, refl, refl)) }
+kept_at_first seen run = record { taken = []; number_is = refl; first = record { kept_is = refl; knowledge = refl }; none = λ is. (refl, (refl, refl, refl, refl)) }
 
 pub some_kept : (m : ℕ × List ℕ) (kept : List (ℕ × List ℕ)) → Some m ≡ slice_get kept 0 → kept ≡ [] → ⊥
 some_kept m kept is none = let h : Some m ≡ None = is ∙ ap (λ (xs : List (ℕ × List ℕ)). slice_get xs 0) none in absurd cc
@@ -62,13 +63,10 @@ from_kept : {Own : Type 0} (Tells : Type 0) (d : ℕ) (bytes : List ℕ) (now ne
 from_kept Tells d bytes now new net now_net true does = does.kept
 from_kept Tells d bytes now new net now_net false does = does.kept
 
-same_first : (a b : ℕ × List ℕ) → Some a ≡ Some b → a ≡ b
-same_first a b is = cc
-
 -- the oldest one is no ECHO_REQUEST
 first_other : (m : ℕ × List ℕ) (kept : List (ℕ × List ℕ)) → AreRead kept → Some m ≡ slice_get kept 0 → (number_at 1 1 m.1 == 2) ≡ false
 first_other m [] read is = absurd cc
-first_other m (x ∷ kept) read is = subst (λ (y : ℕ × List ℕ). (number_at 1 1 y.1 == 2) ≡ false) (sym (same_first m x is)) read.0.1
+first_other m (x ∷ kept) read is = subst (λ (y : ℕ × List ℕ). (number_at 1 1 y.1 == 2) ≡ false) (sym (same_Some m x is)) read.0.1
 
 -- so that no switch is lost at it
 still_one : {Own Tells : Type 0} {d : ℕ} {text : List ℕ} {old new : Seen Own} {net now_net : NetState} {queue now_queue : List Event} (bytes : List ℕ) → (number_at 1 1 bytes == 2) ≡ false
@@ -80,7 +78,7 @@ still_one bytes other (inr lost) = absurd (no-echo bytes other lost.at.2)
 takes_next : {Own : Type 0} (Tells : Type 0) (taken : List (ℕ × List ℕ)) (m : ℕ × List ℕ) (text : List ℕ) (now new : Seen Own) (run mid later : Run) (taken_net : NetState) → TakesFirst taken run mid → Some m ≡ slice_get mid.net.kept 0 → taken_net ≡ record mid.net { kept = drop 1 mid.net.kept }
     → HandlesStill Tells (From m.0 m.1) text now new taken_net later.net mid.queue later.queue → TakesFirst (taken ++ m ∷ []) run later
 takes_next Tells taken m text now new run mid later taken_net first is without handles = record {
-  kept_so = first.kept_so ∙ ap (λ (xs : List (ℕ × List ℕ)). taken ++ xs) (one_first m mid.net.kept is) ∙ sym (append_assoc taken (m ∷ []) (drop 1 mid.net.kept))
+  kept_is = first.kept_is ∙ ap (λ (xs : List (ℕ × List ℕ)). taken ++ xs) (one_first m mid.net.kept is) ∙ sym (append_assoc taken (m ∷ []) (drop 1 mid.net.kept))
       ∙ ap (λ (xs : List (ℕ × List ℕ)). (taken ++ m ∷ []) ++ xs) (sym (from_kept Tells m.0 m.1 now new taken_net later.net (is_some (rows_at m.0 taken_net.views)) handles.does ∙ ap (λ (s : NetState). s.kept) without));
   knowledge = handles.knowledge ∙ ap (λ (s : NetState). handled (From m.0 m.1) (knowledge_of s mid.queue)) without ∙ ap (handled (From m.0 m.1)) first.knowledge
       ∙ sym (handled_all-append (as_told taken) (From m.0 m.1 ∷ []) (knowledge_of run.net run.queue)) ∙ ap (λ (items : List WorldStep). handled_all items (knowledge_of run.net run.queue)) (sym (told_append taken (m ∷ [])));
@@ -90,7 +88,7 @@ pub kept_one_more : {Own : Type 0} {Tells : Type 0} (n d : ℕ) (bytes frame : L
     → taken_net ≡ record mid.net { kept = drop 1 mid.net.kept } → TakesItem Tells (From d frame) now new (record mid { net = taken_net }) later → KeptSoFar (n + 1) old new run later
 kept_one_more {Tells = Tells} n d bytes frame old now new run mid later taken_net so_far read is same without takes = record {
   taken = so_far.taken ++ (d, bytes) ∷ [];
-  number_so = length-append so_far.taken ((d, bytes) ∷ []) ∙ ap (λ (k : ℕ). k + 1) so_far.number_so;
+  number_is = length-append so_far.taken ((d, bytes) ∷ []) ∙ ap (λ (k : ℕ). k + 1) so_far.number_is;
   first = takes_next Tells so_far.taken (d, bytes) takes.text now new run mid later taken_net so_far.first is without (still_one bytes (first_other (d, bytes) mid.net.kept read is)
       (subst (λ (b : List ℕ). HandlesStill Tells (From d b) takes.text now new taken_net later.net mid.queue later.queue ⊎ HandlesLost Tells (From d b) takes.text now new taken_net later.net mid.queue later.queue) same takes.handles.went));
   none = λ none. absurd (some_kept (d, bytes) mid.net.kept is (ap (λ (s : NetState). s.kept) (so_far.none none).1.1 ∙ none));
@@ -102,7 +100,7 @@ pub kept_line : {Own : Type 0} {Tells : Type 0} (d : ℕ) (bytes frame : List �
 kept_line {Tells = Tells} d bytes frame now new mid later taken_net read is same takes =
     let still = still_one bytes (first_other (d, bytes) mid.net.kept read is)
     (subst (λ (b : List ℕ). HandlesStill Tells (From d b) takes.text now new taken_net later.net mid.queue later.queue ⊎ HandlesLost Tells (From d b) takes.text now new taken_net later.net mid.queue later.queue) same takes.handles.went) in
-    takes.lines ∙ ap (λ (t : List ℕ). mid.lines.items ++ t) still.text_so ∙ append-nil mid.lines.items
+    takes.lines ∙ ap (λ (t : List ℕ). mid.lines.items ++ t) still.text_is ∙ append-nil mid.lines.items
 
 without_first : (net : NetState) → net.kept ≡ [] → record net { kept = drop 1 net.kept } ≡ net
 without_first net none = ap (λ (xs : List (ℕ × List ℕ)). record net { kept = xs }) (ap (drop 1) none ∙ sym none)
@@ -114,7 +112,7 @@ pub kept_ends : {Own : Type 0} (n : ℕ) (old now : Seen Own) (run mid later : R
 kept_ends n old now run mid later so_far net no_more queue lines = record {
   taken = so_far.taken;
   first = record {
-    kept_so = so_far.first.kept_so ∙ ap (λ (xs : List (ℕ × List ℕ)). so_far.taken ++ xs) (none_first mid.net.kept no_more ∙ sym (none_left mid.net later.net net no_more));
+    kept_is = so_far.first.kept_is ∙ ap (λ (xs : List (ℕ × List ℕ)). so_far.taken ++ xs) (none_first mid.net.kept no_more ∙ sym (none_left mid.net later.net net no_more));
     knowledge = ap₂ (λ (s : NetState) (q : List Event). knowledge_of s q) net queue ∙ so_far.first.knowledge;
   };
   all = inl (none_left mid.net later.net net no_more);
@@ -128,26 +126,11 @@ pub kept_all : {Own : Type 0} (n : ℕ) (old now : Seen Own) (run mid : Run) →
 kept_all n old now run mid many so_far = record {
   taken = so_far.taken;
   first = so_far.first;
-  all = inr (omega (arith, many, so_far.number_so), refl);
+  all = inr (omega (arith, many, so_far.number_is), refl);
   none = λ none. absurd (omega (arith, many, (so_far.none none).0));
 }
 
 -- ---- Which come first in a batch
-
--- before any item is told
-pub kept_first : {Own : Type 0} (left : ℕ) (old new : Seen Own) (run now_run : Run) → TakesKept left old new run now_run → KeptComesFirst run now_run
-kept_first left old new run now_run kept = record {
-  taken = kept.taken;
-  others = now_run.net.kept;
-  told = [];
-  kept_so = kept.first.kept_so;
-  all = all_by kept.all;
-  handled = kept.first.knowledge;
-}
-  where
-    all_by : (now_run.net.kept ≡ []) ⊎ ((1000000 ≤ length kept.taken) × (left ≡ 0)) → (now_run.net.kept ≡ []) ⊎ (1000000 ≤ length kept.taken)
-    all_by (inl none) = inl none
-    all_by (inr many) = inr many.0
 
 -- an item more is told
 abbrev ItemHandled : WorldStep → Knowledge → Knowledge → Type 0
@@ -169,7 +152,7 @@ then_told rest now new run mid later first next =
       taken = first.taken;
       others = first.others;
       told = first.told ++ item ∷ [];
-      kept_so = first.kept_so;
+      kept_is = first.kept_is;
       all = first.all;
       handled = handled_then first.told item (handled_all (as_told first.taken) (knowledge_of run.net run.queue)) (knowledge_of mid.net mid.queue) (knowledge_of later.net later.queue) first.handled (item_handled next.takes.handles.went);
     }
@@ -199,7 +182,7 @@ goes_by later items.Idle goes more is = absurd cc
 goes_by later items.End goes more is = absurd cc
 
 pub batch_goes : {Own : Type 0} {Tells : Type 0} (n : ℕ) (first now new : Seen Own) (run mid later : Run) → BatchGoes Tells n first now run mid → NextTaken Tells None now new mid later → BatchGoes Tells (n + 1) first new run later
-batch_goes n first now new run mid later goes taken = goes_by later taken.item goes (record { text = taken.text; takes = taken.takes; lines = taken.lines }) taken.rest_so
+batch_goes n first now new run mid later goes taken = goes_by later taken.item goes (record { text = taken.text; takes = taken.takes; lines = taken.lines }) taken.rest_is
 
 same_rest : (a b : Rest) → Some a ≡ Some b → a ≡ b
 same_rest a b e = cc
@@ -215,7 +198,7 @@ shown_by {Tells = Tells} {first = first} {new = new} {run = run} later rest item
     subst (λ (r : Rest). BatchShown Tells r first new run later) (sym (same_rest rest rests.End is)) (record { shown = λ told keeps calm. went later items.End goes more told keeps calm })
 
 pub batch_ends : {Own : Type 0} {Tells : Type 0} (n : ℕ) (rest : Rest) (first now new : Seen Own) (run mid later : Run) → BatchGoes Tells n first now run mid → NextTaken Tells (Some rest) now new mid later → BatchShown Tells rest first new run later
-batch_ends n rest first now new run mid later goes taken = shown_by later rest taken.item goes (record { text = taken.text; takes = taken.takes; lines = taken.lines }) taken.rest_so
+batch_ends n rest first now new run mid later goes taken = shown_by later rest taken.item goes (record { text = taken.text; takes = taken.takes; lines = taken.lines }) taken.rest_is
 
 -- a batch ends before so many items
 pub batch_too_long : {Own : Type 0} {Tells : Type 0} (n left : ℕ) (old first now : Seen Own) (run begun mid : Run) → left ≤ n → Continues Tells old now → TakesKept left old first run begun → BatchGoes Tells n old now run mid → BatchShown Tells rests.Idle old now run mid

@@ -41,12 +41,12 @@ if_err P fault (Ok x) is p = absurd is
 if_err P fault (Err e) is p = subst P (sym is) p
 
 -- a fault that has its cause where no sink was written to is not the sink's
-pub still_so : {Own : Type 0} (Tells : Type 0) (a b : Seen Own) (fault : Fault) (contents now_contents : Option (List ℕ)) → IsReason Tells a b 0 0 fault → now_contents ≡ contents → IsStill fault contents now_contents
-still_so Tells a b faults.Write contents now_contents (inl lt) same = absurd (omega (arith, lt))
-still_so Tells a b faults.Write contents now_contents (inr e) same = absurd (omega (arith, e))
-still_so Tells a b faults.Next contents now_contents why same = same
-still_so Tells a b (faults.Txn fault) contents now_contents why same = same
-still_so Tells a b faults.NoMemory contents now_contents why same = same
+pub still_is : {Own : Type 0} (Tells : Type 0) (a b : Seen Own) (fault : Fault) (contents now_contents : Option (List ℕ)) → IsReason Tells a b 0 0 fault → now_contents ≡ contents → IsStill fault contents now_contents
+still_is Tells a b faults.Write contents now_contents (inl lt) same = absurd (omega (arith, lt))
+still_is Tells a b faults.Write contents now_contents (inr e) same = absurd (omega (arith, e))
+still_is Tells a b faults.Next contents now_contents why same = same
+still_is Tells a b (faults.Txn fault) contents now_contents why same = same
+still_is Tells a b faults.NoMemory contents now_contents why same = same
 
 -- ---- Events
 
@@ -154,25 +154,25 @@ end_unwritten Tells contents now_contents last new r mid none shown reads part =
   now_net = mid.net;
   shown = λ told keeps calm.
       let says = shown.shown told keeps calm in
-      record { lost = says.lost; text_so = says.says.lines ∙ ap (λ (xs : List ℕ). xs ++ last_text says.lost last (engine_of r)) none; leaves = says_leaves says.says };
+      record { lost = says.lost; text_is = says.says.lines ∙ ap (λ (xs : List ℕ). xs ++ last_text says.lost last (engine_of r)) none; leaves = says_leaves says.says };
   reads = reads;
   part = part;
 }
 
 pub finish_cut : {Own : Type 0} (Tells : Type 0) (fault : Fault) (contents now_contents : Option (List ℕ)) (last new : Seen Own) (e : Engine) → e.queue ≡ [] → CutEnd Tells fault contents now_contents last new e → CutFinishAs Tells (served_by fault) contents now_contents last new e
-finish_cut Tells faults.Write contents now_contents last new e none ends = record { fault = faults.Write; end_so = refl; none_left = none; ends = ends }
-finish_cut Tells faults.Next contents now_contents last new e none ends = record { fault = faults.Next; end_so = refl; none_left = none; ends = ends }
-finish_cut Tells (faults.Txn fault) contents now_contents last new e none ends = record { fault = faults.Txn fault; end_so = refl; none_left = none; ends = ends }
-finish_cut Tells faults.NoMemory contents now_contents last new e none ends = record { fault = faults.NoMemory; end_so = refl; none_left = none; ends = ends }
+finish_cut Tells faults.Write contents now_contents last new e none ends = record { fault = faults.Write; end_is = refl; none_left = none; ends = ends }
+finish_cut Tells faults.Next contents now_contents last new e none ends = record { fault = faults.Next; end_is = refl; none_left = none; ends = ends }
+finish_cut Tells (faults.Txn fault) contents now_contents last new e none ends = record { fault = faults.Txn fault; end_is = refl; none_left = none; ends = ends }
+finish_cut Tells faults.NoMemory contents now_contents last new e none ends = record { fault = faults.NoMemory; end_is = refl; none_left = none; ends = ends }
 
 -- ---- A whole run
 
 pub goes_cut : {Own : Type 0} (Tells : Type 0) (accepts : List TableView → Bool) (most : ℕ) (fault : Fault) (contents now_contents : Option (List ℕ)) (old new : Seen Own) (e : Engine) → Continues Tells old new → CutGoes Tells accepts most fault contents now_contents old new e
     → CutAs Tells accepts most (served_by fault) contents now_contents old new e
-goes_cut Tells accepts most faults.Write contents now_contents old new e on goes = record { fault = faults.Write; end_so = refl; stop = new; before = on; later = Continues-refl Tells new; talks = keeps_none Tells new; no_point = quietly_none Tells new; none_moves = none_move Tells new; goes = goes }
-goes_cut Tells accepts most faults.Next contents now_contents old new e on goes = record { fault = faults.Next; end_so = refl; stop = new; before = on; later = Continues-refl Tells new; talks = keeps_none Tells new; no_point = quietly_none Tells new; none_moves = none_move Tells new; goes = goes }
-goes_cut Tells accepts most (faults.Txn fault) contents now_contents old new e on goes = record { fault = faults.Txn fault; end_so = refl; stop = new; before = on; later = Continues-refl Tells new; talks = keeps_none Tells new; no_point = quietly_none Tells new; none_moves = none_move Tells new; goes = goes }
-goes_cut Tells accepts most faults.NoMemory contents now_contents old new e on goes = record { fault = faults.NoMemory; end_so = refl; stop = new; before = on; later = Continues-refl Tells new; talks = keeps_none Tells new; no_point = quietly_none Tells new; none_moves = none_move Tells new; goes = goes }
+goes_cut Tells accepts most faults.Write contents now_contents old new e on goes = record { fault = faults.Write; end_is = refl; stop = new; before = on; later = Continues-refl Tells new; talks = keeps_none Tells new; no_point = quietly_none Tells new; none_moves = none_move Tells new; goes = goes }
+goes_cut Tells accepts most faults.Next contents now_contents old new e on goes = record { fault = faults.Next; end_is = refl; stop = new; before = on; later = Continues-refl Tells new; talks = keeps_none Tells new; no_point = quietly_none Tells new; none_moves = none_move Tells new; goes = goes }
+goes_cut Tells accepts most (faults.Txn fault) contents now_contents old new e on goes = record { fault = faults.Txn fault; end_is = refl; stop = new; before = on; later = Continues-refl Tells new; talks = keeps_none Tells new; no_point = quietly_none Tells new; none_moves = none_move Tells new; goes = goes }
+goes_cut Tells accepts most faults.NoMemory contents now_contents old new e on goes = record { fault = faults.NoMemory; end_is = refl; stop = new; before = on; later = Continues-refl Tells new; talks = keeps_none Tells new; no_point = quietly_none Tells new; none_moves = none_move Tells new; goes = goes }
 
 -- a fault ended the rounds
 pub rounds_cut : {Own : Type 0} (Tells : Type 0) (accepts : List TableView → Bool) (most : ℕ) (fault : Fault) (a b c : Option (List ℕ)) (old begun new : Seen Own) (r begun_r : Run) → Continues Tells old begun → Begins Tells a b old begun r begun_r → Reads Tells old begun r.net begun_r.net → Continues Tells begun new
@@ -194,7 +194,7 @@ rounds_cut Tells accepts most fault a b c old begun new r begun_r first begins r
 end_cut : {Own : Type 0} (Tells : Type 0) (accepts : List TableView → Bool) (most : ℕ) (end : Served) (a b c d : Option (List ℕ)) (old begun last new : Seen Own) (r r1 r2 : Run) → WentToEnd Tells accepts most a b c old begun last r r1 r2 → Continues Tells last new → CutFinish Tells end c d last new (engine_of r2) → CutAs Tells accepts most end a d old new (engine_of r)
 end_cut Tells accepts most end a b c d old begun last new r r1 r2 w later cut =
     let whole = Continues-trans Tells old last new (Continues-trans Tells old begun last w.first w.on) later in
-    subst (λ (s : Served). CutAs Tells accepts most s a d old new (engine_of r)) (sym cut.end_so) (goes_cut Tells accepts most cut.fault a d old new (engine_of r) whole (inr (inr (record {
+    subst (λ (s : Served). CutAs Tells accepts most s a d old new (engine_of r)) (sym cut.end_is) (goes_cut Tells accepts most cut.fault a d old new (engine_of r) whole (inr (inr (record {
       text = w.begins.text;
       begun = begun;
       begun_run = r1;
@@ -229,7 +229,7 @@ went_cut Tells accepts most (Err served.NoMemory) a b c d old begun last new r r
 on_cut : {Own : Type 0} (Tells : Type 0) (accepts : List TableView → Bool) (most : ℕ) (end : Served) (a b : Option (List ℕ)) (old mid new : Seen Own) (e : Engine) → Continues Tells mid new → KeepsTalking Tells mid new → NoPoint Tells mid new → NoneMoves Tells mid new → CutRun Tells accepts most end a b old mid e → CutRun Tells accepts most end a b old new e
 on_cut Tells accepts most end a b old mid new e later talks no_point none_moves cut = record {
   fault = cut.fault;
-  end_so = cut.end_so;
+  end_is = cut.end_is;
   stop = cut.stop;
   before = cut.before;
   later = Continues-trans Tells cut.stop mid new cut.later later;

@@ -55,7 +55,7 @@ asked_abreast : {Own : Type 0} (Tells : Type 0) (d : ℕ) (old new : Seen Own) (
 asked_abreast Tells d old new net now_net (Some rows) there asks told abreast =
     asks_abreast net now_net asks.continues (asks.links told) (asks.asks.losses told) (ap (λ (n : NetState). n.views) asks.asks.stays) abreast
 asked_abreast Tells d old new net now_net None there asks told abreast =
-    abreast-out net now_net [] asks.continues (asks.links told) (asks.asks.is_lost.out told (abreast_joined d abreast there)) (ap (λ (n : NetState). n.views) asks.asks.net_so) abreast
+    abreast-out net now_net [] asks.continues (asks.links told) (asks.asks.is_lost.out told (abreast_joined d abreast there)) (ap (λ (n : NetState). n.views) asks.asks.net_is) abreast
 
 pub asked_reads : {Own : Type 0} {Tells : Type 0} {d : ℕ} {old new : Seen Own} {rows : Option (List FlowRow)} (net now_net : NetState) → IsSome (rows_at d net.views) → Asks Tells d old new net now_net (Ok rows) → Reads Tells old new net now_net
 asked_reads {Tells = Tells} {d = d} {old = old} {new = new} {rows = rows} net now_net there asks = record {

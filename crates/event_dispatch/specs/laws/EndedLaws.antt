@@ -17,7 +17,7 @@ use Rattle.net_txn.specs.Net.{NetState}
 use Rattle.net_txn.specs.laws.LinkStrayLaws.{no_strays_then}
 use Rattle.app_visor.specs.CallsFor.{IsCallFor, CallsFor}
 use Rattle.app_visor.specs.laws.CalmLaws.{calls_then}
-use Rattle.app_visor.specs.laws.AttemptLaws.{ends_so}
+use Rattle.app_visor.specs.laws.AttemptLaws.{ends_is}
 use Rattle.batch_laws.specs.laws.KeyLaws.{all-filter}
 use Rattle.lego_model.specs.Application.{index}
 use Rattle.event_dispatch.specs.declared.served.Served.{Served}
@@ -86,7 +86,7 @@ none_left Tells old new told on own ended none =
 -- ---- The end
 
 pub is_ended : {Own : Type 0} (Tells : Type 0) (old new : Seen Own) → Ends Tells index old new → IsEnded Tells old new
-is_ended Tells old new ends = record { no_point = end_quietly Tells old new ends; places = end_places Tells old new ends; messages = end_messages Tells old new ends; ended = ends_so Tells index old new ends; none_moves = record { stay = λ told. end_stay ends told; releases = λ told. end_releases_none ends told } }
+is_ended Tells old new ends = record { no_point = end_quietly Tells old new ends; places = end_places Tells old new ends; messages = end_messages Tells old new ends; ended = ends_is Tells index old new ends; none_moves = record { stay = λ told. end_stay ends told; releases = λ told. end_releases_none ends told } }
 
 pub none_runs_none : {Own : Type 0} (Tells : Type 0) (seen : Seen Own) (net : NetState) → NoneRuns Tells seen seen net
 none_runs_none Tells seen net = record { no_stray = places_none Tells seen net; none_runs = λ told none. none }

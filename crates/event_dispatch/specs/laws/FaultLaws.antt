@@ -4,12 +4,9 @@ use Rattle.std.specs.Prelude.{take}
 use Rattle.std.specs.List.{flat_map}
 use Rattle.std.proofs.lemmas.List.{append-nil}
 use Rattle.std.proofs.lemmas.Bool.{eqb-true}
-use Rattle.lego_io.specs.Count.{Rose}
-use Rattle.lego_io.specs.laws.CountLaws.{Rose-after}
 use Rattle.of_types.specs.Fields.{number_at}
 use Rattle.of_types.specs.declared.journal.Act.TheVariants.{Sent, Got}
 use Rattle.of_match.specs.declared.key.Key.{Key}
-use Rattle.of_wire.specs.declared.bodies.FlowMod.{FlowMod as Change}
 use Rattle.of_wire.specs.declared.bodies.PacketOut.{PacketOut as Packet}
 use Rattle.of_wire.specs.Reading.{reading_of}
 use Rattle.of_wire.specs.Spelling.{message_bytes}
@@ -146,7 +143,7 @@ record IsGot (d xid kind : ℕ) (bytes : List ℕ) (steps : List WorldStep) : Ty
   about : is_about xid kind bytes ≡ true
   before : List WorldStep
   behind : List WorldStep
-  steps_so : steps ≡ before ++ (Acted (Got d bytes) ∷ behind)
+  steps_is : steps ≡ before ++ (Acted (Got d bytes) ∷ behind)
 
 abbrev StandsIn : ℕ → ℕ → List ℕ → List (ℕ × List ℕ) → Type 0
 StandsIn xid kind bytes came = (place : ℕ) × (slice_get (flat_map (about_in xid kind) came) place ≡ Some bytes)
@@ -173,7 +170,7 @@ got_first a xid kind b bytes rest about same = record {
   about = subst (λ (x : List ℕ). is_about xid kind x ≡ true) same about;
   before = [];
   behind = steps_by a.dpid (heard a b) b ++ rest;
-  steps_so = ap (λ (x : List ℕ). Acted (Got a.dpid x) ∷ (steps_by a.dpid (heard a b) b ++ rest)) same;
+  steps_is = ap (λ (x : List ℕ). Acted (Got a.dpid x) ∷ (steps_by a.dpid (heard a b) b ++ rest)) same;
 }
 
 got_later : (d xid kind : ℕ) (bytes : List ℕ) (front steps : List WorldStep) → IsGot d xid kind bytes steps → IsGot d xid kind bytes (front ++ steps)
@@ -181,7 +178,7 @@ got_later d xid kind bytes front steps is = record {
   about = is.about;
   before = front ++ is.before;
   behind = is.behind;
-  steps_so = ap (λ (xs : List WorldStep). front ++ xs) is.steps_so ∙ sym (append_assoc front is.before (Acted (Got d bytes) ∷ is.behind));
+  steps_is = ap (λ (xs : List WorldStep). front ++ xs) is.steps_is ∙ sym (append_assoc front is.before (Acted (Got d bytes) ∷ is.behind));
 }
 
 got_in : (a : Awaited) (xid kind : ℕ) (got : List (List ℕ)) (bytes : List ℕ) → StandsIn xid kind bytes (kept_of a got) → IsGot a.dpid xid kind bytes (wait_steps a got)
@@ -205,7 +202,7 @@ module _ {Own Tells : Type 0} (d xid : ℕ) (got : List (List ℕ)) (old new : S
       inr (record {
         before = h.before ++ (front ++ is.before);
         behind = (is.behind ++ reply) ++ h.behind;
-        told = h.told ∙ ap (λ (w : List WorldStep). old.history ++ (h.before ++ ((front ++ (w ++ reply)) ++ h.behind))) is.steps_so ∙ ap (λ (w : List WorldStep). old.history ++ w) (regroup h.before front is.before (Acted (Got d bytes)) is.behind reply h.behind);
+        told = h.told ∙ ap (λ (w : List WorldStep). old.history ++ (h.before ++ ((front ++ (w ++ reply)) ++ h.behind))) is.steps_is ∙ ap (λ (w : List WorldStep). old.history ++ w) (regroup h.before front is.before (Acted (Got d bytes)) is.behind reply h.behind);
       })
     where
       regroup : (b f x : List WorldStep) (g : WorldStep) (y r k : List WorldStep) → b ++ ((f ++ ((x ++ (g ∷ y)) ++ r)) ++ k) ≡ (b ++ (f ++ x)) ++ ((g ∷ []) ++ ((y ++ r) ++ k))
@@ -221,7 +218,7 @@ module _ {Own Tells : Type 0} (d xid : ℕ) (got : List (List ℕ)) (old new : S
         record {
           before = h.before;
           behind = (is.behind ++ reply) ++ h.behind;
-          told = h.told ∙ ap (λ (w : List WorldStep). old.history ++ (h.before ++ ((ask ∷ bar ∷ (w ++ reply)) ++ h.behind))) is.steps_so
+          told = h.told ∙ ap (λ (w : List WorldStep). old.history ++ (h.before ++ ((ask ∷ bar ∷ (w ++ reply)) ++ h.behind))) is.steps_is
               ∙ ap (λ (w : List WorldStep). old.history ++ (h.before ++ (ask ∷ bar ∷ w))) (regroup is.before (Acted (Got d bytes)) is.behind reply h.behind);
         },
       )
@@ -240,13 +237,13 @@ module _ {Own Tells : Type 0} (d xid : ℕ) (got : List (List ℕ)) (old new : S
   error_why bytes at =
       let is = got_in (asked_from d xid) xid 1 got bytes (0, at) in
       let request = StatsRequest (record { kind = 1; flags = 0; body = all_flows }) in
-      (sent_among 1 bytes is, inl (record { kind = about_kind xid 1 bytes is.about; message = request; sent_so = ap (λ (n : ℕ). message_bytes n request) (sym (about_xid xid 1 bytes is.about)) }))
+      (sent_among 1 bytes is, inl (record { kind = about_kind xid 1 bytes is.about; message = request; sent_is = ap (λ (n : ℕ). message_bytes n request) (sym (about_xid xid 1 bytes is.about)) }))
 
   unanswered_why : refusals_in xid (came_for d xid got) ≡ [] → parts_in xid (came_for d xid got) ≡ [] → IsWhyTxn Tells old new (Diverged d (flows_request xid) (message_bytes (next_xid xid) BarrierReply))
   unanswered_why none_refused no_part =
       let reply = message_bytes (next_xid xid) BarrierReply in (
         (λ tells. (barrier_sent (asked_from d xid) ∷ wait_steps (asked_from d xid) got, told tells)),
-        inr (record { xid = xid; got = got; sent_so = refl; reply_so = refl; no_part = no_part; no_refusal = none_refused; told = told }),
+        inr (record { xid = xid; got = got; sent_is = refl; reply_is = refl; no_part = no_part; no_refusal = none_refused; told = told }),
       )
 
   refused_why : (bytes : List ℕ) → IsRefusal (parts_in xid (came_for d xid got)) (refusals_in xid (came_for d xid got)) (message_bytes (next_xid xid) BarrierReply) bytes → IsWhyTxn Tells old new (Diverged d (flows_request xid) bytes)
@@ -274,7 +271,7 @@ ask_why {Tells = Tells} d xid old new kept now_kept fault flooded (inr asks) =
     let steps = rows_steps d xid waits.got in
     let told : (Tells → Happened steps old.history new.history) = λ tells. record { before = []; behind = []; told = waits.hears.told tells ∙ ap (λ (xs : List WorldStep). old.history ++ xs) (sym (append-nil steps)) } in
     replies_why d xid waits.got old new told fault
-    (subst (λ (came : List (ℕ × List ℕ)). IsRepliesFault d (flows_request xid) (message_bytes (next_xid xid) BarrierReply) (parts_in xid came) (refusals_in xid came) fault) waits.hears.kept_so asks.2)
+    (subst (λ (came : List (ℕ × List ℕ)). IsRepliesFault d (flows_request xid) (message_bytes (next_xid xid) BarrierReply) (parts_in xid came) (refusals_in xid came) fault) waits.hears.kept_is asks.2)
 
 pub asks_why : {Own : Type 0} {Tells : Type 0} {d : ℕ} {old new : Seen Own} {net now_net : NetState} (fault : TxnFault) → Asks Tells d old new net now_net (Err fault) → IsWhy Tells old new 0 0 (ended_by fault)
 asks_why {d = d} {old = old} {new = new} {net = net} {now_net = now_net} fault asks = ask_why d net.xid old new net.kept now_net.kept fault asks.asks.flooded asks.asks.answer
@@ -283,14 +280,14 @@ asks_why {d = d} {old = old} {new = new} {net = net} {now_net = now_net} fault a
 
 inverse_message : (bytes inverse : List ℕ) (key : Key) → number_at 1 1 bytes ≡ 1 → inverse ≡ inverse_bytes (number_at 4 4 bytes) key → IsErrorFor inverse bytes
 unfolding inverse_bytes
-inverse_message bytes inverse key kind is = record { kind = kind; message = FlowMod (delete_strict key); sent_so = is }
+inverse_message bytes inverse key kind is = record { kind = kind; message = FlowMod (delete_strict key); sent_is = is }
 
 undone_why : {Own : Type 0} (Tells : Type 0) (old new : Seen Own) (d : ℕ) (fault : TxnFault) → IsWhyUndo Tells d old new fault → IsWhy Tells old new 0 0 (ended_by fault)
 undone_why Tells old new d (SwitchBroke e bytes) why =
     subst (λ (n : ℕ). (Tells → CameFrom n bytes old.history new.history) × (IsErr (reading_of bytes) ⊎ IsBadPart Tells n bytes old new)) (sym why.0) ((λ tells. inr (why.2 tells)), inl why.1)
 undone_why Tells old new d (Diverged e inverse bytes) why =
     subst (λ (n : ℕ). (Tells → SentThenGot n inverse bytes old.history new.history) × (IsErrorFor inverse bytes ⊎ IsUnanswered Tells n inverse bytes old new)) (sym why.0)
-    (why.2, inl (inverse_message bytes inverse why.1.key why.1.kind why.1.inverse_so))
+    (why.2, inl (inverse_message bytes inverse why.1.key why.1.kind why.1.inverse_is))
 undone_why Tells old new d (Flooded e n) why = subst (λ (x : ℕ). (n ≡ flood) × IsFlood Tells x n old new) (sym why.0) (why.1, why.2)
 undone_why Tells old new d NoMemory why = tt
 
@@ -300,7 +297,7 @@ module _ {Own Tells : Type 0} (old new : Seen Own) where
   stuck_why d p older rest fault told run is =
       let f = faulty d old.counts new.counts p (parts_of d older) fault run is in
       undone_why Tells old new d fault
-      (stuck_in_undo old new d older f.steps rest fault (λ tells. told tells ∙ ap (λ (steps : List WorldStep). old.history ++ ((steps_of older ++ steps) ++ rest)) f.steps_so) f.cause)
+      (stuck_in_undo old new d older f.steps rest fault (λ tells. told tells ∙ ap (λ (steps : List WorldStep). old.history ++ ((steps_of older ++ steps) ++ rest)) f.steps_is) f.cause)
 
 module _ {Own Tells : Type 0} (old new : Seen Own) where
   by_older : (p : ℕ × Part) (older : List (ℕ × Part)) (rest : List WorldStep) (fault : TxnFault) → (Tells → new.history ≡ old.history ++ ((steps_of older ++ part_steps p.0 p.1) ++ rest)) → ((d : ℕ) → IsRun old.counts new.counts d (parts_of d (p ∷ older)))
@@ -323,7 +320,7 @@ faulted (Some x) fault h = cc
 
 pub undo_why : {Own : Type 0} {Tells : Type 0} (start : ℕ) (old new : Seen Own) (net now_net : NetState) (fault : TxnFault) → Undoes Tells start old new net now_net (Err fault) → IsWhy Tells old new 0 0 (ended_by fault)
 undo_why start old new net now_net fault u =
-    parts_why old new u.parts [] fault (λ tells. u.told tells ∙ ap (λ (w : List WorldStep). old.history ++ w) (sym (append-nil (steps_of u.parts)))) (λ d. (u.each d).run) (faulted (first_fault u.parts) fault u.result_so)
+    parts_why old new u.parts [] fault (λ tells. u.told tells ∙ ap (λ (w : List WorldStep). old.history ++ w) (sym (append-nil (steps_of u.parts)))) (λ d. (u.each d).run) (faulted (first_fault u.parts) fault u.result_is)
 
 -- ---- A turn that stopped
 
@@ -367,7 +364,7 @@ breaks_why {Tells = Tells} held old new net fault breaks = cause_why Tells held.
 
 committed_why : {Own : Type 0} {Tells : Type 0} (start : ℕ) (old new : Seen Own) (net now_net : NetState) (queue now_queue : List Event) (fault : TxnFault) → UndoneForMemory Tells start old new net now_net queue now_queue fault ⊎ StopsRelease Tells start old new net queue fault
     → IsWhy Tells old new 0 0 (ended_by fault)
-committed_why {Tells = Tells} start old new net now_net queue now_queue fault (inl undone) = subst (λ (f : TxnFault). IsWhy Tells old new 0 0 (ended_by f)) (sym undone.fault_so) tt
+committed_why {Tells = Tells} start old new net now_net queue now_queue fault (inl undone) = subst (λ (f : TxnFault). IsWhy Tells old new 0 0 (ended_by f)) (sym undone.fault_is) tt
 committed_why {Tells = Tells} start old new net now_net queue now_queue fault (inr stops) =
     IsWhy-behind old stops.mid new 0 0 0 (ended_by fault) (releases-continue Tells stops.front stops.sent old stops.mid (committed start net) stops.mid_net queue stops.mid_queue stops.before) (omega arith)
     (breaks_why stops.broken stops.mid new stops.mid_net fault stops.breaks)

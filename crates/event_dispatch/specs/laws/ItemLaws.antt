@@ -1,6 +1,7 @@
 -- Why a batch ended: what was told, and what was kept, has its cause in the run.
 use Rattle.std.specs.Prelude.{◌≡◌, ℕ, List, [], ◌∷◌, take, slice_get, Some, Ok, IsOk}
 use Rattle.std.proofs.Common.{sym, subst}
+use Rattle.std.proofs.lemmas.Option.{same_Some}
 use Rattle.of_wire.specs.Reading.{reading_of}
 use Rattle.outside.specs.declared.item.Item.{Item}
 use Rattle.outside.specs.declared.item.Item.TheVariants as items
@@ -39,12 +40,9 @@ next_why item buf old mid new fault nexts at = at.why old (Nexts-continues nexts
 
 -- ---- What was kept
 
-same_message : (a b : ℕ × List ℕ) → Some a ≡ Some b → a ≡ b
-same_message a b h = cc
-
 first_read : (kept : List (ℕ × List ℕ)) (m : ℕ × List ℕ) → AreRead kept → slice_get kept 0 ≡ Some m → IsOk (reading_of m.1)
 first_read [] m read is = absurd cc
-first_read (x ∷ xs) m read is = subst (λ (y : ℕ × List ℕ). IsOk (reading_of y.1)) (same_message x m is) read.0.0
+first_read (x ∷ xs) m read is = subst (λ (y : ℕ × List ℕ). IsOk (reading_of y.1)) (same_Some x m is) read.0.0
 
 pub kept_why : {Own Tells : Type 0} (kept : List (ℕ × List ℕ)) (d : ℕ) (bytes frame : List ℕ) (before old new : Seen Own) (fault : Fault) → AreRead kept → slice_get kept 0 ≡ Some (d, bytes) → frame ≡ bytes → Continues Tells before old → WhyMessage Tells d frame old new fault
     → IsReason Tells before new 0 0 fault

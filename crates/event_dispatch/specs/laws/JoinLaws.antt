@@ -18,7 +18,7 @@ use Rattle.net_txn.specs.declared.ports.KnownPorts.{KnownPorts}
 use Rattle.net_txn.specs.Net.{NetState}
 use Rattle.net_txn.specs.Joining.{JoinsOrNot}
 use Rattle.net_txn.specs.JoiningSteps.{JoinedInStep}
-use Rattle.batch_laws.specs.Knowledge.{Knowledge, knowledge_of, joined_by}
+use Rattle.batch_laws.specs.Knowledge.{knowledge_of, joined_by}
 use Rattle.batch_laws.specs.Items.{TakesIn, EntersStill}
 use Rattle.run_laws.specs.Engine.{Engine}
 use Rattle.event_dispatch.specs.declared.run.Run.{Run}
@@ -28,27 +28,27 @@ use Rattle.event_dispatch.specs.Batch.{TakesJoin}
 -- ---- It describes itself by no message of its features
 
 other_enters : {Own : Type 0} (Tells : Type 0) (d : ℕ) (m : Message) → ((features : Features) → m ≡ messages.FeaturesReply features → ⊥) → (seen : Seen Own) (net : NetState) (queue : List Event) → EntersStill Tells d m [] seen seen net net queue queue
-other_enters Tells d (messages.Hello payload) other seen net queue = record { knowledge = refl; takes = record { seen = refl; kept = refl }; text_so = refl }
-other_enters Tells d (messages.Error kind code payload) other seen net queue = record { knowledge = refl; takes = record { seen = refl; kept = refl }; text_so = refl }
-other_enters Tells d (messages.EchoRequest payload) other seen net queue = record { knowledge = refl; takes = record { seen = refl; kept = refl }; text_so = refl }
-other_enters Tells d (messages.EchoReply payload) other seen net queue = record { knowledge = refl; takes = record { seen = refl; kept = refl }; text_so = refl }
-other_enters Tells d (messages.Vendor payload) other seen net queue = record { knowledge = refl; takes = record { seen = refl; kept = refl }; text_so = refl }
-other_enters Tells d messages.FeaturesRequest other seen net queue = record { knowledge = refl; takes = record { seen = refl; kept = refl }; text_so = refl }
-other_enters Tells d messages.GetConfigRequest other seen net queue = record { knowledge = refl; takes = record { seen = refl; kept = refl }; text_so = refl }
-other_enters Tells d (messages.GetConfigReply config) other seen net queue = record { knowledge = refl; takes = record { seen = refl; kept = refl }; text_so = refl }
-other_enters Tells d (messages.SetConfig config) other seen net queue = record { knowledge = refl; takes = record { seen = refl; kept = refl }; text_so = refl }
-other_enters Tells d (messages.PacketIn packet) other seen net queue = record { knowledge = refl; takes = record { seen = refl; kept = refl }; text_so = refl }
-other_enters Tells d (messages.FlowRemoved flow) other seen net queue = record { knowledge = refl; takes = record { seen = refl; kept = refl }; text_so = refl }
-other_enters Tells d (messages.PortStatus status) other seen net queue = record { knowledge = refl; takes = record { seen = refl; kept = refl }; text_so = refl }
-other_enters Tells d (messages.PacketOut packet) other seen net queue = record { knowledge = refl; takes = record { seen = refl; kept = refl }; text_so = refl }
-other_enters Tells d (messages.FlowMod m) other seen net queue = record { knowledge = refl; takes = record { seen = refl; kept = refl }; text_so = refl }
-other_enters Tells d (messages.PortMod port) other seen net queue = record { knowledge = refl; takes = record { seen = refl; kept = refl }; text_so = refl }
-other_enters Tells d (messages.StatsRequest m) other seen net queue = record { knowledge = refl; takes = record { seen = refl; kept = refl }; text_so = refl }
-other_enters Tells d (messages.StatsReply m) other seen net queue = record { knowledge = refl; takes = record { seen = refl; kept = refl }; text_so = refl }
-other_enters Tells d messages.BarrierRequest other seen net queue = record { knowledge = refl; takes = record { seen = refl; kept = refl }; text_so = refl }
-other_enters Tells d messages.BarrierReply other seen net queue = record { knowledge = refl; takes = record { seen = refl; kept = refl }; text_so = refl }
-other_enters Tells d (messages.QueueGetConfigRequest payload) other seen net queue = record { knowledge = refl; takes = record { seen = refl; kept = refl }; text_so = refl }
-other_enters Tells d (messages.QueueGetConfigReply payload) other seen net queue = record { knowledge = refl; takes = record { seen = refl; kept = refl }; text_so = refl }
+other_enters Tells d (messages.Hello payload) other seen net queue = record { knowledge = refl; takes = record { seen = refl; kept = refl }; text_is = refl }
+other_enters Tells d (messages.Error kind code payload) other seen net queue = record { knowledge = refl; takes = record { seen = refl; kept = refl }; text_is = refl }
+other_enters Tells d (messages.EchoRequest payload) other seen net queue = record { knowledge = refl; takes = record { seen = refl; kept = refl }; text_is = refl }
+other_enters Tells d (messages.EchoReply payload) other seen net queue = record { knowledge = refl; takes = record { seen = refl; kept = refl }; text_is = refl }
+other_enters Tells d (messages.Vendor payload) other seen net queue = record { knowledge = refl; takes = record { seen = refl; kept = refl }; text_is = refl }
+other_enters Tells d messages.FeaturesRequest other seen net queue = record { knowledge = refl; takes = record { seen = refl; kept = refl }; text_is = refl }
+other_enters Tells d messages.GetConfigRequest other seen net queue = record { knowledge = refl; takes = record { seen = refl; kept = refl }; text_is = refl }
+other_enters Tells d (messages.GetConfigReply config) other seen net queue = record { knowledge = refl; takes = record { seen = refl; kept = refl }; text_is = refl }
+other_enters Tells d (messages.SetConfig config) other seen net queue = record { knowledge = refl; takes = record { seen = refl; kept = refl }; text_is = refl }
+other_enters Tells d (messages.PacketIn packet) other seen net queue = record { knowledge = refl; takes = record { seen = refl; kept = refl }; text_is = refl }
+other_enters Tells d (messages.FlowRemoved flow) other seen net queue = record { knowledge = refl; takes = record { seen = refl; kept = refl }; text_is = refl }
+other_enters Tells d (messages.PortStatus status) other seen net queue = record { knowledge = refl; takes = record { seen = refl; kept = refl }; text_is = refl }
+other_enters Tells d (messages.PacketOut packet) other seen net queue = record { knowledge = refl; takes = record { seen = refl; kept = refl }; text_is = refl }
+other_enters Tells d (messages.FlowMod m) other seen net queue = record { knowledge = refl; takes = record { seen = refl; kept = refl }; text_is = refl }
+other_enters Tells d (messages.PortMod port) other seen net queue = record { knowledge = refl; takes = record { seen = refl; kept = refl }; text_is = refl }
+other_enters Tells d (messages.StatsRequest m) other seen net queue = record { knowledge = refl; takes = record { seen = refl; kept = refl }; text_is = refl }
+other_enters Tells d (messages.StatsReply m) other seen net queue = record { knowledge = refl; takes = record { seen = refl; kept = refl }; text_is = refl }
+other_enters Tells d messages.BarrierRequest other seen net queue = record { knowledge = refl; takes = record { seen = refl; kept = refl }; text_is = refl }
+other_enters Tells d messages.BarrierReply other seen net queue = record { knowledge = refl; takes = record { seen = refl; kept = refl }; text_is = refl }
+other_enters Tells d (messages.QueueGetConfigRequest payload) other seen net queue = record { knowledge = refl; takes = record { seen = refl; kept = refl }; text_is = refl }
+other_enters Tells d (messages.QueueGetConfigReply payload) other seen net queue = record { knowledge = refl; takes = record { seen = refl; kept = refl }; text_is = refl }
 other_enters Tells d (messages.FeaturesReply features) other seen net queue = absurd (other features refl)
 
 pub other_taken : {Own Tells : Type 0} (d : ℕ) (m : Message) (seen : Seen Own) (run : Run) → ((features : Features) → m ≡ messages.FeaturesReply features → ⊥) → TakesJoin Tells d m seen seen run run
@@ -92,7 +92,7 @@ joins_taken {Tells = Tells} d m features true old new run mid_net now_run is sam
           knowledge = ap (λ (n : NetState). knowledge_of n now_run.queue) net
               ∙ known_by d features run.net mid_net run.queue now_run.queue stays.moment joins.views joins.known (waits ∙ ap (λ (x : Message). run.queue ++ record { kind = kinds.Join; dpid = d; body = message_bytes 0 x } ∷ []) is);
           takes = subst (λ (n : NetState). TakesIn Tells d features.ports old new run.net n) (sym net) (record { joins = joins; in_step = in_step });
-          text_so = refl;
+          text_is = refl;
         });
       };
       lines = lines ∙ sym (append-nil run.lines.items);
@@ -103,7 +103,7 @@ joins_taken {Tells = Tells} d m features true old new run mid_net now_run is sam
 pub lost_taken : {Own Tells : Type 0} (d : ℕ) (m : Message) (ports : List PortDesc) (joined : Bool) (old new : Seen Own) (run mid now_run : Run) → joined ≡ false → JoinsOrNot Tells d ports joined old new run.net mid.net → mid.queue ≡ run.queue → mid.lines.items ≡ run.lines.items → Adds (lost_line d) mid now_run → TakesJoin Tells d m old new run now_run
 lost_taken d m ports true old new run mid now_run not gone waits lines adds = absurd (true≢false not)
 lost_taken {Tells = Tells} d m ports false old new run mid now_run same gone waits lines adds =
-    let net : now_run.net ≡ record run.net { xid = mid.net.xid; kept = filter (λ m. not (m.0 == d)) run.net.kept } = ap (λ (e : Engine). e.net) adds.engine ∙ gone.net_so in
+    let net : now_run.net ≡ record run.net { xid = mid.net.xid; kept = filter (λ m. not (m.0 == d)) run.net.kept } = ap (λ (e : Engine). e.net) adds.engine ∙ gone.net_is in
     let queue : now_run.queue ≡ run.queue = ap (λ (e : Engine). e.queue) adds.engine ∙ waits in
     record {
       text = lost_line d;
@@ -116,7 +116,7 @@ lost_taken {Tells = Tells} d m ports false old new run mid now_run same gone wai
           is_lost = gone.is_lost;
           knowledge = ap (λ (n : NetState). knowledge_of n now_run.queue) net ∙ ap (λ (q : List Event). knowledge_of run.net q) queue;
           kept = ap (λ (n : NetState). n.kept) net;
-          text_so = refl;
+          text_is = refl;
         });
       };
       lines = adds.lines ∙ ap (λ (t : List ℕ). t ++ lost_line d) lines;

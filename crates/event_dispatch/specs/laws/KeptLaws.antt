@@ -24,16 +24,16 @@ use Rattle.lego_model.specs.declared.wait.Heard.TheVariants.{Reply, Refused, Not
 use Rattle.lego_model.specs.declared.wait.Refusal.{Refusal}
 use Rattle.net_txn.specs.Net.{NetState}
 use Rattle.net_txn.specs.MessageStore.{KeptWhereFit}
-use Rattle.net_txn.specs.Waits.{IsRead, Waits as WaitsFor}
+use Rattle.net_txn.specs.Waits.{Waits as WaitsFor}
 use Rattle.lego_model.specs.BarrierWaits.{heard, is_awaited, refusal_of, kept_by, kept_of}
 use Rattle.outside.specs.declared.step.WorldStep.{WorldStep}
 use Rattle.net_txn.specs.Answering.{known_rows}
 use Rattle.net_txn.specs.Changes.{answer_of_host, Changes, ChangesJoined, ChangesLost}
 use Rattle.net_txn.specs.Arriving.{net_after, Becomes, ArrivesLost, Arrives}
-use Rattle.net_txn.specs.Joining.{Joins, JoinsOrNot}
+use Rattle.net_txn.specs.Joining.{JoinsOrNot}
 use Rattle.net_txn.specs.Losing.{is_among, lost_net, lose_all}
 use Rattle.net_txn.specs.Undos.{Part, Inverse, BarrierPassed, Stuck, alone, parts_of, fault_in, first_fault_of, first_fault, is_stuck, KeepsOne, Keeps, Undoes, ended_by, lost_in, lost_parts, undone_net, next_free}
-use Rattle.net_txn.specs.laws.JoinedLaws.{among-append}
+use Rattle.net_txn.specs.laws.LinkPresenceLaws.{among-append}
 use Rattle.net_txn.specs.Releases.{Commits}
 use Rattle.app_visor.specs.Beats.{Beat, Talk, Asks as AskedNow, Chain}
 use Rattle.app_visor.specs.Talks.{give_act}
@@ -44,22 +44,20 @@ use Rattle.event_dispatch.specs.Runs.{AreRead}
 use Rattle.event_dispatch.specs.Serves.{IsPlayed, PlaysTurn}
 use Rattle.net_txn.specs.laws.RestoreLaws.{AllRun, runs_here, runs_older}
 use Rattle.net_txn.specs.laws.OutLaws.{none_failed}
+use Rattle.net_txn.specs.laws.SaidLaws.{all_two}
+use Rattle.net_txn.specs.laws.ReadLaws.{all_read}
 
 abbrev IsKeptRead : ℕ × List ℕ → Type 0
 IsKeptRead m = IsOk (reading_of m.1) × ((number_at 1 1 m.1 == 2) ≡ false)
 
 -- ---- Lists of them
 
-all_append : {X : Type 0} (P : X → Type 0) (xs ys : List X) → AllByRecursion P xs → AllByRecursion P ys → AllByRecursion P (xs ++ ys)
-all_append P [] ys first second = second
-all_append P (x ∷ xs) ys first second = (first.0, all_append P xs ys first.1 second)
-
 all_by : {X : Type 0} {P Q : X → Type 0} (xs : List X) → ((x : X) → P x → Q x) → AllByRecursion P xs → AllByRecursion Q xs
 all_by [] f all = tt
 all_by (x ∷ xs) f all = (f x all.0, all_by xs f all.1)
 
 read_append : (xs ys : List (ℕ × List ℕ)) → AreRead xs → AreRead ys → AreRead (xs ++ ys)
-read_append xs ys first second = all_append IsKeptRead xs ys first second
+read_append xs ys first second = all_two IsKeptRead xs ys first second
 
 pub read_rest : (xs : List (ℕ × List ℕ)) → AreRead xs → AreRead (drop 1 xs)
 read_rest [] read = tt
@@ -108,16 +106,12 @@ kept_read : (a : Awaited) (got : List (List ℕ)) → AllByRecursion (λ b. IsOk
 kept_read a [] all = tt
 kept_read a (b ∷ bs) all = read_append (kept_by a.dpid (heard a b) b) (kept_of a bs) (one_read a b (heard a b) refl all.0) (kept_read a bs all.1)
 
-all_read : (got : List (List ℕ)) → AllByRecursion IsRead got → AllByRecursion (λ b. IsOk (reading_of b)) got
-all_read [] all = tt
-all_read (b ∷ bs) all = (all.0.1, all_read bs all.1)
-
 waits_read : {Own Tells : Type 0} {a : Awaited} {front : List WorldStep} {old new : Seen Own} (kept now_kept : List (ℕ × List ℕ)) (answer : Option Refusal) → WaitsFor Tells a front old new kept now_kept answer → AreRead kept → AreRead now_kept
-waits_read {a = a} kept now_kept answer w read = subst AreRead (sym w.hears.kept_so) (read_append kept (kept_of a w.got) read (kept_read a w.got (all_read w.got w.hears.read)))
+waits_read {a = a} kept now_kept answer w read = subst AreRead (sym w.hears.kept_is) (read_append kept (kept_of a w.got) read (kept_read a w.got (all_read w.got w.hears.read)))
 
 fit_read : (P : ℕ × List ℕ → Type 0) (kept more now_kept : List (ℕ × List ℕ)) → KeptWhereFit kept more now_kept → AllByRecursion P kept → AllByRecursion P more → AllByRecursion P now_kept
 fit_read P kept [] now_kept same read all = subst (AllByRecursion P) (sym same) read
-fit_read P kept (m ∷ ms) now_kept (inl fits) read all = fit_read P (kept ++ m ∷ []) ms now_kept fits (all_append P kept (m ∷ []) read (all.0, tt)) all.1
+fit_read P kept (m ∷ ms) now_kept (inl fits) read all = fit_read P (kept ++ m ∷ []) ms now_kept fits (all_two P kept (m ∷ []) read (all.0, tt)) all.1
 fit_read P kept (m ∷ ms) now_kept (inr over) read all = fit_read P kept ms now_kept over.1 read all.1
 
 -- ---- A message that came, a switch that joins, a question for rows
@@ -148,8 +142,8 @@ kept_after d (messages.QueueGetConfigReply x) net = refl
 
 became_read : {Own : Type 0} (Tells : Type 0) (d xid : ℕ) (m : Message) (old new : Seen Own) (net now_net : NetState) (event : Option Event) → Becomes Tells d xid m old new net now_net event ⊎ ArrivesLost Tells d m old new net now_net event → AreRead net.kept
     → AreRead now_net.kept
-became_read Tells d xid m old new net now_net event (inl is) read = subst AreRead (sym (ap (λ (n : NetState). n.kept) is.net_so ∙ kept_after d m net)) read
-became_read Tells d xid m old new net now_net event (inr lost) read = read_same (lost_net d net) now_net lost.net_so (read_left d net.kept read)
+became_read Tells d xid m old new net now_net event (inl is) read = subst AreRead (sym (ap (λ (n : NetState). n.kept) is.net_is ∙ kept_after d m net)) read
+became_read Tells d xid m old new net now_net event (inr lost) read = read_same (lost_net d net) now_net lost.net_is (read_left d net.kept read)
 
 arrived_by : {Own : Type 0} (Tells : Type 0) (d : ℕ) (old new : Seen Own) (net now_net : NetState) (event : Option Event) (r : Result Envelope WireFault)
     → IsOkAnd r (λ e. Becomes Tells d e.xid e.message old new net now_net event ⊎ ArrivesLost Tells d e.message old new net now_net event) → AreRead net.kept → AreRead now_net.kept
@@ -161,7 +155,7 @@ arrived_read {Tells = Tells} {d = d} {old = old} {new = new} frame net now_net e
 
 pub joins_read : {Own : Type 0} (Tells : Type 0) (d : ℕ) (ports : List PortDesc) (old new : Seen Own) (joined : Bool) (net now_net : NetState) → JoinsOrNot Tells d ports joined old new net now_net → AreRead net.kept → AreRead now_net.kept
 joins_read Tells d ports old new true net now_net joins read = waits_read net.kept now_net.kept joins.answer joins.waits read
-joins_read Tells d ports old new false net now_net joins read = subst AreRead (sym (ap (λ (n : NetState). n.kept) joins.net_so)) (read_left d net.kept read)
+joins_read Tells d ports old new false net now_net joins read = subst AreRead (sym (ap (λ (n : NetState). n.kept) joins.net_is)) (read_left d net.kept read)
 
 -- ---- An undo in which no switch failed
 
@@ -209,7 +203,7 @@ part_read old new d (BarrierPassed xid got) older kept now_kept runs none keeps 
 part_read old new d (Stuck xid halt steps) older kept now_kept runs none keeps read =
     let lost = lost_parts ((d, Stuck xid halt steps) ∷ older) in
     subst (AllByRecursion (IsReadBut lost)) (sym keeps.1)
-    (all_append (IsReadBut lost) kept (map (λ b. (d, b)) keeps.0) (but_more (lost_parts older) (lost_in d (Stuck xid halt steps)) kept read) (gone_all d lost (stuck_lost old new d (Stuck xid halt steps) older (λ rest. refl) runs none) keeps.0))
+    (all_two (IsReadBut lost) kept (map (λ b. (d, b)) keeps.0) (but_more (lost_parts older) (lost_in d (Stuck xid halt steps)) kept read) (gone_all d lost (stuck_lost old new d (Stuck xid halt steps) older (λ rest. refl) runs none) keeps.0))
 
 keeps_read : (old new : Counts) (kept : List (ℕ × List ℕ)) (parts : List (ℕ × Part)) (now_kept : List (ℕ × List ℕ)) → AllRun old new parts → first_fault parts ≡ None → Keeps kept parts now_kept → AreRead kept → AllByRecursion (IsReadBut (lost_parts parts)) now_kept
 keeps_read old new kept [] now_kept runs none keeps read = subst (AllByRecursion (IsReadBut [])) (sym keeps) (read_but [] kept read)
@@ -239,9 +233,9 @@ goes_all (d ∷ lost) net all = goes_all lost (lost_net d net) (goes_one d lost 
 
 undoes_read : {Own Tells : Type 0} {start : ℕ} {old new : Seen Own} (net now_net : NetState) → Undoes Tells start old new net now_net (Ok tt) → AreRead net.kept → AreRead now_net.kept
 undoes_read {start = start} {old = old} {new = new} net now_net u read =
-    read_same (lose_all (lost_parts u.parts) (record (undone_net start net) { xid = next_free net.xid u.parts; kept = u.kept; room = now_net.room })) now_net u.net_so
+    read_same (lose_all (lost_parts u.parts) (record (undone_net start net) { xid = next_free net.xid u.parts; kept = u.kept; room = now_net.room })) now_net u.net_is
     (goes_all (lost_parts u.parts) (record (undone_net start net) { xid = next_free net.xid u.parts; kept = u.kept; room = now_net.room })
-    (keeps_read old.counts new.counts net.kept u.parts u.kept (λ d. (u.each d).run) (no_fault (first_fault u.parts) u.result_so) u.keeps read))
+    (keeps_read old.counts new.counts net.kept u.parts u.kept (λ d. (u.each d).run) (no_fault (first_fault u.parts) u.result_is) u.keeps read))
 
 -- ---- A turn
 
@@ -253,7 +247,7 @@ change_stays {d = d} bytes net now_net answer changes None host read =
     waits_read net.kept now_net.kept asks.refusal asks.waits read
 
 change_goes : {Own Tells : Type 0} {d : ℕ} {old new : Seen Own} (net now_net : NetState) → ChangesLost Tells d old new net now_net → AreRead net.kept → AreRead now_net.kept
-change_goes {d = d} net now_net lost read = read_alike (filter (λ m. not (m.0 == d)) net.kept) now_net.kept (ap (λ (n : NetState). n.kept) lost.net_so) (read_left d net.kept read)
+change_goes {d = d} net now_net lost read = read_alike (filter (λ m. not (m.0 == d)) net.kept) now_net.kept (ap (λ (n : NetState). n.kept) lost.net_is) (read_left d net.kept read)
 
 change_read : {Own Tells : Type 0} {d : ℕ} {old new : Seen Own} (bytes : List ℕ) (net now_net : NetState) (answer : Answer) → Changes Tells d bytes old new net now_net (Ok answer) → AreRead net.kept → AreRead now_net.kept
 change_read {d = d} bytes net now_net answer changes read =

@@ -115,10 +115,10 @@ pub flows_next : (rows : List FlowRow) (vs : List ViewRow) (place from : ℕ) (r
     → FindsFlags from row.key vs found → Adds (flow_line row found.0) b c → FlowsSoFar rows vs (place + 1) found.1 a c
 flows_next rows vs place from row more found a b c same is so finds adds =
     let there = next_row row (drop place vs) more (subst (λ (rs : List FlowRow). SameKeys rs (drop place vs)) is (same_drop place rows vs same)) in
-    let here = finds.here there.first there.later (ap (λ (n : ℕ). drop n vs) so.from_so ∙ there.split) there.key in
+    let here = finds.here there.first there.later (ap (λ (n : ℕ). drop n vs) so.from_is ∙ there.split) there.key in
     let line : found.0 ≡ there.first.flags = first_of found (there.first.flags, from + 1) here in
     record {
-      from_so = second_of found (there.first.flags, from + 1) here ∙ ap (λ (n : ℕ). n + 1) so.from_so;
+      from_is = second_of found (there.first.flags, from + 1) here ∙ ap (λ (n : ℕ). n + 1) so.from_is;
       adds = subst (λ (text : List ℕ). Adds text a c)
           (ap (λ (n : ℕ). flow_lines (take place rows) vs ++ flow_line row n) line ∙ sym (flow_lines-more place rows vs row there.first more there.later is there.split) ∙ ap (λ (n : ℕ). flow_lines (take n rows) vs) (sym (add-one place)))
           (adds_then so.adds adds);
@@ -148,7 +148,7 @@ asks_as Tells d old new r net None asks steps = record {
 
 pub asks_wait : {Own : Type 0} {Tells : Type 0} {d : ℕ} {old new : Seen Own} (r : Run) (net : NetState) (rows : Option (List FlowRow)) → Asks Tells d old new r.net net (Ok rows) → WaitsAtEnd r (record r { net = net })
 asks_wait r net (Some rows) asks = record { room = ap (λ (n : NetState). n.room) asks.asks.stays; events = refl; done = refl; failed = refl; store = refl }
-asks_wait r net None asks = record { room = ap (λ (n : NetState). n.room) asks.asks.net_so; events = refl; done = refl; failed = refl; store = refl }
+asks_wait r net None asks = record { room = ap (λ (n : NetState). n.room) asks.asks.net_is; events = refl; done = refl; failed = refl; store = refl }
 
 pub views_kept : {text : List ℕ} {r now_r : Run} (d : ℕ) (vs : List ViewRow) → Adds text r now_r → rows_at d r.net.views ≡ Some vs → rows_at d now_r.net.views ≡ Some vs
 views_kept d vs adds is = ap (λ (e : Engine). rows_at d e.net.views) adds.engine ∙ is
@@ -172,7 +172,7 @@ in_step_says d s old new r mid now_r rows text none is engine index lines step a
     let xid : mid.net.xid ≡ now_r.net.xid = sym (ap (λ (e : Engine). e.net.xid) adds.engine) in
     record {
       lines = adds.lines ∙ ap (λ (xs : List ℕ). xs ++ text) lines;
-      engine = adds.engine ∙ engine ∙ ap₂ (λ (x : ℕ) (k : List (ℕ × List ℕ)). record (engine_of r) { net = record r.net { xid = x; kept = k } }) xid step.kept_so;
+      engine = adds.engine ∙ engine ∙ ap₂ (λ (x : ℕ) (k : List (ℕ × List ℕ)). record (engine_of r) { net = record r.net { xid = x; kept = k } }) xid step.kept_is;
       index = adds.index ∙ index;
       switches = λ e. elim (cases_eq e d) [
         | inl same ↦ ap (λ (n : ℕ). switch_of n (state new)) same ∙ step.stays ∙ sym is ∙ ap (λ (n : ℕ). switch_of n (state old)) (sym same)
@@ -191,7 +191,7 @@ told_table Tells d vs old new r mid now_r rows is continues asks said told keeps
     let j = joined-with d r.net.views (state old) vs (ready.agrees d) is in
     let before : Conforming old = Conforming-before told continues keeps in
     let time = switch-in_time old before d j.switch j.stands in
-    let small = subst (λ (n : ℕ). n < 2 ^ 32) (sym time.moment_so) (moment-within old before) in
+    let small = subst (λ (n : ℕ). n < 2 ^ 32) (sym time.moment_is) (moment-within old before) in
     let step = asks.in_step j.switch told keeps j.stands (ready.waits d) in
     let own : rows ≡ own_rows j.switch = step.same_rows (rows-are j.switch (sound.entries d j.switch j.stands) small) in
     let same : SameKeys rows vs = subst (λ (rs : List FlowRow). SameKeys rs vs) (sym own) (keys-same j.switch.moment j.switch.table.entries vs j.rows) in
@@ -243,7 +243,7 @@ lost_says Tells d old new r mid now_r there asks adds told keeps ready =
     let here : is_among d (d ∷ []) ≡ true = rw (eq-eqb d d refl) refl in
     record {
       lines = adds.lines ∙ ap₂ (λ (xs ys : List ℕ). xs ++ ys) asks.lines (sym (said_lost d (d ∷ []) r.net.views (state old) here));
-      engine = adds.engine ∙ asks.engine ∙ ap (λ (n : NetState). record (engine_of r) { net = n }) asks.lost.net_so
+      engine = adds.engine ∙ asks.engine ∙ ap (λ (n : NetState). record (engine_of r) { net = n }) asks.lost.net_is
           ∙ ap (λ (x : ℕ). record (engine_of r) { net = record (lost_net d r.net) { xid = x } }) xid;
       index = adds.index ∙ asks.index;
       switches = λ e. elim (cases_eq e d) [
@@ -342,10 +342,6 @@ says_sound {lost = lost} {old = old} says sound = record {
   where
     no_switch : (x : SwitchState) → None ≡ Some x → ⊥
     no_switch x h = cc
-
--- the text of switches that are lost, and of those that are not
-text_of_lost : {Own : Type 0} (lost : List ℕ) (views now_views : List TableView) (old mid : Seen Own) (d : ℕ) → is_among d lost ≡ true → shown_text lost now_views (state mid) d ≡ shown_text lost views (state old) d
-text_of_lost lost views now_views old mid d gone = said_lost d lost now_views (state mid) gone ∙ sym (said_lost d lost views (state old) gone)
 
 same_texts : (f g : ℕ → List ℕ) (ds : List ℕ) → ((d : ℕ) → is_among d ds ≡ true → f d ≡ g d) → flat_map f ds ≡ flat_map g ds
 same_texts f g [] same = refl

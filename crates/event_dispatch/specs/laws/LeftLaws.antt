@@ -52,20 +52,20 @@ use Rattle.event_dispatch.specs.laws.NoEventLaws.{no_event_none, no_event_then, 
 
 -- ---- What was undone is so whatever comes behind that moves no switch
 
-undone_so : {Own : Type 0} {Tells : Type 0} (old new : Seen Own) → Tells → UndoneButFailed Tells old new → UndoneButFailed (Unit {0}) old new
-undone_so old new told u = record {
+undone_is : {Own : Type 0} {Tells : Type 0} (old new : Seen Own) → Tells → UndoneButFailed Tells old new → UndoneButFailed (Unit {0}) old new
+undone_is old new told u = record {
   joined = λ d s is. elim (u.joined d s is) [ inl f ↦ inl (failed_told d old new told f) | inr e ↦ inr e ];
   out = u.out;
 }
 
 -- a switch that has its entries again, or was lost, stands so still
-still_so : {Own : Type 0} (d : ℕ) (s : SwitchState) (old mid new : Seen Own) → Longer mid.history new.history → SwitchesStay mid new → HasEntriesAgain s (switch_of d (state mid)) ⊎ WasLost d old mid → HasEntriesAgain s (switch_of d (state new)) ⊎ WasLost d old new
-still_so d s old mid new longer stay (inl e) = inl (record { next = e.next; stands = stay d ∙ e.stands })
-still_so d s old mid new longer stay (inr lost) = inr (lost-still old mid new d lost longer (stay d ∙ lost.out))
+still_is : {Own : Type 0} (d : ℕ) (s : SwitchState) (old mid new : Seen Own) → Longer mid.history new.history → SwitchesStay mid new → HasEntriesAgain s (switch_of d (state mid)) ⊎ WasLost d old mid → HasEntriesAgain s (switch_of d (state new)) ⊎ WasLost d old new
+still_is d s old mid new longer stay (inl e) = inl (record { next = e.next; stands = stay d ∙ e.stands })
+still_is d s old mid new longer stay (inr lost) = inr (lost-still old mid new d lost longer (stay d ∙ lost.out))
 
 undone_then : {Own : Type 0} {Tells : Type 0} (old mid new : Seen Own) → Tells → Continues Tells old mid → Continues Tells mid new → SwitchesStay mid new → UndoneButFailed (Unit {0}) old mid → UndoneButFailed (Unit {0}) old new
 undone_then old mid new told first later stay u = record {
-  joined = λ d s is. elim (u.joined d s is) [ inl f ↦ inl (failed_before d old mid new first.none_fell later.none_fell (λ u. later.told told) f) | inr e ↦ inr (still_so d s old mid new (later.told told) stay e) ];
+  joined = λ d s is. elim (u.joined d s is) [ inl f ↦ inl (failed_before d old mid new first.none_fell later.none_fell (λ u. later.told told) f) | inr e ↦ inr (still_is d s old mid new (later.told told) stay e) ];
   out = λ d is. stay d ∙ u.out d is;
 }
 
@@ -129,9 +129,9 @@ unfolding answering answers_of
 answers_agree judged [] = refl
 answers_agree judged (x ∷ xs) = (refl, answers_agree judged xs)
 
-judged_so : (judged : Bool) → (answering judged).allows [] ≡ judged
+judged_is : (judged : Bool) → (answering judged).allows [] ≡ judged
 unfolding answering
-judged_so judged = refl
+judged_is judged = refl
 
 never_given : (rest : List ℕ) (acts : List Act) (judged : Bool) (answers : List Answer) → IsCompleted (turn_of (answering judged) budget rest (reply_of (record { given = false; acts = acts })) answers).outcome → ⊥
 unfolding turn_of reply_of
@@ -142,7 +142,7 @@ done_by : {Own : Type 0} (given : Bool) (rest event : List ℕ) (acts : List Act
     → (a : AtOnce index (journal old.history)) → Passes a.last.unread rest → TurnDone old new
 done_by true rest event acts judged answers old new is more completed a passes = record {
   event = event;
-  event_so = is;
+  event_is = is;
   acts = acts;
   history = more;
   before = a;
@@ -159,7 +159,7 @@ turn_done : {Own : Type 0} {Tells : Type 0} {accepts : List TableView → Bool} 
 turn_done {accepts = accepts} {rest = rest} {event = event} {unread = unread} {old = old} {new = new} {now_net = now_net} {stop = stop} told at is t a passes =
     let judged = accepts now_net.views in
     let exchanges = exchanges_in t.trace in
-    let alike = turn_alike (answering judged) (answers_of exchanges) [] t (answers_agree judged exchanges) (judged_so judged) in
+    let alike = turn_alike (answering judged) (answers_of exchanges) [] t (answers_agree judged exchanges) (judged_is judged) in
     done_by t.given rest event (acts_in t.trace) judged (answers_of exchanges) old new is
     (subst (λ (i : ℕ). acts_of i new.history ≡ acts_of i old.history ++ give_act t.given i event ∷ acts_in t.trace) at (turn_acts t told))
     (subst IsCompleted (sym (ap (λ (p : Played (List Answer)). p.outcome) alike)) (completes stop unread t.outcome t.ends)) a passes
@@ -174,7 +174,7 @@ pub left_stopped : {Own : Type 0} {Tells Short : Type 0} {app start now_start : 
     → Stops Tells app old mid at_net mid_net fault → Undoes Tells now_start mid new mid_net now_net result → TurnLeft Tells Short rest old new net
 left_stopped {Tells = Tells} {app = app} {old = old} {mid = mid} {new = new} {mid_net = mid_net} {now_net = now_net} {fault = fault} {result = result} rest net same at kept stops undoes = record {
   left = λ told keeps order ready a passes.
-      inr (inl (undone_so old new told
+      inr (inl (undone_is old new told
       (stop-undone Tells app old mid new net mid_net now_net fault result told keeps order ready (subst (λ (n : NetState). Stops Tells app old mid n mid_net fault) same stops)
       (subst (λ (n : ℕ). Undoes Tells n mid new mid_net now_net result) (kept ∙ at) undoes))));
 }
@@ -184,16 +184,16 @@ pub left_failed : {Own : Type 0} {Tells Short : Type 0} {accepts : List TableVie
     → at_net ≡ net → start ≡ length net.log → now_start ≡ start → Turns Tells accepts app most taken frame old mid at_net mid_net end unread → Undoes Tells now_start mid new mid_net now_net result → TurnLeft Tells Short rest old new net
 left_failed {Tells = Tells} {accepts = accepts} {app = app} {most = most} {taken = taken} {frame = frame} {unread = unread} {old = old} {mid = mid} {new = new} {mid_net = mid_net} {now_net = now_net} {end = end} {result = result} rest net same at kept turns undoes = record {
   left = λ told keeps order ready a passes.
-      inr (inl (undone_so old new told
+      inr (inl (undone_is old new told
       (turn-undone Tells accepts app most taken frame old mid new net mid_net now_net end unread result told keeps order ready
       (subst (λ (n : NetState). Turns Tells accepts app most taken frame old mid n mid_net end unread) same turns)
       (subst (λ (n : ℕ). Undoes Tells n mid new mid_net now_net result) (kept ∙ at) undoes))));
 }
 
-committed_so : {Own : Type 0} (Tells : Type 0) (old new : Seen Own) (fault : TxnFault) → Tells → UndoneButFailed Tells old new ⊎ ((fault ≡ NoMemory) × TurnKept old new) ⊎ TurnReleasing old new → TablesLeft (IsShort (fault_of fault)) old new
-committed_so Tells old new fault told (inl undone) = inr (inl (undone_so old new told undone))
-committed_so Tells old new fault told (inr (inl kept)) = inr (inr (inl (subst (λ (f : TxnFault). IsShort (fault_of f)) (sym kept.0) tt, kept.1)))
-committed_so Tells old new fault told (inr (inr releasing)) = inr (inr (inr releasing))
+committed_is : {Own : Type 0} (Tells : Type 0) (old new : Seen Own) (fault : TxnFault) → Tells → UndoneButFailed Tells old new ⊎ ((fault ≡ NoMemory) × TurnKept old new) ⊎ TurnReleasing old new → TablesLeft (IsShort (fault_of fault)) old new
+committed_is Tells old new fault told (inl undone) = inr (inl (undone_is old new told undone))
+committed_is Tells old new fault told (inr (inl kept)) = inr (inr (inl (subst (λ (f : TxnFault). IsShort (fault_of f)) (sym kept.0) tt, kept.1)))
+committed_is Tells old new fault told (inr (inr releasing)) = inr (inr (inr releasing))
 
 -- it was whole, and not all of its packets could be released
 pub left_committed : {Own : Type 0} {Tells : Type 0} {accepts : List TableView → Bool} {app start now_start : ℕ} {event rest unread : List ℕ} {old mid new : Seen Own} {at_net mid_net now_net : NetState} {queue now_queue : List Event} {stop : Bool} {end : TurnEnd} (net : NetState)
@@ -206,7 +206,7 @@ left_committed {Tells = Tells} {accepts = accepts} {app = app} {now_start = now_
           subst (λ (e : TurnEnd). Turns Tells accepts app budget rest event old mid net mid_net e unread) done (subst (λ (n : NetState). Turns Tells accepts app budget rest event old mid n mid_net end unread) same turns) in
           let broken : Commits Tells (length net.log) mid new mid_net now_net queue now_queue (Err fault) =
           subst (λ (n : ℕ). Commits Tells n mid new mid_net now_net queue now_queue (Err fault)) (kept ∙ at) commits in
-          committed_so Tells old new fault told
+          committed_is Tells old new fault told
           (commit-left Tells accepts app budget rest event old mid new net mid_net now_net (ends.Done stop) unread queue now_queue fault told keeps order ready turned (turn_done told is gives turned a passes) broken);
     }
 
@@ -235,14 +235,14 @@ left_closed {Tells = Tells} {accepts = accepts} {number = number} {event = event
 left_closed {Tells = Tells} {accepts = accepts} {number = number} {event = event} {rest = rest} {unread = unread} app (closings.Failed cause) old mid new net mid_net at first later own plays = record {
   left = λ told keeps order ready a passes.
       let undone = turn-undone Tells accepts app budget rest (event_frame number net.moment event) old plays.mid mid net plays.mid_net mid_net (ends.Failed cause) unread (Ok tt) told keeps (InOrder-before told later order) ready plays.turns plays.played.0 in
-      inr (inl (undone_then old mid new told first later (own_stay later (own told)) (undone_so old mid told undone)));
+      inr (inl (undone_then old mid new told first later (own_stay later (own told)) (undone_is old mid told undone)));
 }
 
 -- the application has its turn while it is alive
 pub left_turn : {Own : Type 0} (Tells Short : Type 0) (rest : List ℕ) (old new : Seen Own) (net : NetState) (e : Engine) → e.alive ≡ true → rest ≡ e.rest → net ≡ e.net → TurnLeft Tells Short rest old new net → DispatchLeft Tells Short old new e
 left_turn Tells Short rest old new net e alive same stands turn = record {
   left = λ told keeps order ready talking.
-      turn.left told keeps order (subst (λ (n : NetState). Ready old n) (sym stands) ready) talking.at_once (subst (λ (xs : List ℕ). Passes talking.at_once.last.unread xs) (sym same) (talking.rest_so alive).1);
+      turn.left told keeps order (subst (λ (n : NetState). Ready old n) (sym stands) ready) talking.at_once (subst (λ (xs : List ℕ). Passes talking.at_once.last.unread xs) (sym same) (talking.rest_is alive).1);
 }
 
 -- of an engine that stands as here, but for the events that wait
@@ -252,6 +252,6 @@ left_as Tells Short old new e now_e alive rest net dispatch = record {
       dispatch.left told keeps order (subst (λ (n : NetState). Ready old n) net ready)
       (record {
         at_once = talking.at_once;
-        rest_so = λ is. let so = talking.rest_so (alive ∙ is) in (so.0, subst (λ (xs : List ℕ). Passes talking.at_once.last.unread xs) rest so.1);
+        rest_is = λ is. let so = talking.rest_is (alive ∙ is) in (so.0, subst (λ (xs : List ℕ). Passes talking.at_once.last.unread xs) rest so.1);
       });
 }

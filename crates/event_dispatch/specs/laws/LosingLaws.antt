@@ -1,7 +1,6 @@
 -- Laws of the switches that were lost, which are told one after the other.
-use Rattle.std.specs.Prelude.{◌≡◌, ℕ, ◌+◌, ◌<◌, ◌≤◌, Bool, List, length, [], ◌∷◌, ◌++◌, drop, slice_get, Option, Some, None, Result, Ok, Err, OnOk}
+use Rattle.std.specs.Prelude.{◌≡◌, ℕ, ◌+◌, ◌<◌, Bool, List, length, [], ◌∷◌, ◌++◌, drop, slice_get, Some, None}
 use Rattle.std.specs.Option.{option_map}
-use Rattle.std.specs.declared.alloc.AllocError.{AllocError}
 use Rattle.std.proofs.Common.{refl, sym, ap, ap₂, ◌∙◌, subst, append_assoc, arith}
 use Rattle.app_frames.specs.declared.cause.Cause.{Cause}
 use Rattle.app_frames.specs.declared.frame.Event.{Event}
@@ -17,7 +16,7 @@ use Rattle.batch_laws.specs.Knowledge.{left_events, lost_text}
 use Rattle.run_laws.specs.Engine.{Engine}
 use Rattle.run_laws.specs.Facts.{turn_word, out_text, all_told, StartsAgain}
 use Rattle.event_dispatch.specs.declared.run.Run.{Run}
-use Rattle.event_dispatch.specs.Runs.{AreRead, StoreRests, Going, Waits}
+use Rattle.event_dispatch.specs.Runs.{Waits}
 use Rattle.event_dispatch.specs.Shows.{engine_of, Adds, TellsLost, TellsOn}
 use Rattle.event_dispatch.specs.Serves.{Starts, IsCounted, IsRestarted}
 use Rattle.event_dispatch.specs.laws.WhyLaws.{waits_then}
@@ -111,9 +110,6 @@ told_engine r mid told adds tells = tells.engine ∙ ap (λ (e : Engine). all_to
 told_lines : {text : List ℕ} (r mid told : Run) → Adds text r mid → TellsLost mid told → told.lines.items ≡ (r.lines.items ++ text) ++ lost_text r.net.left
 told_lines r mid told adds tells = tells.lines ∙ ap₂ (λ (xs : List ℕ) (ps : List KnownPorts). xs ++ lost_text ps) adds.lines (ap (λ (e : Engine). e.net.left) adds.engine)
 
-pub told_views : {text : List ℕ} (r mid told : Run) → Adds text r mid → TellsLost mid told → told.net.views ≡ r.net.views
-told_views r mid told adds tells = ap (λ (e : Engine). e.net.views) (told_engine r mid told adds tells)
-
 pub counted : {Own : Type 0} {stop : Bool} {out : List (ℕ × ℕ)} (seen : Seen Own) (r mid told : Run) → Adds (turn_line name (turn_word (ends.Done stop)) ++ out_text out) (record r { app = record r.app { done = r.app.done + 1 } }) mid → TellsLost mid told → IsCounted stop out seen seen r told
 counted {stop = stop} {out = out} seen r mid told adds tells =
     let ended = turn_line name (turn_word (ends.Done stop)) in
@@ -133,27 +129,3 @@ restarted {Tells = Tells} {old = old} {new = new} cause r mid told now_r adds te
       starts = subst (λ (e : Engine). StartsAgain Tells starts.text old new e (engine_of now_r)) (told_engine failed mid told adds tells) starts.starts;
       notes = starts.notes ∙ ap (λ (xs : List ℕ). xs ++ starts.text) (told_lines failed mid told adds tells) ∙ append_assoc (r.lines.items ++ ended) (lost_text r.net.left) starts.text ∙ append_assoc r.lines.items ended (lost_text r.net.left ++ starts.text);
     }
-
--- the run goes on
-pub going_told : {text : List ℕ} (r mid told : Run) → 1 ≤ r.net.room → r.app.done ≤ r.events → r.app.failed ≤ r.events → r.app.state.index ≡ index → AreRead r.net.kept → StoreRests r.store → Adds text r mid → Waits r mid → TellsLost mid told → Waits mid told → Going told
-going_told r mid told room done failed at read store adds noted tells waits = record {
-  room = subst (λ (n : ℕ). 1 ≤ n) (sym (waits.room ∙ noted.room)) room;
-  done = subst (λ (n : ℕ). n ≤ told.events) (sym (waits.done ∙ noted.done)) (subst (λ (n : ℕ). r.app.done ≤ n) (sym (waits.events ∙ noted.events)) done);
-  failed = subst (λ (n : ℕ). n ≤ told.events) (sym (waits.failed ∙ noted.failed)) (subst (λ (n : ℕ). r.app.failed ≤ n) (sym (waits.events ∙ noted.events)) failed);
-  index = tells.index ∙ adds.index ∙ at;
-  read = subst AreRead (sym (ap (λ (e : Engine). e.net.kept) (told_engine r mid told adds tells))) read;
-  store = subst StoreRests (sym (waits.store ∙ noted.store)) store;
-  left = ap (λ (e : Engine). e.net.left) tells.engine;
-}
-
-pub going_started : (result : Result (Unit {0}) AllocError) (told now_r : Run) → Going told → OnOk result (Waits told now_r) → OnOk result (now_r.app.state.index ≡ index) → OnOk result (now_r.net ≡ told.net) → OnOk result (Going now_r)
-going_started (Err fault) told now_r going waits at net = tt
-going_started (Ok x) told now_r going waits at net = record {
-  room = subst (λ (n : ℕ). 1 ≤ n) (sym waits.room) going.room;
-  done = subst (λ (n : ℕ). n ≤ now_r.events) (sym waits.done) (subst (λ (n : ℕ). told.app.done ≤ n) (sym waits.events) going.done);
-  failed = subst (λ (n : ℕ). n ≤ now_r.events) (sym waits.failed) (subst (λ (n : ℕ). told.app.failed ≤ n) (sym waits.events) going.failed);
-  index = at;
-  read = subst (λ (n : NetState). AreRead n.kept) (sym net) going.read;
-  store = subst StoreRests (sym waits.store) going.store;
-  left = ap (λ (n : NetState). n.left) net ∙ going.left;
-}

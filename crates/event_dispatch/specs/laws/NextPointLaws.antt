@@ -10,13 +10,12 @@ use Rattle.outside.specs.declared.faults.NextFault.{NextFault}
 use Rattle.outside.specs.declared.faults.NextFault.TheVariants as coming
 use Rattle.outside.specs.declared.item.Item.{Item}
 use Rattle.outside.specs.declared.item.Item.TheVariants as items
-use Rattle.outside.specs.declared.step.WorldStep.{WorldStep}
 use Rattle.outside.specs.declared.step.WorldStep.TheVariants.{Acted, From, Joined, Left, Moment}
 use Rattle.outside.specs.Seen.{Seen}
 use Rattle.outside.specs.State.{State, upcoming, after_stim, after_act, after_step, after_steps, state}
 use Rattle.outside.specs.Calls.{Nexts, stim_steps, item_step, next_steps}
-use Rattle.outside.specs.laws.CallLaws.{Nexts-state}
-use Rattle.outside.specs.Conforming.{IsNext, MayAct, MayStep}
+use Rattle.outside.specs.laws.CallLaws.{Nexts-state, nothing_next}
+use Rattle.outside.specs.Conforming.{MayAct, MayStep}
 use Rattle.outside.specs.InOrder.{brings_message, BringMessages, MessagesSince, MayCome, MayComeAll, InOrder}
 use Rattle.outside.specs.laws.InOrderLaws.{InOrder-rest, messages-by}
 use Rattle.outside.specs.Quiescence.{is_quiescent, NoneQuiescent, NoneQuiescentLater}
@@ -138,9 +137,6 @@ begun_stim x s = refl
 still_begun : (begun : Option WorldStim) (s : State) → s.begun ≡ true → (after_steps (stim_steps begun) s).begun ≡ true
 still_begun None s is = is
 still_begun (Some x) s is = begun_stim x s
-
-nothing_next : (step : WorldStep) (s : State) → upcoming s ≡ [] → IsNext step s → ⊥
-nothing_next step s none next = let h = rw none at next in cc
 
 no_item : (declared : List Declared) (item : Item) (buf : List ℕ) (s : State) → None ≡ rest_by item → upcoming s ≡ [] → MayCome declared (item_step item buf) s → ⊥
 unfolding item_step MayCome MayStep

@@ -1,5 +1,6 @@
 -- Laws of parts of a run in which no application is given an event, no packet is released, and no switch moves.
 use Rattle.std.specs.Prelude.{◌≡◌, ◌==◌, ℕ, Bool, true, false, List, [], ◌∷◌, ◌++◌, map, Option, Some, None, Result, Ok, Err, refl}
+use Rattle.switch_laws.specs.laws.LinkLaws.{links_switch}
 use Rattle.std.proofs.Common.{sym, ap, ◌∙◌, append_assoc, true≢false}
 use Rattle.std.proofs.lemmas.List.{append-nil}
 use Rattle.of_types.specs.declared.journal.Act.{Act}
@@ -124,13 +125,9 @@ calls_give app (act ∷ acts) all = (call_gives app act all.0, calls_give app ac
 pub no_event_own : {Own : Type 0} {app : ℕ} {old new : Seen Own} → OwnSteps app old new → NoEventSince old new
 no_event_own {app = app} {old = old} {new = new} own = no_event_by old new (map step_of own.acts) own.history (calls_give app own.acts own.all)
 
-links_stay : (d : ℕ) (s t : State) → t.links ≡ s.links → switch_of d t ≡ switch_of d s
-unfolding switch_of
-links_stay d s t same = ap (λ (links : List Link). switch_in (link_of d links)) same
-
 pub own_stay : {Own : Type 0} {Tells : Type 0} {app : ℕ} {old new : Seen Own} → Continues Tells old new → OwnSteps app old new → SwitchesStay old new
 own_stay {app = app} {old = old} {new = new} on own d =
-    links_stay d (state old) (state new) (ap (λ (s : State). s.links) (state-append old new (map step_of own.acts) on.given own.history) ∙ (apart_called app own.acts (state old) own.all).links)
+    links_switch d (state old) (state new) (ap (λ (s : State). s.links) (state-append old new (map step_of own.acts) on.given own.history) ∙ (apart_called app own.acts (state old) own.all).links)
 
 call_releases : (app : ℕ) (act : Act) → is_call app act ≡ true → released_in act ≡ None
 call_releases app (Started of stands) is = refl

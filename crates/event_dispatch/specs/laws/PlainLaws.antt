@@ -59,7 +59,7 @@ use Rattle.event_dispatch.specs.ReportEnd.{TablesShown}
 use Rattle.event_dispatch.specs.laws.LastLaws.{some_is, says_ready, says_sound, distinct-views, distinct-take}
 use Rattle.event_dispatch.specs.Serves.{DispatchesSome, IsBatch, GoesRounds, GoesToEnd, Begins, IsUnopened}
 use Rattle.event_dispatch.specs.laws.RoundLaws.{batch_is}
-use Rattle.event_dispatch.specs.laws.WholeLaws.{opened_so}
+use Rattle.event_dispatch.specs.laws.WholeLaws.{opened_is}
 use Rattle.event_dispatch.specs.Plain.{IsPlainServed, IsPlainEnd, PlainRead, PlainJoin, PlainItem, PlainNext, PlainKept, PlainCalm, PlainTurn, PlainTable, PlainRun, PlainWhole, EndsPlain}
 
 -- ---- Want of memory, and faults of the network
@@ -216,7 +216,7 @@ table_asked {Tells = Tells} {old = old} {new = new} {net = net} d kept now_kept 
       let j = joined-with d net.views (state old) vs.0 (ready.agrees d) vs.1 in
       let before : Conforming old = Conforming-before told continues keeps in
       let time = switch-in_time old before d j.switch j.stands in
-      let small = subst (λ (n : ℕ). n < 2 ^ 32) (sym time.moment_so) (moment-within old before) in
+      let small = subst (λ (n : ℕ). n < 2 ^ 32) (sym time.moment_is) (moment-within old before) in
       ask_plain d j.switch fault (rows-are j.switch (sound.entries d j.switch j.stands) small) (steps j.switch told keeps j.stands (ready.waits d));
 }
 
@@ -272,7 +272,7 @@ pub run_rounds : {Own : Type 0} {Tells : Type 0} {accepts : List TableView → B
     → PlainRun Tells accepts mid new (engine_of then_r) end → PlainRun Tells accepts old new (engine_of r) end
 run_rounds old mid new r then_r end first rounds later rest = record {
   plain = λ allows told keeps judges settled.
-      ends_behind old mid new end (first.told told) (rest.plain allows told keeps judges (rounds.shown.rounds_so allows told (Conforming-before told later keeps) judges settled).moved.settled);
+      ends_behind old mid new end (first.told told) (rest.plain allows told keeps judges (rounds.shown.rounds_is allows told (Conforming-before told later keeps) judges settled).moved.settled);
 }
 
 -- ---- A whole run
@@ -321,7 +321,7 @@ unopened_plain Tells old new ends.NoMemory is = tt
 pub served_plain : {Own : Type 0} (Tells : Type 0) (accepts : List TableView → Bool) (most : ℕ) (end : Served) (old mid new : Seen Own) → (Tells → mid.history ≡ old.history ++ Opened ∷ []) → PlainWhole Tells accepts most mid new engine_at_first end
     → (allows : List Place → Bool) → Premise Tells accepts allows most old new → EndsPlain old new end
 served_plain Tells accepts most end old mid new opened whole allows p =
-    ends_behind old mid new end (Opened ∷ [], opened p.told) (whole.plain allows p.told p.keeps p.judges (settled-first mid (opened_so old mid p.untouched (opened p.told))) p.few)
+    ends_behind old mid new end (Opened ∷ [], opened p.told) (whole.plain allows p.told p.keeps p.judges (settled-first mid (opened_is old mid p.untouched (opened p.told))) p.few)
 
 pub on_err : {T E : Type 0} {P Q : E → Type 0} (r : Result T E) → ((e : E) → P e → Q e) → IfErr r P → IfErr r Q
 on_err (Ok x) f p = tt

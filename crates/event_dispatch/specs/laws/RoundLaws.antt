@@ -118,14 +118,14 @@ settled_early {Own} Tells accepts n m text old new e now_e sum none shown = reco
           read_starts = m.moves.read_starts;
           read_replies = m.moves.read_replies;
           read_stimuli = m.moves.read_stimuli;
-          stands = λ ss rs later q starts_so replies_so s.
+          stands = λ ss rs later q starts_is replies_is s.
               let later_starts = drop (length m.moves.starts) ss in
               let later_replies = drop (length m.moves.replies) rs in
-              let t = m.moves.stands ss rs later q starts_so replies_so s in
+              let t = m.moves.stands ss rs later q starts_is replies_is s in
               subst (Stands new now_e later_starts later_replies later) (same allows later_starts later_replies later q t) t;
-          says = λ ss rs later q starts_so replies_so s.
-              let t = m.moves.stands ss rs later q starts_so replies_so s in
-              subst (λ (p : ModelRun). text_of p ≡ text_of q ++ text) (same allows (drop (length m.moves.starts) ss) (drop (length m.moves.replies) rs) later q t) (m.moves.says ss rs later q starts_so replies_so s);
+          says = λ ss rs later q starts_is replies_is s.
+              let t = m.moves.stands ss rs later q starts_is replies_is s in
+              subst (λ (p : ModelRun). text_of p ≡ text_of q ++ text) (same allows (drop (length m.moves.starts) ss) (drop (length m.moves.replies) rs) later q t) (m.moves.says ss rs later q starts_is replies_is s);
         };
         settled = m.settled;
       };
@@ -175,9 +175,9 @@ batch_is Tells rests.End old new r now_r continues none app waits shown = record
 }
 
 -- and were written
-pub round_so : {Own : Type 0} {Tells : Type 0} {accepts : List TableView → Bool} {rest : Rest} {contents held now_contents : Option (List ℕ)} {old mid new : Seen Own} {r then_r mid_r now_r : Run} → Continues Tells old mid → r.lines.items ≡ [] → then_r.app ≡ r.app → Waits r then_r
+pub round_is : {Own : Type 0} {Tells : Type 0} {accepts : List TableView → Bool} {rest : Rest} {contents held now_contents : Option (List ℕ)} {old mid new : Seen Own} {r then_r mid_r now_r : Run} → Continues Tells old mid → r.lines.items ≡ [] → then_r.app ≡ r.app → Waits r then_r
     → BatchShown Tells rest old mid r then_r → engine_of mid_r ≡ engine_of then_r → Writes then_r.lines.items contents held mid_r → Continues Tells mid new → DispatchesWaiting Tells accepts held now_contents mid new mid_r now_r → GoesRound Tells accepts rest contents now_contents old new r now_r
-round_so {Tells = Tells} {rest = rest} {held = held} {old = old} {mid = mid} {r = r} {then_r = then_r} {mid_r = mid_r} first none app waits batch same writes later dispatches = record {
+round_is {Tells = Tells} {rest = rest} {held = held} {old = old} {mid = mid} {r = r} {then_r = then_r} {mid_r = mid_r} first none app waits batch same writes later dispatches = record {
   mid = mid;
   mid_run = mid_r;
   first = first;
@@ -188,10 +188,6 @@ round_so {Tells = Tells} {rest = rest} {held = held} {old = old} {mid = mid} {r 
   later = later;
   dispatches = dispatches;
 }
-
--- where it noted nothing, nothing is written
-pub nothing_noted : (contents : Option (List ℕ)) (r : Run) → r.lines.items ≡ [] → Writes r.lines.items contents contents r
-nothing_noted contents r none = record { written = subst (λ (text : List ℕ). contents ≡ append_known contents text) (sym none) (nothing_written contents); none_waits = none }
 
 -- and the run goes on
 pub going_written : (r then_r mid_r : Run) → Going r → Waits r then_r → then_r.app ≡ r.app → AreRead then_r.net.kept → Waits then_r mid_r → engine_of mid_r ≡ engine_of then_r → mid_r.app.state.index ≡ then_r.app.state.index → Going mid_r
@@ -231,7 +227,7 @@ rounds_last Tells accepts most n a b c old mid new r then_r now_r rounds one = r
   none_to_come = record {
     none = λ allows told keeps judges settled few.
         let keeps_mid = Conforming-before told one.later keeps in
-        let then_settled = (rounds.shown.rounds_so allows told (Conforming-before told one.first keeps_mid) judges settled).moved.settled in
+        let then_settled = (rounds.shown.rounds_is allows told (Conforming-before told one.first keeps_mid) judges settled).moved.settled in
         none-later Tells mid new told (Continues-trans Tells mid one.mid new one.first one.later) keeps (one.batch.none_to_come told keeps_mid then_settled);
   };
   writes = round_written rounds.text one.noted one.dispatches.text a b one.held c then_r now_r rounds.writes one.written one.dispatches.writes;
@@ -248,16 +244,16 @@ rounds_out {Own} Tells accepts most n a b old new r now_r many rounds = record {
   where
     never : (allows : List Place → Bool) → Tells → Conforming new → JudgesAlike Own allows accepts → AtRest old (engine_of r) → length (stimuli_in new) < most → ⊥
     never allows told keeps judges settled few =
-        let one = rounds.shown.rounds_so allows told keeps judges settled in
+        let one = rounds.shown.rounds_is allows told keeps judges settled in
         let long : length (stimuli_in new) ≡ length (stimuli_in old) + n =
-        ap (λ (xs : List WorldStim). length xs) one.moved.moves.read_stimuli ∙ length-append (stimuli_in old) one.stimuli ∙ ap (λ (k : ℕ). length (stimuli_in old) + k) one.number_so in
+        ap (λ (xs : List WorldStim). length xs) one.moved.moves.read_stimuli ∙ length-append (stimuli_in old) one.stimuli ∙ ap (λ (k : ℕ). length (stimuli_in old) + k) one.number_is in
         omega (arith, long, few, many)
 
 -- ---- The start
 
-pub begins_so : {Own : Type 0} (Tells : Type 0) (contents now_contents : Option (List ℕ)) (old new : Seen Own) (r mid now_r : Run) → r.lines.items ≡ [] → Starts Tells old new r mid → engine_of now_r ≡ engine_of mid → Writes mid.lines.items contents now_contents now_r
+pub begins_is : {Own : Type 0} (Tells : Type 0) (contents now_contents : Option (List ℕ)) (old new : Seen Own) (r mid now_r : Run) → r.lines.items ≡ [] → Starts Tells old new r mid → engine_of now_r ≡ engine_of mid → Writes mid.lines.items contents now_contents now_r
     → Begins Tells contents now_contents old new r now_r
-begins_so Tells contents now_contents old new r mid now_r none starts same writes = record {
+begins_is Tells contents now_contents old new r mid now_r none starts same writes = record {
   text = starts.text;
   shown = start-shown Tells starts.text old new (engine_of r) (engine_of now_r) (subst (λ (e : Engine). StartsAgain Tells starts.text old new (engine_of r) e) (sym same) starts.starts);
   writes = subst (λ (text : List ℕ). Writes text contents now_contents now_r) (starts.notes ∙ ap (λ (xs : List ℕ). xs ++ starts.text) none) writes;

@@ -158,12 +158,12 @@ goes_none Tells seen e = record { talks = λ told c. c.at_once }
 
 -- the application has its turn while it is alive
 pub goes_turn : {Own : Type 0} (Tells : Type 0) (rest : List ℕ) (old new : Seen Own) (e : Engine) → e.alive ≡ true → rest ≡ e.rest → TurnTalks Tells index rest old new → GoesOnTalking Tells old new e
-goes_turn Tells rest old new e alive is turn = record { talks = λ told c. turn.talks told c.at_once (c.rest_so alive).0 (subst (Passes c.at_once.last.unread) (sym is) (c.rest_so alive).1) }
+goes_turn Tells rest old new e alive is turn = record { talks = λ told c. turn.talks told c.at_once (c.rest_is alive).0 (subst (Passes c.at_once.last.unread) (sym is) (c.rest_is alive).1) }
 
 -- of an engine whose application stands as here
 pub goes_as : {Own : Type 0} (Tells : Type 0) (old new : Seen Own) (e other : Engine) → e.alive ≡ other.alive → e.rest ≡ other.rest → GoesOnTalking Tells old new e → GoesOnTalking Tells old new other
 goes_as Tells old new e other alive rest goes = record {
-  talks = λ told c. goes.talks told (record { at_once = c.at_once; rest_so = λ is. let so = c.rest_so (sym alive ∙ is) in (so.0, subst (Passes c.at_once.last.unread) (sym rest) so.1) });
+  talks = λ told c. goes.talks told (record { at_once = c.at_once; rest_is = λ is. let so = c.rest_is (sym alive ∙ is) in (so.0, subst (Passes c.at_once.last.unread) (sym rest) so.1) });
 }
 
 -- ---- Where a fault ended it

@@ -53,8 +53,8 @@ turn_at Tells accepts event (closings.Done stop out) old mid new net queue app s
           commits = subst (λ (s : Seen _). Commits Tells (length r.net.log) plays.mid s plays.mid_net net r.queue queue (Ok out.items)) (sym closes.seen) plays.played;
           engine = closes.engine
               ∙ ap (λ (b : Bool). all_told net queue (record (engine_of r) { alive = b; rest = app.rest; kept = kept_of index slots; done = r.app.done + 1 })) alive
-              ∙ ap (λ (kept : List ℕ). all_told net queue (record (engine_of r) { rest = app.rest; kept = kept; done = r.app.done + 1 })) holds.kept_so;
-          text_so = refl;
+              ∙ ap (λ (kept : List ℕ). all_told net queue (record (engine_of r) { rest = app.rest; kept = kept; done = r.app.done + 1 })) holds.kept_is;
+          text_is = refl;
         };
       };
       notes = closes.notes;
@@ -62,7 +62,7 @@ turn_at Tells accepts event (closings.Done stop out) old mid new net queue app s
 turn_at Tells accepts event (closings.Failed cause) old mid new net queue app slots r now_r holds alive closes =
     let plays = holds.plays in
     let same : kept_of index slots ≡ kept_of index r.store =
-    holds.kept_so ∙ ap (λ (checkpoint : Option (List ℕ)). unwrap_or checkpoint (kept_of index r.store)) (none_handed cause app.rest plays.turns.outcome plays.turns.ends) in
+    holds.kept_is ∙ ap (λ (checkpoint : Option (List ℕ)). unwrap_or checkpoint (kept_of index r.store)) (none_handed cause app.rest plays.turns.outcome plays.turns.ends) in
     record {
       text = turn_line name (words.Failed cause) ++ (lost_text net.left ++ closes.text);
       takes = record {
@@ -80,16 +80,16 @@ turn_at Tells accepts event (closings.Failed cause) old mid new net queue app sl
               (ap (λ (unread : List ℕ). all_told net queue (record (engine_of r) { alive = app.alive; rest = unread; kept = kept_of index slots; failed = r.app.failed + 1 })) plays.turns.leaves
               ∙ ap₂ (λ (q : List Event) (b : Bool). all_told net q (record (engine_of r) { alive = b; rest = []; kept = kept_of index slots; failed = r.app.failed + 1 })) plays.played.1 alive
               ∙ ap (λ (kept : List ℕ). all_told net r.queue (record (engine_of r) { rest = []; kept = kept; failed = r.app.failed + 1 })) same) closes.starts;
-          text_so = refl;
+          text_is = refl;
         };
       };
       notes = closes.notes;
     }
 
-pub turn_so : {Own : Type 0} (Tells : Type 0) (accepts : List TableView → Bool) (event : Event) (closing : Closing) (old mid new : Seen Own) (net : NetState) (queue : List Event) (app : AppState) (slots : List Slot) (r now_r : Run) → r.app.state.index ≡ index
+pub turn_is : {Own : Type 0} (Tells : Type 0) (accepts : List TableView → Bool) (event : Event) (closing : Closing) (old mid new : Seen Own) (net : NetState) (queue : List Event) (app : AppState) (slots : List Slot) (r now_r : Run) → r.app.state.index ≡ index
     → HoldsTurn Tells accepts r.app.state.index r.events event closing old mid r.net net r.queue queue r.app.state.rest app.rest (kept_of r.app.state.index r.store) (kept_of r.app.state.index slots) → app.alive ≡ r.app.state.alive
     → Closes Tells closing mid new (played_run net queue app slots r) now_r → HasTurn Tells accepts event old new r now_r
-turn_so Tells accepts event closing old mid new net queue app slots r now_r at holds alive closes =
+turn_is Tells accepts event closing old mid new net queue app slots r now_r at holds alive closes =
     turn_at Tells accepts event closing old mid new net queue app slots r now_r
     (subst (λ (i : ℕ). HoldsTurn Tells accepts i r.events event closing old mid r.net net r.queue queue r.app.state.rest app.rest (kept_of i r.store) (kept_of i slots)) at holds) alive closes
 
@@ -111,7 +111,7 @@ play_done {Tells = Tells} {accepts = accepts} {app = app} {number = number} {sta
         played = subst (λ (n : NetState). Commits Tells (length net.log) mid new mid_net n queue now_queue (Ok out.items)) (sym here)
             (subst (λ (n : ℕ). Commits Tells n mid new mid_net left_net queue now_queue (Ok out.items)) (kept ∙ at) commits);
       };
-      staged_so = stages.staged_so;
+      staged_is = stages.staged_is;
     }
 
 pub play_failed : {Own : Type 0} {Tells : Type 0} {accepts : List TableView → Bool} {app number start now_start : ℕ} {event : Event} {end : TurnEnd} {cause : Cause} {result : Result (Unit {0}) TxnFault} {old mid new : Seen Own} {net txn_net mid_net left_net now_net : NetState} {queue now_queue : List Event}
@@ -133,5 +133,5 @@ play_failed {Tells = Tells} {accepts = accepts} {app = app} {number = number} {s
           waits,
         );
       };
-      staged_so = stages.staged_so;
+      staged_is = stages.staged_is;
     }

@@ -39,9 +39,9 @@ use Rattle.event_dispatch.specs.laws.AlikeLaws.{so_cut}
 
 -- ---- The end of the report
 
-pub ends_so : {Own : Type 0} (Tells : Type 0) (contents now_contents : Option (List ℕ)) (last new : Seen Own) (r mid now_r : Run) → r.lines.items ≡ [] → LastShown Tells last new r mid → mid.events ≡ r.events → Writes mid.lines.items contents now_contents now_r
+pub ends_is : {Own : Type 0} (Tells : Type 0) (contents now_contents : Option (List ℕ)) (last new : Seen Own) (r mid now_r : Run) → r.lines.items ≡ [] → LastShown Tells last new r mid → mid.events ≡ r.events → Writes mid.lines.items contents now_contents now_r
     → engine_of now_r ≡ engine_of mid → EndsReport Tells contents now_contents last new r now_r
-ends_so Tells contents now_contents last new r mid now_r none shown counted writes same = record {
+ends_is Tells contents now_contents last new r mid now_r none shown counted writes same = record {
   finish = record {
     shown = λ told keeps calm.
         let says = shown.shown told keeps calm in
@@ -73,11 +73,11 @@ went_out Tells accepts most a b c d old begun last new r r1 r2 now_r on later be
     last = last;
     text = begins.text ++ rounds.text;
     later = later;
-    whole_so = whole-of Tells accepts most begins.text rounds.text old begun last (engine_of r) (engine_of r1) (engine_of r2) on begins.shown rounds.shown;
+    whole_is = whole-of Tells accepts most begins.text rounds.text old begun last (engine_of r) (engine_of r1) (engine_of r2) on begins.shown rounds.shown;
     none_left = ends.0;
     finish = subst (λ (held : Option (List ℕ)). ShownFinish Tells held d last new (engine_of r2)) (writes_then begins.text rounds.text a b c r1 r2 begins.writes rounds.writes).written ends.1.finish;
   };
-  events_so = ends.1.events;
+  events_is = ends.1.events;
   none_to_come = none_then Tells accepts most old begun last new (engine_of r) b c r1 r2 on later begins.shown rounds;
 }
 
@@ -89,16 +89,16 @@ went_full {Own} Tells accepts most left a b c d old begun last new r r1 r2 now_r
     now_engine = engine_of r2;
     text = begins.text ++ rounds.text;
     later = later;
-    whole_so = whole-of Tells accepts most begins.text rounds.text old begun last (engine_of r) (engine_of r1) (engine_of r2) on begins.shown rounds.shown;
-    left_so = ends.0;
-    contents_so = ends.1 ∙ (writes_then begins.text rounds.text a b c r1 r2 begins.writes rounds.writes).written;
+    whole_is = whole-of Tells accepts most begins.text rounds.text old begun last (engine_of r) (engine_of r1) (engine_of r2) on begins.shown rounds.shown;
+    left_is = ends.0;
+    contents_is = ends.1 ∙ (writes_then begins.text rounds.text a b c r1 r2 begins.writes rounds.writes).written;
     leaves = record { shown = λ told keeps. subst (Leaves [] last) (sym ends.2) (leaves-nothing last) };
   };
   none_to_come = none_then Tells accepts most old begun last new (engine_of r) b c r1 r2 on later begins.shown rounds;
 }
   where
     leaves-nothing : (seen : Seen Own) → Leaves [] seen seen
-    leaves-nothing seen = record { given = refl; starts = refl; replies = refl; inputs = refl; stimuli = refl; released = refl; lost_so = sym (append-nil (lost_of seen)); marks = refl; switches = λ d. refl; at_once = λ said. said; orderly = orderly-none index seen }
+    leaves-nothing seen = record { given = refl; starts = refl; replies = refl; inputs = refl; stimuli = refl; released = refl; lost_is = sym (append-nil (lost_of seen)); marks = refl; switches = λ d. refl; at_once = λ said. said; orderly = orderly-none index seen }
 
 pub went_as : {Own : Type 0} (Tells : Type 0) (accepts : List TableView → Bool) (most : ℕ) (result : Result (Unit {0}) Served) (a b c d : Option (List ℕ)) (old begun last new : Seen Own) (r r1 r2 now_r : Run) → Continues Tells begun last → Continues Tells last new → Begins Tells a b old begun r r1
     → GoesToEnd Tells accepts most b c begun last r1 r2 → Finishes Tells result c d last new r2 now_r → GoesAs Tells accepts most result a d old new r now_r
@@ -125,7 +125,7 @@ out_then Tells accepts most events a b old mid new e later leaves runs = record 
     last = runs.out.last;
     text = runs.out.text;
     later = Continues-trans Tells runs.out.last mid new runs.out.later later;
-    whole_so = runs.out.whole_so;
+    whole_is = runs.out.whole_is;
     none_left = runs.out.none_left;
     finish = record {
       shown = λ told keeps calm.
@@ -133,7 +133,7 @@ out_then Tells accepts most events a b old mid new e later leaves runs = record 
           record { lost = done.lost; written = done.written; leaves = leaves-then done.lost runs.out.last mid new done.leaves (leaves.shown told keeps) };
     };
   };
-  events_so = runs.events_so;
+  events_is = runs.events_is;
   none_to_come = none_later_then Tells accepts most old mid new e later runs.none_to_come;
 }
 
@@ -145,9 +145,9 @@ full_then Tells accepts most left a b old mid new e later leaves runs = record {
     now_engine = runs.full.now_engine;
     text = runs.full.text;
     later = Continues-trans Tells runs.full.last mid new runs.full.later later;
-    whole_so = runs.full.whole_so;
-    left_so = runs.full.left_so;
-    contents_so = runs.full.contents_so;
+    whole_is = runs.full.whole_is;
+    left_is = runs.full.left_is;
+    contents_is = runs.full.contents_is;
     leaves = record { shown = λ told keeps. leaves-then [] runs.full.last mid new (runs.full.leaves.shown told (Conforming-before told later keeps)) (leaves.shown told keeps) };
   };
   none_to_come = none_later_then Tells accepts most old mid new e later runs.none_to_come;
@@ -195,8 +195,8 @@ pub opened_by : {Own T : Type 0} {old new : Seen Own} {x : T} → ToldOpen old n
 unfolding open_steps
 opened_by told = told.history
 
-pub opened_so : {Own : Type 0} (old mid : Seen Own) → old.history ≡ [] → mid.history ≡ old.history ++ Opened ∷ [] → IsOpened mid
-opened_so old mid untouched is = is ∙ ap (λ (h : List WorldStep). h ++ Opened ∷ []) untouched
+pub opened_is : {Own : Type 0} (old mid : Seen Own) → old.history ≡ [] → mid.history ≡ old.history ++ Opened ∷ [] → IsOpened mid
+opened_is old mid untouched is = is ∙ ap (λ (h : List WorldStep). h ++ Opened ∷ []) untouched
 
 abbrev failed_open : OpenFault → Result (Unit {0}) OpenFault
 failed_open fault = Err fault
@@ -234,8 +234,8 @@ alike_unopened Tells accepts most contents old new (served.Txn fault) left allow
 pub alike_done : {Own : Type 0} (Tells : Type 0) (accepts : List TableView → Bool) (most events : ℕ) (a b : Option (List ℕ)) (old mid new : Seen Own) → (Tells → mid.history ≡ old.history ++ Opened ∷ []) → RunsAs Tells accepts most (Ok events) a b mid new
     → (allows : List Place → Bool) → Premise Tells accepts allows most old new → IsAlike allows new a b (served.Ended events)
 alike_done Tells accepts most events a b old mid new opened runs allows p =
-    let is = opened_so old mid p.untouched (opened p.told) in
-    subst (λ (n : ℕ). IsAlike allows new a b (served.Ended n)) (sym runs.events_so) (record {
+    let is = opened_is old mid p.untouched (opened p.told) in
+    subst (λ (n : ℕ). IsAlike allows new a b (served.Ended n)) (sym runs.events_is) (record {
       alike = ran-out Tells accepts allows most a b mid new runs.last p.told p.keeps p.judges is p.few runs.out;
       none_to_come = runs.none_to_come.none allows p.told p.keeps p.judges (settled-first mid is) p.few;
     })
@@ -245,11 +245,11 @@ pub cut_failed : {Own : Type 0} (Tells : Type 0) (accepts : List TableView → B
     → CutAs Tells accepts most end a b mid new engine_at_first → (allows : List Place → Bool) → PremiseSoFar Tells accepts allows most old new → IsCut allows new a b end
 cut_failed Tells accepts most (served.EventsLeft left) a b old mid new opened on runs cut allows p = tt
 cut_failed Tells accepts most (served.Ended events) a b old mid new opened on runs cut allows p = absurd runs
-cut_failed Tells accepts most served.WriteFault a b old mid new opened on runs cut allows p = so_cut Tells accepts allows most served.WriteFault a b old mid new p (opened_so old mid p.untouched (opened p.told)) on cut
-cut_failed Tells accepts most served.Shut a b old mid new opened on runs cut allows p = so_cut Tells accepts allows most served.Shut a b old mid new p (opened_so old mid p.untouched (opened p.told)) on cut
-cut_failed Tells accepts most served.NextFault a b old mid new opened on runs cut allows p = so_cut Tells accepts allows most served.NextFault a b old mid new p (opened_so old mid p.untouched (opened p.told)) on cut
-cut_failed Tells accepts most (served.Txn fault) a b old mid new opened on runs cut allows p = so_cut Tells accepts allows most (served.Txn fault) a b old mid new p (opened_so old mid p.untouched (opened p.told)) on cut
-cut_failed Tells accepts most served.NoMemory a b old mid new opened on runs cut allows p = so_cut Tells accepts allows most served.NoMemory a b old mid new p (opened_so old mid p.untouched (opened p.told)) on cut
+cut_failed Tells accepts most served.WriteFault a b old mid new opened on runs cut allows p = so_cut Tells accepts allows most served.WriteFault a b old mid new p (opened_is old mid p.untouched (opened p.told)) on cut
+cut_failed Tells accepts most served.Shut a b old mid new opened on runs cut allows p = so_cut Tells accepts allows most served.Shut a b old mid new p (opened_is old mid p.untouched (opened p.told)) on cut
+cut_failed Tells accepts most served.NextFault a b old mid new opened on runs cut allows p = so_cut Tells accepts allows most served.NextFault a b old mid new p (opened_is old mid p.untouched (opened p.told)) on cut
+cut_failed Tells accepts most (served.Txn fault) a b old mid new opened on runs cut allows p = so_cut Tells accepts allows most (served.Txn fault) a b old mid new p (opened_is old mid p.untouched (opened p.told)) on cut
+cut_failed Tells accepts most served.NoMemory a b old mid new opened on runs cut allows p = so_cut Tells accepts allows most served.NoMemory a b old mid new p (opened_is old mid p.untouched (opened p.told)) on cut
 
 -- one that keeps its word to the end does so up to every point
 premise_so_far : {Own : Type 0} (Tells : Type 0) (accepts : List TableView → Bool) (allows : List Place → Bool) (most : ℕ) (old new : Seen Own) → Premise Tells accepts allows most old new → PremiseSoFar Tells accepts allows most old new
@@ -258,7 +258,7 @@ premise_so_far Tells accepts allows most old new p = record { told = p.told; jud
 pub alike_failed : {Own : Type 0} (Tells : Type 0) (accepts : List TableView → Bool) (most : ℕ) (end : Served) (a b : Option (List ℕ)) (old mid new : Seen Own) → (Tells → mid.history ≡ old.history ++ Opened ∷ []) → Continues Tells mid new → RunsAs Tells accepts most (Err end) a b mid new
     → CutAs Tells accepts most end a b mid new engine_at_first → (allows : List Place → Bool) → Premise Tells accepts allows most old new → IsAlike allows new a b end
 alike_failed Tells accepts most (served.EventsLeft left) a b old mid new opened on runs cut allows p =
-    let is = opened_so old mid p.untouched (opened p.told) in
+    let is = opened_is old mid p.untouched (opened p.told) in
     record {
       alike = ran-full Tells accepts allows most left a b mid new p.told p.keeps p.judges is p.few runs.full;
       none_to_come = runs.none_to_come.none allows p.told p.keeps p.judges (settled-first mid is) p.few;

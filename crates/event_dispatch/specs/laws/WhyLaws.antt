@@ -37,8 +37,8 @@ module _ {Own Tells : Type 0} (a b c : Seen Own) (first : Tells → Longer a.his
   unanswered_behind d sent reply is = record {
     xid = is.xid;
     got = is.got;
-    sent_so = is.sent_so;
-    reply_so = is.reply_so;
+    sent_is = is.sent_is;
+    reply_is = is.reply_is;
     no_part = is.no_part;
     no_refusal = is.no_refusal;
     told = λ told. happened_behind _ a.history b.history c.history (first told) (is.told told);
@@ -66,8 +66,8 @@ module _ {Own Tells : Type 0} (a b c : Seen Own) (rest : Tells → Longer b.hist
   unanswered_before d sent reply is = record {
     xid = is.xid;
     got = is.got;
-    sent_so = is.sent_so;
-    reply_so = is.reply_so;
+    sent_is = is.sent_is;
+    reply_is = is.reply_is;
     no_part = is.no_part;
     no_refusal = is.no_refusal;
     told = λ told. happened_before _ a.history b.history c.history (rest told) (is.told told);

@@ -118,16 +118,16 @@ pub returns-in-Err-clause-left : goal.returns-in-Err-clause-left
 returns-in-Err-clause-left g c = left_stopped c.args.app.now.rest c.args.net.now c.begin-txn.ensures.net c.begin-txn.ensures.start c.turn.ensures.start c.in-Err.ensures.err c.abort-in-Err.ensures
 
 pub returns-in_ok-out-in-Ok-Done-clause-slots : goal.returns-in_ok-out-in-Ok-Done-clause-slots
-returns-in_ok-out-in-Ok-Done-clause-slots g c = keeps_handed c.args.app.now.index _ c.args.store.now c.turn.new.store c.requires.place c.in-Ok-Done.ensures.ok.staged_so
+returns-in_ok-out-in-Ok-Done-clause-slots g c = keeps_handed c.args.app.now.index _ c.args.store.now c.turn.new.store c.requires.place c.in-Ok-Done.ensures.ok.staged_is
 
 pub returns-in_err-out-in-Ok-Done-clause-slots : goal.returns-in_err-out-in-Ok-Done-clause-slots
-returns-in_err-out-in-Ok-Done-clause-slots g c = keeps_handed c.args.app.now.index _ c.args.store.now c.turn.new.store c.requires.place c.in-Ok-Done.ensures.ok.staged_so
+returns-in_err-out-in-Ok-Done-clause-slots g c = keeps_handed c.args.app.now.index _ c.args.store.now c.turn.new.store c.requires.place c.in-Ok-Done.ensures.ok.staged_is
 
 pub returns-in_ok-abort-in-Ok-Failed-clause-slots : goal.returns-in_ok-abort-in-Ok-Failed-clause-slots
-returns-in_ok-abort-in-Ok-Failed-clause-slots g c = keeps_handed c.args.app.now.index _ c.args.store.now c.turn.new.store c.requires.place c.in-Ok-Failed.ensures.ok.staged_so
+returns-in_ok-abort-in-Ok-Failed-clause-slots g c = keeps_handed c.args.app.now.index _ c.args.store.now c.turn.new.store c.requires.place c.in-Ok-Failed.ensures.ok.staged_is
 
 pub returns-in_err-abort-in-Ok-Failed-clause-slots : goal.returns-in_err-abort-in-Ok-Failed-clause-slots
-returns-in_err-abort-in-Ok-Failed-clause-slots g c = keeps_handed c.args.app.now.index _ c.args.store.now c.turn.new.store c.requires.place c.in-Ok-Failed.ensures.ok.staged_so
+returns-in_err-abort-in-Ok-Failed-clause-slots g c = keeps_handed c.args.app.now.index _ c.args.store.now c.turn.new.store c.requires.place c.in-Ok-Failed.ensures.ok.staged_is
 
 pub returns-in-Err-clause-slots : goal.returns-in-Err-clause-slots
 returns-in-Err-clause-slots g c = keeps_same c.args.app.now.index c.args.store.now c.turn.new.store c.in-Err.ensures.err_store

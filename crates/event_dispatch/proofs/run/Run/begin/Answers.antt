@@ -1,5 +1,5 @@
 use Rattle.event_dispatch.specs.declared.fault.Fault.TheVariants as faults
-use Rattle.event_dispatch.specs.laws.RoundLaws.{begins_so}
+use Rattle.event_dispatch.specs.laws.RoundLaws.{begins_is}
 use Rattle.event_dispatch.specs.laws.CutLaws.{if_err, start_unwritten}
 use Rattle.event_dispatch.specs.Plain.{IsPlainEnd}
 use Rattle.event_dispatch.specs.declared.fault.Fault.{Fault}
@@ -11,7 +11,7 @@ use Rattle.event_dispatch.proofs.run.Run.begin.Goals as goal
 
 pub returns-clause-begins : goal.returns-clause-begins
 returns-clause-begins g c =
-    begins_so g.W.World.Tells (g.K.Sink.contents c.args.sink.now) (g.K.Sink.contents c.write.new.sink) (g.W.World.seen c.args.world.now) (g.W.World.seen c.start.new.world) c.args.self.now c.start.new.self c.write.new.self c.requires.none_waits
+    begins_is g.W.World.Tells (g.K.Sink.contents c.args.sink.now) (g.K.Sink.contents c.write.new.sink) (g.W.World.seen c.args.world.now) (g.W.World.seen c.start.new.world) c.args.self.now c.start.new.self c.write.new.self c.requires.none_waits
     c.in_ok-start.ensures.starts c.write.ensures.engine c.in_ok-write.ensures.writes
 
 pub returns-in_err-start-clause-plain : goal.returns-in_err-start-clause-plain

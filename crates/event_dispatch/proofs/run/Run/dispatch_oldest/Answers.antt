@@ -2,7 +2,7 @@ use Rattle.event_dispatch.specs.declared.fault.Fault.TheVariants as faults
 use Rattle.std.proofs.Common.{rules, refl, ap}
 use Rattle.event_dispatch.specs.laws.RoundLaws.{one_settled, none_settled}
 use Rattle.event_dispatch.specs.laws.PlainLaws.{run_anyway, run_turn}
-use Rattle.event_dispatch.specs.laws.CutLaws.{if_err, still_so, fails_as, one_still, one_unwritten}
+use Rattle.event_dispatch.specs.laws.CutLaws.{if_err, still_is, fails_as, one_still, one_unwritten}
 use Rattle.event_dispatch.specs.Plain.{PlainRun}
 use Rattle.event_dispatch.specs.Shows.{engine_of}
 use Rattle.event_dispatch.specs.Why.{served_by}
@@ -34,7 +34,7 @@ pub returns-in_err-dispatch-clause-cut : goal.returns-in_err-dispatch-clause-cut
 returns-in_err-dispatch-clause-cut g c =
     if_err (λ (fault : Fault). CutOne g.W.World.Tells (g.J.Judge.accepts c.args.judge.now) fault (g.K.Sink.contents c.args.sink.now) (g.K.Sink.contents c.args.sink.now) (g.W.World.seen c.args.world.now) (g.W.World.seen c.dispatch.new.world) (engine_of c.args.self.now)) c.in_err-dispatch.field-0.0 c.from_residual.result c.from_residual.ensures.1
     (one_still g.W.World.Tells (g.J.Judge.accepts c.args.judge.now) c.in_err-dispatch.field-0.0 (g.K.Sink.contents c.args.sink.now) (g.K.Sink.contents c.args.sink.now) (g.W.World.seen c.args.world.now) (g.W.World.seen c.dispatch.new.world) (engine_of c.args.self.now)
-    (still_so g.W.World.Tells (g.W.World.seen c.args.world.now) (g.W.World.seen c.dispatch.new.world) c.in_err-dispatch.field-0.0 (g.K.Sink.contents c.args.sink.now) (g.K.Sink.contents c.args.sink.now) c.in_err-dispatch.ensures.why refl)
+    (still_is g.W.World.Tells (g.W.World.seen c.args.world.now) (g.W.World.seen c.dispatch.new.world) c.in_err-dispatch.field-0.0 (g.K.Sink.contents c.args.sink.now) (g.K.Sink.contents c.args.sink.now) c.in_err-dispatch.ensures.why refl)
     (fails_as g.W.World.Tells c.in_err-dispatch.field-0.0 (g.W.World.seen c.args.world.now) (g.W.World.seen c.dispatch.new.world) (engine_of (record c.args.self.now { queue = c.take_first.new.self })) (engine_of c.args.self.now) refl refl refl c.in_err-dispatch.ensures.fails) c.dispatch.ensures.here)
 
 pub returns-in_err-write-clause-cut : goal.returns-in_err-write-clause-cut

@@ -1,7 +1,7 @@
 use Rattle.event_dispatch.specs.declared.fault.Fault.TheVariants as faults
-use Rattle.event_dispatch.specs.laws.WholeLaws.{ends_so}
+use Rattle.event_dispatch.specs.laws.WholeLaws.{ends_is}
 use Rattle.event_dispatch.specs.laws.PlainLaws.{calm_anyway}
-use Rattle.event_dispatch.specs.laws.CutLaws.{if_err, still_so, end_still, end_unwritten}
+use Rattle.event_dispatch.specs.laws.CutLaws.{if_err, still_is, end_still, end_unwritten}
 use Rattle.event_dispatch.specs.Plain.{PlainCalm}
 use Rattle.event_dispatch.specs.Why.{served_by}
 use Rattle.event_dispatch.specs.declared.fault.Fault.{Fault}
@@ -13,7 +13,7 @@ use Rattle.event_dispatch.proofs.run.Run.end_report.Goals as goal
 
 pub returns-clause-ends : goal.returns-clause-ends
 returns-clause-ends g c =
-    ends_so g.W.World.Tells (g.K.Sink.contents c.args.sink.now) (g.K.Sink.contents c.write.new.sink) (g.W.World.seen c.args.world.now) (g.W.World.seen c.note_last.new.world) c.args.self.now c.note_last.new.self c.write.new.self c.requires.none_waits c.in_ok-note_last.ensures.shown
+    ends_is g.W.World.Tells (g.K.Sink.contents c.args.sink.now) (g.K.Sink.contents c.write.new.sink) (g.W.World.seen c.args.world.now) (g.W.World.seen c.note_last.new.world) c.args.self.now c.note_last.new.self c.write.new.self c.requires.none_waits c.in_ok-note_last.ensures.shown
     c.in_ok-note_last.ensures.waits.events c.in_ok-write.ensures.writes c.write.ensures.engine
 
 pub returns-in_err-note_last-clause-plain : goal.returns-in_err-note_last-clause-plain
@@ -28,7 +28,7 @@ pub returns-in_err-note_last-clause-cut : goal.returns-in_err-note_last-clause-c
 returns-in_err-note_last-clause-cut g c =
     if_err (λ (fault : Fault). CutEnd g.W.World.Tells fault (g.K.Sink.contents c.args.sink.now) (g.K.Sink.contents c.args.sink.now) (g.W.World.seen c.args.world.now) (g.W.World.seen c.note_last.new.world) (engine_of c.args.self.now)) c.in_err-note_last.field-0.0 c.from_residual.result c.from_residual.ensures.1
     (end_still g.W.World.Tells c.in_err-note_last.field-0.0 (g.K.Sink.contents c.args.sink.now) (g.K.Sink.contents c.args.sink.now) (g.W.World.seen c.args.world.now) (g.W.World.seen c.note_last.new.world) (engine_of c.args.self.now)
-    (still_so g.W.World.Tells (g.W.World.seen c.args.world.now) (g.W.World.seen c.note_last.new.world) c.in_err-note_last.field-0.0 (g.K.Sink.contents c.args.sink.now) (g.K.Sink.contents c.args.sink.now) c.in_err-note_last.ensures.why refl) c.note_last.ensures.talks c.note_last.ensures.no_point)
+    (still_is g.W.World.Tells (g.W.World.seen c.args.world.now) (g.W.World.seen c.note_last.new.world) c.in_err-note_last.field-0.0 (g.K.Sink.contents c.args.sink.now) (g.K.Sink.contents c.args.sink.now) c.in_err-note_last.ensures.why refl) c.note_last.ensures.talks c.note_last.ensures.no_point)
 
 pub returns-in_err-write-clause-cut : goal.returns-in_err-write-clause-cut
 returns-in_err-write-clause-cut g c =

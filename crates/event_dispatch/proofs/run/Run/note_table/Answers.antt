@@ -1,5 +1,5 @@
 use Rattle.event_dispatch.specs.declared.fault.Fault.TheVariants as faults
-use Rattle.std.proofs.Common.{rules, refl, sym, ap, subst, ◌∙◌}
+use Rattle.std.proofs.Common.{rules, refl, ap, subst}
 use Rattle.event_dispatch.specs.laws.LastLaws.{table_told, table_lost, table_out}
 use Rattle.event_dispatch.specs.laws.PlainLaws.{table_memory}
 use Rattle.event_dispatch.specs.laws.CutLaws.{if_err}

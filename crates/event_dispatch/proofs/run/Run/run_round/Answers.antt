@@ -1,9 +1,9 @@
 use Rattle.std.proofs.Common.{refl, inl, arith}
 use Rattle.event_dispatch.specs.declared.fault.Fault.TheVariants as faults
 use Rattle.event_dispatch.specs.laws.ReadLaws.{reads_engine}
-use Rattle.event_dispatch.specs.laws.RoundLaws.{round_so, going_written}
+use Rattle.event_dispatch.specs.laws.RoundLaws.{round_is, going_written}
 use Rattle.event_dispatch.specs.laws.PlainLaws.{run_anyway, run_calm, run_batch}
-use Rattle.event_dispatch.specs.laws.CutLaws.{if_err, still_so, round_behind, round_unwritten}
+use Rattle.event_dispatch.specs.laws.CutLaws.{if_err, still_is, round_behind, round_unwritten}
 use Rattle.event_dispatch.specs.Plain.{PlainRun}
 use Rattle.event_dispatch.specs.Shows.{engine_of}
 use Rattle.event_dispatch.specs.Why.{served_by}
@@ -14,7 +14,7 @@ use Rattle.event_dispatch.proofs.run.Run.run_round.Goals as goal
 
 pub returns-clause-round : goal.returns-clause-round
 returns-clause-round g c =
-    round_so c.in_ok-rest.ensures.continues c.requires.none_waits c.in_ok-rest.ensures.app c.in_ok-rest.ensures.waits c.in_ok-rest.ensures.batch c.write_noted.ensures.engine c.in_ok-write_noted.ensures.writes c.in_ok-dispatch_waiting.ensures.continues c.in_ok-dispatch_waiting.ensures.dispatches
+    round_is c.in_ok-rest.ensures.continues c.requires.none_waits c.in_ok-rest.ensures.app c.in_ok-rest.ensures.waits c.in_ok-rest.ensures.batch c.write_noted.ensures.engine c.in_ok-write_noted.ensures.writes c.in_ok-dispatch_waiting.ensures.continues c.in_ok-dispatch_waiting.ensures.dispatches
 
 pub returns-in_err-rest-clause-plain : goal.returns-in_err-rest-clause-plain
 returns-in_err-rest-clause-plain g c =
@@ -29,7 +29,7 @@ returns-in_err-dispatch_waiting-clause-plain g c =
 pub returns-in_err-rest-clause-cut : goal.returns-in_err-rest-clause-cut
 returns-in_err-rest-clause-cut g c =
     if_err (λ (fault : Fault). CutRound g.W.World.Tells (g.J.Judge.accepts c.args.judge.now) fault (g.K.Sink.contents c.args.sink.now) (g.K.Sink.contents c.args.sink.now) (g.W.World.seen c.args.world.now) (g.W.World.seen c.take_batch.new.world) c.args.self.now) c.in_err-rest.field-0.0 c.from_residual.result c.from_residual.ensures.1
-    (inl (still_so g.W.World.Tells (g.W.World.seen c.args.world.now) (g.W.World.seen c.take_batch.new.world) c.in_err-rest.field-0.0 (g.K.Sink.contents c.args.sink.now) (g.K.Sink.contents c.args.sink.now) c.in_err-rest.ensures.why refl, c.take_batch.ensures.talks, record { here = c.in_err-rest.ensures.here; own = c.in_err-rest.ensures.own }))
+    (inl (still_is g.W.World.Tells (g.W.World.seen c.args.world.now) (g.W.World.seen c.take_batch.new.world) c.in_err-rest.field-0.0 (g.K.Sink.contents c.args.sink.now) (g.K.Sink.contents c.args.sink.now) c.in_err-rest.ensures.why refl, c.take_batch.ensures.talks, record { here = c.in_err-rest.ensures.here; own = c.in_err-rest.ensures.own }))
 
 pub returns-in_err-dispatch_waiting-clause-cut : goal.returns-in_err-dispatch_waiting-clause-cut
 returns-in_err-dispatch_waiting-clause-cut g c =

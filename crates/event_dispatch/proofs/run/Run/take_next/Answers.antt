@@ -24,7 +24,7 @@ returns-in-Idle-clause-taken g c = record {
   };
   text = [];
   lines = sym (append-nil c.args.self.now.lines.items);
-  rest_so = sym (ap rest_by c.in-Idle.is);
+  rest_is = sym (ap rest_by c.in-Idle.is);
 }
 
 pub returns-in-End-clause-taken : goal.returns-in-End-clause-taken
@@ -39,7 +39,7 @@ returns-in-End-clause-taken g c = record {
   };
   text = [];
   lines = sym (append-nil c.args.self.now.lines.items);
-  rest_so = sym (ap rest_by c.in-End.is);
+  rest_is = sym (ap rest_by c.in-End.is);
 }
 
 pub returns-in_ok-take_item-in_default : goal.returns-in_ok-take_item-in_default
@@ -62,7 +62,7 @@ returns-in_ok-take_item-in_default g c = record {
     takes = record { mid = g.W.World.seen c.next_item.new.world; buf = c.next_item.new.buf; fit = c.in_ok-item.ensures.bytes; nexts = c.in_ok-item.ensures.nexts; handles = c.in_ok-take_item-in_default.ensures.takes.handles };
     text = c.in_ok-take_item-in_default.ensures.takes.text;
     lines = c.in_ok-take_item-in_default.ensures.takes.lines;
-    rest_so = no_rest c.in_ok-item.item c.in_default.not-Idle c.in_default.not-End;
+    rest_is = no_rest c.in_ok-item.item c.in_default.not-Idle c.in_default.not-End;
   };
 }
 

@@ -1,6 +1,6 @@
 use Rattle.event_dispatch.specs.declared.fault.Fault.TheVariants as faults
 use Rattle.event_dispatch.specs.laws.WhyLaws.{continues_then}
-use Rattle.event_dispatch.specs.laws.TurnLaws.{turn_so}
+use Rattle.event_dispatch.specs.laws.TurnLaws.{turn_is}
 use Rattle.event_dispatch.specs.laws.PlainLaws.{turn_memory}
 use Rattle.event_dispatch.specs.laws.CutLaws.{if_err}
 use Rattle.event_dispatch.specs.Plain.{PlainTurn}
@@ -14,7 +14,7 @@ use Rattle.event_dispatch.proofs.run.Run.take_turn.Goals as goal
 
 pub returns-clause-turn : goal.returns-clause-turn
 returns-clause-turn g c =
-    turn_so g.W.World.Tells (g.J.Judge.accepts c.args.judge.now) c.args.event.now c.in_ok-closing.closing (g.W.World.seen c.args.world.now) (g.W.World.seen c.hold_turn.new.world) (g.W.World.seen c.close.new.world) c.hold_turn.new.net c.hold_turn.new.queue c.hold_turn.new.app c.hold_turn.new.store c.args.self.now c.close.new.self
+    turn_is g.W.World.Tells (g.J.Judge.accepts c.args.judge.now) c.args.event.now c.in_ok-closing.closing (g.W.World.seen c.args.world.now) (g.W.World.seen c.hold_turn.new.world) (g.W.World.seen c.close.new.world) c.hold_turn.new.net c.hold_turn.new.queue c.hold_turn.new.app c.hold_turn.new.store c.args.self.now c.close.new.self
     c.requires.index c.in_ok-closing.ensures.plays c.hold_turn.ensures.alive c.in_ok-close.ensures.closes
 
 pub returns-in_err-closing-clause-plain : goal.returns-in_err-closing-clause-plain
