@@ -27,8 +27,8 @@ lines_at sim Short Holds up_to lines =
     subst (λ (g : Given Scripts). KeepsScripts g.own (without_links g.fails) up_to.last.history) (sym up_to.given)
     (keeps_before sim.scripts (without_links sim.fails) up_to.last.history sim.history (up_to.last_point.steps, up_to.last_point.history) lines)
 
-said_so : {last : Seen Scripts} (Claim : Progress last → Run → Type 0) (up_to : AlikeUpTo last Claim) → KeepsScripts last.given.own (without_links last.given.fails) last.history → HoldsAsSaid Claim up_to
-said_so {last} Claim up_to keeps = λ none. record {
+said_is : {last : Seen Scripts} (Claim : Progress last → Run → Type 0) (up_to : AlikeUpTo last Claim) → KeepsScripts last.given.own (without_links last.given.fails) last.history → HoldsAsSaid Claim up_to
+said_is {last} Claim up_to keeps = λ none. record {
   enough = told_in last;
   holds = λ more few. up_to.as_said _ _ (are_said last more (kept_to_lines last (without_links last.given.fails) keeps none up_to.in_order up_to.at_once) few);
 }
@@ -37,7 +37,7 @@ said_so {last} Claim up_to keeps = λ none. record {
 
 -- with what was written, over what was told and over the lines
 cut_run : (last : Seen Scripts) (a b : Option (List ℕ)) → KeepsScripts last.given.own (without_links last.given.fails) last.history → CutBetweenLines all_allowed last a b → CutRun last a b
-cut_run last a b keeps run = record { run = run; as_said = said_so (WroteSoFar all_allowed last a b) run keeps }
+cut_run last a b keeps run = record { run = run; as_said = said_is (WroteSoFar all_allowed last a b) run keeps }
 
 with_lines : (sim : WorldData) (Short : Type 0) (First Then : Seen Scripts → Type 0) → KeepsLines sim → (up_to : UpToPoint (seen_of sim) Short First)
     → (KeepsScripts up_to.last.given.own (without_links up_to.last.given.fails) up_to.last.history → First up_to.last → Then up_to.last) → UpToPoint (seen_of sim) Short Then
@@ -59,7 +59,7 @@ lines_said sim a b lines up_to = with_lines sim ⊥ (λ last. CutBehindLines all
 
 pub writing_said : (sim : WorldData) (a b : Option (List ℕ)) → KeepsLines sim → UpToPoint (seen_of sim) ⊥ (λ last. CutInLines all_allowed last a b) → UpToPoint (seen_of sim) ⊥ (λ last. WritingRun last a b)
 writing_said sim a b lines up_to = with_lines sim ⊥ (λ last. CutInLines all_allowed last a b) (λ last. WritingRun last a b) lines up_to (λ keeps writing.
-    record { run = writing.run; done = writing.done; as_said = said_so (WasWriting all_allowed up_to.last writing.run.text writing.run.more) writing.run.up_to keeps })
+    record { run = writing.run; done = writing.done; as_said = said_is (WasWriting all_allowed up_to.last writing.run.text writing.run.more) writing.run.up_to keeps })
 
 pub memory_said : (sim : WorldData) (a b : Option (List ℕ)) (Idle : Type 0) → KeepsLines sim → UpToPoint (seen_of sim) (Unit {0}) (λ last. CutForMemory all_allowed (seen_of sim) last a b) ⊎ Idle → UpToPoint (seen_of sim) (Unit {0}) (λ last. MemoryRun (seen_of sim) last a b) ⊎ Idle
 unfolding cut_run

@@ -4,6 +4,7 @@ mod Reading
 mod Policies
 mod Statuses
 mod Loads
+mod Losses
 mod Causes
 mod Places
 mod Served

@@ -1,5 +1,5 @@
 -- A line that is written in pieces.
-use Rattle.std.proofs.Common.{◌≡◌, ℕ, ◌+◌, List, ◌++◌, length, take, Option, Result, Ok, Err, OnErr, refl, sym, ap, ◌∙◌, arith, length-append, codes, String, string_bytes}
+use Rattle.std.proofs.Common.{◌≡◌, ℕ, ◌+◌, List, ◌++◌, length, take, Option, refl, sym, ap, ◌∙◌, arith, length-append, codes, String, string_bytes}
 use Rattle.std.proofs.lemmas.List.{take-append-le}
 use Rattle.std.proofs.Math.Seq.{take-append-add}
 use Rattle.std.specs.declared.alloc.Global.{Global}
@@ -34,10 +34,6 @@ part_of_second old mid new a b c first part = part_of_two old new (a ++ b) c (pa
 pub part_of_third : (old mid late new : Option (List ℕ)) (a b c : List ℕ) → mid ≡ append_known old a → late ≡ append_known mid b → TookPart late new c → TookPart old new (a ++ b ++ c)
 part_of_third old mid late new a b c first second part =
     part_behind old late new (a ++ b) c (second ∙ ap (λ (told : Option (List ℕ)). append_known told b) first ∙ sym (append_known-append old a b)) part
-
-pub holds_on_err : {T E P : Type 0} (result : Result T E) → P → OnErr result P
-holds_on_err (Ok x) p = tt
-holds_on_err (Err e) p = p
 
 -- the line of a session's fault, in its pieces
 pub session_line : (refusal : Refusal) (fault : SessionFault) (end : List ℕ) → refusal ≡ Session fault → end ≡ line_of (codes " " ++ kind_word fault.kind)

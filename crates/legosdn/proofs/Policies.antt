@@ -25,10 +25,10 @@ run_is input within = rw (le-ltb most_input (length input) within) refl
 pub record ReadAs (told : Option (List ℕ)) (input text : List ℕ) : Type 0 where
   pub whole : IfSome told (λ left. input ≡ left)
   pub within : length input ≤ most_input
-  pub text_so : text ≡ input
+  pub text_is : text ≡ input
 
 policy_is : (told : Option (List ℕ)) (input text : List ℕ) → ReadAs told input text → run_policy input ≡ program_in (policy_of text)
-policy_is told input text r = run_is input r.within ∙ ap (λ (t : List ℕ). program_in (policy_of t)) (sym r.text_so)
+policy_is told input text r = run_is input r.within ∙ ap (λ (t : List ℕ). program_in (policy_of t)) (sym r.text_is)
 
 told_refused : (told : Option (List ℕ)) (input : List ℕ) (refusal : Refusal) → IfSome told (λ left. input ≡ left) → IsNoPolicy refusal input → IfSome told (IsNoPolicy refusal)
 told_refused None input refusal whole e = tt

@@ -105,7 +105,7 @@ same_session : (a b : SessionValue) (r : Result SessionValue Refusal) → r ≡ 
 same_session a b r one other = cc
 
 -- the world was given the session that the input spells
-given_session : (told left : Option (List ℕ)) (seen : Seen Scripts) (input : List ℕ) (session : SessionValue) → Loaded told left seen → told ≡ Some input → session_of input ≡ Ok session → seen.given ≡ given_by session
+pub given_session : (told left : Option (List ℕ)) (seen : Seen Scripts) (input : List ℕ) (session : SessionValue) → Loaded told left seen → told ≡ Some input → session_of input ≡ Ok session → seen.given ≡ given_by session
 given_session told left seen input session loaded whole spelled =
     let same : loaded.input ≡ input = subst (λ (t : Option (List ℕ)). IfSome t (λ bytes. loaded.input ≡ bytes)) whole loaded.whole in
     loaded.given ∙ ap given_by (same_session loaded.session session (session_of input) (ap session_of (sym same) ∙ loaded.spelled) spelled)

@@ -1,32 +1,22 @@
 -- A world that tells in order tells no more stimuli than it was given.
-use Rattle.std.proofs.Common.{◌≡◌, ◌≤◌, List, [], ◌∷◌, ◌++◌, length, drop, Some, refl, append_assoc, ap, ◌∙◌, arith}
+use Rattle.std.proofs.Common.{◌≡◌, ◌≤◌, List, [], ◌∷◌, ◌++◌, length, refl, append_assoc, ap, ◌∙◌, arith}
 use Rattle.std.proofs.lemmas.List.{length-append}
-use Rattle.std.specs.Prelude.{slice_get}
 use Rattle.of_types.specs.declared.journal.Act.TheVariants.{Stim, Started, Gave, Gone, Took, Ended, Sent, Got, Lost}
 use Rattle.of_types.specs.declared.journal.WorldStim.{WorldStim}
 use Rattle.flow_table.specs.Switch.{Declared}
 use Rattle.lego_model.specs.Journal.{stimuli}
-use Rattle.lego_model.specs.laws.JournalLaws.{stimuli-append}
 use Rattle.lego_model.specs.History.{stimuli_in}
 use Rattle.outside.specs.declared.step.WorldStep.{WorldStep}
 use Rattle.outside.specs.declared.step.WorldStep.TheVariants.{Acted, TookInto, From, Joined, Left, Moment, Idle, End, Opened, NotOpened, NextFailed, SendLost, RecvLost, SendFailed, RecvFailed}
 use Rattle.outside.specs.Seen.{Seen, journal}
 use Rattle.outside.specs.State.{State, at_first, after_stim, after_act, after_step, after_steps}
-use Rattle.outside.specs.laws.SeenLaws.{journal-append}
 use Rattle.outside.specs.Conforming.{MayAct, MayStep}
 use Rattle.outside.specs.InOrder.{MayCome, MayComeAll, InOrder}
-
--- the stimuli of steps
-abbrev told_in : List WorldStep → List WorldStim
-told_in steps = stimuli (journal steps)
+use Rattle.run_laws.specs.laws.StimuliLaws.{told_in, first_to_come, told_more, told_none}
 
 -- what a step tells, with what is to come behind it, was to come
 abbrev IsNextOf : WorldStep → State → Type 0
 IsNextOf step s = told_in (step ∷ []) ++ (after_step step s).to_come ≡ s.to_come
-
-first_to_come : (xs : List WorldStim) (x : WorldStim) → slice_get xs 0 ≡ Some x → x ∷ drop 1 xs ≡ xs
-first_to_come [] x is = absurd cc
-first_to_come (y ∷ ys) x is = cc
 
 stim_next : (declared : List Declared) (x : WorldStim) (s : State) → MayCome declared (Acted (Stim x)) s → IsNextOf (Acted (Stim x)) s
 unfolding MayCome MayStep MayAct after_step after_act after_stim stimuli journal
@@ -57,14 +47,6 @@ step_next declared (SendLost d) s may = refl
 step_next declared (RecvLost d) s may = refl
 step_next declared (SendFailed d) s may = refl
 step_next declared (RecvFailed d) s may = refl
-
--- one step, and those behind it
-told_more : (step : WorldStep) (steps : List WorldStep) → told_in (step ∷ steps) ≡ told_in (step ∷ []) ++ told_in steps
-told_more step steps = ap stimuli (journal-append (step ∷ []) steps) ∙ stimuli-append (journal (step ∷ [])) (journal steps)
-
-told_none : told_in [] ≡ []
-unfolding stimuli journal
-told_none = refl
 
 steps_next : (declared : List Declared) (steps : List WorldStep) (s : State) → MayComeAll declared steps s → told_in steps ++ (after_steps steps s).to_come ≡ s.to_come
 steps_next declared [] s may = ap (λ (xs : List WorldStim). xs ++ s.to_come) told_none

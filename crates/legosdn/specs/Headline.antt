@@ -14,7 +14,7 @@ use Rattle.sim_world.specs.Scripts.{Scripts, KeepsScripts}
 use Rattle.sim_world.specs.World.{WorldData, seen_of}
 use Rattle.lego_model.specs.Application.{index}
 use Rattle.lego_model.specs.AfterFault.{TablesLeft}
-use Rattle.lego_model.specs.History.{stimuli_in}
+use Rattle.lego_model.specs.History.{stimuli_in, lost_of}
 use Rattle.lego_model.specs.WholeRun.{EndsAs, EndsAlike, LeavesAs, LeavesAlike}
 use Rattle.lego_model.specs.declared.fault.TxnFault.{TxnFault}
 use Rattle.lego_model.specs.SwitchFaults.{FloodedByPacket, IsWhyTxn}
@@ -132,6 +132,10 @@ LoadedAt other told left seen = Loaded told left seen
 abbrev pub LoadedAs : {T : Type 0} → Result T Stop → Option (List ℕ) → Option (List ℕ) → Seen Scripts → Type 0
 LoadedAs (Ok x) told left seen = Loaded told left seen
 LoadedAs (Err stop) told left seen = LoadedAt stop told left seen
+
+-- A switch is lost only where a call of a link is to fail.
+abbrev pub LosesByFaults : {Own : Type 0} → Seen Own → Type 0
+LosesByFaults seen = seen.given.fails ≡ [] → lost_of seen ≡ []
 
 -- a refused input: no such status comes once the world runs, and nothing was done in the world
 abbrev pub NeverRuns : ℕ → Seen Scripts → Type 0

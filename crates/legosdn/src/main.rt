@@ -4,7 +4,8 @@
 //! The call is `top::legosdn`, over any source, sink and worlds. Whole runs: `whole_run`, `whole_report`, `events_left`,
 //! `live_whole_run`. Runs that a fault ends: `run_until_fault`, `live_run_until_stop`. Causes: `status_has_cause`,
 //! `live_status_has_cause`, `usage`, `input_refused`, `policy_refused`, `source_failed`, `sink_failed`,
-//! `breaks_only_on_bad_bytes`, `diverges_only_on_bad_bytes`, `no_stray_call`, `live_no_stray_call`. Good inputs:
+//! `breaks_only_on_bad_bytes`, `diverges_only_on_bad_bytes`, `no_stray_call`, `live_no_stray_call`,
+//! `none_lost_without_fault`. Good inputs:
 //! `complete_without_fault`, `live_complete_without_fault`, `input_loaded`, `policy_taken`, `refused_input_never_runs`,
 //! `refused_policy_never_runs`, `application_keeps_script`. Before anything runs: `no_command`, `world_untouched`.
 //! docs/GUARANTEES.md says each in plain words, docs/SESSION.md describes input, report and statuses.
@@ -77,18 +78,19 @@ fn run(rt: &HostRuntime, settings: &Settings) -> Result<u8, AllocError> {
     Ok(legosdn(alloc, &words, &mut source, &mut sink, &mut sim, &mut live))
 }
 
-/// Writes that the address of the environment is none, and answers the status.
-fn refuse_address(rt: &HostRuntime) -> Result<u8, AllocError> {
+/// Writes what is wrong with a setting of the environment, and answers the status.
+fn refuse(rt: &HostRuntime, fault: SettingFault) -> Result<u8, AllocError> {
+    let line = format!(in rt.alloc(); "{fault}\n")?;
     let mut sink = StdSink::new(rt, rt.alloc())?;
-    let _ = write_all(&mut sink, b"bad address\n");
+    let _ = write_all(&mut sink, line.as_bytes());
     Ok(NO_SETTING)
 }
 
 fn main(rt: HostRuntime) -> ExitCode {
     let status = match Settings::read(&rt) {
         Ok(settings) => run(&rt, &settings),
-        Err(SettingFault::Address) => refuse_address(&rt),
         Err(SettingFault::NoMemory) => Err(AllocError),
+        Err(fault) => refuse(&rt, fault),
     };
     ExitCode::from(status.unwrap_or(NO_MEMORY))
 }

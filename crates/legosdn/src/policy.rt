@@ -13,6 +13,7 @@ use crate::input::read_input;
 use crate::stop::{Refusal, Stop};
 use crash_policy::{AppRule, Policy, PolicyFile, read_policy};
 use lego_io::Source;
+use of_types::limits::BUDGET;
 use std::alloc::Global;
 
 /// Tells whether an application is restarted and skips the event.
@@ -47,7 +48,7 @@ fn is_plain(app: &AppRule) -> bool
     app.name.as_str() == "app"
         && are_absolute(&app.rules)
         && are_given(&app.events)
-        && app.budget == 1000
+        && app.budget == BUDGET
 }
 
 /// Gives the words of a program, if there are any.

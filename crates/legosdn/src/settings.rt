@@ -5,6 +5,7 @@ use std::env;
 use std::env::{Env, VarError};
 use std::net::Ipv4Addr;
 use std::time::Clock as MonotonicClock;
+use thiserror::Error;
 
 /// The variable with the address to listen at.
 const LISTEN: &str = "LEGOSDN_LISTEN";
@@ -12,12 +13,14 @@ const LISTEN: &str = "LEGOSDN_LISTEN";
 /// The variable that asks for a trace.
 const TRACE: &str = "LEGOSDN_TRACE";
 
-/// Why a setting is none.
-#[derive(Clone, Copy, Debug, PartialEq, Eq)]
+/// Why a setting is none. It shows as the line that the program writes.
+#[derive(Clone, Copy, Debug, PartialEq, Eq, Error)]
 pub enum SettingFault {
     /// What is set as the address is no IPv4 address.
+    #[error("bad address")]
     Address,
     /// Memory ran out.
+    #[error("no memory")]
     NoMemory,
 }
 

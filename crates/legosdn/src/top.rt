@@ -10,6 +10,7 @@ ghost use Rattle.sim_world.specs.World.{given_of, seen_of};
 ghost use Rattle.sim_world.specs.Places.{AreExpected};
 ghost use Rattle.sim_world.specs.Building.{nothing_given, IsNew, Begins};
 ghost use Rattle.command_words.specs.Commands.{command_in};
+ghost use Rattle.lego_model.specs.History.{lost_of};
 ghost use Rattle.lego_model.specs.SessionLines.{SessionValue};
 ghost use Rattle.legosdn.specs.declared.stop.Refusal.{Refusal};
 ghost use Rattle.legosdn.specs.Input.{session_of, run_policy};
@@ -18,7 +19,7 @@ ghost use Rattle.lego_model.specs.RunReport.{run_report};
 ghost use Rattle.lego_model.specs.Application.{names};
 ghost use Rattle.legosdn.specs.Said.{reference_of_session, WithEnough};
 ghost use Rattle.legosdn.specs.Stops.{stop_status, stop_line, refusal_line};
-ghost use Rattle.legosdn.specs.Headline.{IsReplay, IsRun, IsNoSession, IsNoPolicy, faults_of, IsReadCause, IsRunCause, IsCause, NoneFailed, NoneFloods, IsEarly, IsLate, Loaded, RunsNoOther, LoadedAs, NeverRuns, RunsWhole, RunsAs, KeepsLines, LeftAs, CutShort, SomeRefused, Wrote, WroteLast, Stopped, Replays};
+ghost use Rattle.legosdn.specs.Headline.{IsReplay, IsRun, IsNoSession, IsNoPolicy, faults_of, IsReadCause, IsRunCause, IsCause, NoneFailed, NoneFloods, IsEarly, IsLate, Loaded, RunsNoOther, LosesByFaults, LoadedAs, NeverRuns, RunsWhole, RunsAs, KeepsLines, LeftAs, CutShort, SomeRefused, Wrote, WroteLast, Stopped, Replays};
 ghost use Rattle.legosdn.specs.Live.{Taken, TellsInOrder, NoneStray, ServesWhole, ServesCut, Serves};
 
 use crate::input::{parts_of, read_input};
@@ -26,8 +27,8 @@ use crate::live::run_live;
 use crate::stop::Stop;
 use crate::world::run_world;
 use command_words::{Command, read_words};
-use event_dispatch::MOST_ROUNDS;
 use lego_io::{Sink, Source};
+use of_types::limits::MOST_ROUNDS;
 use outside::World;
 use session_text::read_session;
 use sim_world::SimWorld;
@@ -80,6 +81,7 @@ fn simulate<K: Sink, E: Sink + Drop>(
     ensures lines { KeepsLines sim.new }
     ensures strays { (seen_of sim.old).history ≡ [] → length (seen_of sim.old).given.stimuli ≤ 1000000
         → (seen_of sim.new).counts.shorts ≡ 0 → (seen_of sim.new).counts.strays ≡ 0 }
+    ensures lost { (seen_of sim.old).history ≡ [] → length (seen_of sim.old).given.stimuli ≤ 1000000 → LosesByFaults (seen_of sim.new) }
     ensures why { IfErr result (IsRunCause (Unit {0}) (K.faults sink.old) (K.faults sink.new) (seen_of sim.old) (seen_of sim.new)) }
     ensures continues { Continues (Unit {0}) (seen_of sim.old) (seen_of sim.new) }
     ensures ended { (seen_of sim.old).history ≡ [] → (state (seen_of sim.new)).running ≡ [] }
@@ -105,6 +107,7 @@ fn replay<S: Source, K: Sink, E: Sink + Drop>(
     ensures lines { OnOk result (KeepsLines sim.new) }
     ensures late_lines { IfErr result (λ stop. IsLate stop → KeepsLines sim.new) }
     ensures strays { (seen_of sim.new).counts.shorts ≡ 0 → (seen_of sim.new).counts.strays ≡ 0 }
+    ensures lost { LosesByFaults (seen_of sim.new) }
     ensures why { IfErr result (IsCause (Unit {0}) IsNoSession (S.remaining source.old)
         (faults_of (S.faults source.old) (K.faults sink.old) (seen_of sim.old))
         (faults_of (S.faults source.new) (K.faults sink.new) (seen_of sim.new))) }
@@ -133,6 +136,7 @@ fn run<S: Source, K: Sink, E: Sink + Drop, W: World>(
     ensures replay_leaves_live { IsReplay (map string_bytes words.now) → live.new ≡ live.old }
     ensures ended { (state (seen_of sim.new)).running ≡ [] }
     ensures strays { (seen_of sim.new).counts.shorts ≡ 0 → (seen_of sim.new).counts.strays ≡ 0 }
+    ensures lost { LosesByFaults (seen_of sim.new) }
     ensures no_other_session { RunsNoOther (S.remaining source.old) (S.remaining source.new) (seen_of sim.new) }
     ensures serves { (port rounds : ℕ) → IsRun (map string_bytes words.now) port rounds → Serves W.Tells rounds result (S.remaining source.old) (S.remaining source.new)
         (faults_of (S.faults source.old) (K.faults sink.old) (W.seen live.old))
@@ -215,6 +219,9 @@ pub fn legosdn<S: Source, K: Sink, E: Sink + Drop, W: World>(
 
     // At every status: no call of the world was a stray one, where none wanted memory.
     ensures no_stray_call { (seen_of sim.new).counts.shorts ≡ 0 → (seen_of sim.new).counts.strays ≡ 0 }
+    // And where the session says of no call of a link that it fails, no switch is lost.
+    ensures none_lost_without_fault { (input : List ℕ) (session : SessionValue) → S.remaining source.old ≡ Some input → session_of input ≡ Ok session
+        → session.faults ≡ [] → lost_of (seen_of sim.new) ≡ [] }
 
     // A switch diverges only where bytes came that are no message, and breaks only there or where a packet that was released made it send as many
     // messages as are too many.

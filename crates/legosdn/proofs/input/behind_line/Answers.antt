@@ -1,5 +1,5 @@
 use Rattle.std.proofs.Common.{sym, ◌∙◌}
-use Rattle.legosdn.proofs.Cutting.{lines_of-some, lines_of-none}
+use Rattle.lego_io.specs.laws.LinesLaws.{lines_of-some, lines_of-none}
 use Rattle.legosdn.proofs.input.behind_line.Goals as goal
 
 pub returns-in-Some-clause-lines : goal.returns-in-Some-clause-lines

@@ -1,5 +1,6 @@
 use Rattle.std.proofs.lemmas.Result.{on_err_weaker}
-use Rattle.legosdn.proofs.Pieces.{part_of_second, part_of_third, holds_on_err}
+use Rattle.event_dispatch.specs.laws.TalkingLaws.{holds_on_err}
+use Rattle.legosdn.proofs.Pieces.{part_of_second, part_of_third}
 use Rattle.legosdn.proofs.stop.write_between.Goals as goal
 
 pub returns-in_err-write_all-2-clause-part : goal.returns-in_err-write_all-2-clause-part

@@ -7,6 +7,7 @@ use Rattle.legosdn.specs.Stops.{stop_line}
 use Rattle.legosdn.proofs.Causes.{cause_then, refused_at_three, none_refused, refuses}
 use Rattle.legosdn.proofs.Serving.{by_command, broke_live, diverged_live, good_policy, none_refused_policy, refuses_policy}
 use Rattle.legosdn.proofs.Loads.{late_loaded}
+use Rattle.legosdn.proofs.Losses.{none_lost_by}
 use Rattle.legosdn.proofs.Statuses.{is_left, is_late, is_early, is_usage, is_read_fault, is_write_fault, not_zero, not_read, not_written}
 use Rattle.legosdn.proofs.Said.{reports}
 use Rattle.legosdn.proofs.Runs.{left_as, broke_as, diverged_as, good_session, completes, cut_short}
@@ -222,3 +223,11 @@ returns-in-Err-clause-world_untouched g c = λ within.
         subst (λ x. Wrote (g.K.Sink.contents x) (g.K.Sink.contents c.halt.new.sink) (g.K.Sink.faults x) (g.K.Sink.faults c.halt.new.sink) (stop_line c.in-Err.stop)) still.2 c.halt.ensures.line,
       ),
     )
+
+pub returns-in-Ok-clause-none_lost_without_fault : goal.returns-in-Ok-clause-none_lost_without_fault
+returns-in-Ok-clause-none_lost_without_fault g c = λ input session whole spelled faults.
+    none_lost_by (g.S.Source.remaining c.args.source.now) (g.S.Source.remaining c.run.new.source) (seen_of c.run.new.sim) input session c.run.ensures.no_other_session c.run.ensures.lost whole spelled faults
+
+pub returns-in-Err-clause-none_lost_without_fault : goal.returns-in-Err-clause-none_lost_without_fault
+returns-in-Err-clause-none_lost_without_fault g c = λ input session whole spelled faults.
+    none_lost_by (g.S.Source.remaining c.args.source.now) (g.S.Source.remaining c.run.new.source) (seen_of c.run.new.sim) input session c.run.ensures.no_other_session c.run.ensures.lost whole spelled faults

@@ -2,6 +2,7 @@ use Rattle.sim_world.specs.World.{seen_of}
 use Rattle.legosdn.proofs.Causes.{are_new, run_causes}
 use Rattle.legosdn.specs.Headline.{KeepsLines}
 use Rattle.legosdn.proofs.Loads.{loaded_on, loaded_as, unread_as}
+use Rattle.legosdn.proofs.Losses.{nothing_lost}
 use Rattle.legosdn.proofs.Runs.{untouched, none_runs, runs_by_read, lines_by_read, new_strays}
 use Rattle.legosdn.proofs.top.replay.Goals as goal
 
@@ -44,3 +45,9 @@ returns-in_err-load-clause-ended g c = none_runs c.load.new.sim c.load.ensures.n
 
 pub returns-clause-ended : goal.returns-clause-ended
 returns-clause-ended g c = c.simulate.ensures.ended (untouched c.load.new.sim c.in_ok-load.ensures.new)
+
+pub returns-in_err-load-clause-lost : goal.returns-in_err-load-clause-lost
+returns-in_err-load-clause-lost g c = λ none. nothing_lost (seen_of c.load.new.sim) (untouched c.load.new.sim c.load.ensures.new)
+
+pub returns-clause-lost : goal.returns-clause-lost
+returns-clause-lost g c = c.simulate.ensures.lost (untouched c.load.new.sim c.in_ok-load.ensures.new) c.in_ok-load.ensures.few

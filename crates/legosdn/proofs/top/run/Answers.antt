@@ -1,6 +1,8 @@
 use Rattle.std.proofs.Common.{refl, inl}
 use Rattle.legosdn.specs.declared.stop.Stop.TheVariants.{NoMemory}
 use Rattle.legosdn.proofs.Serving.{replays_unread}
+use Rattle.sim_world.specs.World.{seen_of}
+use Rattle.legosdn.proofs.Losses.{nothing_lost}
 use Rattle.legosdn.proofs.Runs.{untouched, none_runs, none_runs_yet, new_strays}
 use Rattle.legosdn.proofs.top.run.Goals as goal
 
@@ -44,3 +46,12 @@ returns-in-None-clause-no_other_session g c = inl (untouched c.args.sim.now c.re
 
 pub returns-in-None-clause-live_ended : goal.returns-in-None-clause-live_ended
 returns-in-None-clause-live_ended g c = λ told none. none_runs_yet (g.W.World.seen c.args.live.now) none
+
+pub returns-in_err-read_words-clause-lost : goal.returns-in_err-read_words-clause-lost
+returns-in_err-read_words-clause-lost g c = λ none. nothing_lost (seen_of c.args.sim.now) (untouched c.args.sim.now c.requires.new)
+
+pub returns-in-Some-Run-clause-lost : goal.returns-in-Some-Run-clause-lost
+returns-in-Some-Run-clause-lost g c = λ none. nothing_lost (seen_of c.args.sim.now) (untouched c.args.sim.now c.requires.new)
+
+pub returns-in-None-clause-lost : goal.returns-in-None-clause-lost
+returns-in-None-clause-lost g c = λ none. nothing_lost (seen_of c.args.sim.now) (untouched c.args.sim.now c.requires.new)

@@ -1,4 +1,5 @@
 use Rattle.sim_world.specs.World.{seen_of}
+use Rattle.legosdn.proofs.Losses.{none_is_lost}
 use Rattle.legosdn.proofs.Places.{counted_none}
 use Rattle.legosdn.proofs.Runs.{tells, runs_said}
 use Rattle.legosdn.proofs.top.simulate.Goals as goal
@@ -15,3 +16,8 @@ returns-clause-strays g c = λ none few.
 
 pub returns-clause-ended : goal.returns-clause-ended
 returns-clause-ended g c = λ none. c.run_world-ended.ensures.ended tt none
+
+pub returns-clause-lost : goal.returns-clause-lost
+returns-clause-lost g c = λ none few.
+    none_is_lost (seen_of c.run_world-ended.new.world) c.keeps_word.ensures.word
+    (c.run_world-ended.ensures.strays (tells (seen_of c.args.sim.now) (seen_of c.run_world-ended.new.world) none few c.run_world-ended.ensures.continues c.keeps_word.ensures.word))
