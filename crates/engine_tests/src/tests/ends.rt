@@ -1,7 +1,8 @@
 //! How a run ends, and what it wrote: worked out by hand.
 
-use event_dispatch::{MOST_ROUNDS, Served, serve};
+use event_dispatch::{Served, serve};
 use lego_io::MemSink;
+use of_types::limits::MOST_ROUNDS;
 use outside::{AllowAll, CallKind};
 use sim_world::SimWorld;
 use std::alloc::{AllocError, Global};

@@ -3,9 +3,10 @@
 
 ghost use Rattle.std.specs.Prelude.{◌≡◌, length, IfOk};
 
-use event_dispatch::{MOST_ROUNDS, Served, serve};
+use event_dispatch::{Served, serve};
 use lego_io::MemSink;
 use of_types::Dpid;
+use of_types::limits::MOST_ROUNDS;
 use of_wire::check;
 use outside::{AllowAll, World};
 use session_text::read_session;

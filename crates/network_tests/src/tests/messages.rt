@@ -72,6 +72,14 @@ pub const PORTS: [u8; 96] = [
     0, 0, 0, 0, 0, 0, 0, 0, 0, 0, 0, 0, 0, 0, 0, 0, 0, 0,
 ];
 
+/// The ports of switch 1 as it joins (5.2.1): no link is down.
+pub const PORTS_AT_JOIN: [u8; 96] = [
+    0, 1, 2, 0, 0, 1, 0, 1, b'p', b'1', 0, 0, 0, 0, 0, 0, 0, 0, 0, 0, 0, 0, 0, 0, 0, 0, 0, 0, 0, 0,
+    0, 0, 0, 0, 0, 0, 0, 0, 0, 0, 0, 0, 0, 0, 0, 0, 0, 0, //
+    0, 2, 2, 0, 0, 1, 0, 2, b'p', b'2', 0, 0, 0, 0, 0, 0, 0, 0, 0, 0, 0, 0, 0, 0, 0, 0, 0, 0, 0, 0,
+    0, 0, 0, 0, 0, 0, 0, 0, 0, 0, 0, 0, 0, 0, 0, 0, 0, 0,
+];
+
 /// The body of the event of a message: the kind and code of an ERROR, else the message.
 pub fn body_of(frame: &[u8]) -> &[u8] {
     if frame.len() == 12 {

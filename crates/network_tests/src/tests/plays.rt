@@ -6,7 +6,7 @@ use super::calls::{
     arrive, ask, join, keep, leave, new_net, pass, sees, take_kept, take_lost, undo, undo_two,
 };
 use super::ended::Ended;
-use super::messages::{ADD, PORT_DOWN, PORTS, changed};
+use super::messages::{ADD, PORT_DOWN, PORTS, PORTS_AT_JOIN, changed};
 use net_txn::Net;
 use outside::{Item, World};
 use std::alloc::Global;
@@ -109,16 +109,15 @@ pub fn departure<W: World>(alloc: Global, world: &mut W) -> [Ended; 2] {
     }
 }
 
-/// How a change went behind a PORT_STATUS, and its undo, and the events of switches that were lost then.
+/// How a change went, and its undo, and the events of switches that were lost then.
 pub fn loss<W: World>(alloc: Global, world: &mut W) -> [Ended; 4] {
     let mut net = match new_net(alloc, world) {
         Ok(net) => net,
         Err(ended) => return [ended, Ended::NotMade, Ended::NotMade, Ended::NotMade],
     };
-    arrive(world, &mut net, &PORT_DOWN, &PORT_DOWN);
     let (changed, undone) = undo(world, &mut net, 1, &ADD);
-    let first = take_lost(&mut net, &PORTS);
-    [changed, undone, first, take_lost(&mut net, &PORTS)]
+    let first = take_lost(&mut net, &PORTS_AT_JOIN);
+    [changed, undone, first, take_lost(&mut net, &PORTS_AT_JOIN)]
 }
 
 /// Goes on to moment 5, at which one row is seen.
