@@ -108,7 +108,6 @@ class Replay(unittest.TestCase):
         frames.append((1, ASKED))
         self.check("\n".join([*front, "join 1", *(f"frame 1 port {by} {frame}" for by, frame in frames)]), LEARNT)
 
-    @unittest.skip("not played to the program yet")
     def test_a_switch_that_is_lost_within_a_turn(self):
         def answer(dpid, message):
             return UnknownSwitch(dpid) if isinstance(message, messages.FlowMod) else None
