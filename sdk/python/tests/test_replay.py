@@ -49,7 +49,8 @@ end 0 events 2
 # get an entry each, and are sent on.
 ASKED = "eth dst=02:00:00:00:00:02 src=02:00:00:00:00:01 ip src=10.0.0.1 dst=10.0.0.2 udp src=53 dst=54"
 ANSWERED = "eth dst=02:00:00:00:00:01 src=02:00:00:00:00:02 ip src=10.0.0.2 dst=10.0.0.1 udp src=54 dst=53"
-LEARNT = """\
+# (how the reports of both sessions below begin)
+BEGUN = """\
 start app ready
 event 1 join 1
 turn app done
@@ -58,6 +59,8 @@ turn app done
 out 1 42
 event 3 packet_in 1
 turn app done
+"""
+LEARNT = BEGUN + """\
 out 1 42
 event 4 packet_in 1
 turn app done
@@ -73,15 +76,7 @@ end 0 events 4
 
 
 # The switch is lost at its barrier: calls 1 to 4 are its join, 5 to 7 the first packet, 8 is the entry between the two addresses.
-LOST = """\
-start app ready
-event 1 join 1
-turn app done
-event 2 packet_in 1
-turn app done
-out 1 42
-event 3 packet_in 1
-turn app done
+LOST = BEGUN + """\
 lost 1
 event 4 leave 1
 turn app done
