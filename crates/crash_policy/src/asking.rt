@@ -1,7 +1,8 @@
 //! What a policy says of one kind of event.
 
-ghost use Rattle.std.specs.Prelude.{◌≡◌, slice_get, Some};
-ghost use Rattle.crash_policy.specs.Asking.{place_of};
+ghost use Rattle.std.specs.Prelude.{◌≡◌};
+ghost use Rattle.crash_policy.specs.Asking.{place_of, is_given, rule_at};
+ghost use Rattle.crash_policy.specs.Policies.{app_value};
 
 use crate::policy_file::{AppRule, Policy};
 use app_frames::EventKind;
@@ -21,15 +22,17 @@ fn place(kind: EventKind) -> usize
 }
 
 /// Tells what follows if the application fails at an event of that kind. Takes no memory.
+#[tactic(auto, unfolding(crate::specs::Asking::rule_at))]
 pub fn rule(app: &AppRule, kind: EventKind) -> Policy
-    ensures { slice_get app.now.rules (place_of kind) ≡ Some result }
+    ensures { result ≡ rule_at (app_value app.now) kind }
 {
     app.rules[place(kind)]
 }
 
 /// Tells whether the application is given events of that kind. Takes no memory.
+#[tactic(auto, unfolding(crate::specs::Asking::is_given))]
 pub fn listens(app: &AppRule, kind: EventKind) -> bool
-    ensures { slice_get app.now.events (place_of kind) ≡ Some result }
+    ensures { result ≡ is_given (app_value app.now) kind }
 {
     app.events[place(kind)]
 }

@@ -20,7 +20,7 @@ use Rattle.outside.specs.Seen.{Seen, Longer, journal}
 use Rattle.outside.specs.State.{state, switch_of}
 use Rattle.lego_model.specs.declared.fault.TxnFault.{TxnFault}
 use Rattle.lego_model.specs.declared.fault.TxnFault.TheVariants.{SwitchBroke, Diverged, Flooded, NoMemory}
-use Rattle.lego_model.specs.Application.{index, budget}
+use Rattle.lego_model.specs.Application.{index}
 use Rattle.lego_model.specs.AtOnce.{Passes, AtOnce}
 use Rattle.lego_model.specs.BarrierWaits.{flood}
 use Rattle.lego_model.specs.History.{own_acts}
@@ -112,8 +112,8 @@ IsCompleted (Completed stop checkpoint unread) = Unit {0}
 IsCompleted (Failed cause) = ⊥
 
 -- The application had a whole turn: an event, and then acts by which it completed, with its messages answered somehow, behind what it had
--- given before and that was unread.
-pub record TurnDone {Own : Type 0} (old new : Seen Own) : Type 0 where
+-- given before and that was unread. It may take so many frames for a turn.
+pub record TurnDone {Own : Type 0} (budget : ℕ) (old new : Seen Own) : Type 0 where
   pub event : List ℕ
   pub event_is : is_event event ≡ true
   pub acts : List Act
@@ -130,10 +130,10 @@ abbrev pub SwitchesStay : {Own : Type 0} → Seen Own → Seen Own → Type 0
 SwitchesStay old new = (d : ℕ) → switch_of d (state new) ≡ switch_of d (state old)
 
 -- It had a whole turn since then, behind which no switch moved, so that its changes stay.
-pub record TurnKept {Own : Type 0} (old new : Seen Own) : Type 0 where
+pub record TurnKept {Own : Type 0} (budget : ℕ) (old new : Seen Own) : Type 0 where
   pub mid : Seen Own
   pub given : new.given ≡ mid.given
-  pub done : TurnDone old mid
+  pub done : TurnDone budget old mid
   pub later : Longer mid.history new.history
   pub stay : SwitchesStay mid new
 
@@ -145,10 +145,10 @@ after_packets d packets s = fold (λ t held. if held.0 == d then after_message (
 
 -- It had a whole turn since then, whose release was begun. Each switch moved by the packets that were sent to it behind that, and by nothing
 -- else, so that its changes stay, or it was lost.
-pub record TurnReleasing {Own : Type 0} (old new : Seen Own) : Type 0 where
+pub record TurnReleasing {Own : Type 0} (budget : ℕ) (old new : Seen Own) : Type 0 where
   pub mid : Seen Own
   pub given : new.given ≡ mid.given
-  pub done : TurnDone old mid
+  pub done : TurnDone budget old mid
   pub first : WorldStep
   pub steps : List WorldStep
   pub history : new.history ≡ mid.history ++ first ∷ steps
@@ -158,5 +158,5 @@ pub record TurnReleasing {Own : Type 0} (old new : Seen Own) : Type 0 where
 
 -- No event was given since then; or its turn was undone on each switch that did not fail in the undo and was not lost; or, where memory may
 -- have been wanting behind it, the turn was whole, and its changes stay; or its packets were being released.
-abbrev pub TablesLeft : {Own : Type 0} → Type 0 → Seen Own → Seen Own → Type 0
-TablesLeft Short old new = NoEventSince old new ⊎ UndoneButFailed (Unit {0}) old new ⊎ (Short × TurnKept old new) ⊎ TurnReleasing old new
+abbrev pub TablesLeft : {Own : Type 0} → ℕ → Type 0 → Seen Own → Seen Own → Type 0
+TablesLeft budget Short old new = NoEventSince old new ⊎ UndoneButFailed (Unit {0}) old new ⊎ (Short × TurnKept budget old new) ⊎ TurnReleasing budget old new

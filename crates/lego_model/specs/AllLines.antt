@@ -1,9 +1,12 @@
--- That no line is missing where a fault ends a run. An event that is dispatched while the application is gone makes no quiescent point, so
--- that a point alone does not tell how many of them were dispatched up to there. All of this is our own.
-use Rattle.std.specs.Prelude.{◌≡◌, ℕ, ◌⊎◌, Bool, true, List, [], Option}
+-- That no line is missing where a fault ends a run. An event that no application is given makes no quiescent point, so that a point alone
+-- does not tell how many of them were dispatched up to there. All of this is our own.
+use Rattle.std.specs.Prelude.{◌≡◌, ℕ, ◌⊎◌, ◌&&◌, Bool, true, false, List, [], ◌∷◌, Option}
 use Rattle.std.specs.List.{AllByRecursion, list_any}
+use Rattle.app_frames.specs.declared.frame.Event.{Event}
+use Rattle.crash_policy.specs.Policies.{AppValue}
+use Rattle.crash_policy.specs.Asking.{is_given}
 use Rattle.lego_model.specs.Places.{Place}
-use Rattle.lego_model.specs.Controller.{Run}
+use Rattle.lego_model.specs.Controller.{App, Run}
 use Rattle.lego_model.specs.CutRun.{start_of, Progress, reference_to, CutBetweenLines, CutWhileWriting}
 use Rattle.lego_model.specs.History.{stimuli_in}
 use Rattle.outside.specs.Seen.{Seen}
@@ -12,40 +15,47 @@ use Rattle.outside.specs.Seen.{Seen}
 abbrev pub NoneAhead : Run → Type 0
 NoneAhead r = AllByRecursion (λ a. (a.starts ≡ []) × (a.replies ≡ [])) r.apps
 
--- some application is alive
-abbrev pub is_some_alive : Run → Bool
-is_some_alive r = list_any (λ a. a.alive) r.apps
+-- some application is given the event: it is alive, and is given such events
+abbrev pub is_given_to_some : List App → Event → Bool
+is_given_to_some apps event = list_any (λ a. a.alive && is_given a.rule event.kind) apps
+
+-- so it is with the oldest of the events that wait
+abbrev pub is_next_given : List App → List Event → Bool
+is_next_given apps [] = false
+is_next_given apps (event ∷ queue) = is_given_to_some apps event
 
 -- The application was started, and with what was done up to the point all was done that the history tells of it.
-pub record AllDone {Own : Type 0} {last : Seen Own} (allows : List Place → Bool) (far : Progress last) : Type 0 where
+pub record AllDone {Own : Type 0} {last : Seen Own} (rule : AppValue) (allows : List Place → Bool) (far : Progress last) : Type 0 where
   pub started : far.started ≡ true
-  pub none_ahead : NoneAhead (reference_to allows far (start_of far.losses last))
+  pub none_ahead : NoneAhead (reference_to allows far (start_of rule far.losses last))
 
 -- the last stimulus was settled, and nothing was done since then
 pub record IsSettled {Own : Type 0} {last : Seen Own} (far : Progress last) : Type 0 where
   pub none_begun : far.begun ≡ []
   pub none_dispatched : far.number ≡ 0
 
--- No event was dispatched between what was done and what comes next, which is a stimulus or the end, or an event that is given to the
--- application.
-abbrev pub NoneBetween : {Own : Type 0} {last : Seen Own} → (List Place → Bool) → Progress last → Type 0
-NoneBetween {last = last} allows far =
-    IsSettled far ⊎ ((reference_to allows far (start_of far.losses last)).queue ≡ []) ⊎ (is_some_alive (reference_to allows far (start_of far.losses last)) ≡ true)
+-- No event was dispatched between what was done and what comes next, which is a stimulus or the end, or an event that an application is
+-- given.
+abbrev pub NextIsGiven : Run → Type 0
+NextIsGiven r = (r.queue ≡ []) ⊎ (is_next_given r.apps r.queue ≡ true)
+
+abbrev pub NoneBetween : {Own : Type 0} {last : Seen Own} → AppValue → (List Place → Bool) → Progress last → Type 0
+NoneBetween {last = last} rule allows far = IsSettled far ⊎ NextIsGiven (reference_to allows far (start_of rule far.losses last))
 
 -- ---- Up to a point
 
 -- Where what comes next failed, or a switch: all lines were written, those of the start and of all events before.
-pub record CutBehindLines {Own : Type 0} (allows : List Place → Bool) (last : Seen Own) (contents now_contents : Option (List ℕ)) : Type 0 where
-  pub run : CutBetweenLines allows last contents now_contents
-  pub done : AllDone allows run.far
-  pub none_between : NoneBetween allows run.far
+pub record CutBehindLines {Own : Type 0} (rule : AppValue) (allows : List Place → Bool) (last : Seen Own) (contents now_contents : Option (List ℕ)) : Type 0 where
+  pub run : CutBetweenLines rule allows last contents now_contents
+  pub done : AllDone rule allows run.far
+  pub none_between : NoneBetween rule allows run.far
 
 -- Where the sink failed: it took a part of the lines of what was done last, behind those of the start and of all that was done before.
-pub record CutInLines {Own : Type 0} (allows : List Place → Bool) (last : Seen Own) (contents now_contents : Option (List ℕ)) : Type 0 where
-  pub run : CutWhileWriting allows last contents now_contents
-  pub done : AllDone allows run.up_to.far
+pub record CutInLines {Own : Type 0} (rule : AppValue) (allows : List Place → Bool) (last : Seen Own) (contents now_contents : Option (List ℕ)) : Type 0 where
+  pub run : CutWhileWriting rule allows last contents now_contents
+  pub done : AllDone rule allows run.up_to.far
 
 -- Where memory was wanting: the lines of the start are there and those of what was done, or no stimulus happened.
-pub record CutForMemory {Own : Type 0} (allows : List Place → Bool) (seen last : Seen Own) (contents now_contents : Option (List ℕ)) : Type 0 where
-  pub run : CutBetweenLines allows last contents now_contents
-  pub done : (stimuli_in seen ≡ []) ⊎ AllDone allows run.far
+pub record CutForMemory {Own : Type 0} (rule : AppValue) (allows : List Place → Bool) (seen last : Seen Own) (contents now_contents : Option (List ℕ)) : Type 0 where
+  pub run : CutBetweenLines rule allows last contents now_contents
+  pub done : (stimuli_in seen ≡ []) ⊎ AllDone rule allows run.far

@@ -1,17 +1,11 @@
 -- The one application of a run. All of this is our own choice.
-use Rattle.std.specs.Prelude.{ℕ, List, [], ◌∷◌, codes}
+use Rattle.std.specs.Prelude.{ℕ, List, [], ◌∷◌}
+use Rattle.crash_policy.specs.Policies.{AppValue}
 
 -- its index, by which a journal knows it
 abbrev pub index : ℕ
 index = 0
 
--- its name, by which a report knows it
-abbrev pub name : List ℕ
-name = codes "app"
-
-abbrev pub names : List (List ℕ)
-names = name ∷ []
-
--- how many frames it may take for a turn
-abbrev pub budget : ℕ
-budget = 1000
+-- the names by which a report knows the applications: there is one
+abbrev pub names : AppValue → List (List ℕ)
+names rule = rule.name ∷ []

@@ -12,11 +12,16 @@ use Rattle.of_wire.specs.declared.message.Message.TheVariants.{PacketOut}
 use Rattle.flow_table.specs.Switch.{Declared, SwitchState, joined_at}
 use Rattle.flow_table.specs.Step.{after_message, sent_by_message, after_stimulus, sent_by_stimulus}
 use Rattle.app_frames.specs.declared.frame.Event.{Event}
+use Rattle.app_frames.specs.declared.frame.EventKind.{EventKind}
 use Rattle.app_frames.specs.declared.frame.HostFrame.TheVariants as host
 use Rattle.app_frames.specs.declared.frame.Answer.{Answer}
 use Rattle.app_frames.specs.declared.cause.Tried.{Tried}
 use Rattle.app_frames.specs.declared.cause.Tried.TheVariants as tried
 use Rattle.app_frames.specs.Spelling.{host_bytes}
+use Rattle.crash_policy.specs.declared.policy_file.Policy.{Policy}
+use Rattle.crash_policy.specs.declared.policy_file.Policy.TheVariants as policy
+use Rattle.crash_policy.specs.Policies.{AppValue}
+use Rattle.crash_policy.specs.Asking.{is_given, rule_at}
 use Rattle.lego_model.specs.Journal.{Reply, Start, Untold}
 use Rattle.lego_model.specs.Turns.{Outcome, Completed, Failed, Table, turn_of, outcome_of}
 use Rattle.lego_model.specs.Places.{Place, switch_at, with_place, undone_places}
@@ -76,12 +81,12 @@ events_after (Of d x) moment ps = flat_map (λ p. if p.declared.dpid == d then e
 
 -- ---- Applications
 
--- An application: whether it is alive; its budget of frames in a turn; the bytes that were taken and not read; its kept checkpoint, at
--- first of no bytes; the frames that it was given; how its next starts end, and what it gives in its next turns; how many turns completed
--- and how many failed.
+-- An application: what the policy says of it; whether it is alive; the bytes that were taken and not read; its kept checkpoint, at first of
+-- no bytes; the frames that it was given; how its next starts end, and what it gives in its next turns; how many turns completed and how
+-- many failed.
 pub record App : Type 0 where
+  pub rule : AppValue
   pub alive : Bool
-  pub budget : ℕ
   pub rest : List ℕ
   pub kept : List ℕ
   pub inputs : List (List ℕ)
@@ -177,11 +182,17 @@ abbrev pub given_in : Bool → List ℕ → List Answer → List (List ℕ)
 given_in true frame answers = frame ∷ map answer_frame answers
 given_in false frame answers = []
 
--- An application after its turn. One that completed keeps the checkpoint that it handed over, where it did; one that failed keeps the
--- earlier one, and is started again.
-abbrev pub after_outcome : Outcome → App → App × List Tried
-after_outcome (Completed stop checkpoint rest) a = (record a { rest = rest; kept = unwrap_or checkpoint a.kept; done = a.done + 1 }, [])
-after_outcome (Failed cause) a = started attempts (record a { rest = []; failed = a.failed + 1 })
+-- What follows a turn that failed: under the policy `none` the application is gone; else it is started again.
+unfoldable pub after_failure : Policy → App → App × List Tried
+after_failure policy.None a = (record a { alive = false }, [])
+after_failure policy.Absolute a = started attempts a
+after_failure policy.Equivalence a = started attempts a
+
+-- An application after its turn at an event of a kind. One that completed keeps the checkpoint that it handed over, where it did; one that
+-- failed keeps the earlier one, and goes by the policy of that kind.
+abbrev pub after_outcome : EventKind → Outcome → App → App × List Tried
+after_outcome kind (Completed stop checkpoint rest) a = (record a { rest = rest; kept = unwrap_or checkpoint a.kept; done = a.done + 1 }, [])
+after_outcome kind (Failed cause) a = after_failure (rule_at a.rule kind) (record a { rest = []; failed = a.failed + 1 })
 
 -- ---- The release (5.3.6 Send Packet Message): each packet that is held goes to its switch, while that is joined, and what the switch
 -- sends then becomes events. Where the switch is lost before the packet is sent, it is not released; where it is lost behind it, it is, and
@@ -261,12 +272,12 @@ pub record Turned : Type 0 where
 unfoldable pub turn : (List Place → Bool) → ℕ → ℕ → Event → TurnLosses → List Place → App → Turned
 turn allows number moment event losses ps a =
     let reply = next_reply a.replies in
-    let played = turn_of (table_of allows) a.budget a.rest reply (fresh_play losses.messages ps) in
+    let played = turn_of (table_of allows) a.rule.budget a.rest reply (fresh_play losses.messages ps) in
     let release = release_by played.outcome losses ps played.state in
     record {
       release = release;
       left = played.state.left ++ release.left;
-      app = after_outcome played.outcome (record a { replies = drop 1 a.replies; inputs = a.inputs ++ given_in reply.given (event_frame number moment event) played.answers });
+      app = after_outcome event.kind played.outcome (record a { replies = drop 1 a.replies; inputs = a.inputs ++ given_in reply.given (event_frame number moment event) played.answers });
       outcome = played.outcome;
       given = reply.given;
     }
@@ -296,11 +307,11 @@ is_marked n marks = list_any (λ q. is_event n q.event) marks
 abbrev pub marked : Bool → ℕ → List Place → List Mark → List Mark
 marked given n ps marks = if given && not (is_marked n marks) then marks ++ reference_mark (Some n) ps ∷ [] else marks
 
--- The applications from an index on that are alive have their turns, until one that completed says stop.
+-- The applications from an index on that are alive and are given such events have their turns, until one that completed says stop.
 unfoldable pub given_to : (List Place → Bool) → Event → ℕ → List App → Run → List App × Run
 given_to allows event i [] run = ([], run)
 given_to allows event i (a ∷ more) run =
-    if a.alive then
+    if a.alive && is_given a.rule event.kind then
     (let turned = turn allows run.events run.moment event (next_turn run.losses.turns) run.places a in
     let next = record run {
       places = turned.release.places;

@@ -5,6 +5,7 @@ use Rattle.std.specs.Io.KnownBytes.{append_known}
 use Rattle.std.specs.List.{AllByRecursion}
 use Rattle.of_types.specs.declared.journal.WorldStim.{WorldStim}
 use Rattle.lego_io.specs.Sink.{TookPart}
+use Rattle.crash_policy.specs.Policies.{AppValue}
 use Rattle.lego_model.specs.Journal.{Reply, Start}
 use Rattle.lego_model.specs.Places.{Place}
 use Rattle.lego_model.specs.Losses.{Losses}
@@ -21,12 +22,12 @@ use Rattle.outside.specs.declared.step.WorldStep.{WorldStep}
 -- ---- The reference controller in the middle of a run
 
 -- before anything is started, with an application that does this, and these losses to come
-abbrev pub start_said : {Own : Type 0} → Losses → Seen Own → List Start → List Reply → Run
-start_said losses seen starts replies = before_start seen.given.declared losses (fresh starts replies)
+abbrev pub start_said : {Own : Type 0} → AppValue → Losses → Seen Own → List Start → List Reply → Run
+start_said rule losses seen starts replies = before_start seen.given.declared losses (fresh rule starts replies)
 
 -- with one that does what the history tells of it
-abbrev pub start_of : {Own : Type 0} → Losses → Seen Own → Run
-start_of losses seen = start_said losses seen (starts_in (own_acts seen)) (replies_in (own_acts seen))
+abbrev pub start_of : {Own : Type 0} → AppValue → Losses → Seen Own → Run
+start_of rule losses seen = start_said rule losses seen (starts_in (own_acts seen)) (replies_in (own_acts seen))
 
 -- The application is started or not yet, these stimuli happened with all that follows of each, then perhaps one more was begun, and so
 -- many of the events that wait then were dispatched.
@@ -51,68 +52,68 @@ reference_to allows far r = reference_so_far allows far.started far.stimuli far.
 -- ---- What was written
 
 -- The lines of all that was done up to there were written.
-pub record WroteSoFar {Own : Type 0} (allows : List Place → Bool) (last : Seen Own) (contents now_contents : Option (List ℕ)) (far : Progress last) (r : Run) : Type 0 where
+pub record WroteSoFar {Own : Type 0} (rule : AppValue) (allows : List Place → Bool) (last : Seen Own) (contents now_contents : Option (List ℕ)) (far : Progress last) (r : Run) : Type 0 where
   pub alike : RunsAlike last (reference_to allows far r)
-  pub written : now_contents ≡ append_known contents (text_of (reference_to allows far r))
+  pub written : now_contents ≡ append_known contents (text_of (names rule) (reference_to allows far r))
 
 -- Where the sink failed, it did so at these lines, and had taken this text before; the run is that of the reference controller up to there. It
 -- failed at the lines of the start,
-pub record StartLines {Own : Type 0} {last : Seen Own} (allows : List Place → Bool) (far : Progress last) (text more : List ℕ) (r : Run) : Type 0 where
+pub record StartLines {Own : Type 0} {last : Seen Own} (rule : AppValue) (allows : List Place → Bool) (far : Progress last) (text more : List ℕ) (r : Run) : Type 0 where
   pub alike : RunsAlike last (reference_to allows far r)
   pub is_started : far.started ≡ true
   pub none_happened : stimuli_in last ≡ []
   pub none_dispatched : far.number ≡ 0
   pub text_is : text ≡ []
-  pub more_is : text_of (reference_to allows far r) ≡ more
+  pub more_is : text_of (names rule) (reference_to allows far r) ≡ more
 
 -- at that of a switch that was lost at the stimulus that was begun last, behind the lines of all before it,
-pub record LossLines {Own : Type 0} {last : Seen Own} (allows : List Place → Bool) (far : Progress last) (text more : List ℕ) (r : Run) : Type 0 where
+pub record LossLines {Own : Type 0} {last : Seen Own} (rule : AppValue) (allows : List Place → Bool) (far : Progress last) (text more : List ℕ) (r : Run) : Type 0 where
   pub alike : RunsAlike last (reference_to allows far r)
   pub is_begun : length far.begun ≡ 1
   pub none_dispatched : far.number ≡ 0
-  pub text_is : text_of (reference_so_far allows far.started far.stimuli [] 0 r) ≡ text
-  pub more_is : text_of (reference_to allows far r) ≡ text ++ more
+  pub text_is : text_of (names rule) (reference_so_far allows far.started far.stimuli [] 0 r) ≡ text
+  pub more_is : text_of (names rule) (reference_to allows far r) ≡ text ++ more
 
 -- at those of the event that was dispatched last, behind the lines of all before it,
-pub record EventLines {Own : Type 0} {last : Seen Own} (allows : List Place → Bool) (far : Progress last) (text more : List ℕ) (r : Run) : Type 0 where
+pub record EventLines {Own : Type 0} {last : Seen Own} (rule : AppValue) (allows : List Place → Bool) (far : Progress last) (text more : List ℕ) (r : Run) : Type 0 where
   pub alike : RunsAlike last (reference_to allows far r)
   pub before : ℕ
   pub one_more : far.number ≡ before + 1
-  pub text_is : text_of (reference_so_far allows far.started far.stimuli far.begun before r) ≡ text
-  pub more_is : text_of (reference_to allows far r) ≡ text ++ more
+  pub text_is : text_of (names rule) (reference_so_far allows far.started far.stimuli far.begun before r) ≡ text
+  pub more_is : text_of (names rule) (reference_to allows far r) ≡ text ++ more
 
 -- or at the end of the report, where switches may be lost that are asked for their rows.
-pub record EndLines {Own : Type 0} {last : Seen Own} (allows : List Place → Bool) (far : Progress last) (text more : List ℕ) (r : Run) : Type 0 where
+pub record EndLines {Own : Type 0} {last : Seen Own} (rule : AppValue) (allows : List Place → Bool) (far : Progress last) (text more : List ℕ) (r : Run) : Type 0 where
   pub alike : RunsAlike last (at_end (reference_to allows far r))
   pub none_left : (reference_to allows far r).queue ≡ []
-  pub text_is : text_of (reference_to allows far r) ≡ text
-  pub more_is : run_report names (reference_to allows far r) ≡ text ++ more
+  pub text_is : text_of (names rule) (reference_to allows far r) ≡ text
+  pub more_is : run_report (names rule) (reference_to allows far r) ≡ text ++ more
 
 -- These lines were to be written, behind this text, which is all that was done before.
-pub record WasWriting {Own : Type 0} (allows : List Place → Bool) (last : Seen Own) (text more : List ℕ) (far : Progress last) (r : Run) : Type 0 where
-  pub lines : StartLines allows far text more r ⊎ LossLines allows far text more r ⊎ EventLines allows far text more r ⊎ EndLines allows far text more r
+pub record WasWriting {Own : Type 0} (rule : AppValue) (allows : List Place → Bool) (last : Seen Own) (text more : List ℕ) (far : Progress last) (r : Run) : Type 0 where
+  pub lines : StartLines rule allows far text more r ⊎ LossLines rule allows far text more r ⊎ EventLines rule allows far text more r ⊎ EndLines rule allows far text more r
 
 -- ---- A point of a run
 
 -- Up to a point the run is that of the reference controller so far, over what was told and over all that was said of the application: the
 -- tables agree at every quiescent point, that one included, and the application was given what it is given there. The journal is a dialogue
 -- with it, and all steps were in order.
-pub record AlikeUpTo {Own : Type 0} (last : Seen Own) (Holds : Progress last → Run → Type 0) : Type 0 where
+pub record AlikeUpTo {Own : Type 0} (rule : AppValue) (last : Seen Own) (Holds : Progress last → Run → Type 0) : Type 0 where
   pub far : Progress last
-  pub as_told : Holds far (start_of far.losses last)
-  pub as_said : (starts : List Start) (replies : List Reply) → AreSaid last starts replies → Holds far (start_said far.losses last starts replies)
+  pub as_told : Holds far (start_of rule far.losses last)
+  pub as_said : (starts : List Start) (replies : List Reply) → AreSaid last starts replies → Holds far (start_said rule far.losses last starts replies)
   pub at_once : AtOnce index (journal last.history)
   pub in_order : AllByRecursion (IsOrderly index) last.history
 
 -- and the lines of all that was done were written,
-abbrev pub CutBetweenLines : {Own : Type 0} → (List Place → Bool) → Seen Own → Option (List ℕ) → Option (List ℕ) → Type 0
-CutBetweenLines allows last contents now_contents = AlikeUpTo last (WroteSoFar allows last contents now_contents)
+abbrev pub CutBetweenLines : {Own : Type 0} → AppValue → (List Place → Bool) → Seen Own → Option (List ℕ) → Option (List ℕ) → Type 0
+CutBetweenLines rule allows last contents now_contents = AlikeUpTo rule last (WroteSoFar rule allows last contents now_contents)
 
 -- or the sink took a part of the lines of what was done last, behind all lines of what was done before.
-pub record CutWhileWriting {Own : Type 0} (allows : List Place → Bool) (last : Seen Own) (contents now_contents : Option (List ℕ)) : Type 0 where
+pub record CutWhileWriting {Own : Type 0} (rule : AppValue) (allows : List Place → Bool) (last : Seen Own) (contents now_contents : Option (List ℕ)) : Type 0 where
   pub text : List ℕ
   pub more : List ℕ
-  pub up_to : AlikeUpTo last (WasWriting allows last text more)
+  pub up_to : AlikeUpTo rule last (WasWriting rule allows last text more)
   pub part : TookPart (append_known contents text) now_contents more
 
 -- ---- A run of which nothing was done

@@ -2,6 +2,7 @@
 use Rattle.std.specs.Prelude.{◌≡◌, Bool, false, List, [], ◌∷◌, ◌++◌, map, None, ℕ, fold}
 use Rattle.std.specs.List.{flat_map}
 use Rattle.flow_table.specs.Switch.{Declared}
+use Rattle.crash_policy.specs.Policies.{AppValue}
 use Rattle.lego_model.specs.Journal.{Reply, Start}
 use Rattle.lego_model.specs.Places.{Place}
 use Rattle.lego_model.specs.Scripted.{AreFronts, AreStartFronts}
@@ -11,14 +12,13 @@ pub use Rattle.lego_model.specs.Controller.{dispatch_next, times}
 use Rattle.outside.specs.Seen.{Seen}
 use Rattle.lego_model.specs.History.{starts_in, replies_in, own_acts, stimuli_in, given_in, released_of, lost_of, points_in, last_point}
 use Rattle.lego_model.specs.Agreement.{AgreeMarks}
-use Rattle.lego_model.specs.Application.{budget, names}
 use Rattle.of_types.specs.declared.journal.WorldStim.{WorldStim}
 use Rattle.lego_model.specs.RunReport.{line_text}
 
--- ---- The application of the reference controller at first, with what it will do
+-- ---- An application of the reference controller at first, with what the policy says of it and what it will do
 
-abbrev pub fresh : List Start → List Reply → App
-fresh starts replies = record { alive = false; budget = budget; rest = []; kept = []; inputs = []; starts = starts; replies = replies; done = 0; failed = 0 }
+abbrev pub fresh : AppValue → List Start → List Reply → App
+fresh rule starts replies = record { rule = rule; alive = false; rest = []; kept = []; inputs = []; starts = starts; replies = replies; done = 0; failed = 0 }
 
 -- before anything is started, with the losses that are to come
 abbrev pub before_start : List Declared → Losses → App → Run
@@ -42,12 +42,12 @@ all_started r = let begun = start_all 0 r.apps in record r { apps = begun.0; lin
 -- ---- What the reference controller does with what a world tells
 
 -- over the stimuli that it told and these losses, with an application that does this
-abbrev pub reference_said : {Own : Type 0} → (List Place → Bool) → Losses → Seen Own → List Start → List Reply → Run
-reference_said allows losses seen starts replies = reference allows seen.given.declared (fresh starts replies ∷ []) losses (stimuli_in seen)
+abbrev pub reference_said : {Own : Type 0} → AppValue → (List Place → Bool) → Losses → Seen Own → List Start → List Reply → Run
+reference_said rule allows losses seen starts replies = reference allows seen.given.declared (fresh rule starts replies ∷ []) losses (stimuli_in seen)
 
 -- with one that does what it told of it
-abbrev pub reference_of : {Own : Type 0} → (List Place → Bool) → Losses → Seen Own → Run
-reference_of allows losses seen = reference_said allows losses seen (starts_in (own_acts seen)) (replies_in (own_acts seen))
+abbrev pub reference_of : {Own : Type 0} → AppValue → (List Place → Bool) → Losses → Seen Own → Run
+reference_of rule allows losses seen = reference_said rule allows losses seen (starts_in (own_acts seen)) (replies_in (own_acts seen))
 
 -- what is said of the application, of which the fronts are told
 abbrev pub AreSaid : {Own : Type 0} → Seen Own → List Start → List Reply → Type 0
@@ -64,9 +64,9 @@ rounds allows xs r = fold (round allows) r xs
 
 -- ---- What it writes
 
--- the text of the lines so far
-abbrev pub text_of : Run → List ℕ
-text_of r = flat_map (line_text names) r.lines
+-- the text of the lines so far, where the applications have these names
+abbrev pub text_of : List (List ℕ) → Run → List ℕ
+text_of names r = flat_map (line_text names) r.lines
 
 -- ---- A run of a world stands alike to one of it
 

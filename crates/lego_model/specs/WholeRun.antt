@@ -5,6 +5,7 @@
 use Rattle.std.specs.Prelude.{◌≡◌, ℕ, Bool, List, [], length, Option}
 use Rattle.std.specs.Io.KnownBytes.{append_known}
 use Rattle.std.specs.List.{AllByRecursion}
+use Rattle.crash_policy.specs.Policies.{AppValue}
 use Rattle.lego_model.specs.Places.{Place}
 use Rattle.lego_model.specs.RunReport.{run_report}
 use Rattle.lego_model.specs.Journal.{Reply, Start}
@@ -17,34 +18,34 @@ use Rattle.lego_model.specs.Application.{index, names}
 use Rattle.lego_model.specs.ReferenceRun.{text_of, reference_of, reference_said, AreSaid, RunsAlike}
 
 -- All was dispatched, as in this run of the reference controller, and the report is its whole one.
-pub record EndsAs {Own : Type 0} (seen : Seen Own) (contents now_contents : Option (List ℕ)) (events : ℕ) (r : Run) : Type 0 where
+pub record EndsAs {Own : Type 0} (rule : AppValue) (seen : Seen Own) (contents now_contents : Option (List ℕ)) (events : ℕ) (r : Run) : Type 0 where
   pub alike : RunsAlike seen (at_end r)
   pub none_left : r.queue ≡ []
   pub events_is : events ≡ r.events
-  pub report : now_contents ≡ append_known contents (run_report names r)
+  pub report : now_contents ≡ append_known contents (run_report (names rule) r)
 
 -- So many events were left, as in this run of the reference controller, and the report has the lines of those that were dispatched.
-pub record LeavesAs {Own : Type 0} (seen : Seen Own) (contents now_contents : Option (List ℕ)) (left : ℕ) (r : Run) : Type 0 where
+pub record LeavesAs {Own : Type 0} (rule : AppValue) (seen : Seen Own) (contents now_contents : Option (List ℕ)) (left : ℕ) (r : Run) : Type 0 where
   pub alike : RunsAlike seen r
   pub left_is : left ≡ length r.queue
-  pub report : now_contents ≡ append_known contents (text_of r)
+  pub report : now_contents ≡ append_known contents (text_of (names rule) r)
 
 -- All was dispatched: the report is the reference controller's, whole. The journal is a dialogue with the application.
-pub record EndsAlike {Own : Type 0} (allows : List Place → Bool) (seen : Seen Own) (contents now_contents : Option (List ℕ)) (events : ℕ) : Type 0 where
+pub record EndsAlike {Own : Type 0} (rule : AppValue) (allows : List Place → Bool) (seen : Seen Own) (contents now_contents : Option (List ℕ)) (events : ℕ) : Type 0 where
   -- where the switches were lost
   pub losses : Losses
-  pub as_told : EndsAs seen contents now_contents events (reference_of allows losses seen)
+  pub as_told : EndsAs rule seen contents now_contents events (reference_of rule allows losses seen)
   -- over all that was said of the application it is the same
-  pub as_said : (starts : List Start) (replies : List Reply) → AreSaid seen starts replies → EndsAs seen contents now_contents events (reference_said allows losses seen starts replies)
+  pub as_said : (starts : List Start) (replies : List Reply) → AreSaid seen starts replies → EndsAs rule seen contents now_contents events (reference_said rule allows losses seen starts replies)
   pub at_once : AtOnce index (journal seen.history)
   -- no call of a link failed but by a loss
   pub in_order : AllByRecursion (IsOrderly index) seen.history
 
 -- So many events were left: the report has the lines of the events that were dispatched. The journal is a dialogue all the same.
-pub record LeavesAlike {Own : Type 0} (allows : List Place → Bool) (seen : Seen Own) (contents now_contents : Option (List ℕ)) (left : ℕ) : Type 0 where
+pub record LeavesAlike {Own : Type 0} (rule : AppValue) (allows : List Place → Bool) (seen : Seen Own) (contents now_contents : Option (List ℕ)) (left : ℕ) : Type 0 where
   pub losses : Losses
-  pub as_told : LeavesAs seen contents now_contents left (reference_of allows losses seen)
+  pub as_told : LeavesAs rule seen contents now_contents left (reference_of rule allows losses seen)
   -- over all that was said of the application it is the same
-  pub as_said : (starts : List Start) (replies : List Reply) → AreSaid seen starts replies → LeavesAs seen contents now_contents left (reference_said allows losses seen starts replies)
+  pub as_said : (starts : List Start) (replies : List Reply) → AreSaid seen starts replies → LeavesAs rule seen contents now_contents left (reference_said rule allows losses seen starts replies)
   pub at_once : AtOnce index (journal seen.history)
   pub in_order : AllByRecursion (IsOrderly index) seen.history

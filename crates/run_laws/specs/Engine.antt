@@ -1,6 +1,7 @@
 -- How a run of the engine stands to one of the reference controller, where the world keeps its word. All of this is our own.
 use Rattle.std.specs.Prelude.{◌≡◌, ℕ, Bool, true, List, [], ◌∷◌, ◌+◌, ◌++◌}
 use Rattle.app_frames.specs.declared.frame.Event.{Event}
+use Rattle.crash_policy.specs.Policies.{AppValue}
 use Rattle.lego_model.specs.Journal.{Reply, Start}
 use Rattle.lego_model.specs.Controller.{App, Run}
 use Rattle.lego_model.specs.Losses.{TurnLosses, Losses}
@@ -11,7 +12,6 @@ use Rattle.net_txn.specs.Net.{NetState}
 use Rattle.journal_laws.specs.Readings.{LastStands}
 use Rattle.switch_laws.specs.Shown.{shown_places}
 use Rattle.batch_laws.specs.Calm.{Calm}
-use Rattle.lego_model.specs.Application.{budget}
 use Rattle.lego_model.specs.History.{own_acts, given_in, released_of, lost_of, points_in}
 
 -- ---- What the engine keeps of a run
@@ -21,7 +21,9 @@ pub record Engine : Type 0 where
   pub queue : List Event
   -- how many events were dispatched
   pub events : ℕ
-  -- of the application: whether it is alive, what was taken and not read, its kept checkpoint, how many turns completed and failed
+  -- of the application: what the policy says of it, whether it is alive, what was taken and not read, its kept checkpoint, how many turns
+  -- completed and failed
+  pub rule : AppValue
   pub alive : Bool
   pub rest : List ℕ
   pub kept : List ℕ
@@ -32,8 +34,8 @@ pub record Engine : Type 0 where
 
 abbrev pub app_at : Engine → List (List ℕ) → List Start → List Reply → App
 app_at e given starts replies = record {
+  rule = e.rule;
   alive = e.alive;
-  budget = budget;
   rest = e.rest;
   kept = e.kept;
   inputs = given;

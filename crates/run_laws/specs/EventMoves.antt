@@ -2,8 +2,10 @@
 use Rattle.std.specs.Prelude.{◌≡◌, ℕ, true, List, ◌++◌, length, drop, map, Bool, [], ◌∷◌, Some, if◌then◌else◌}
 use Rattle.flow_table.specs.Switch.{Declared}
 use Rattle.app_frames.specs.declared.cause.Tried.{Tried}
+use Rattle.crash_policy.specs.declared.policy_file.Policy.{Policy}
 use Rattle.lego_model.specs.Journal.{Reply, Start}
-use Rattle.lego_model.specs.Controller.{Started, attempts, started, gone_line, Ended, out_lines, lost_lines, leavers, restart_lines, Release, turn}
+use Rattle.lego_model.specs.Application.{names}
+use Rattle.lego_model.specs.Controller.{Started, after_failure, gone_line, Ended, out_lines, lost_lines, leavers, restart_lines, Release, turn}
 use Rattle.lego_model.specs.Losses.{TurnLosses}
 use Rattle.lego_model.specs.Scripted.{AreStartFronts, IsFront}
 use Rattle.outside.specs.Seen.{Seen, Continues}
@@ -23,9 +25,9 @@ use Rattle.lego_model.specs.Turns.{Outcome}
 abbrev pub Joins : List Event → List Event → Type 0
 Joins waiting now_waiting = (more : List Event) × (now_waiting ≡ waiting ++ more)
 
--- It was started, in attempts that the reference controller makes too: its application comes to the same by these starts, and prints the
--- same. No switch moved, and a calm run stays calm.
-pub record StartsAlike {Own : Type 0} (Tells : Type 0) (text : List ℕ) (old new : Seen Own) (e now_e : Engine) : Type 0 where
+-- It was started, in attempts that the reference controller makes too, or it is gone there too, as this policy has it: its application comes
+-- to the same by these starts, and prints the same. No switch moved, and a calm run stays calm.
+pub record StartsAlike {Own : Type 0} (Tells : Type 0) (policy : Policy) (text : List ℕ) (old new : Seen Own) (e now_e : Engine) : Type 0 where
   pub starts : List Start
   pub tries : List Tried
   pub continues : Continues Tells old new
@@ -33,11 +35,12 @@ pub record StartsAlike {Own : Type 0} (Tells : Type 0) (text : List ℕ) (old ne
   pub net : now_e.net ≡ e.net
   pub queue : now_e.queue ≡ e.queue
   pub events : now_e.events ≡ e.events
+  pub rule : now_e.rule ≡ e.rule
   pub calm : Calm old e.net → Calm new now_e.net
   pub places : (declared : List Declared) → shown_places declared now_e.net.views (state new) ≡ shown_places declared e.net.views (state old)
   pub app : (said_starts : List Start) (said_replies : List Reply) → AreStartFronts starts said_starts
-      → started attempts (app_at e (given_in old) said_starts said_replies) ≡ (app_at now_e (given_in new) (drop (length starts) said_starts) said_replies, tries)
-  pub text_is : text ≡ lines_text (map (Started 0) tries ++ gone_line 0 now_e.alive)
+      → after_failure policy (app_at e (given_in old) said_starts said_replies) ≡ (app_at now_e (given_in new) (drop (length starts) said_starts) said_replies, tries)
+  pub text_is : text ≡ lines_text (names e.rule) (map (Started 0) tries ++ gone_line 0 now_e.alive)
   pub read_starts : starts_in (own_acts new) ≡ starts_in (own_acts old) ++ starts
   pub read_replies : replies_in (own_acts new) ≡ replies_in (own_acts old)
   pub read_stimuli : stimuli_in new ≡ stimuli_in old
@@ -68,6 +71,7 @@ pub record TurnAlike {Own : Type 0} (allows : List Place → Bool) (event : Even
   pub released : released_of new ≡ released_of old ++ release.packets
   pub lost : lost_of new ≡ lost_of old ++ leavers left
   pub events : now_e.events ≡ e.events
+  pub rule : now_e.rule ≡ e.rule
   pub marks : (state new).marks ≡ (if given then marks_at_event (Some e.events) (state old) else (state old).marks)
   pub turned : (said_starts : List Start) (said : Reply) (later_replies : List Reply) → AreStartFronts starts said_starts → IsFront reply said
       → turn allows e.events e.net.moment event losses (shown_places old.given.declared e.net.views (state old)) (app_at e (given_in old) said_starts (said ∷ later_replies))
@@ -78,7 +82,7 @@ pub record TurnAlike {Own : Type 0} (allows : List Place → Bool) (event : Even
         outcome = outcome;
         given = given;
       }
-  pub text_is : (later_starts : List Start) (later_replies : List Reply) → text ≡ lines_text (Ended 0 outcome ∷ out_lines release.packets ++ lost_lines (leavers left) ++ restart_lines 0 outcome (app_at now_e (given_in new) later_starts later_replies, tries))
+  pub text_is : (later_starts : List Start) (later_replies : List Reply) → text ≡ lines_text (names e.rule) (Ended 0 outcome ∷ out_lines release.packets ++ lost_lines (leavers left) ++ restart_lines 0 outcome (app_at now_e (given_in new) later_starts later_replies, tries))
 
 pub record TurnMoves {Own : Type 0} (allows : List Place → Bool) (event : Event) (text : List ℕ) (old new : Seen Own) (e now_e : Engine) : Type 0 where
   pub starts : List Start

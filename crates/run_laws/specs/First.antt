@@ -1,6 +1,7 @@
 -- A world that was just opened, and the engine at first. All of this is our own.
 use Rattle.std.specs.Prelude.{◌≡◌, false, [], ◌∷◌}
 use Rattle.outside.specs.declared.step.WorldStep.TheVariants.{Opened}
+use Rattle.crash_policy.specs.Policies.{AppValue}
 use Rattle.outside.specs.Seen.{Seen}
 use Rattle.net_txn.specs.Net.{NetState}
 use Rattle.run_laws.specs.Engine.{Engine}
@@ -12,5 +13,5 @@ IsOpened seen = seen.history ≡ Opened ∷ []
 abbrev pub net_at_first : NetState
 net_at_first = record { views = []; ports = []; log = []; held = []; xid = 1; moment = 0; kept = []; room = 2; left = [] }
 
-abbrev pub engine_at_first : Engine
-engine_at_first = record { net = net_at_first; queue = []; events = 0; alive = false; rest = []; kept = []; done = 0; failed = 0 }
+abbrev pub engine_at_first : AppValue → Engine
+engine_at_first rule = record { net = net_at_first; queue = []; events = 0; rule = rule; alive = false; rest = []; kept = []; done = 0; failed = 0 }

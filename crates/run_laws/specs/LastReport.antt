@@ -14,7 +14,7 @@ use Rattle.flow_table.specs.View.{TableView}
 use Rattle.switch_laws.specs.Orderly.{OrderlySince}
 use Rattle.switch_laws.specs.Shown.{shown_switch, shown_places}
 use Rattle.run_laws.specs.Engine.{Engine}
-use Rattle.lego_model.specs.Application.{index, names, name}
+use Rattle.lego_model.specs.Application.{index}
 use Rattle.lego_model.specs.History.{own_acts, given_in, stimuli_in, released_of, lost_of}
 use Rattle.flow_table.specs.Switch.{SwitchState}
 use Rattle.lego_model.specs.Answers.{rows_of_table, rows_of_view}
@@ -51,7 +51,7 @@ switch_left lost s d = if is_among d lost then None else switch_of d s
 -- ---- The end
 
 abbrev pub engine_end : Engine → List ℕ
-engine_end e = app_line name e.alive e.done e.failed ++ end_line e.net.moment e.events
+engine_end e = app_line e.rule.name e.alive e.done e.failed ++ end_line e.net.moment e.events
 
 -- of a switch that is lost when it is asked for its rows, that alone
 abbrev pub place_lines : List ℕ → Place → List ℕ
@@ -61,9 +61,9 @@ place_lines lost p = if is_among p.declared.dpid lost then lost_line p.declared.
 abbrev pub last_text : {Own : Type 0} → List ℕ → Seen Own → Engine → List ℕ
 last_text lost seen e = flat_map (place_lines lost) (shown_places seen.given.declared e.net.views (state seen)) ++ engine_end e
 
--- what the reference controller says at the end
-abbrev pub last_lines : Run → List ℕ
-last_lines r = flat_map (place_lines r.losses.last) r.places ++ apps_text names r.apps ++ end_line r.moment r.events
+-- what the reference controller says at the end, where the applications have these names
+abbrev pub last_lines : List (List ℕ) → Run → List ℕ
+last_lines names r = flat_map (place_lines r.losses.last) r.places ++ apps_text names r.apps ++ end_line r.moment r.events
 
 -- ---- What it leaves: switches were asked, which tells nothing of an application, is no stimulus and releases nothing; these were lost
 
@@ -84,5 +84,5 @@ pub record JoinedWith (vs : List ViewRow) (o : Option SwitchState) : Type 0 wher
   pub stands : o ≡ Some switch
   pub rows : rows_of_view vs ≡ rows_of_table switch.table.entries
 
-abbrev pub lines_text : List Line → List ℕ
-lines_text lines = flat_map (line_text names) lines
+abbrev pub lines_text : List (List ℕ) → List Line → List ℕ
+lines_text names lines = flat_map (line_text names) lines

@@ -17,7 +17,7 @@ use Rattle.lego_model.specs.History.{starts_in, replies_in, own_acts, stimuli_in
 use Rattle.lego_model.specs.AtOnce.{Passes, AtOnce}
 use Rattle.batch_laws.specs.Calm.{Calm}
 use Rattle.run_laws.specs.Engine.{Engine, Stands, ahead}
-use Rattle.lego_model.specs.Application.{index}
+use Rattle.lego_model.specs.Application.{index, names}
 use Rattle.lego_model.specs.ReferenceRun.{text_of, rounds}
 use Rattle.run_laws.specs.Readings.{JudgesAlike}
 
@@ -31,13 +31,15 @@ pub record Moves {Own : Type 0} (xs : List WorldStim) (f : Run → Run) (text : 
   pub batches : List Bool
   pub turns : List TurnLosses
   pub given : new.given ≡ old.given
+  -- what the policy says of the application stays
+  pub rule : now_e.rule ≡ e.rule
   pub read_starts : starts_in (own_acts new) ≡ starts_in (own_acts old) ++ starts
   pub read_replies : replies_in (own_acts new) ≡ replies_in (own_acts old) ++ replies
   pub read_stimuli : stimuli_in new ≡ stimuli_in old ++ xs
   pub stands : (said_starts : List Start) (said_replies : List Reply) (later : Losses) (r : Run) → AreStartFronts starts said_starts → AreFronts replies said_replies
       → Stands old e said_starts said_replies (ahead batches turns later) r → Stands new now_e (drop (length starts) said_starts) (drop (length replies) said_replies) later (f r)
   pub says : (said_starts : List Start) (said_replies : List Reply) (later : Losses) (r : Run) → AreStartFronts starts said_starts → AreFronts replies said_replies
-      → Stands old e said_starts said_replies (ahead batches turns later) r → text_of (f r) ≡ text_of r ++ text
+      → Stands old e said_starts said_replies (ahead batches turns later) r → text_of (names e.rule) (f r) ≡ text_of (names e.rule) r ++ text
 
 -- All that happened is a dialogue with the application; where it is alive, it runs, and what is unread stands behind frames that are no
 -- messages.

@@ -18,10 +18,10 @@ use Rattle.app_visor.specs.Attempts.{OneTry, starts_of, Restarts}
 use Rattle.switch_laws.specs.Shown.{shown_places}
 use Rattle.journal_laws.specs.Readings.{LastStands}
 use Rattle.lego_model.specs.History.{starts_in, replies_in, own_acts}
-use Rattle.lego_model.specs.Application.{index, budget}
+use Rattle.lego_model.specs.Application.{index}
 
 -- a turn: one reply more, which tells enough of it, and the last attempt stands still
-pub record TurnRead {Own : Type 0} (rest : List ℕ) (old mid : Seen Own) (given : Bool) (trace : List (Beat Own)) : Type 0 where
+pub record TurnRead {Own : Type 0} (budget : ℕ) (rest : List ℕ) (old mid : Seen Own) (given : Bool) (trace : List (Beat Own)) : Type 0 where
   pub starts : starts_in (own_acts mid) ≡ starts_in (own_acts old)
   pub replies : replies_in (own_acts mid) ≡ replies_in (own_acts old) ++ reply_by given trace ∷ []
   pub heard : is_heard budget rest (reply_by given trace) ≡ true
@@ -38,9 +38,9 @@ pub record TriesRead {Own : Type 0} (old new : Seen Own) (all : List (OneTry Own
 
 -- so is every turn and every restart read
 pub record AreRead (Own : Type 0) (Tells : Type 0) (accepts : List TableView → Bool) : Type 0 where
-  pub turn : (number moment : ℕ) (event : Event) (rest : List ℕ) (old mid : Seen Own) (net mid_net : NetState) (end : TurnEnd) (unread : List ℕ) → Tells
+  pub turn : (budget number moment : ℕ) (event : Event) (rest : List ℕ) (old mid : Seen Own) (net mid_net : NetState) (end : TurnEnd) (unread : List ℕ) → Tells
       → (t : Turns Tells accepts index budget rest (event_frame number moment event) old mid net mid_net end unread) → LastStands (own_acts old)
-      → TurnRead rest old mid t.given t.trace
+      → TurnRead budget rest old mid t.given t.trace
   pub tries : (kept : List ℕ) (old new : Seen Own) (found : Option (List ℕ)) (tries : List Tried) → Tells → (s : Restarts Tells index kept old new found tries) → TriesRead old new s.all found
 
 -- the judge of the engine says what that of the reference controller says of the switches that it shows

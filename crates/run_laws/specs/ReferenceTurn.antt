@@ -36,7 +36,7 @@ abbrev pub turned_by : (number moment : ℕ) → Event → TurnLosses → List P
 turned_by number moment event losses ps a reply played = record {
   release = release_by played.outcome losses ps played.state;
   left = played.state.left ++ (release_by played.outcome losses ps played.state).left;
-  app = after_outcome played.outcome (after_given a reply (given_in reply.given (event_frame number moment event) played.answers));
+  app = after_outcome event.kind played.outcome (after_given a reply (given_in reply.given (event_frame number moment event) played.answers));
   outcome = played.outcome;
   given = reply.given;
 }

@@ -1,8 +1,10 @@
 -- A run from its start to its last batch. All of this is our own.
 use Rattle.std.specs.Prelude.{◌≡◌, ℕ, Bool, List, []}
 use Rattle.of_types.specs.declared.journal.WorldStim.{WorldStim}
+use Rattle.crash_policy.specs.Policies.{AppValue}
 use Rattle.lego_model.specs.Journal.{Reply, Start}
 use Rattle.lego_model.specs.Places.{Place}
+use Rattle.lego_model.specs.Application.{names}
 use Rattle.lego_model.specs.Controller.{Run, settle}
 use Rattle.lego_model.specs.Losses.{Losses}
 use Rattle.outside.specs.Seen.{Seen}
@@ -19,13 +21,14 @@ at_last lost = record { batches = []; turns = []; last = lost }
 
 -- engine and reference controller stand alike at the end, with more starts and replies before its application, and its report so far is
 -- what was noted
-pub record RanAs {Own : Type 0} (later : Losses) (text : List ℕ) (last : Seen Own) (e : Engine) (r : Run) : Type 0 where
+pub record RanAs {Own : Type 0} (rule : AppValue) (later : Losses) (text : List ℕ) (last : Seen Own) (e : Engine) (r : Run) : Type 0 where
   pub starts : List Start
   pub replies : List Reply
+  pub rule_is : e.rule ≡ rule
   pub stands : Stands last e starts replies later r
-  pub text_is : text_of r ≡ text
+  pub text_is : text_of (names rule) r ≡ text
 
 -- so it is over what is said of the application, where switches are lost at some places, and some are to be lost at the end
-pub record Ran {Own : Type 0} (allows : List Place → Bool) (lost : List ℕ) (text : List ℕ) (last : Seen Own) (e : Engine) : Type 0 where
+pub record Ran {Own : Type 0} (rule : AppValue) (allows : List Place → Bool) (lost : List ℕ) (text : List ℕ) (last : Seen Own) (e : Engine) : Type 0 where
   pub losses : Losses
-  pub as_said : (starts : List Start) (replies : List Reply) → AreSaid last starts replies → RanAs (at_last lost) text last e (reference_said allows losses last starts replies)
+  pub as_said : (starts : List Start) (replies : List Reply) → AreSaid last starts replies → RanAs rule (at_last lost) text last e (reference_said rule allows losses last starts replies)

@@ -3,6 +3,8 @@
 ghost use Rattle.std.specs.Prelude.{◌≡◌, ℕ, ◌+◌, ◌^◌, ◌<◌, Bool, true, List, [], ◌∷◌};
 ghost use Rattle.flow_table.specs.View.{TableView};
 ghost use Rattle.app_frames.specs.declared.frame.Event.{Event};
+ghost use Rattle.crash_policy.specs.declared.policy_file.Policy.{Policy};
+ghost use Rattle.crash_policy.specs.declared.policy_file.Policy.TheVariants as policy;
 ghost use Rattle.lego_model.specs.Places.{Place};
 ghost use Rattle.lego_model.specs.Controller.{dispatch};
 ghost use Rattle.outside.specs.Seen.{Seen, Continues};
@@ -11,7 +13,7 @@ ghost use Rattle.journal_laws.specs.Readings.{LastStands};
 ghost use Rattle.batch_laws.specs.Calm.{Calm};
 ghost use Rattle.run_laws.specs.Engine.{Engine};
 ghost use Rattle.lego_model.specs.History.{own_acts};
-ghost use Rattle.run_laws.specs.Facts.{StartsAgain, TakesTurn, Dispatches};
+ghost use Rattle.run_laws.specs.Facts.{StartsAgain, Follows, TakesTurn, Dispatches};
 ghost use Rattle.run_laws.specs.Moves.{Moves};
 ghost use Rattle.lego_model.specs.ReferenceRun.{dispatch_next};
 ghost use Rattle.run_laws.specs.Readings.{AreRead, JudgesAlike};
@@ -19,15 +21,18 @@ ghost use Rattle.run_laws.specs.EventMoves.{Joins, StartsAlike, TurnMoves};
 
 use outside::World;
 
-/// The application is started in the attempts of the reference controller, which comes to the same by them.
+/// The application is started in the attempts of the reference controller, which comes to the same by them; and so it is with
+/// what follows a turn that failed, where it may be gone instead.
 pub fn starts_move<W: World>()
-    ensures { (accepts : List TableView → Bool) (text : List ℕ) (old new : Seen W.Own) (e now_e : Engine) → W.Tells → AreRead W.Own W.Tells accepts
-        → StartsAgain W.Tells text old new e now_e → StartsAlike W.Tells text old new e now_e }
+    ensures starts { (accepts : List TableView → Bool) (text : List ℕ) (old new : Seen W.Own) (e now_e : Engine) → W.Tells → AreRead W.Own W.Tells accepts
+        → StartsAgain W.Tells text old new e now_e → StartsAlike W.Tells policy.Absolute text old new e now_e }
+    ensures follows { (accepts : List TableView → Bool) (rule : Policy) (text : List ℕ) (old new : Seen W.Own) (e now_e : Engine) → W.Tells → AreRead W.Own W.Tells accepts
+        → Follows W.Tells rule text old new e now_e → StartsAlike W.Tells rule text old new e now_e }
 {}
 
 /// In a world that keeps its word, where all was calm, the turn of the engine leaves what that of the reference controller leaves
 /// that loses the same switches in it, whether it was done and its packets released, or failed and was undone, and the
-/// application started again.
+/// application started again or gone.
 pub fn turns_move<W: World>()
     ensures { (accepts : List TableView → Bool) (allows : List Place → Bool) (event : Event) (text : List ℕ) (old new : Seen W.Own) (e now_e : Engine)
         → W.Tells → Conforming new → JudgesAlike W.Own allows accepts → AreRead W.Own W.Tells accepts → e.events < 2 ^ 64 → LastStands (own_acts old)

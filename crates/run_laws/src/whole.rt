@@ -6,6 +6,7 @@ ghost use Rattle.lego_io.specs.Sink.{TookPart};
 ghost use Rattle.of_types.specs.declared.journal.WorldStim.{WorldStim};
 ghost use Rattle.flow_table.specs.View.{TableView};
 ghost use Rattle.app_frames.specs.declared.frame.Event.{Event};
+ghost use Rattle.crash_policy.specs.Policies.{AppValue};
 ghost use Rattle.lego_model.specs.Places.{Place};
 ghost use Rattle.outside.specs.Seen.{Seen, Continues};
 ghost use Rattle.outside.specs.Calls.{Ends};
@@ -15,7 +16,7 @@ ghost use Rattle.batch_laws.specs.InBatch.{BatchEnds, BatchOver};
 ghost use Rattle.run_laws.specs.Engine.{Engine, engine_then};
 ghost use Rattle.lego_model.specs.Application.{index};
 ghost use Rattle.lego_model.specs.History.{stimuli_in};
-ghost use Rattle.run_laws.specs.Facts.{Dispatches};
+ghost use Rattle.run_laws.specs.Facts.{takes_next, Dispatches};
 ghost use Rattle.run_laws.specs.Readings.{JudgesAlike};
 ghost use Rattle.run_laws.specs.Moves.{AtRest, Moved, Shown, OneHappens};
 ghost use Rattle.lego_model.specs.ReferenceRun.{dispatch_next, all_started};
@@ -60,40 +61,40 @@ pub fn ends_leave<W: World>()
 /// with the application: each answer is to its next message, a change has reached its switch at once where it is answered, and
 /// no call for the application is a stray one.
 pub fn runs_are_the_references<W: World>()
-    ensures out { (accepts : List TableView → Bool) (allows : List Place → Bool) (most : ℕ) (contents now_contents : Option (List ℕ)) (old new : Seen W.Own) (e : Engine)
+    ensures out { (rule : AppValue) (accepts : List TableView → Bool) (allows : List Place → Bool) (most : ℕ) (contents now_contents : Option (List ℕ)) (old new : Seen W.Own) (e : Engine)
         → W.Tells → Conforming new → JudgesAlike W.Own allows accepts → IsOpened old → length (stimuli_in new) < most
-        → RanOut W.Tells accepts most contents now_contents old new engine_at_first e → EndsAlike allows new contents now_contents e.events }
-    ensures full { (accepts : List TableView → Bool) (allows : List Place → Bool) (most left : ℕ) (contents now_contents : Option (List ℕ)) (old new : Seen W.Own)
+        → RanOut W.Tells accepts most contents now_contents old new (engine_at_first rule) e → EndsAlike rule allows new contents now_contents e.events }
+    ensures full { (rule : AppValue) (accepts : List TableView → Bool) (allows : List Place → Bool) (most left : ℕ) (contents now_contents : Option (List ℕ)) (old new : Seen W.Own)
         → W.Tells → Conforming new → JudgesAlike W.Own allows accepts → IsOpened old → length (stimuli_in new) < most
-        → RanFull W.Tells accepts most left contents now_contents old new engine_at_first → LeavesAlike allows new contents now_contents left }
+        → RanFull W.Tells accepts most left contents now_contents old new (engine_at_first rule) → LeavesAlike rule allows new contents now_contents left }
 {}
 
 /// Of a world that was just opened and that keeps its word up to a point: where a fault ends a run whose parts are those of the
 /// reference controller so far, the run is the reference controller's up to there, and what was written is what this says so
 /// far. No line is missing where all events before the fault were dispatched, since none waits behind the last stimulus that was
-/// settled, or none at all, or the application is alive, which is given the next one. Or the sink failed at the lines of the
+/// settled, or none at all, or the application is given the next one. Or the sink failed at the lines of the
 /// start, of a switch that was lost in a batch, of an event or of the end, behind all lines before them. Or memory was wanting: in the start, or behind its lines.
 pub fn cut_runs_are_the_references<W: World>()
-    ensures cut { (allows : List Place → Bool) (started : Bool) (number : ℕ) (text : List ℕ) (contents now_contents : Option (List ℕ)) (first last : Seen W.Own) (e : Engine)
-        → IsOpened first → GoneSoFar allows started number text first last engine_at_first e → number ≤ 1000 → Conforming last
-        → now_contents ≡ append_known contents text → CutBetweenLines allows last contents now_contents }
-    ensures lines { (allows : List Place → Bool) (number : ℕ) (text : List ℕ) (contents now_contents : Option (List ℕ)) (first last : Seen W.Own) (e : Engine)
-        → IsOpened first → (gone : GoneSoFar allows true number text first last engine_at_first e) → number ≤ 1000
-        → ((gone.begun ≡ []) × (number ≡ 0)) ⊎ (e.queue ≡ []) ⊎ (e.alive ≡ true) → Conforming last
-        → now_contents ≡ append_known contents text → CutBehindLines allows last contents now_contents }
-    ensures short { (allows : List Place → Bool) (number : ℕ) (text : List ℕ) (contents now_contents : Option (List ℕ)) (first last seen : Seen W.Own) (e : Engine)
-        → IsOpened first → GoneSoFar allows true number text first last engine_at_first e → number ≤ 1000 → Conforming last
-        → now_contents ≡ append_known contents text → CutForMemory allows seen last contents now_contents }
-    ensures start { (allows : List Place → Bool) (more : List ℕ) (contents now_contents : Option (List ℕ)) (first last : Seen W.Own) (e : Engine)
-        → IsOpened first → Moved [] all_started more first last engine_at_first e → Conforming last → TookPart contents now_contents more
-        → CutInLines allows last contents now_contents }
-    ensures event { (allows : List Place → Bool) (number : ℕ) (text more : List ℕ) (contents now_contents : Option (List ℕ)) (first mid last : Seen W.Own) (e now_e : Engine)
-        → IsOpened first → GoneSoFar allows true number text first mid engine_at_first e → Moved [] (dispatch_next allows) more mid last e now_e → number ≤ 999
-        → Conforming last → TookPart (append_known contents text) now_contents more → CutInLines allows last contents now_contents }
-    ensures loss { (allows : List Place → Bool) (text more : List ℕ) (contents now_contents : Option (List ℕ)) (first mid last : Seen W.Own) (e now_e : Engine)
-        → IsOpened first → (gone : GoneSoFar allows true 0 text first mid engine_at_first e) → gone.begun ≡ [] → OneHappens more mid last e now_e
-        → Conforming last → TookPart (append_known contents text) now_contents more → CutInLines allows last contents now_contents }
-    ensures end { (allows : List Place → Bool) (lost : List ℕ) (text more : List ℕ) (contents now_contents : Option (List ℕ)) (first last stop : Seen W.Own) (e : Engine)
-        → IsOpened first → GoneSoFar allows true 1000 text first last engine_at_first e → e.queue ≡ [] → more ≡ last_text lost last e → Leaves lost last stop
-        → Conforming stop → TookPart (append_known contents text) now_contents more → CutInLines allows stop contents now_contents }
+    ensures cut { (rule : AppValue) (allows : List Place → Bool) (started : Bool) (number : ℕ) (text : List ℕ) (contents now_contents : Option (List ℕ)) (first last : Seen W.Own) (e : Engine)
+        → IsOpened first → GoneSoFar allows started number text first last (engine_at_first rule) e → number ≤ 1000 → Conforming last
+        → now_contents ≡ append_known contents text → CutBetweenLines rule allows last contents now_contents }
+    ensures lines { (rule : AppValue) (allows : List Place → Bool) (number : ℕ) (text : List ℕ) (contents now_contents : Option (List ℕ)) (first last : Seen W.Own) (e : Engine)
+        → IsOpened first → (gone : GoneSoFar allows true number text first last (engine_at_first rule) e) → number ≤ 1000
+        → ((gone.begun ≡ []) × (number ≡ 0)) ⊎ (e.queue ≡ []) ⊎ (takes_next e e.queue ≡ true) → Conforming last
+        → now_contents ≡ append_known contents text → CutBehindLines rule allows last contents now_contents }
+    ensures short { (rule : AppValue) (allows : List Place → Bool) (number : ℕ) (text : List ℕ) (contents now_contents : Option (List ℕ)) (first last seen : Seen W.Own) (e : Engine)
+        → IsOpened first → GoneSoFar allows true number text first last (engine_at_first rule) e → number ≤ 1000 → Conforming last
+        → now_contents ≡ append_known contents text → CutForMemory rule allows seen last contents now_contents }
+    ensures start { (rule : AppValue) (allows : List Place → Bool) (more : List ℕ) (contents now_contents : Option (List ℕ)) (first last : Seen W.Own) (e : Engine)
+        → IsOpened first → Moved [] all_started more first last (engine_at_first rule) e → Conforming last → TookPart contents now_contents more
+        → CutInLines rule allows last contents now_contents }
+    ensures event { (rule : AppValue) (allows : List Place → Bool) (number : ℕ) (text more : List ℕ) (contents now_contents : Option (List ℕ)) (first mid last : Seen W.Own) (e now_e : Engine)
+        → IsOpened first → GoneSoFar allows true number text first mid (engine_at_first rule) e → Moved [] (dispatch_next allows) more mid last e now_e → number ≤ 999
+        → Conforming last → TookPart (append_known contents text) now_contents more → CutInLines rule allows last contents now_contents }
+    ensures loss { (rule : AppValue) (allows : List Place → Bool) (text more : List ℕ) (contents now_contents : Option (List ℕ)) (first mid last : Seen W.Own) (e now_e : Engine)
+        → IsOpened first → (gone : GoneSoFar allows true 0 text first mid (engine_at_first rule) e) → gone.begun ≡ [] → OneHappens more mid last e now_e
+        → Conforming last → TookPart (append_known contents text) now_contents more → CutInLines rule allows last contents now_contents }
+    ensures end { (rule : AppValue) (allows : List Place → Bool) (lost : List ℕ) (text more : List ℕ) (contents now_contents : Option (List ℕ)) (first last stop : Seen W.Own) (e : Engine)
+        → IsOpened first → GoneSoFar allows true 1000 text first last (engine_at_first rule) e → e.queue ≡ [] → more ≡ last_text lost last e → Leaves lost last stop
+        → Conforming stop → TookPart (append_known contents text) now_contents more → CutInLines rule allows stop contents now_contents }
 {}
