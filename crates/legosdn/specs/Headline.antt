@@ -4,6 +4,7 @@ use Rattle.std.specs.Io.KnownBytes.{append_known}
 use Rattle.lego_io.specs.Count.{Rose, NeverFell}
 use Rattle.lego_io.specs.Source.{ended}
 use Rattle.lego_io.specs.Sink.{TookPart}
+use Rattle.crash_policy.specs.Policies.{AppValue}
 use Rattle.outside.specs.declared.step.WorldStep.TheVariants.{NotOpened}
 use Rattle.outside.specs.Seen.{Seen, journal}
 use Rattle.outside.specs.InOrder.{BringMessages}
@@ -21,10 +22,11 @@ use Rattle.lego_model.specs.SwitchFaults.{FloodedByPacket, IsWhyTxn}
 use Rattle.lego_model.specs.CutRun.{NothingDone}
 use Rattle.lego_model.specs.SessionLines.{SessionValue}
 use Rattle.session_text.specs.Loading.{given_by}
+use Rattle.crash_policy.specs.Order.{policy_of}
 use Rattle.command_words.specs.Commands.{command_in}
 use Rattle.command_words.specs.declared.command.Command.TheVariants.{Replay, Run}
 use Rattle.legosdn.specs.declared.stop.Refusal.{Refusal}
-use Rattle.legosdn.specs.Input.{session_of, run_policy}
+use Rattle.legosdn.specs.Input.{app_in, session_of, run_policy}
 use Rattle.legosdn.specs.Said.{all_allowed, reference_over, WithEnough, LinesRun, MemoryRun, WritingRun}
 use Rattle.legosdn.specs.declared.stop.Stop.{Stop}
 use Rattle.legosdn.specs.declared.stop.Stop.TheVariants.{Usage, Refused, ReadFault, WriteFault, Shut, NextFault, SwitchBroke, Diverged, EventsLeft, NoMemory}
@@ -40,7 +42,7 @@ IsRun words port rounds = command_in words ≡ Some (Run port rounds)
 
 -- why an input is refused: to `replay` it spells no session,
 abbrev pub IsNoSession : Refusal → List ℕ → Type 0
-IsNoSession refusal input = session_of input ≡ Err refusal
+IsNoSession refusal input = session_of input ≡ Err (refusal_line refusal)
 
 -- and to `run` no policy that it takes
 abbrev pub IsNoPolicy : Refusal → List ℕ → Type 0
@@ -65,6 +67,12 @@ IsReadCause IsRefused told old new (Refused refusal) = IfSome told (IsRefused re
 IsReadCause IsRefused told old new ReadFault = Rose old new
 IsReadCause IsRefused told old new NoMemory = Unit {0}
 IsReadCause IsRefused told old new other = ⊥
+
+-- why a policy text gives no application: it is refused, by that line, or memory was wanting
+abbrev pub IsPolicyCause : List ℕ → Stop → Type 0
+IsPolicyCause text (Refused refusal) = app_in (policy_of text) ≡ Err (refusal_line refusal)
+IsPolicyCause text NoMemory = Unit {0}
+IsPolicyCause text other = ⊥
 
 -- why a run ends without its whole report
 abbrev pub IsRunCause : {Own : Type 0} → Type 0 → ℕ → ℕ → Seen Own → Seen Own → Stop → Type 0
@@ -107,18 +115,35 @@ IsLate (Diverged d) = Unit {0}
 IsLate (EventsLeft left) = Unit {0}
 IsLate other = ⊥
 
--- The source was read to its end, what it told spells a session, and the world was given that session.
-pub record Loaded (told left : Option (List ℕ)) (seen : Seen Scripts) : Type 0 where
+-- what an input spells to a command: its application, with a session of it to `replay`
+abbrev pub SpellsSession : List ℕ → AppValue → Type 0
+SpellsSession input app = (session : SessionValue) × (session_of input ≡ Ok (app, session))
+
+abbrev pub SpellsPolicy : List ℕ → AppValue → Type 0
+SpellsPolicy input app = run_policy input ≡ Ok app
+
+-- It is so of the application that the input spells, of which this was told.
+pub record OfInput (Spells : List ℕ → AppValue → Type 0) (told : Option (List ℕ)) (P : AppValue → Type 0) : Type 0 where
+  pub app : AppValue
+  pub spelled : IfSome told (λ input. Spells input app)
+  pub holds : P app
+
+-- The source was read to its end, what it told spells an application and a session, and the world was given that session.
+pub record Loaded (app : AppValue) (told left : Option (List ℕ)) (seen : Seen Scripts) : Type 0 where
   pub input : List ℕ
   pub session : SessionValue
   pub whole : IfSome told (λ bytes. input ≡ bytes)
   pub end : left ≡ ended told
-  pub spelled : session_of input ≡ Ok session
+  pub spelled : session_of input ≡ Ok (app, session)
   pub given : seen.given ≡ given_by session
+
+-- so it is for some application
+abbrev pub IsLoaded : Option (List ℕ) → Option (List ℕ) → Seen Scripts → Type 0
+IsLoaded told left seen = (app : AppValue) × Loaded app told left seen
 
 -- Nothing was done in the world, or the world was given that session.
 abbrev pub RunsNoOther : Option (List ℕ) → Option (List ℕ) → Seen Scripts → Type 0
-RunsNoOther told left seen = (seen.history ≡ []) ⊎ Loaded told left seen
+RunsNoOther told left seen = (seen.history ≡ []) ⊎ IsLoaded told left seen
 
 -- So it is at each stop: nothing was done at those that come before anything runs; once the world runs, it was given that session; and memory
 -- may have been wanting before or then.
@@ -127,10 +152,10 @@ LoadedAt Usage told left seen = seen.history ≡ []
 LoadedAt (Refused refusal) told left seen = seen.history ≡ []
 LoadedAt ReadFault told left seen = seen.history ≡ []
 LoadedAt NoMemory told left seen = RunsNoOther told left seen
-LoadedAt other told left seen = Loaded told left seen
+LoadedAt other told left seen = IsLoaded told left seen
 
 abbrev pub LoadedAs : {T : Type 0} → Result T Stop → Option (List ℕ) → Option (List ℕ) → Seen Scripts → Type 0
-LoadedAs (Ok x) told left seen = Loaded told left seen
+LoadedAs (Ok x) told left seen = IsLoaded told left seen
 LoadedAs (Err stop) told left seen = LoadedAt stop told left seen
 
 -- A switch is lost only where a call of a link is to fail.
@@ -147,31 +172,31 @@ NeverRuns status seen = Contains (2 ∷ 3 ∷ 4 ∷ 12 ∷ []) status × (seen.h
 -- tables agree, the application was given what it is given there, the packets that were released are those that it releases, the switches that
 -- were lost are those that it loses, no event is left, and what was written is the whole report. The journal is a dialogue with the application, in which each change had reached its switch
 -- at once when it was answered.
-pub record RunsWhole (seen : Seen Scripts) (contents now_contents : Option (List ℕ)) : Type 0 where
+pub record RunsWhole (rule : AppValue) (seen : Seen Scripts) (contents now_contents : Option (List ℕ)) : Type 0 where
   pub events : ℕ
-  pub alike : EndsAlike all_allowed seen contents now_contents events
+  pub alike : EndsAlike rule all_allowed seen contents now_contents events
   pub stimuli : stimuli_in seen ≡ seen.given.stimuli
   -- it is that over what the lines of the session say of the application too
-  pub as_said : without_links seen.given.fails ≡ [] → WithEnough (λ more. EndsAs seen contents now_contents events (reference_over more alike.losses seen.given))
+  pub as_said : without_links seen.given.fails ≡ [] → WithEnough (λ more. EndsAs rule seen contents now_contents events (reference_over rule more alike.losses seen.given))
 
 -- The same with so many events left, and with the lines of those that were dispatched.
-pub record RunsPart (seen : Seen Scripts) (contents now_contents : Option (List ℕ)) (left : ℕ) : Type 0 where
-  pub alike : LeavesAlike all_allowed seen contents now_contents left
+pub record RunsPart (rule : AppValue) (seen : Seen Scripts) (contents now_contents : Option (List ℕ)) (left : ℕ) : Type 0 where
+  pub alike : LeavesAlike rule all_allowed seen contents now_contents left
   pub stimuli : stimuli_in seen ≡ seen.given.stimuli
-  pub as_said : without_links seen.given.fails ≡ [] → WithEnough (λ more. LeavesAs seen contents now_contents left (reference_over more alike.losses seen.given))
+  pub as_said : without_links seen.given.fails ≡ [] → WithEnough (λ more. LeavesAs rule seen contents now_contents left (reference_over rule more alike.losses seen.given))
 
 -- Of the run as far as a point this is so: no point behind it is quiescent, so that what lies behind it is of one stimulus, of one event, or of
 -- the end of the report; and all bytes that came of switches up to there are messages. The whole journal is a dialogue with the application,
 -- in which each change had reached its switch at once when it was answered. Where an event was given behind that point, its turn was undone:
 -- each switch has its entries again, or failed in the undo; or the turn was whole and its packets were being released, and each switch moved by
 -- those that were sent to it alone. Only where memory was wanting may a turn have been whole of which no packet was being released.
-pub record UpToPoint {Own : Type 0} (seen : Seen Own) (Short : Type 0) (Holds : Seen Own → Type 0) : Type 0 where
+pub record UpToPoint {Own : Type 0} (rule : AppValue) (seen : Seen Own) (Short : Type 0) (Holds : Seen Own → Type 0) : Type 0 where
   pub last : Seen Own
   pub given : last.given ≡ seen.given
   pub last_point : IsLastQuiescent last seen
   pub messages : BringMessages last.history
   pub holds : Holds last
-  pub tables : TablesLeft Short last seen
+  pub tables : TablesLeft rule.budget Short last seen
   pub at_once : AtOnce index (journal seen.history)
 
 -- no packet that was released made its switch send as many messages as are too many
@@ -187,19 +212,19 @@ SomeRefused sim = BringMessages sim.history → ⊥
 -- comes next failed, or a switch; where the sink failed it took a part of the lines of the last; where memory was wanting those of the start
 -- are there, if a stimulus happened. Or nothing was done. Only where bytes come that are no message, a switch diverges, or breaks, unless a
 -- packet that was released made it send as many messages as are too many.
-abbrev pub StopsAs : Stop → WorldData → Option (List ℕ) → Option (List ℕ) → Type 0
-StopsAs (EventsLeft left) sim contents now_contents = RunsPart (seen_of sim) contents now_contents left
-StopsAs WriteFault sim contents now_contents = UpToPoint (seen_of sim) ⊥ (λ last. WritingRun last contents now_contents)
-StopsAs Shut sim contents now_contents = NothingDone (NotOpened ∷ []) (seen_of sim) contents now_contents
-StopsAs NextFault sim contents now_contents = UpToPoint (seen_of sim) ⊥ (λ last. LinesRun last contents now_contents)
-StopsAs (SwitchBroke d) sim contents now_contents = (NoneFloods (seen_of sim) → SomeRefused sim) × UpToPoint (seen_of sim) ⊥ (λ last. LinesRun last contents now_contents)
-StopsAs (Diverged d) sim contents now_contents = SomeRefused sim × UpToPoint (seen_of sim) ⊥ (λ last. LinesRun last contents now_contents)
-StopsAs NoMemory sim contents now_contents = UpToPoint (seen_of sim) (Unit {0}) (λ last. MemoryRun (seen_of sim) last contents now_contents) ⊎ NothingDone [] (seen_of sim) contents now_contents
-StopsAs other sim contents now_contents = Unit {0}
+abbrev pub StopsAs : AppValue → Stop → WorldData → Option (List ℕ) → Option (List ℕ) → Type 0
+StopsAs rule (EventsLeft left) sim contents now_contents = RunsPart rule (seen_of sim) contents now_contents left
+StopsAs rule WriteFault sim contents now_contents = UpToPoint rule (seen_of sim) ⊥ (λ last. WritingRun rule last contents now_contents)
+StopsAs rule Shut sim contents now_contents = NothingDone (NotOpened ∷ []) (seen_of sim) contents now_contents
+StopsAs rule NextFault sim contents now_contents = UpToPoint rule (seen_of sim) ⊥ (λ last. LinesRun rule last contents now_contents)
+StopsAs rule (SwitchBroke d) sim contents now_contents = (NoneFloods (seen_of sim) → SomeRefused sim) × UpToPoint rule (seen_of sim) ⊥ (λ last. LinesRun rule last contents now_contents)
+StopsAs rule (Diverged d) sim contents now_contents = SomeRefused sim × UpToPoint rule (seen_of sim) ⊥ (λ last. LinesRun rule last contents now_contents)
+StopsAs rule NoMemory sim contents now_contents = UpToPoint rule (seen_of sim) (Unit {0}) (λ last. MemoryRun rule (seen_of sim) last contents now_contents) ⊎ NothingDone [] (seen_of sim) contents now_contents
+StopsAs rule other sim contents now_contents = Unit {0}
 
-abbrev pub RunsAs : {T : Type 0} → Result T Stop → WorldData → Option (List ℕ) → Option (List ℕ) → Type 0
-RunsAs (Ok x) sim contents now_contents = RunsWhole (seen_of sim) contents now_contents
-RunsAs (Err stop) sim contents now_contents = StopsAs stop sim contents now_contents
+abbrev pub RunsAs : {T : Type 0} → AppValue → Result T Stop → WorldData → Option (List ℕ) → Option (List ℕ) → Type 0
+RunsAs rule (Ok x) sim contents now_contents = RunsWhole rule (seen_of sim) contents now_contents
+RunsAs rule (Err stop) sim contents now_contents = StopsAs rule stop sim contents now_contents
 
 -- each start of the application, and all that it gave and was given, went as the lines of the session say
 abbrev pub KeepsLines : WorldData → Type 0
@@ -219,24 +244,30 @@ pub record WroteLast (new : Option (List ℕ)) (faults_old faults_new : ℕ) (by
   pub written : Wrote before new faults faults_new bytes
 
 -- Events are left: their number is in the last line, behind the lines of the events that were dispatched.
-pub record LeftAs (sim : WorldData) (contents now_contents : Option (List ℕ)) (faults_old faults_new : ℕ) : Type 0 where
+pub record LeftAs (rule : AppValue) (sim : WorldData) (contents now_contents : Option (List ℕ)) (faults_old faults_new : ℕ) : Type 0 where
   pub left : ℕ
   pub some : 1 ≤ left
   pub before : Option (List ℕ)
   pub faults : ℕ
   pub never_fell : NeverFell faults_old faults
-  pub run : RunsPart (seen_of sim) contents before left
+  pub run : RunsPart rule (seen_of sim) contents before left
   pub written : Wrote before now_contents faults faults_new (stop_line (EventsLeft left))
 
 -- How the run went up to a stop of this status, whose line stands behind what was written up to there.
-pub record CutShort (status : ℕ) (sim : WorldData) (contents now_contents : Option (List ℕ)) (faults_old faults_new : ℕ) : Type 0 where
+pub record CutShort (rule : AppValue) (status : ℕ) (sim : WorldData) (contents now_contents : Option (List ℕ)) (faults_old faults_new : ℕ) : Type 0 where
   pub stop : Stop
   pub status_is : status ≡ stop_status stop
   pub before : Option (List ℕ)
   pub faults : ℕ
   pub never_fell : NeverFell faults_old faults
-  pub run : StopsAs stop sim contents before
+  pub run : StopsAs rule stop sim contents before
   pub written : Wrote before now_contents faults faults_new (stop_line stop)
+
+-- Or it did not begin: memory was wanting before, and nothing was done in the world.
+pub record NotBegun {Own : Type 0} (status : ℕ) (seen : Seen Own) (contents now_contents : Option (List ℕ)) (faults_old faults_new : ℕ) : Type 0 where
+  pub status_is : status ≡ stop_status NoMemory
+  pub nothing : seen.history ≡ []
+  pub written : Wrote contents now_contents faults_old faults_new (stop_line NoMemory)
 
 -- a stop of this status, with its cause
 pub record Stopped (Why : Stop → Type 0) (status : ℕ) (P : Stop → Type 0) : Type 0 where
@@ -247,9 +278,18 @@ pub record Stopped (Why : Stop → Type 0) (status : ℕ) (P : Stop → Type 0) 
 
 -- ---- Before `replay` has its status: how it ends, which reads an input to its end and then runs
 
+-- it stops before anything runs, or memory was wanting: nothing was done
+abbrev pub StopsBefore : {Own T : Type 0} → Result T Stop → Seen Own → Option (List ℕ) → Option (List ℕ) → Type 0
+StopsBefore (Ok x) seen contents now_contents = ⊥
+StopsBefore (Err stop) seen contents now_contents = (IsEarly stop ⊎ (stop ≡ NoMemory)) × (seen.history ≡ []) × (now_contents ≡ contents)
+
+-- how the run went of the application that was loaded, if one was: it was, but where the stop comes before, or memory was wanting
+abbrev pub RunsLoaded : {T : Type 0} → Result T Stop → Option (List ℕ) → Option (List ℕ) → WorldData → Option (List ℕ) → Option (List ℕ) → Type 0
+RunsLoaded result told left sim contents now_contents = ((app : AppValue) × Loaded app told left (seen_of sim) × RunsAs app result sim contents now_contents) ⊎ StopsBefore result (seen_of sim) contents now_contents
+
 pub record Replays {T : Type 0} (result : Result T Stop) (told left : Option (List ℕ)) (old new : Faults Scripts) (sim : WorldData) (contents now_contents : Option (List ℕ)) (Stays : Type 0) : Type 0 where
   pub loaded : LoadedAs result told left (seen_of sim)
-  pub runs : RunsAs result sim contents now_contents
+  pub runs : RunsLoaded result told left sim contents now_contents
   pub lines : OnOk result (KeepsLines sim)
   pub late_lines : IfErr result (λ stop. IsLate stop → KeepsLines sim)
   pub why : IfErr result (IsCause (Unit {0}) IsNoSession told old new)

@@ -1,5 +1,6 @@
 -- The reference controller of a session: its switches, what its lines say of the application, and its stimuli. All of this is our own.
 use Rattle.std.specs.Prelude.{◌≡◌, ℕ, ◌≤◌, ◌⊎◌, Bool, true, List, [], ◌∷◌, Option}
+use Rattle.crash_policy.specs.Policies.{AppValue}
 use Rattle.outside.specs.Seen.{Given, Seen}
 use Rattle.sim_world.specs.Told.{without_links}
 use Rattle.sim_world.specs.Scripts.{Scripts, starts_of, replies_of}
@@ -20,13 +21,13 @@ abbrev pub all_allowed : List Place → Bool
 all_allowed places = true
 
 -- over what a world was given, with these losses; behind the last line come so many starts that are ready, and so many turns that are done at once
-abbrev pub reference_over : ℕ → Losses → Given Scripts → Run
-reference_over more losses given =
-    reference all_allowed given.declared (fresh (starts_said more (starts_of index given.own)) (replies_said more (replies_of index given.own)) ∷ []) losses given.stimuli
+abbrev pub reference_over : AppValue → ℕ → Losses → Given Scripts → Run
+reference_over rule more losses given =
+    reference all_allowed given.declared (fresh rule (starts_said more (starts_of index given.own)) (replies_said more (replies_of index given.own)) ∷ []) losses given.stimuli
 
 -- of a session
-abbrev pub reference_of_session : ℕ → Losses → SessionValue → Run
-reference_of_session more losses session = reference_over more losses (given_by session)
+abbrev pub reference_of_session : AppValue → ℕ → Losses → SessionValue → Run
+reference_of_session rule more losses session = reference_over rule more losses (given_by session)
 
 -- with as many starts and turns behind the last lines as one likes, where they are enough
 pub record WithEnough (P : ℕ → Type 0) : Type 0 where
@@ -36,31 +37,31 @@ pub record WithEnough (P : ℕ → Type 0) : Type 0 where
 -- ---- A run that a fault ends
 
 -- before anything is started, with an application of which the lines say so much, and these losses to come
-abbrev pub start_by_lines : ℕ → Losses → Seen Scripts → Run
-start_by_lines more losses last = start_said losses last (starts_said more (starts_of index last.given.own)) (replies_said more (replies_of index last.given.own))
+abbrev pub start_by_lines : AppValue → ℕ → Losses → Seen Scripts → Run
+start_by_lines rule more losses last = start_said rule losses last (starts_said more (starts_of index last.given.own)) (replies_said more (replies_of index last.given.own))
 
 -- What is so up to a point is so over what the lines of the session say of the application, too.
-abbrev pub HoldsAsSaid : {last : Seen Scripts} → (Holds : Progress last → Run → Type 0) → AlikeUpTo last Holds → Type 0
-HoldsAsSaid {last} Holds up_to = without_links last.given.fails ≡ [] → WithEnough (λ more. Holds up_to.far (start_by_lines more up_to.far.losses last))
+abbrev pub HoldsAsSaid : {last : Seen Scripts} → (rule : AppValue) → (Holds : Progress last → Run → Type 0) → AlikeUpTo rule last Holds → Type 0
+HoldsAsSaid {last} rule Holds up_to = without_links last.given.fails ≡ [] → WithEnough (λ more. Holds up_to.far (start_by_lines rule more up_to.far.losses last))
 
 -- all lines of what was done up to there were written
-pub record CutRun (last : Seen Scripts) (contents now_contents : Option (List ℕ)) : Type 0 where
-  pub run : CutBetweenLines all_allowed last contents now_contents
-  pub as_said : HoldsAsSaid (WroteSoFar all_allowed last contents now_contents) run
+pub record CutRun (rule : AppValue) (last : Seen Scripts) (contents now_contents : Option (List ℕ)) : Type 0 where
+  pub run : CutBetweenLines rule all_allowed last contents now_contents
+  pub as_said : HoldsAsSaid rule (WroteSoFar rule all_allowed last contents now_contents) run
 
 -- and none is missing, of the start and of all events before the fault,
-pub record LinesRun (last : Seen Scripts) (contents now_contents : Option (List ℕ)) : Type 0 where
-  pub cut : CutRun last contents now_contents
-  pub done : AllDone all_allowed cut.run.far
-  pub none_between : NoneBetween all_allowed cut.run.far
+pub record LinesRun (rule : AppValue) (last : Seen Scripts) (contents now_contents : Option (List ℕ)) : Type 0 where
+  pub cut : CutRun rule last contents now_contents
+  pub done : AllDone rule all_allowed cut.run.far
+  pub none_between : NoneBetween rule all_allowed cut.run.far
 
 -- or memory was wanting, behind the lines of the start if a stimulus happened
-pub record MemoryRun (seen last : Seen Scripts) (contents now_contents : Option (List ℕ)) : Type 0 where
-  pub cut : CutRun last contents now_contents
-  pub done : (stimuli_in seen ≡ []) ⊎ AllDone all_allowed cut.run.far
+pub record MemoryRun (rule : AppValue) (seen last : Seen Scripts) (contents now_contents : Option (List ℕ)) : Type 0 where
+  pub cut : CutRun rule last contents now_contents
+  pub done : (stimuli_in seen ≡ []) ⊎ AllDone rule all_allowed cut.run.far
 
 -- the sink took a part of the lines of what was done last, behind all those before
-pub record WritingRun (last : Seen Scripts) (contents now_contents : Option (List ℕ)) : Type 0 where
-  pub run : CutWhileWriting all_allowed last contents now_contents
-  pub done : AllDone all_allowed run.up_to.far
-  pub as_said : HoldsAsSaid (WasWriting all_allowed last run.text run.more) run.up_to
+pub record WritingRun (rule : AppValue) (last : Seen Scripts) (contents now_contents : Option (List ℕ)) : Type 0 where
+  pub run : CutWhileWriting rule all_allowed last contents now_contents
+  pub done : AllDone rule all_allowed run.up_to.far
+  pub as_said : HoldsAsSaid rule (WasWriting rule all_allowed last run.text run.more) run.up_to

@@ -1,11 +1,11 @@
 //! An input, cut into its policy and its session.
 
-ghost use Rattle.std.specs.Prelude.{◌≡◌, ◌==◌, ◌↔◌, ◌+◌, ◌<◌, ◌≤◌, ◌^◌, ◌∷◌, [], ℕ, List, None, Some, Err, length, position, IfSome, IfOk, IfErr, OnOk};
+ghost use Rattle.std.specs.Prelude.{◌≡◌, ◌==◌, ◌⊎◌, ◌++◌, ◌+◌, ◌<◌, ◌≤◌, ◌^◌, ◌∷◌, [], ℕ, List, None, Some, Err, length, position, IfSome, IfOk, IfErr, OnOk};
 ghost use Rattle.lego_io.specs.Count.{Rose, NeverFell};
 ghost use Rattle.lego_io.specs.Source.{ended};
-ghost use Rattle.lego_io.specs.Lines.{lines_of};
+ghost use Rattle.lego_io.specs.Lines.{cut_at_lf, lines_of};
 ghost use Rattle.legosdn.specs.declared.stop.Refusal.TheVariants.{Separator};
-ghost use Rattle.legosdn.specs.Input.{most_input, is_separator as is_separator_in, behind_separator, or_refused, session_lines, session_of};
+ghost use Rattle.legosdn.specs.Input.{most_input, is_separator as is_separator_in, policy_text, behind_separator, session_behind, session_of};
 ghost use Rattle.legosdn.specs.Headline.{IsReadCause, IsNoSession, IsNoPolicy};
 
 use crate::stop::{Refusal, Stop};
@@ -68,6 +68,7 @@ fn find_lf(text: &[u8]) -> Option<usize>
 fn behind_line(text: &[u8]) -> &[u8]
     requires { 0 < length text.now }
     ensures shorter { length result.now < length text.now }
+    ensures behind { (result.now ≡ []) ⊎ ((line : List ℕ) × (text.now ≡ line ++ 10 ∷ result.now) × (cut_at_lf text.now ≡ line ∷ cut_at_lf result.now)) }
     ensures lines { (line : List ℕ) × (lines_of text.now ≡ line ∷ lines_of result.now) }
 {
     match find_lf(text) {
@@ -77,12 +78,13 @@ fn behind_line(text: &[u8]) -> &[u8]
 }
 
 /// Cuts an input into its parts.
-fn cut(input: &[u8]) -> Result<Parts<'_>, Refusal>
+pub fn cut(input: &[u8]) -> Result<Parts<'_>, Refusal>
     requires { length input.now ≤ most_input }
     ensures found { IfOk result (λ parts. behind_separator 1 (lines_of input.now) ≡ Some (parts.first_line, lines_of parts.session.now)) }
-    ensures policy { IfOk result (λ parts. (parts.policy.now ≡ []) ↔ (parts.first_line ≡ 2)) }
+    ensures policy { IfOk result (λ parts. parts.policy.now ≡ policy_text input.now) }
     ensures first { IfOk result (λ parts. parts.first_line < 2 ^ 63) }
     ensures none { IfErr result (λ refusal. (refusal ≡ Separator) × (behind_separator 1 (lines_of input.now) ≡ None)) }
+    ensures session { session_of input.now ≡ session_behind (policy_text input.now) (behind_separator 1 (lines_of input.now)) }
 {
     let mut rest = input;
     let mut number = 1;
@@ -99,19 +101,4 @@ fn cut(input: &[u8]) -> Result<Parts<'_>, Refusal>
         number += 1;
     }
     Err(Refusal::Separator)
-}
-
-/// Cuts an input that has no policy into its parts.
-#[tactic(auto, unfolding(crate::specs::Input::session_of))]
-pub fn parts_of(input: &[u8]) -> Result<Parts<'_>, Refusal>
-    requires { length input.now ≤ most_input }
-    ensures session { IfOk result (λ parts. session_of input.now ≡ or_refused (session_lines parts.first_line (lines_of parts.session.now))) }
-    ensures first { IfOk result (λ parts. parts.first_line < 2 ^ 63) }
-    ensures refused { IfErr result (λ refusal. session_of input.now ≡ Err refusal) }
-{
-    let parts = cut(input)?;
-    if !parts.policy.is_empty() {
-        return Err(Refusal::PolicyLater);
-    }
-    Ok(parts)
 }

@@ -30,6 +30,6 @@ pub fn run_live<S: Source, K: Sink, W: World>(
     ensures ended { W.Tells → (W.seen live.old).history ≡ [] → (state (W.seen live.new)).running ≡ [] }
     ensures never_fell { NeverFell (K.faults sink.old) (K.faults sink.new) }
 {
-    let program = read_program(alloc, source)?;
-    run_world(alloc, program, sink, live, port, rounds)
+    let app = read_program(alloc, source)?;
+    run_world(alloc, &app, sink, live, port, rounds)
 }

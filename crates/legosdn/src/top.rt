@@ -2,6 +2,7 @@
 
 ghost use Rattle.std.specs.Prelude.{◌≡◌, ◌≤◌, ◌⊎◌, ◌∷◌, [], ℕ, List, Some, None, Ok, Err, length, map, Contains, IfSome, IfOk, OnOk, IfErr, string_bytes};
 ghost use Rattle.std.specs.Result.{IsErrAnd};
+ghost use Rattle.crash_policy.specs.Policies.{AppValue, app_value};
 ghost use Rattle.lego_io.specs.Count.{Rose, NeverFell};
 ghost use Rattle.outside.specs.Seen.{Continues};
 ghost use Rattle.outside.specs.State.{state, at_first};
@@ -19,14 +20,16 @@ ghost use Rattle.lego_model.specs.RunReport.{run_report};
 ghost use Rattle.lego_model.specs.Application.{names};
 ghost use Rattle.legosdn.specs.Said.{reference_of_session, WithEnough};
 ghost use Rattle.legosdn.specs.Stops.{stop_status, stop_line, refusal_line};
-ghost use Rattle.legosdn.specs.Headline.{IsReplay, IsRun, IsNoSession, IsNoPolicy, faults_of, IsReadCause, IsRunCause, IsCause, NoneFailed, NoneFloods, IsEarly, IsLate, Loaded, RunsNoOther, LosesByFaults, LoadedAs, NeverRuns, RunsWhole, RunsAs, KeepsLines, LeftAs, CutShort, SomeRefused, Wrote, WroteLast, Stopped, Replays};
-ghost use Rattle.legosdn.specs.Live.{Taken, TellsInOrder, NoneStray, ServesWhole, ServesCut, Serves};
+ghost use Rattle.legosdn.specs.Headline.{IsReplay, IsRun, IsNoSession, IsNoPolicy, faults_of, IsReadCause, IsRunCause, IsCause, NoneFailed, NoneFloods, IsEarly, IsLate, SpellsSession, SpellsPolicy, OfInput, Loaded, IsLoaded, RunsNoOther, LosesByFaults, LoadedAs, NeverRuns, RunsWhole, RunsAs, RunsLoaded, KeepsLines, LeftAs, CutShort, NotBegun, SomeRefused, Wrote, WroteLast, Stopped, Replays};
+ghost use Rattle.legosdn.specs.Live.{IsTaken, TellsInOrder, NoneStray, ServesWhole, ServesCut, Serves};
 
-use crate::input::{parts_of, read_input};
+use crate::input::{cut, read_input};
 use crate::live::run_live;
+use crate::policy::read_app;
 use crate::stop::Stop;
 use crate::world::run_world;
 use command_words::{Command, read_words};
+use crash_policy::AppRule;
 use lego_io::{Sink, Source};
 use of_types::limits::MOST_ROUNDS;
 use outside::World;
@@ -35,20 +38,20 @@ use sim_world::SimWorld;
 use std::alloc::{AllocError, Global};
 use trace_world::Traced;
 
-/// Gives the names of the applications: without a policy there is one, `app`.
-fn app_names(alloc: Global) -> Result<Vec<String>, AllocError>
-    ensures { IfOk result (λ all. map string_bytes all.items ≡ names) }
+/// Gives the names of the applications: there is one.
+fn app_names(alloc: Global, app: &AppRule) -> Result<Vec<String>, AllocError>
+    ensures { IfOk result (λ all. map string_bytes all.items ≡ names (app_value app.now)) }
 {
     let mut names = Vec::new(alloc);
-    names.push(String::from_str(alloc, "app")?)?;
+    names.push(String::from_str(alloc, app.name.as_str())?)?;
     Ok(names)
 }
 
-/// Reads an input to its end, and its session into the world.
-fn load<S: Source>(alloc: Global, source: &mut S, sim: &mut SimWorld) -> Result<(), Stop>
+/// Reads an input to its end, and its session into the world; answers its application.
+fn load<S: Source>(alloc: Global, source: &mut S, sim: &mut SimWorld) -> Result<AppRule, Stop>
     requires new { IsNew sim.old }
     requires nothing { given_of sim.old ≡ nothing_given }
-    ensures loaded { OnOk result (Loaded (S.remaining source.old) (S.remaining source.new) (seen_of sim.new)) }
+    ensures loaded { IfOk result (λ app. Loaded (app_value app) (S.remaining source.old) (S.remaining source.new) (seen_of sim.new)) }
     ensures new { IsNew sim.new }
     ensures few { OnOk result (length (seen_of sim.new).given.stimuli ≤ 1000000) }
     ensures why { IfErr result (IsReadCause IsNoSession (S.remaining source.old) (S.faults source.old) (S.faults source.new)) }
@@ -56,9 +59,11 @@ fn load<S: Source>(alloc: Global, source: &mut S, sim: &mut SimWorld) -> Result<
     ensures never_fell { NeverFell (S.faults source.old) (S.faults source.new) }
 {
     let input = read_input(alloc, source)?;
-    let parts = parts_of(&input)?;
-    let names = app_names(alloc)?;
-    Ok(read_session(alloc, parts.session, parts.first_line, &names, sim)?)
+    let parts = cut(&input)?;
+    let app = read_app(alloc, parts.policy)?;
+    let names = app_names(alloc, &app)?;
+    read_session(alloc, parts.session, parts.first_line, &names, sim)?;
+    Ok(app)
 }
 
 /// Finds that the simulated world keeps its word.
@@ -70,14 +75,15 @@ fn keeps_word<E: Sink + Drop>(sim: &Traced<SimWorld, E>)
     sim.world().keeps_word();
 }
 
-/// Runs the simulated world to its end, and writes the report.
+/// Runs the application in the simulated world to its end, and writes the report.
 fn simulate<K: Sink, E: Sink + Drop>(
     alloc: Global,
+    app: &AppRule,
     sink: &mut K,
     sim: &mut Traced<SimWorld, E>,
 ) -> Result<(), Stop>
     ensures runs { (seen_of sim.old).history ≡ [] → length (seen_of sim.old).given.stimuli ≤ 1000000
-        → RunsAs result sim.new (K.contents sink.old) (K.contents sink.new) }
+        → RunsAs (app_value app.now) result sim.new (K.contents sink.old) (K.contents sink.new) }
     ensures lines { KeepsLines sim.new }
     ensures strays { (seen_of sim.old).history ≡ [] → length (seen_of sim.old).given.stimuli ≤ 1000000
         → (seen_of sim.new).counts.shorts ≡ 0 → (seen_of sim.new).counts.strays ≡ 0 }
@@ -87,7 +93,7 @@ fn simulate<K: Sink, E: Sink + Drop>(
     ensures ended { (seen_of sim.old).history ≡ [] → (state (seen_of sim.new)).running ≡ [] }
     ensures never_fell { NeverFell (K.faults sink.old) (K.faults sink.new) }
 {
-    let ended = run_world(alloc, Vec::new(alloc), sink, sim, 0, MOST_ROUNDS);
+    let ended = run_world(alloc, app, sink, sim, 0, MOST_ROUNDS);
     keeps_word(sim);
     ended
 }
@@ -103,7 +109,7 @@ fn replay<S: Source, K: Sink, E: Sink + Drop>(
     requires nothing { given_of sim.old ≡ nothing_given }
     ensures loaded { LoadedAs result (S.remaining source.old) (S.remaining source.new) (seen_of sim.new) }
     ensures ended { (state (seen_of sim.new)).running ≡ [] }
-    ensures runs { RunsAs result sim.new (K.contents sink.old) (K.contents sink.new) }
+    ensures runs { RunsLoaded result (S.remaining source.old) (S.remaining source.new) sim.new (K.contents sink.old) (K.contents sink.new) }
     ensures lines { OnOk result (KeepsLines sim.new) }
     ensures late_lines { IfErr result (λ stop. IsLate stop → KeepsLines sim.new) }
     ensures strays { (seen_of sim.new).counts.shorts ≡ 0 → (seen_of sim.new).counts.strays ≡ 0 }
@@ -114,8 +120,8 @@ fn replay<S: Source, K: Sink, E: Sink + Drop>(
     ensures early { IfErr result (λ stop. IsEarly stop → (sim.new ≡ sim.old) × (sink.new ≡ sink.old)) }
     ensures never_fell { NeverFell (K.faults sink.old) (K.faults sink.new) }
 {
-    load(alloc, source, sim.world_mut())?;
-    simulate(alloc, sink, sim)
+    let app = load(alloc, source, sim.world_mut())?;
+    simulate(alloc, &app, sink, sim)
 }
 
 /// Runs the command that the words are.
@@ -170,8 +176,8 @@ pub fn halt<K: Sink>(sink: &mut K, stop: Stop) -> u8
 
 /// Runs one command: reads an input to its end, runs a world, and writes the report.
 ///
-/// `replay` runs the session of the input in the simulated world, and `run` the application of a policy over the switches of
-/// the other world. The simulated world may tell its acts in words; contracts see it without them. The answer is the status
+/// `replay` runs the session of the input, with the application of its policy, in the simulated world, and `run` the application
+/// of a policy over the switches of the other world. The simulated world may tell its acts in words; contracts see it without them. The answer is the status
 /// of the program: 0 where the whole report was written, 2 where
 /// the words are no command, 3 where the input is refused, 4 where the source failed, 5 where the sink failed, 6 where
 /// the world stays shut or fails, 8 where a switch broke, 9 where it diverged, 10 where events were left, 12 where memory
@@ -186,27 +192,29 @@ pub fn legosdn<S: Source, K: Sink, E: Sink + Drop, W: World>(
 ) -> u8
     requires new_world { IsNew sim.old }
     requires empty_world { given_of sim.old ≡ nothing_given }
-    // `replay`. At status 0 all stimuli of the session happened, and the run is that of the reference controller over them and over what the
-    // application did: at every quiescent point the tables agree, the application was given what it is given there, the packets that were
+    // `replay`. At status 0 all stimuli of the session happened, and the run is that of the reference controller over them, under the policy
+    // that the input spells, and over what the application did: at every quiescent point the tables agree, the application was given what it is given there, the packets that were
     // released are those that it releases, the switches that were lost are those that it loses, no event is left, and what was written is the whole report. Each answer that the application was
     // given is to its next message, and a change that passed the host's tests had then reached its switch: since the frame given before,
     // the change was sent there, a barrier behind it, the barrier's reply came, and no other change was sent.
-    ensures whole_run { IsReplay (map string_bytes words.now) → result ≡ 0 → RunsWhole (seen_of sim.new) (K.contents sink.old) (K.contents sink.new) }
+    ensures whole_run { IsReplay (map string_bytes words.now) → result ≡ 0
+        → OfInput SpellsSession (S.remaining source.old) (λ app. RunsWhole app (seen_of sim.new) (K.contents sink.old) (K.contents sink.new)) }
     // And that report is the one of the reference controller over the session that the input spells: over its switches and stimuli and what
     // its lines say of the application, where it loses the same switches in the same places, with as many ready starts and plain turns behind
     // the last line as one likes, if they are enough.
-    ensures whole_report { IsReplay (map string_bytes words.now) → (input : List ℕ) (session : SessionValue) → S.remaining source.old ≡ Some input → session_of input ≡ Ok session
+    ensures whole_report { IsReplay (map string_bytes words.now) → (input : List ℕ) (app : AppValue) (session : SessionValue) → S.remaining source.old ≡ Some input → session_of input ≡ Ok (app, session)
         → result ≡ 0
-        → (run : RunsWhole (seen_of sim.new) (K.contents sink.old) (K.contents sink.new))
-        × WithEnough (λ more. K.contents sink.new ≡ append_known (K.contents sink.old) (run_report names (reference_of_session more run.alike.losses session))) }
+        → (run : RunsWhole app (seen_of sim.new) (K.contents sink.old) (K.contents sink.new))
+        × WithEnough (λ more. K.contents sink.new ≡ append_known (K.contents sink.old) (run_report (names app) (reference_of_session app more run.alike.losses session))) }
     // At status 10 the same with the lines of the events that were dispatched, and how many are left behind them.
     ensures events_left { IsReplay (map string_bytes words.now) → result ≡ 10
-        → LeftAs sim.new (K.contents sink.old) (K.contents sink.new) (K.faults sink.old) (K.faults sink.new) }
+        → OfInput SpellsSession (S.remaining source.old) (λ app. LeftAs app sim.new (K.contents sink.old) (K.contents sink.new) (K.faults sink.old) (K.faults sink.new)) }
     // Where a fault ends the run, it is that of the reference controller up to the last quiescent point: what was written is what this says so
     // far, or a part of the lines of what was done last where the sink failed, and behind it stands the line that says why; and the whole
     // journal is such a dialogue. Or nothing was done.
     ensures run_until_fault { IsReplay (map string_bytes words.now) → Contains (5 ∷ 6 ∷ 8 ∷ 9 ∷ 12 ∷ []) result
-        → CutShort result sim.new (K.contents sink.old) (K.contents sink.new) (K.faults sink.old) (K.faults sink.new) }
+        → OfInput SpellsSession (S.remaining source.old) (λ app. CutShort app result sim.new (K.contents sink.old) (K.contents sink.new) (K.faults sink.old) (K.faults sink.new))
+        ⊎ NotBegun result (seen_of sim.new) (K.contents sink.old) (K.contents sink.new) (K.faults sink.old) (K.faults sink.new) }
     // What the application did is what the lines of the session say.
     ensures application_keeps_script { IsReplay (map string_bytes words.now) → Contains (0 ∷ 5 ∷ 6 ∷ 8 ∷ 9 ∷ 10 ∷ []) result → KeepsLines sim.new }
 
@@ -220,7 +228,7 @@ pub fn legosdn<S: Source, K: Sink, E: Sink + Drop, W: World>(
     // At every status: no call of the world was a stray one, where none wanted memory.
     ensures no_stray_call { (seen_of sim.new).counts.shorts ≡ 0 → (seen_of sim.new).counts.strays ≡ 0 }
     // And where the session says of no call of a link that it fails, no switch is lost.
-    ensures none_lost_without_fault { (input : List ℕ) (session : SessionValue) → S.remaining source.old ≡ Some input → session_of input ≡ Ok session
+    ensures none_lost_without_fault { (input : List ℕ) (app : AppValue) (session : SessionValue) → S.remaining source.old ≡ Some input → session_of input ≡ Ok (app, session)
         → session.faults ≡ [] → lost_of (seen_of sim.new) ≡ [] }
 
     // A switch diverges only where bytes came that are no message, and breaks only there or where a packet that was released made it send as many
@@ -229,8 +237,8 @@ pub fn legosdn<S: Source, K: Sink, E: Sink + Drop, W: World>(
     ensures diverges_only_on_bad_bytes { IsReplay (map string_bytes words.now) → result ≡ 9 → SomeRefused sim.new }
     // Where the words are the command, the whole input spells a session, all bytes that came of switches are messages, no packet that was released
     // made its switch send too many, and nothing failed, the whole report is written, or events are left, or memory is wanting.
-    ensures complete_without_fault { IsReplay (map string_bytes words.now) → (input : List ℕ) (session : SessionValue) → S.remaining source.old ≡ Some input
-        → session_of input ≡ Ok session → BringMessages sim.new.history → NoneFloods (seen_of sim.new)
+    ensures complete_without_fault { IsReplay (map string_bytes words.now) → (input : List ℕ) (app : AppValue) (session : SessionValue) → S.remaining source.old ≡ Some input
+        → session_of input ≡ Ok (app, session) → BringMessages sim.new.history → NoneFloods (seen_of sim.new)
         → NoneFailed (faults_of (S.faults source.old) (K.faults sink.old) (seen_of sim.old)) (faults_of (S.faults source.new) (K.faults sink.new) (seen_of sim.new))
         → Contains (0 ∷ 10 ∷ 12 ∷ []) result }
 
@@ -239,11 +247,11 @@ pub fn legosdn<S: Source, K: Sink, E: Sink + Drop, W: World>(
         × Wrote (K.contents sink.old) (K.contents sink.new) (K.faults sink.old) (K.faults sink.new) (refusal_line refusal) }
     // Where the world runs, the input was read to its end and is a session, which the world was given.
     ensures input_loaded { IsReplay (map string_bytes words.now) → Contains (0 ∷ 5 ∷ 6 ∷ 8 ∷ 9 ∷ 10 ∷ []) result
-        → Loaded (S.remaining source.old) (S.remaining source.new) (seen_of sim.new) }
+        → IsLoaded (S.remaining source.old) (S.remaining source.new) (seen_of sim.new) }
     // At every status: what was done in the world was done with the session that the input spells, if anything was. A refused input never runs.
     ensures no_other_session { RunsNoOther (S.remaining source.old) (S.remaining source.new) (seen_of sim.new) }
-    ensures refused_input_never_runs { IsReplay (map string_bytes words.now) → (refusal : Refusal)
-        → IfSome (S.remaining source.old) (λ input. session_of input ≡ Err refusal → NeverRuns result (seen_of sim.new)) }
+    ensures refused_input_never_runs { IsReplay (map string_bytes words.now) → (line : List ℕ)
+        → IfSome (S.remaining source.old) (λ input. session_of input ≡ Err line → NeverRuns result (seen_of sim.new)) }
     // At every status: each application that was started is ended.
     ensures every_application_ended { (state (seen_of sim.new)).running ≡ [] }
     // The other world stays as it is.
@@ -252,19 +260,20 @@ pub fn legosdn<S: Source, K: Sink, E: Sink + Drop, W: World>(
     // `run`, over a world that tells in order, on which no call was made before, and that tells fewer stimuli than rounds. At status 0 the run
     // is that of the reference controller over all that the world told, as above.
     ensures live_whole_run { (port rounds : ℕ) → IsRun (map string_bytes words.now) port rounds → TellsInOrder W.Tells rounds (W.seen live.old) (W.seen live.new)
-        → result ≡ 0 → ServesWhole (W.seen live.new) (K.contents sink.old) (K.contents sink.new) }
+        → result ≡ 0 → OfInput SpellsPolicy (S.remaining source.old) (λ app. ServesWhole app (W.seen live.new) (K.contents sink.old) (K.contents sink.new)) }
     // Where events are left, or a fault ends the run, it is so as far as it goes, and behind what was written stands the line that says why. A
     // switch diverges only where bytes came that are no message, and breaks only there or where a packet that was released made it send too many.
     ensures live_run_until_stop { (port rounds : ℕ) → IsRun (map string_bytes words.now) port rounds → TellsInOrder W.Tells rounds (W.seen live.old) (W.seen live.new)
         → Contains (5 ∷ 6 ∷ 8 ∷ 9 ∷ 10 ∷ 12 ∷ []) result
-        → ServesCut result (W.seen live.new) (K.contents sink.old) (K.contents sink.new) (K.faults sink.old) (K.faults sink.new) }
+        → OfInput SpellsPolicy (S.remaining source.old) (λ app. ServesCut app result (W.seen live.new) (K.contents sink.old) (K.contents sink.new) (K.faults sink.old) (K.faults sink.new))
+        ⊎ NotBegun result (W.seen live.new) (K.contents sink.old) (K.contents sink.new) (K.faults sink.old) (K.faults sink.new) }
     // No call of it was a stray one.
     ensures live_no_stray_call { (port rounds : ℕ) → IsRun (map string_bytes words.now) port rounds → TellsInOrder W.Tells rounds (W.seen live.old) (W.seen live.new)
         → NoneStray (W.seen live.new) }
     // Where the whole input is a policy that is taken, all bytes that came of switches are messages, no packet that was released made its switch
     // send too many, and nothing failed, the whole report is written, or events are left, or memory is wanting.
     ensures live_complete_without_fault { (port rounds : ℕ) → IsRun (map string_bytes words.now) port rounds → TellsInOrder W.Tells rounds (W.seen live.old) (W.seen live.new)
-        → (input : List ℕ) (program : List (List ℕ)) → S.remaining source.old ≡ Some input → run_policy input ≡ Ok program → BringMessages (W.seen live.new).history → NoneFloods (W.seen live.new)
+        → (input : List ℕ) (app : AppValue) → S.remaining source.old ≡ Some input → run_policy input ≡ Ok app → BringMessages (W.seen live.new).history → NoneFloods (W.seen live.new)
         → NoneFailed (faults_of (S.faults source.old) (K.faults sink.old) (W.seen live.old)) (faults_of (S.faults source.new) (K.faults sink.new) (W.seen live.new))
         → Contains (0 ∷ 10 ∷ 12 ∷ []) result }
     // Over any world: a status other than 0 is that of a stop, whose cause there is, and whose line is the last that was written.
@@ -278,7 +287,7 @@ pub fn legosdn<S: Source, K: Sink, E: Sink + Drop, W: World>(
         × Wrote (K.contents sink.old) (K.contents sink.new) (K.faults sink.old) (K.faults sink.new) (refusal_line refusal) }
     // Where the world runs, the input was read to its end and is a policy that `run` takes. A refused policy never runs.
     ensures policy_taken { (port rounds : ℕ) → IsRun (map string_bytes words.now) port rounds → Contains (0 ∷ 5 ∷ 6 ∷ 8 ∷ 9 ∷ 10 ∷ []) result
-        → Taken (S.remaining source.old) (S.remaining source.new) }
+        → IsTaken (S.remaining source.old) (S.remaining source.new) }
     ensures refused_policy_never_runs { (port rounds : ℕ) → IsRun (map string_bytes words.now) port rounds → (line : List ℕ)
         → IfSome (S.remaining source.old) (λ input. run_policy input ≡ Err line → Contains (2 ∷ 3 ∷ 4 ∷ 12 ∷ []) result × (live.new ≡ live.old)) }
     // At every status, where it tells: each application that was started is ended.
