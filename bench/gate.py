@@ -1,10 +1,14 @@
 #!/usr/bin/env python3
-"""What the gate costs: bench/gate.py [--write] [CRATE ..]
+"""What the gate costs: bench/gate.py [--kept] [--write] [CRATE ..]
 
 Clones the last commit into a temporary folder and runs `rt ci` there, from nothing: with `--anew`, if this kit's `rt ci` keeps what earlier
 runs passed. Where it takes names, only these crates and those below them are run if any are named.
-Prints, for each crate, the processor minutes of its proof, of its tests' proof, of what its edits begin with, and of its edits; then
-the whole, and how busy the machine was with other work. With --write the figures go into docs/GATE.md too.
+Prints, for each crate, the processor minutes of its proof, of its tests' proof, of what its edits begin with, and of its edits, and the
+commit at which they were taken; then the whole, and how busy the machine was with other work. With --write the figures go into
+docs/GATE.md too.
+
+With --kept the run takes what earlier runs on this machine passed. What it does not prove again keeps the figures that docs/GATE.md has,
+with their commit. So a table can be made in parts, as the crates change.
 
 How the figures are made: four times a second it reads from /proc the processor time of each process below `rt`, and adds it to what
 the words and the folder of the `rattle` process above it tell: which crate, and which of the four. So of each process the last
@@ -13,6 +17,7 @@ no crate was seen to take: `rt` itself, compilers and links, tests and programs 
 """
 
 import os
+import re
 import subprocess
 import sys
 import tempfile
@@ -114,38 +119,62 @@ def edits_in(crate):
     return len([name for name in os.listdir(folder) if name.endswith(".edit")]) if os.path.isdir(folder) else 0
 
 
-def table(found, whole):
-    """The figures as lines of a table."""
+def figures_before():
+    """The figures of the page: seconds by crate and kind, and the commit at which they were taken."""
+    with open(PAGE, encoding="utf-8") as file:
+        page = file.read()
+    found = {}
+    for line in page[page.index(BEGIN):page.index(END)].splitlines():
+        cells = [cell.strip() for cell in line.strip("|").split("|")]
+        name = re.match(r"`(\w+)`", cells[0])
+        if name and os.path.isdir(os.path.join(TOP, "crates", name[1])):
+            row = {kind: 60 * float(cell or 0) for kind, cell in zip(KINDS, cells[1:])}
+            found[name[1]] = row, cells[7] if len(cells) > 7 else ""
+    return found
+
+
+def joined(new, old, commit):
+    """What the run took, with what the page has of that which it took from earlier runs."""
+    rows = {}
+    for crate in {**old, **new}:
+        kept, at = old.get(crate, (dict.fromkeys(KINDS, 0), ""))
+        took = {kind: new.get(crate, {}).get(kind, 0) for kind in KINDS}
+        rows[crate] = {kind: took[kind] or kept[kind] for kind in KINDS}, commit if any(took.values()) else at
+    return rows
+
+
+def table(rows, whole):
+    """The figures as lines of a table: of each crate its row and commit. The whole is the kernel's, where all were taken in one run."""
     minutes = lambda seconds: "%.1f" % (seconds / 60) if seconds else ""
-    lines = ["| crate | proof | tests | start of edits | edits | number of edits | sum |", "|---|---|---|---|---|---|---|"]
+    lines = ["| crate | proof | tests | start of edits | edits | number of edits | sum | commit |", "|---|---|---|---|---|---|---|---|"]
     total = dict.fromkeys(KINDS, 0)
-    for crate, row in sorted(found.items(), key=lambda it: -sum(it[1].values())):
-        lines.append("| `%s` | %s | %s | %s |" % (crate, " | ".join(minutes(row[kind]) for kind in KINDS), edits_in(crate) or "", minutes(sum(row.values()))))
+    for crate, (row, commit) in sorted(rows.items(), key=lambda it: -sum(it[1][0].values())):
+        lines.append("| `%s` | %s | %s | %s | %s |" % (crate, " | ".join(minutes(row[kind]) for kind in KINDS), edits_in(crate) or "", minutes(sum(row.values())), commit))
         for kind in KINDS:
             total[kind] += row[kind]
-    rest = max(whole - sum(total.values()), 0)
-    lines.append("| rest | | | | | | %s |" % minutes(rest))
-    lines.append("| whole | %s | %d | %s |" % (" | ".join(minutes(total[kind]) for kind in KINDS), sum(map(edits_in, found)), minutes(whole)))
+    if whole:
+        lines.append("| rest | | | | | | %s | |" % minutes(max(whole - sum(total.values()), 0)))
+    lines.append("| whole | %s | %d | %s | |" % (" | ".join(minutes(total[kind]) for kind in KINDS), sum(map(edits_in, rows)), minutes(whole or sum(total.values()))))
     return lines
 
 
-def gate(names):
+def gate(names, is_kept):
     """The words of the gate from nothing, by what this kit's `rt` says of itself."""
     helped = subprocess.run(["rt", "help"], stdout=subprocess.PIPE, stderr=subprocess.STDOUT, errors="replace").stdout
     keeps = "--anew" in helped
     if names and not keeps:
         sys.exit("bench/gate.py: the `rt ci` of this kit takes no names of crates")
-    return ["rt", "ci"] + ["--anew"] * keeps + names
+    return ["rt", "ci"] + ["--anew"] * (keeps and not is_kept) + names
 
 
-def measured(names, room):
+def measured(names, room, is_kept):
     """Runs the gate in a clone: the status, the last line, and the text of the figures."""
     clone = os.path.join(room, "repo")
     subprocess.run(["git", "clone", "-q", TOP, clone], check=True)
     commit = subprocess.run(["git", "-C", clone, "log", "-1", "--format=%h"], check=True, stdout=subprocess.PIPE).stdout.decode().strip()
     start, before = time.monotonic(), busy()
     last = ""
-    words = gate(names)
+    words = gate(names, is_kept)
     with subprocess.Popen(words, cwd=clone, stdout=subprocess.PIPE, stderr=subprocess.STDOUT, errors="replace") as ran:
         watch = Watch(ran.pid)
         watch.start()
@@ -162,7 +191,10 @@ def measured(names, room):
     text = ["Commit %s, `%s`: %s." % (commit, " ".join(words), last), ""]
     text += ["%.0f processor seconds in all, %.0f minutes by the clock on %d processors. Other work kept %.1f of the processors busy meanwhile, so that %s." % (
         whole, seconds / 60, os.cpu_count(), others / seconds, "the figures are those of a quiet machine" if others < seconds / 10 else "they are higher than on a quiet machine"), ""]
-    text += ["Processor minutes:", ""] + table(watch.figures(), whole)
+    if is_kept:
+        text += ["What this run took from earlier ones has the figures, and the commit, of the run that proved it.", ""]
+    rows = joined(watch.figures(), figures_before() if is_kept else {}, commit)
+    text += ["Processor minutes:", ""] + table(rows, 0 if is_kept or names else whole)
     return ran.returncode, "\n".join(text) + "\n"
 
 
@@ -176,9 +208,9 @@ def write(text):
 
 
 def main(words):
-    names = [word for word in words if word != "--write"]
+    names = [word for word in words if not word.startswith("--")]
     with tempfile.TemporaryDirectory(prefix="gate-") as room:
-        status, text = measured(names, room)
+        status, text = measured(names, room, "--kept" in words)
     print(text)
     if "--write" in words:
         write(text)
