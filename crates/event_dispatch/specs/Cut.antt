@@ -11,6 +11,7 @@ use Rattle.net_txn.specs.Abreast.{Abreast}
 use Rattle.app_visor.specs.CallsFor.{CallsFor}
 use Rattle.batch_laws.specs.Calm.{Calm}
 use Rattle.run_laws.specs.Engine.{Engine}
+use Rattle.run_laws.specs.Facts.{takes_next}
 use Rattle.lego_model.specs.Application.{index}
 use Rattle.run_laws.specs.Moves.{Shown}
 use Rattle.lego_model.specs.ReferenceRun.{dispatch_next}
@@ -45,22 +46,23 @@ pub record EventPart {Own : Type 0} (Tells : Type 0) (accepts : List TableView �
   pub reads : Reads Tells old new e.net now_engine.net
   pub part : TookPart contents now_contents more
 
--- what is wrong with the outside ends the dispatch of an event only while the application is alive, which has its turn then
-abbrev pub IsOfTurn : Fault → Engine → Type 0
-IsOfTurn faults.Next e = e.alive ≡ true
-IsOfTurn (faults.Txn fault) e = e.alive ≡ true
-IsOfTurn other e = Unit {0}
+-- what is wrong with the outside ends the dispatch of an event only where the application has a turn at it
+abbrev pub IsOfTurn : Fault → Bool → Type 0
+IsOfTurn faults.Next takes = takes ≡ true
+IsOfTurn (faults.Txn fault) takes = takes ≡ true
+IsOfTurn other takes = Unit {0}
 
--- a fault ended the dispatch of an event, which goes on with the dialogue up to there, and what it leaves of the tables
-pub record FailsIn {Own : Type 0} (Tells : Type 0) (fault : Fault) (old new : Seen Own) (e : Engine) : Type 0 where
+-- a fault ended the dispatch of an event, at which the application has a turn or has not: it goes on with the dialogue up to there, and what
+-- it leaves of the tables
+pub record FailsIn {Own : Type 0} (Tells : Type 0) (fault : Fault) (takes : Bool) (old new : Seen Own) (e : Engine) : Type 0 where
   pub talks : GoesOnTalking Tells old new e
-  pub of_turn : IsOfTurn fault e
+  pub of_turn : IsOfTurn fault takes
   pub left : DispatchLeft Tells (IsShort fault) old new e
 
 -- a fault ended its dispatch, or it was that
 abbrev pub CutOne : {Own : Type 0} → Type 0 → (List TableView → Bool) → Fault → Option (List ℕ) → Option (List ℕ) → Seen Own → Seen Own → Engine → Type 0
 CutOne Tells accepts faults.Write contents now_contents old new e = EventPart Tells accepts contents now_contents old new e
-CutOne Tells accepts other contents now_contents old new e = (now_contents ≡ contents) × FailsIn Tells other old new e × AtMostThisPoint Tells old new
+CutOne Tells accepts other contents now_contents old new e = (now_contents ≡ contents) × FailsIn Tells other (takes_next e e.queue) old new e × AtMostThisPoint Tells old new
 
 -- so many were settled before it
 pub record CutSome {Own : Type 0} (Tells : Type 0) (accepts : List TableView → Bool) (fault : Fault) (contents now_contents : Option (List ℕ)) (old new : Seen Own) (r : Run) : Type 0 where

@@ -4,7 +4,10 @@ use Rattle.std.specs.Prelude.{◌≡◌, ℕ, ◌+◌, ◌<◌, ◌⊎◌, Bool,
 use Rattle.std.specs.Io.KnownBytes.{append_known}
 use Rattle.flow_table.specs.View.{TableView}
 use Rattle.app_frames.specs.declared.frame.Event.{Event}
+use Rattle.app_frames.specs.declared.frame.EventKind.{EventKind}
 use Rattle.app_frames.specs.declared.cause.Cause.{Cause}
+use Rattle.crash_policy.specs.Policies.{AppValue, app_value}
+use Rattle.crash_policy.specs.Asking.{rule_at}
 use Rattle.lego_model.specs.Places.{Place}
 use Rattle.lego_model.specs.Controller.{event_frame, settle}
 use Rattle.lego_model.specs.RunReport.{turn_line}
@@ -21,10 +24,9 @@ use Rattle.app_visor.specs.declared.state.TurnEnd.TheVariants as ends
 use Rattle.app_visor.specs.Turns.{Turns}
 use Rattle.batch_laws.specs.Knowledge.{lost_text}
 use Rattle.run_laws.specs.Engine.{Engine}
-use Rattle.lego_model.specs.Application.{budget, name}
 use Rattle.lego_model.specs.History.{stimuli_in}
 use Rattle.run_laws.specs.Readings.{JudgesAlike}
-use Rattle.run_laws.specs.Facts.{turn_word, out_text, all_told, StartsAgain, TakesTurn, Dispatches}
+use Rattle.run_laws.specs.Facts.{turn_word, out_text, all_told, StartsAgain, GoesAway, Follows, TakesTurn, Dispatches}
 use Rattle.run_laws.specs.Moves.{AtRest, Shown, ShownIdle, ShownOver, ShownRounds, ShownToEnd}
 use Rattle.lego_model.specs.ReferenceRun.{dispatch_next, times}
 use Rattle.run_laws.specs.First.{engine_at_first}
@@ -38,7 +40,7 @@ use Rattle.event_dispatch.specs.declared.closing.Closing.TheVariants as closings
 use Rattle.event_dispatch.specs.declared.run.Run.{Run}
 use Rattle.event_dispatch.specs.declared.served.Served.{Served}
 use Rattle.event_dispatch.specs.declared.served.Served.TheVariants as served
-use Rattle.event_dispatch.specs.Shows.{engine_of}
+use Rattle.event_dispatch.specs.Shows.{engine_of, name_of}
 use Rattle.lego_model.specs.CutRun.{NothingDone}
 
 -- text was noted behind what waits to be written
@@ -53,6 +55,18 @@ pub record Starts {Own : Type 0} (Tells : Type 0) (old new : Seen Own) (r now_r 
   pub starts : StartsAgain Tells text old new (engine_of r) (engine_of now_r)
   pub notes : Notes text r now_r
 
+-- it is ended, and gone
+pub record Leaves {Own : Type 0} (Tells : Type 0) (old new : Seen Own) (r now_r : Run) : Type 0 where
+  pub text : List ℕ
+  pub goes : GoesAway Tells text old new (engine_of r) (engine_of now_r)
+  pub notes : Notes text r now_r
+
+-- behind a turn that failed at an event of this kind it goes by its policy
+pub record GoesOn {Own : Type 0} (Tells : Type 0) (kind : EventKind) (old new : Seen Own) (r now_r : Run) : Type 0 where
+  pub text : List ℕ
+  pub follows : Follows Tells (rule_at (app_value r.app.rule.now) kind) text old new (engine_of r) (engine_of now_r)
+  pub notes : Notes text r now_r
+
 -- how a turn ended that was closed so
 abbrev pub end_of : Closing → TurnEnd
 end_of (closings.Done stop out) = ends.Done stop
@@ -63,7 +77,7 @@ abbrev pub IsPlayed : {Own : Type 0} → Type 0 → Closing → ℕ → Seen Own
 IsPlayed Tells (closings.Done stop out) start mid new mid_net now_net queue now_queue = Commits Tells start mid new mid_net now_net queue now_queue (Ok out.items)
 IsPlayed Tells (closings.Failed cause) start mid new mid_net now_net queue now_queue = Undoes Tells start mid new mid_net now_net (Ok tt) × (now_queue ≡ queue)
 
-pub record PlaysTurn {Own : Type 0} (Tells : Type 0) (accepts : List TableView → Bool) (app number : ℕ) (event : Event) (closing : Closing) (old new : Seen Own) (net now_net : NetState) (queue now_queue : List Event) (rest unread : List ℕ) : Type 0 where
+pub record PlaysTurn {Own : Type 0} (Tells : Type 0) (accepts : List TableView → Bool) (app budget number : ℕ) (event : Event) (closing : Closing) (old new : Seen Own) (net now_net : NetState) (queue now_queue : List Event) (rest unread : List ℕ) : Type 0 where
   pub mid : Seen Own
   pub mid_net : NetState
   pub turns : Turns Tells accepts app budget rest (event_frame number net.moment event) old mid net mid_net (end_of closing) unread
@@ -73,17 +87,17 @@ pub record PlaysTurn {Own : Type 0} (Tells : Type 0) (accepts : List TableView �
 pub record IsCounted {Own : Type 0} (stop : Bool) (out : List (ℕ × ℕ)) (old new : Seen Own) (r now_r : Run) : Type 0 where
   pub seen : new ≡ old
   pub engine : engine_of now_r ≡ all_told r.net r.queue (record (engine_of r) { done = r.app.done + 1 })
-  pub notes : Notes (turn_line name (turn_word (ends.Done stop)) ++ (out_text out ++ lost_text r.net.left)) r now_r
+  pub notes : Notes (turn_line (name_of r) (turn_word (ends.Done stop)) ++ (out_text out ++ lost_text r.net.left)) r now_r
 
--- and so it was where it failed, and the application started again
-pub record IsRestarted {Own : Type 0} (Tells : Type 0) (cause : Cause) (old new : Seen Own) (r now_r : Run) : Type 0 where
+-- and so it was where it failed, and the application goes by its policy
+pub record IsFollowed {Own : Type 0} (Tells : Type 0) (kind : EventKind) (cause : Cause) (old new : Seen Own) (r now_r : Run) : Type 0 where
   pub text : List ℕ
-  pub starts : StartsAgain Tells text old new (all_told r.net r.queue (record (engine_of r) { failed = r.app.failed + 1 })) (engine_of now_r)
-  pub notes : Notes (turn_line name (words.Failed cause) ++ (lost_text r.net.left ++ text)) r now_r
+  pub follows : Follows Tells (rule_at (app_value r.app.rule.now) kind) text old new (all_told r.net r.queue (record (engine_of r) { failed = r.app.failed + 1 })) (engine_of now_r)
+  pub notes : Notes (turn_line (name_of r) (words.Failed cause) ++ (lost_text r.net.left ++ text)) r now_r
 
-abbrev pub Closes : {Own : Type 0} → Type 0 → Closing → Seen Own → Seen Own → Run → Run → Type 0
-Closes Tells (closings.Done stop out) old new r now_r = IsCounted stop out.items old new r now_r
-Closes Tells (closings.Failed cause) old new r now_r = IsRestarted Tells cause old new r now_r
+abbrev pub Closes : {Own : Type 0} → Type 0 → EventKind → Closing → Seen Own → Seen Own → Run → Run → Type 0
+Closes Tells kind (closings.Done stop out) old new r now_r = IsCounted stop out.items old new r now_r
+Closes Tells kind (closings.Failed cause) old new r now_r = IsFollowed Tells kind cause old new r now_r
 
 -- the application had its turn
 pub record HasTurn {Own : Type 0} (Tells : Type 0) (accepts : List TableView → Bool) (event : Event) (old new : Seen Own) (r now_r : Run) : Type 0 where
@@ -203,11 +217,11 @@ GoesAs Tells accepts most (Err (served.Ended events)) contents now_contents old 
 GoesAs Tells accepts most (Err (served.EventsLeft left)) contents now_contents old new r now_r = RunsFull Tells accepts most left contents now_contents old new (engine_of r)
 GoesAs Tells accepts most (Err other) contents now_contents old new r now_r = Unit {0}
 
-abbrev pub RunsAs : {Own : Type 0} → Type 0 → (List TableView → Bool) → ℕ → Result ℕ Served → Option (List ℕ) → Option (List ℕ) → Seen Own → Seen Own → Type 0
-RunsAs Tells accepts most (Ok events) contents now_contents old new = RunsOut Tells accepts most events contents now_contents old new engine_at_first
-RunsAs Tells accepts most (Err (served.Ended events)) contents now_contents old new = ⊥
-RunsAs Tells accepts most (Err (served.EventsLeft left)) contents now_contents old new = RunsFull Tells accepts most left contents now_contents old new engine_at_first
-RunsAs Tells accepts most (Err other) contents now_contents old new = Unit {0}
+abbrev pub RunsAs : {Own : Type 0} → AppValue → Type 0 → (List TableView → Bool) → ℕ → Result ℕ Served → Option (List ℕ) → Option (List ℕ) → Seen Own → Seen Own → Type 0
+RunsAs rule Tells accepts most (Ok events) contents now_contents old new = RunsOut Tells accepts most events contents now_contents old new (engine_at_first rule)
+RunsAs rule Tells accepts most (Err (served.Ended events)) contents now_contents old new = ⊥
+RunsAs rule Tells accepts most (Err (served.EventsLeft left)) contents now_contents old new = RunsFull Tells accepts most left contents now_contents old new (engine_at_first rule)
+RunsAs rule Tells accepts most (Err other) contents now_contents old new = Unit {0}
 
 -- why a world is not opened, and what its history tells then
 abbrev pub IsUnopened : {Own : Type 0} → Type 0 → Seen Own → Seen Own → Served → Type 0
@@ -218,34 +232,34 @@ IsUnopened Tells old new other = ⊥
 -- ---- What a whole run promises
 
 -- All events were dispatched, and no stimulus is to come.
-pub record IsWhole {Own : Type 0} (allows : List Place → Bool) (seen : Seen Own) (contents now_contents : Option (List ℕ)) (events : ℕ) : Type 0 where
-  pub alike : EndsAlike allows seen contents now_contents events
+pub record IsWhole {Own : Type 0} (rule : AppValue) (allows : List Place → Bool) (seen : Seen Own) (contents now_contents : Option (List ℕ)) (events : ℕ) : Type 0 where
+  pub alike : EndsAlike rule allows seen contents now_contents events
   pub none_to_come : (state seen).to_come ≡ []
 
 -- Some were left after the last batch.
-pub record IsPart {Own : Type 0} (allows : List Place → Bool) (seen : Seen Own) (contents now_contents : Option (List ℕ)) (left : ℕ) : Type 0 where
-  pub alike : LeavesAlike allows seen contents now_contents left
+pub record IsPart {Own : Type 0} (rule : AppValue) (allows : List Place → Bool) (seen : Seen Own) (contents now_contents : Option (List ℕ)) (left : ℕ) : Type 0 where
+  pub alike : LeavesAlike rule allows seen contents now_contents left
   pub none_to_come : (state seen).to_come ≡ []
 
 -- Of a world that tells, on which no call was made before: where a fault ends the run, it is the reference controller's up to a point, if
 -- the world kept its word as far as there, and so is what was written. No line is missing of the start and of all events before where what
 -- comes next failed, or a switch. Where the sink failed it took a part of the lines of what was done last, behind all those before. Where
 -- memory was wanting the lines of the start are there, if a stimulus happened, and those of what was done.
-abbrev pub IsCut : {Own : Type 0} → (List Place → Bool) → Seen Own → Option (List ℕ) → Option (List ℕ) → Served → Type 0
-IsCut allows seen contents now_contents (served.Ended events) = Unit {0}
-IsCut allows seen contents now_contents (served.EventsLeft left) = Unit {0}
-IsCut allows seen contents now_contents served.WriteFault = CutWriting allows seen contents now_contents
-IsCut allows seen contents now_contents served.Shut = NothingDone (NotOpened ∷ []) seen contents now_contents
-IsCut allows seen contents now_contents served.NextFault = CutWithLines allows seen contents now_contents
-IsCut allows seen contents now_contents (served.Txn fault) = CutWithLines allows seen contents now_contents
-IsCut allows seen contents now_contents served.NoMemory = CutAlike allows seen contents now_contents ⊎ NothingDone [] seen contents now_contents
+abbrev pub IsCut : {Own : Type 0} → AppValue → (List Place → Bool) → Seen Own → Option (List ℕ) → Option (List ℕ) → Served → Type 0
+IsCut rule allows seen contents now_contents (served.Ended events) = Unit {0}
+IsCut rule allows seen contents now_contents (served.EventsLeft left) = Unit {0}
+IsCut rule allows seen contents now_contents served.WriteFault = CutWriting rule allows seen contents now_contents
+IsCut rule allows seen contents now_contents served.Shut = NothingDone (NotOpened ∷ []) seen contents now_contents
+IsCut rule allows seen contents now_contents served.NextFault = CutWithLines rule allows seen contents now_contents
+IsCut rule allows seen contents now_contents (served.Txn fault) = CutWithLines rule allows seen contents now_contents
+IsCut rule allows seen contents now_contents served.NoMemory = CutAlike rule allows seen contents now_contents ⊎ NothingDone [] seen contents now_contents
 
 -- Of one that keeps its word, too: the run is the reference controller's, whole, and so is what was written.
-abbrev pub IsAlike : {Own : Type 0} → (List Place → Bool) → Seen Own → Option (List ℕ) → Option (List ℕ) → Served → Type 0
-IsAlike allows seen contents now_contents (served.Ended events) = IsWhole allows seen contents now_contents events
-IsAlike allows seen contents now_contents (served.EventsLeft left) = IsPart allows seen contents now_contents left
-IsAlike allows seen contents now_contents served.WriteFault = IsCut allows seen contents now_contents served.WriteFault
-IsAlike allows seen contents now_contents served.Shut = IsCut allows seen contents now_contents served.Shut
-IsAlike allows seen contents now_contents served.NextFault = IsCut allows seen contents now_contents served.NextFault
-IsAlike allows seen contents now_contents (served.Txn fault) = IsCut allows seen contents now_contents (served.Txn fault)
-IsAlike allows seen contents now_contents served.NoMemory = IsCut allows seen contents now_contents served.NoMemory
+abbrev pub IsAlike : {Own : Type 0} → AppValue → (List Place → Bool) → Seen Own → Option (List ℕ) → Option (List ℕ) → Served → Type 0
+IsAlike rule allows seen contents now_contents (served.Ended events) = IsWhole rule allows seen contents now_contents events
+IsAlike rule allows seen contents now_contents (served.EventsLeft left) = IsPart rule allows seen contents now_contents left
+IsAlike rule allows seen contents now_contents served.WriteFault = IsCut rule allows seen contents now_contents served.WriteFault
+IsAlike rule allows seen contents now_contents served.Shut = IsCut rule allows seen contents now_contents served.Shut
+IsAlike rule allows seen contents now_contents served.NextFault = IsCut rule allows seen contents now_contents served.NextFault
+IsAlike rule allows seen contents now_contents (served.Txn fault) = IsCut rule allows seen contents now_contents (served.Txn fault)
+IsAlike rule allows seen contents now_contents served.NoMemory = IsCut rule allows seen contents now_contents served.NoMemory

@@ -1,5 +1,5 @@
 -- What the engine does, in the words of what is seen and kept: the text that it notes, and how the run stands then. All of this is our own.
-use Rattle.std.specs.Prelude.{◌≡◌, ℕ, List, ◌++◌}
+use Rattle.std.specs.Prelude.{◌≡◌, ℕ, List, ◌++◌, string_bytes}
 use Rattle.batch_laws.specs.Knowledge.{lost_text}
 use Rattle.run_laws.specs.Engine.{Engine}
 use Rattle.run_laws.specs.Facts.{all_told}
@@ -9,6 +9,7 @@ use Rattle.net_txn.specs.Net.{NetState}
 use Rattle.app_visor.specs.declared.state.AppState.{AppState}
 use Rattle.app_visor.specs.Attempts.{kept_of}
 use Rattle.checkpoint_store.specs.Slots.{Slot}
+use Rattle.crash_policy.specs.Policies.{app_value}
 use Rattle.lego_model.specs.Application.{index}
 
 abbrev pub engine_of : Run → Engine
@@ -16,12 +17,17 @@ engine_of r = record {
   net = r.net;
   queue = r.queue;
   events = r.events;
+  rule = app_value r.app.rule.now;
   alive = r.app.state.alive;
   rest = r.app.state.rest;
   kept = kept_of index r.store;
   done = r.app.done;
   failed = r.app.failed;
 }
+
+-- the name of its application
+abbrev pub name_of : Run → List ℕ
+name_of r = string_bytes r.app.rule.now.name
 
 -- ---- The text that is noted
 

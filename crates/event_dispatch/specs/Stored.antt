@@ -24,11 +24,11 @@ closes_slot (Ok (closings.Failed cause)) slot = dropped slot
 closes_slot (Err fault) slot = dropped slot
 
 -- a turn was played, and the checkpoint that it handed over was staged
-pub record PlaysStaged {Own : Type 0} (Tells : Type 0) (accepts : List TableView → Bool) (app number : ℕ) (event : Event) (closing : Closing) (old new : Seen Own) (net now_net : NetState) (queue now_queue : List Event) (rest unread : List ℕ) (slots now_slots : List Slot) : Type 0 where
-  pub plays : PlaysTurn Tells accepts app number event closing old new net now_net queue now_queue rest unread
+pub record PlaysStaged {Own : Type 0} (Tells : Type 0) (accepts : List TableView → Bool) (app budget number : ℕ) (event : Event) (closing : Closing) (old new : Seen Own) (net now_net : NetState) (queue now_queue : List Event) (rest unread : List ℕ) (slots now_slots : List Slot) : Type 0 where
+  pub plays : PlaysTurn Tells accepts app budget number event closing old new net now_net queue now_queue rest unread
   pub staged_is : now_slots ≡ with_handed app (handed plays.turns.outcome) slots
 
 -- a turn was played, and the checkpoint that it handed over is the kept one then, or the one before where it handed over none
-pub record HoldsTurn {Own : Type 0} (Tells : Type 0) (accepts : List TableView → Bool) (app number : ℕ) (event : Event) (closing : Closing) (old new : Seen Own) (net now_net : NetState) (queue now_queue : List Event) (rest unread kept now_kept : List ℕ) : Type 0 where
-  pub plays : PlaysTurn Tells accepts app number event closing old new net now_net queue now_queue rest unread
+pub record HoldsTurn {Own : Type 0} (Tells : Type 0) (accepts : List TableView → Bool) (app budget number : ℕ) (event : Event) (closing : Closing) (old new : Seen Own) (net now_net : NetState) (queue now_queue : List Event) (rest unread kept now_kept : List ℕ) : Type 0 where
+  pub plays : PlaysTurn Tells accepts app budget number event closing old new net now_net queue now_queue rest unread
   pub kept_is : now_kept ≡ unwrap_or (handed plays.turns.outcome) kept

@@ -21,9 +21,9 @@ IsShort other = ⊥
 -- Where the world tells in order, it kept its word up to the turn, all was ready there, and these bytes of the application are unread: what is
 -- left of the turn with what follows. Each switch has its entries again, or it failed in the undo, with its cause in these calls; or memory was
 -- wanting behind it, it was whole, and its changes stay; or it was whole, and its packets were being released.
-pub record TurnLeft {Own : Type 0} (Tells Short : Type 0) (rest : List ℕ) (old new : Seen Own) (net : NetState) : Type 0 where
-  pub left : Tells → Conforming old → InOrder new → Ready old net → (a : AtOnce index (journal old.history)) → Passes a.last.unread rest → TablesLeft Short old new
+pub record TurnLeft {Own : Type 0} (Tells Short : Type 0) (budget : ℕ) (rest : List ℕ) (old new : Seen Own) (net : NetState) : Type 0 where
+  pub left : Tells → Conforming old → InOrder new → Ready old net → (a : AtOnce index (journal old.history)) → Passes a.last.unread rest → TablesLeft budget Short old new
 
 -- There the same of the whole dispatch of an event, in which none may have been given.
 pub record DispatchLeft {Own : Type 0} (Tells Short : Type 0) (old new : Seen Own) (e : Engine) : Type 0 where
-  pub left : Tells → Conforming old → InOrder new → Ready old e.net → Conversing old e → TablesLeft Short old new
+  pub left : Tells → Conforming old → InOrder new → Ready old e.net → Conversing old e → TablesLeft e.rule.budget Short old new

@@ -103,7 +103,7 @@ fn next_item<W: World>(world: &mut W, buf: &mut [u8]) -> Result<Item, Fault>
     }
 }
 
-impl Run {
+impl Run<'_> {
     /// Takes a message that came from a switch. One of a switch that is not joined is ignored; where an ECHO_REQUEST could not be
     /// answered the switch is lost, and told.
     #[tactic(auto, using(crate::specs::laws::BatchSteadyLaws::links_none, crate::specs::laws::BatchSteadyLaws::only_none, crate::specs::laws::SteadyLaws::places_none, crate::specs::laws::SteadyLaws::reads_none, crate::specs::laws::FaultLaws::arrival_why, crate::specs::laws::TalkingLaws::keeps_none, crate::specs::laws::TalkingLaws::keeps_links))]

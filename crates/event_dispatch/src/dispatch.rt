@@ -13,11 +13,11 @@ ghost use Rattle.app_visor.specs.Attempts.{kept_of};
 ghost use Rattle.checkpoint_store.specs.Slots.{with_slot};
 ghost use Rattle.event_dispatch.specs.Why.{IsReason, served_by};
 ghost use Rattle.event_dispatch.specs.Plain.{PlainTurn, PlainRun};
-ghost use Rattle.lego_model.specs.RunReport.{turn_line as turn_line_of};
-ghost use Rattle.lego_model.specs.Application.{index, name};
-ghost use Rattle.run_laws.specs.Facts.{out_text, starts_text};
-ghost use Rattle.event_dispatch.specs.Shows.{engine_of, Adds};
-ghost use Rattle.event_dispatch.specs.Serves.{Starts, Closes, HasTurn, IsDispatched, DispatchesOldest, DispatchesWaiting};
+ghost use Rattle.lego_model.specs.RunReport.{turn_line as turn_line_of, gone_line as gone_line_of};
+ghost use Rattle.lego_model.specs.Application.{index};
+ghost use Rattle.run_laws.specs.Facts.{out_text, starts_text, takes_event};
+ghost use Rattle.event_dispatch.specs.Shows.{engine_of, name_of, Adds};
+ghost use Rattle.event_dispatch.specs.Serves.{Starts, Leaves, GoesOn, Closes, HasTurn, IsDispatched, DispatchesOldest, DispatchesWaiting};
 ghost use Rattle.event_dispatch.specs.Talking.{KeepsTalking, TurnTalks};
 ghost use Rattle.event_dispatch.specs.Undone.{IsShort, TurnLeft};
 ghost use Rattle.event_dispatch.specs.Cut.{FailsIn, CutOne, CutSome};
@@ -25,22 +25,23 @@ ghost use Rattle.event_dispatch.specs.Cut.{FailsIn, CutOne, CutSome};
 use crate::closing::Closing;
 use crate::fault::Fault;
 use crate::limits::{MOST_BODY, MOST_EVENTS};
-use crate::run::{NAME, Run};
-use app_frames::Event;
+use crate::run::{INDEX, Run};
+use app_frames::{Event, EventKind};
 use app_visor::{AppState, Back, TurnEnd, restart, turn};
 use checkpoint_store::Store;
+use crash_policy::{Policy, listens, rule};
 use lego_io::Sink;
 use net_txn::{EventQueue, Net, Txn};
 use of_types::Dpid;
-use of_types::limits::BUDGET;
 use outside::{Judge, World};
 use report_text::{TurnWord, event_line, gone_line, out_line, start_line, turn_line};
 use std::alloc::{AllocError, Global};
 
-/// What a turn is held for: an event, which one of the run it is, who judges the tables that the turn leaves, and where its
-/// memory comes from.
+/// What a turn is held for: an event, which one of the run it is, how many frames it may have, who judges the tables that it
+/// leaves, and where its memory comes from.
 struct Occasion<'a, J> {
     alloc: Global,
+    budget: u32,
     number: u64,
     event: &'a Event,
     judge: &'a J,
@@ -64,7 +65,7 @@ fn play_turn<W: World, J: Judge>(
     ensures room { OnOk result (net.new.room ≡ net.old.room) }
     ensures index { app.new.index ≡ app.old.index }
     ensures alive { app.new.alive ≡ app.old.alive }
-    ensures plays { IfOk result (λ end. PlaysStaged W.Tells (J.accepts occasion.entry.judge.now) app.old.index occasion.entry.number occasion.entry.event.now end (W.seen world.old) (W.seen world.new)
+    ensures plays { IfOk result (λ end. PlaysStaged W.Tells (J.accepts occasion.entry.judge.now) app.old.index occasion.entry.budget occasion.entry.number occasion.entry.event.now end (W.seen world.old) (W.seen world.new)
         net.old net.new queue.old queue.new app.old.rest app.new.rest store.old store.new) }
     ensures slots { KeepsSlots app.old.index store.old store.new }
     ensures read { OnOk result (AreRead net.old.kept → AreRead net.new.kept) }
@@ -75,17 +76,18 @@ fn play_turn<W: World, J: Judge>(
     ensures talks { OnErr result (TurnTalks W.Tells app.old.index app.old.rest (W.seen world.old) (W.seen world.new)) }
     ensures why { IfErr result (IsReason W.Tells (W.seen world.old) (W.seen world.new) 0 0) }
     ensures plain { IfErr result (PlainTurn W.Tells (W.seen world.old) (W.seen world.new) net.old) }
-    ensures left { IfErr result (λ fault. TurnLeft W.Tells (IsShort fault) app.old.rest (W.seen world.old) (W.seen world.new) net.old) }
+    ensures left { IfErr result (λ fault. TurnLeft W.Tells (IsShort fault) occasion.entry.budget app.old.rest (W.seen world.old) (W.seen world.new) net.old) }
 {
     let Occasion {
         alloc,
+        budget,
         number,
         event,
         judge,
     } = occasion;
     let mut txn = Txn::begin(net);
     match turn(
-        alloc, world, &mut txn, judge, store, app, number, event, BUDGET,
+        alloc, world, &mut txn, judge, store, app, number, event, budget,
     ) {
         Ok(TurnEnd::Done { stop }) => {
             let out = txn.commit(world, queue)?;
@@ -130,7 +132,7 @@ fn hold_turn<W: World, J: Judge>(
     ensures room { OnOk result (net.new.room ≡ net.old.room) }
     ensures index { app.new.index ≡ app.old.index }
     ensures alive { app.new.alive ≡ app.old.alive }
-    ensures plays { IfOk result (λ end. HoldsTurn W.Tells (J.accepts occasion.entry.judge.now) app.old.index occasion.entry.number occasion.entry.event.now end (W.seen world.old) (W.seen world.new)
+    ensures plays { IfOk result (λ end. HoldsTurn W.Tells (J.accepts occasion.entry.judge.now) app.old.index occasion.entry.budget occasion.entry.number occasion.entry.event.now end (W.seen world.old) (W.seen world.new)
         net.old net.new queue.old queue.new app.old.rest app.new.rest (kept_of app.old.index store.old) (kept_of app.old.index store.new)) }
     // However it went, nothing that it staged is left; where it did not go well, the kept checkpoint is the one before.
     ensures rests { StoreRests store.new }
@@ -143,7 +145,7 @@ fn hold_turn<W: World, J: Judge>(
     ensures talks { OnErr result (TurnTalks W.Tells app.old.index app.old.rest (W.seen world.old) (W.seen world.new)) }
     ensures why { IfErr result (IsReason W.Tells (W.seen world.old) (W.seen world.new) 0 0) }
     ensures plain { IfErr result (PlainTurn W.Tells (W.seen world.old) (W.seen world.new) net.old) }
-    ensures left { IfErr result (λ fault. TurnLeft W.Tells (IsShort fault) app.old.rest (W.seen world.old) (W.seen world.new) net.old) }
+    ensures left { IfErr result (λ fault. TurnLeft W.Tells (IsShort fault) occasion.entry.budget app.old.rest (W.seen world.old) (W.seen world.new) net.old) }
 {
     let index = app.index;
     let closing = play_turn(world, net, queue, store, app, occasion);
@@ -151,13 +153,13 @@ fn hold_turn<W: World, J: Judge>(
     closing
 }
 
-impl Run {
+impl Run<'_> {
     /// Appends the line of how a turn ended.
     fn note_turn(&mut self, word: TurnWord) -> Result<(), AllocError>
         ensures waits { OnOk result (Waits self.old self.new) }
-        ensures adds { OnOk result (Adds (turn_line_of name word) self.old self.new) }
+        ensures adds { OnOk result (Adds (turn_line_of (name_of self.old) word) self.old self.new) }
     {
-        let line = turn_line(self.alloc, NAME, &word)?;
+        let line = turn_line(self.alloc, self.app.rule.name.as_str(), &word)?;
         self.note(&line)
     }
 
@@ -182,7 +184,7 @@ impl Run {
             world,
             &self.store,
             &mut self.app.state,
-            &self.command,
+            &self.app.rule.command,
         )?;
         self.note_start(back)
     }
@@ -191,17 +193,66 @@ impl Run {
     #[tactic(auto, using(crate::specs::laws::WhyLaws::waits_then))]
     fn note_start(&mut self, back: Back) -> Result<(), AllocError>
         ensures waits { OnOk result (Waits self.old self.new) }
-        ensures adds { OnOk result (Adds (starts_text back.tries.items back.back) self.old self.new) }
+        ensures adds { OnOk result (Adds (starts_text (name_of self.old) back.tries.items back.back) self.old self.new) }
     {
         for tried in back.tries.iter() {
-            let line = start_line(self.alloc, NAME, tried)?;
+            let line = start_line(self.alloc, self.app.rule.name.as_str(), tried)?;
             self.note(&line)?;
         }
         if !back.back {
-            let line = gone_line(self.alloc, NAME)?;
-            self.note(&line)?;
+            self.note_gone()?;
         }
         Ok(())
+    }
+
+    /// Appends the line that says that the application is gone.
+    fn note_gone(&mut self) -> Result<(), AllocError>
+        ensures waits { OnOk result (Waits self.old self.new) }
+        ensures adds { OnOk result (Adds (gone_line_of (name_of self.old)) self.old self.new) }
+    {
+        let line = gone_line(self.alloc, self.app.rule.name.as_str())?;
+        self.note(&line)
+    }
+
+    /// Ends the application, which is gone from now on.
+    fn leave<W: World>(&mut self, world: &mut W) -> Result<(), AllocError>
+        requires index { self.old.app.state.index ≡ index }
+        ensures waits { OnOk result (Waits self.old self.new) }
+        ensures index { OnOk result (self.new.app.state.index ≡ index) }
+        ensures net { OnOk result (self.new.net ≡ self.old.net) }
+        ensures leaves { OnOk result (Leaves W.Tells (W.seen world.old) (W.seen world.new) self.old self.new) }
+        ensures continues { Continues W.Tells (W.seen world.old) (W.seen world.new) }
+        ensures places { NoStray W.Tells (W.seen world.old) (W.seen world.new) self.old.net }
+        ensures reads { OnOk result (Reads W.Tells (W.seen world.old) (W.seen world.new) self.old.net self.new.net) }
+        ensures no_point { NoPoint W.Tells (W.seen world.old) (W.seen world.new) }
+        ensures talks { KeepsTalking W.Tells (W.seen world.old) (W.seen world.new) }
+        ensures own { W.Tells → OwnSteps index (W.seen world.old) (W.seen world.new) }
+    {
+        world.end(INDEX);
+        self.app.state.alive = false;
+        self.note_gone()
+    }
+
+    /// Does what the policy says of a turn that failed at an event of a kind: the application is gone, or it is started again
+    /// at its kept checkpoint.
+    fn go_on<W: World>(&mut self, world: &mut W, kind: EventKind) -> Result<(), AllocError>
+        requires index { self.old.app.state.index ≡ index }
+        requires store { StoreRests self.old.store }
+        ensures waits { OnOk result (Waits self.old self.new) }
+        ensures index { OnOk result (self.new.app.state.index ≡ index) }
+        ensures net { OnOk result (self.new.net ≡ self.old.net) }
+        ensures goes_on { OnOk result (GoesOn W.Tells kind (W.seen world.old) (W.seen world.new) self.old self.new) }
+        ensures continues { Continues W.Tells (W.seen world.old) (W.seen world.new) }
+        ensures places { NoStray W.Tells (W.seen world.old) (W.seen world.new) self.old.net }
+        ensures reads { OnOk result (Reads W.Tells (W.seen world.old) (W.seen world.new) self.old.net self.new.net) }
+        ensures no_point { NoPoint W.Tells (W.seen world.old) (W.seen world.new) }
+        ensures talks { KeepsTalking W.Tells (W.seen world.old) (W.seen world.new) }
+        ensures own { W.Tells → OwnSteps index (W.seen world.old) (W.seen world.new) }
+    {
+        match rule(self.app.rule, kind) {
+            Policy::None => self.leave(world),
+            Policy::Absolute | Policy::Equivalence => self.start(world),
+        }
     }
 
     /// Appends the lines of the packets that were released.
@@ -227,9 +278,15 @@ impl Run {
         self.note_out(out)
     }
 
-    /// Closes a turn: counts and tells it, with the switches that were lost in it, and starts an application again that failed.
+    /// Closes a turn at an event of a kind: counts and tells it, with the switches that were lost in it, and does what the
+    /// policy says of an application that failed.
     #[tactic(auto, using(crate::specs::laws::TalkingLaws::keeps_none))]
-    fn close<W: World>(&mut self, world: &mut W, closing: Closing) -> Result<(), AllocError>
+    fn close<W: World>(
+        &mut self,
+        world: &mut W,
+        kind: EventKind,
+        closing: Closing,
+    ) -> Result<(), AllocError>
         requires done { self.old.app.done < self.old.events }
         requires failed { self.old.app.failed < self.old.events }
         requires room { 1 ≤ self.old.net.room }
@@ -238,7 +295,7 @@ impl Run {
         requires store { StoreRests self.old.store }
         ensures going { OnOk result (Going self.new) }
         ensures events { OnOk result (self.new.events ≡ self.old.events) }
-        ensures closes { OnOk result (Closes W.Tells closing (W.seen world.old) (W.seen world.new) self.old self.new) }
+        ensures closes { OnOk result (Closes W.Tells kind closing (W.seen world.old) (W.seen world.new) self.old self.new) }
         ensures continues { Continues W.Tells (W.seen world.old) (W.seen world.new) }
         ensures places { NoStray W.Tells (W.seen world.old) (W.seen world.new) self.old.net }
         ensures reads { OnOk result (Reads W.Tells (W.seen world.old) (W.seen world.new) self.old.net self.new.net) }
@@ -256,7 +313,7 @@ impl Run {
                 self.app.failed += 1;
                 self.note_turn(TurnWord::Failed(cause))?;
                 self.tell_lost()?;
-                self.start(world)
+                self.go_on(world, kind)
             }
         }
     }
@@ -285,7 +342,7 @@ impl Run {
         ensures talks { OnErr result (TurnTalks W.Tells index self.old.app.state.rest (W.seen world.old) (W.seen world.new)) }
         ensures why { IfErr result (IsReason W.Tells (W.seen world.old) (W.seen world.new) 0 0) }
         ensures plain { IfErr result (PlainTurn W.Tells (W.seen world.old) (W.seen world.new) self.old.net) }
-        ensures left { IfErr result (λ fault. TurnLeft W.Tells (IsShort fault) self.old.app.state.rest (W.seen world.old) (W.seen world.new) self.old.net) }
+        ensures left { IfErr result (λ fault. TurnLeft W.Tells (IsShort fault) self.old.app.rule.now.budget self.old.app.state.rest (W.seen world.old) (W.seen world.new) self.old.net) }
     {
         let closing = hold_turn(
             world,
@@ -295,15 +352,23 @@ impl Run {
             &mut self.app.state,
             Occasion {
                 alloc: self.alloc,
+                budget: self.app.rule.budget,
                 number: self.events,
                 event,
                 judge,
             },
         )?;
-        Ok(self.close(world, closing)?)
+        Ok(self.close(world, event.kind, closing)?)
     }
 
-    /// Gives an event to the application, while it is alive.
+    /// Tells whether the application has a turn at an event: it is alive, and is given events of that kind.
+    fn takes(&self, event: &Event) -> bool
+        ensures { result ≡ takes_event (engine_of self.now) event.now }
+    {
+        self.app.state.alive && listens(self.app.rule, event.kind)
+    }
+
+    /// Gives an event to the application, where it has a turn at it.
     fn dispatch<W: World, J: Judge>(
         &mut self,
         world: &mut W,
@@ -320,14 +385,14 @@ impl Run {
         ensures reads { OnOk result (Reads W.Tells (W.seen world.old) (W.seen world.new) self.old.net self.new.net) }
         ensures here { AtMostThisPoint W.Tells (W.seen world.old) (W.seen world.new) }
         ensures later { W.Tells → CalmLater index (W.seen world.old) (W.seen world.new) }
-        ensures fails { IfErr result (λ fault. FailsIn W.Tells fault (W.seen world.old) (W.seen world.new) (engine_of self.old)) }
+        ensures fails { IfErr result (λ fault. FailsIn W.Tells fault (takes_event (engine_of self.old) event.now) (W.seen world.old) (W.seen world.new) (engine_of self.old)) }
         ensures why { IfErr result (IsReason W.Tells (W.seen world.old) (W.seen world.new) 0 0) }
         ensures plain { IfErr result (PlainTurn W.Tells (W.seen world.old) (W.seen world.new) self.old.net) }
     {
         self.events += 1;
         let line = event_line(self.alloc, self.events, event.kind, event.dpid)?;
         self.note(&line)?;
-        if !self.app.state.alive {
+        if !self.takes(event) {
             return Ok(());
         }
         if event.body.len() > MOST_BODY {

@@ -18,7 +18,7 @@ ghost use Rattle.event_dispatch.specs.ReportEnd.{FindsFlags, FlowsSaid, TableSai
 
 use crate::batch::is_joined;
 use crate::fault::Fault;
-use crate::run::{NAME, Run};
+use crate::run::Run;
 use flow_table::{TableView, ViewList, ViewRow};
 use of_match::Key;
 use of_stats::{FlowRow, RowList};
@@ -62,7 +62,7 @@ fn rows_of(views: &[TableView], dpid: Dpid) -> Option<&ViewList>
     None
 }
 
-impl Run {
+impl Run<'_> {
     /// Appends the line of an entry, with the flags with which its owner asked for it.
     fn note_flow(&mut self, row: &FlowRow, flags: u16) -> Result<(), AllocError>
         ensures waits { OnOk result (Waits self.old self.new) }
@@ -170,7 +170,7 @@ impl Run {
         ensures adds { OnOk result (Adds (engine_end (engine_of self.old)) self.old self.new) }
     {
         let app = &self.app;
-        let line = app_line(self.alloc, NAME, app.state.alive, app.done, app.failed)?;
+        let line = app_line(self.alloc, app.rule.name.as_str(), app.state.alive, app.done, app.failed)?;
         let last = end_line(self.alloc, self.net.moment(), self.events)?;
         self.note(&line)?;
         self.note(&last)

@@ -10,7 +10,7 @@ use of_types::Dpid;
 use report_text::lost_line;
 use std::alloc::AllocError;
 
-impl Run {
+impl Run<'_> {
     /// Appends the line of a switch that was lost.
     pub(crate) fn note_loss(&mut self, dpid: Dpid) -> Result<(), AllocError>
         ensures waits { OnOk result (Waits self.old self.new) }

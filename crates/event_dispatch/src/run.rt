@@ -1,6 +1,7 @@
 //! What the engine keeps of a run.
 
 ghost use Rattle.std.specs.Prelude.{◌≡◌, [], IfOk, OnOk, OnErr};
+ghost use Rattle.crash_policy.specs.Policies.{app_value};
 ghost use Rattle.lego_io.specs.Count.{Rose, NeverFell};
 ghost use Rattle.lego_io.specs.Sink.{TookPart};
 ghost use Rattle.event_dispatch.specs.Runs.{Going, Waits};
@@ -10,13 +11,11 @@ ghost use Rattle.event_dispatch.specs.Serves.{Writes};
 
 use app_visor::AppState;
 use checkpoint_store::Store;
+use crash_policy::AppRule;
 use lego_io::{Sink, WriteFault, write_all};
 use net_txn::{EventQueue, Net};
 use of_types::ByteList;
 use std::alloc::{AllocError, Global};
-
-/// The name of the one application.
-pub(crate) const NAME: &str = "app";
 
 /// The index of the one application.
 pub(crate) const INDEX: u32 = 0;
@@ -26,7 +25,9 @@ const APPS: u32 = 1;
 
 /// An application with what it has done.
 #[derive(Drop, Debug)]
-pub(crate) struct Managed {
+pub(crate) struct Managed<'a> {
+    /// What the policy says of it.
+    pub(crate) rule: &'a AppRule,
     pub(crate) state: AppState,
     /// How many turns completed.
     pub(crate) done: u64,
@@ -36,26 +37,24 @@ pub(crate) struct Managed {
 
 /// A run so far.
 #[derive(Drop, Debug)]
-pub(crate) struct Run {
+pub(crate) struct Run<'a> {
     pub(crate) alloc: Global,
     pub(crate) net: Net,
     pub(crate) queue: EventQueue,
     /// How many events were dispatched.
     pub(crate) events: u64,
-    pub(crate) app: Managed,
+    pub(crate) app: Managed<'a>,
     /// The kept checkpoint of the application, and the one that its turn staged.
     pub(crate) store: Store,
-    /// The words by which the application is started.
-    pub(crate) command: Vec<String>,
     /// Lines of the report that were not written yet.
     pub(crate) lines: Vec<u8>,
 }
 
-impl Run {
-    /// Makes a run of which nothing has happened.
-    pub(crate) fn new(alloc: Global, command: Vec<String>) -> Result<Run, AllocError>
+impl<'a> Run<'a> {
+    /// Makes a run of an application of which nothing has happened.
+    pub(crate) fn new(alloc: Global, rule: &'a AppRule) -> Result<Run<'a>, AllocError>
         ensures going { IfOk result Going }
-        ensures first { IfOk result (λ r. engine_of r ≡ engine_at_first) }
+        ensures first { IfOk result (λ r. engine_of r ≡ engine_at_first (app_value rule.now)) }
         ensures none_waits { IfOk result (λ r. r.lines.items ≡ []) }
     {
         let state = AppState::new(alloc, INDEX);
@@ -65,12 +64,12 @@ impl Run {
             queue: EventQueue::new(alloc),
             events: 0,
             app: Managed {
+                rule,
                 state,
                 done: 0,
                 failed: 0,
             },
             store: Store::new(alloc, APPS)?,
-            command,
             lines: Vec::new(alloc),
         })
     }

@@ -12,6 +12,7 @@ ghost use Rattle.event_dispatch.specs.Runs.{Going, Waits, most_rounds};
 ghost use Rattle.event_dispatch.specs.Why.{IsWhy, IsReason, served_by};
 ghost use Rattle.event_dispatch.specs.Shows.{engine_of};
 ghost use Rattle.event_dispatch.specs.Plain.{IsPlainEnd, EndsPlain, PlainCalm, PlainRun, PlainWhole};
+ghost use Rattle.crash_policy.specs.Policies.{app_value};
 ghost use Rattle.lego_model.specs.Places.{Place};
 ghost use Rattle.outside.specs.declared.step.WorldStep.TheVariants.{Opened};
 ghost use Rattle.run_laws.specs.Endings.{ShownLeaves};
@@ -26,12 +27,13 @@ use crate::batch::Rest;
 use crate::fault::Fault;
 use crate::run::{INDEX, Run};
 use crate::served::Served;
+use crash_policy::AppRule;
 use lego_io::{Sink, WriteFault};
 use of_types::limits::MOST_MESSAGE_BYTES;
 use outside::{Judge, OpenFault, World};
 use std::alloc::Global;
 
-impl Run {
+impl Run<'_> {
     /// Writes the lines that a batch noted, of a switch that was lost; mostly there are none.
     fn write_noted<K: Sink>(&mut self, sink: &mut K) -> Result<(), WriteFault>
         ensures waits { OnOk result (Waits self.old self.new) }
@@ -234,7 +236,7 @@ fn end<W: World>(world: &mut W)
 /// Runs an opened world to its end, after which its application is ended.
 #[tactic(auto, using(crate::specs::laws::WhyLaws::continues_then, crate::specs::laws::WhyLaws::why_still))]
 fn run_then_end<W: World, J: Judge, K: Sink>(
-    run: &mut Run,
+    run: &mut Run<'_>,
     world: &mut W,
     judge: &J,
     sink: &mut K,
@@ -263,32 +265,33 @@ fn run_then_end<W: World, J: Judge, K: Sink>(
 /// Runs an opened world to its end, and answers how many events were dispatched.
 fn run<W: World, J: Judge, K: Sink>(
     alloc: Global,
-    command: Vec<String>,
+    app: &AppRule,
     world: &mut W,
     judge: &J,
     sink: &mut K,
     rounds: u64,
 ) -> Result<u64, Served>
     requires few { rounds ≤ most_rounds }
-    ensures runs { RunsAs W.Tells (J.accepts judge.now) rounds result (K.contents sink.old) (K.contents sink.new) (W.seen world.old) (W.seen world.new) }
-    ensures cut { IfErr result (λ end. CutAs W.Tells (J.accepts judge.now) rounds end (K.contents sink.old) (K.contents sink.new) (W.seen world.old) (W.seen world.new) engine_at_first) }
+    ensures runs { RunsAs (app_value app.now) W.Tells (J.accepts judge.now) rounds result (K.contents sink.old) (K.contents sink.new) (W.seen world.old) (W.seen world.new) }
+    ensures cut { IfErr result (λ end. CutAs W.Tells (J.accepts judge.now) rounds end (K.contents sink.old) (K.contents sink.new) (W.seen world.old) (W.seen world.new) (engine_at_first (app_value app.now))) }
     ensures continues { Continues W.Tells (W.seen world.old) (W.seen world.new) }
     ensures none_runs { NoneRuns W.Tells (W.seen world.old) (W.seen world.new) net_at_first }
     ensures reads { ReadsAs W.Tells result (W.seen world.old) (W.seen world.new) net_at_first }
     ensures never_fell { NeverFell (K.faults sink.old) (K.faults sink.new) }
     ensures why { IfErr result (IsWhy W.Tells (W.seen world.old) (W.seen world.new) (K.faults sink.old) (K.faults sink.new)) }
-    ensures plain { IfErr result (PlainWhole W.Tells (J.accepts judge.now) rounds (W.seen world.old) (W.seen world.new) engine_at_first) }
+    ensures plain { IfErr result (PlainWhole W.Tells (J.accepts judge.now) rounds (W.seen world.old) (W.seen world.new) (engine_at_first (app_value app.now))) }
 {
-    let mut run = Run::new(alloc, command)?;
+    let mut run = Run::new(alloc, app)?;
     let mut buf = vec![in alloc; 0; MOST_MESSAGE_BYTES]?;
     run_then_end(&mut run, world, judge, sink, &mut buf, rounds)?;
     Ok(run.events)
 }
 
-/// Runs the world to its end with one application, and writes the report.
+/// Runs the world to its end with the application of a policy, and writes the report.
 ///
-/// The world is opened at the port. The words of the command start the application, at first and after each failed turn. At
-/// most so many rounds are run; one is a batch and the events that wait then. The lines of an event are written when its
+/// The world is opened at the port. The words of the application's command start it, at first and after a failed turn where its
+/// policy for events of that kind says so; under `none` it is gone then. It is given events of the kinds that it is to be given,
+/// and has a turn of at most so many frames, as the policy says, at each. At most so many rounds are run; one is a batch and the events that wait then. The lines of an event are written when its
 /// dispatch has ended. However the run ends, the application is ended. A switch whose link fails is lost: it leaves, and the run
 /// goes on. What else is wrong with the outside, the sink or a switch ends the run, and so do events that are left after the last
 /// batch.
@@ -298,7 +301,7 @@ fn run<W: World, J: Judge, K: Sink>(
 #[tactic(auto, using(crate::specs::laws::WhyLaws::continues_then, crate::specs::laws::WhyLaws::why_behind, crate::specs::laws::WhyLaws::why_sink, crate::specs::laws::WhyLaws::same_fell))]
 pub fn serve<W: World, J: Judge, K: Sink>(
     alloc: Global,
-    command: Vec<String>,
+    app: &AppRule,
     world: &mut W,
     judge: &J,
     sink: &mut K,
@@ -317,14 +320,14 @@ pub fn serve<W: World, J: Judge, K: Sink>(
     // where all events were dispatched, and as far as these go where some were left. It is so, too, over all that was said of the
     // application, of which the world told the front.
     ensures reference_run { (allows : List Place → Bool) → Premise W.Tells (J.accepts judge.now) allows rounds (W.seen world.old) (W.seen world.new)
-        → IsAlike allows (W.seen world.new) (K.contents sink.old) (K.contents sink.new) result }
+        → IsAlike (app_value app.now) allows (W.seen world.new) (K.contents sink.old) (K.contents sink.new) result }
     // Where a fault ends the run, it is so up to a point, with the lines of all that was done up to there, and where the sink failed,
     // with a part of the lines of the last; if the world kept its word as far as there, with fewer stimuli than rounds, whatever came
     // behind it. The whole journal is a dialogue with the application then. A world that tells in order kept its word as far as there,
     // since all bytes that came are messages up to there. Behind it no quiescent point lies in such a world, and no other application was
     // called.
     ensures reference_run_until_fault { (allows : List Place → Bool) → PremiseSoFar W.Tells (J.accepts judge.now) allows rounds (W.seen world.old) (W.seen world.new)
-        → IsCut allows (W.seen world.new) (K.contents sink.old) (K.contents sink.new) result }
+        → IsCut (app_value app.now) allows (W.seen world.new) (K.contents sink.old) (K.contents sink.new) result }
     // In a world that keeps its word to the end no switch is at fault for what it sent, and none ends the run, unless a packet that was
     // released made it send as many messages as are too many: one whose link fails is lost, and the run goes on.
     ensures no_switch_at_fault { (allows : List Place → Bool) → Premise W.Tells (J.accepts judge.now) allows rounds (W.seen world.old) (W.seen world.new)
@@ -339,7 +342,7 @@ pub fn serve<W: World, J: Judge, K: Sink>(
     if let Err(served) = open(world, port) {
         return served;
     }
-    match run(alloc, command, world, judge, sink, rounds) {
+    match run(alloc, app, world, judge, sink, rounds) {
         Ok(events) => Served::Ended { events },
         Err(served) => served,
     }
