@@ -12,7 +12,6 @@ use Rattle.app_frames.specs.declared.frame.Event.{Event}
 use Rattle.app_frames.specs.declared.frame.Answer.{Answer}
 use Rattle.app_frames.specs.declared.cause.Cause.{Cause}
 use Rattle.app_frames.specs.declared.cause.Tried.{Tried}
-use Rattle.crash_policy.specs.declared.policy_file.Policy.{Policy}
 use Rattle.crash_policy.specs.Asking.{rule_at}
 use Rattle.lego_model.specs.declared.turn.TurnWord.{TurnWord}
 use Rattle.lego_model.specs.Journal.{Reply, Start, inputs, reply_of}
