@@ -6,6 +6,7 @@ use Rattle.std.proofs.lemmas.List.{append-nil, length-append}
 use Rattle.of_types.specs.declared.journal.WorldStim.{WorldStim}
 use Rattle.flow_table.specs.View.{TableView}
 use Rattle.app_frames.specs.declared.frame.Event.{Event}
+use Rattle.crash_policy.specs.Policies.{app_value}
 use Rattle.lego_model.specs.Journal.{Reply, Start}
 use Rattle.lego_model.specs.Places.{Place}
 use Rattle.lego_model.specs.Losses.{Losses}
@@ -36,7 +37,7 @@ use Rattle.event_dispatch.specs.Batch.{standing_of, BatchShown}
 use Rattle.event_dispatch.specs.Shows.{engine_of, queued_run}
 use Rattle.app_visor.specs.Attempts.{kept_of}
 use Rattle.checkpoint_store.specs.Slots.{Slot}
-use Rattle.lego_model.specs.Application.{index}
+use Rattle.lego_model.specs.Application.{index, names}
 use Rattle.event_dispatch.specs.Serves.{Writes, Starts, IsDispatched, DispatchesOldest, DispatchesSome, DispatchesWaiting, IsBatch, GoesRound, GoesRounds, GoesToEnd, Begins}
 use Rattle.run_laws.specs.laws.EndingLaws.{known-append}
 
@@ -115,6 +116,7 @@ settled_early {Own} Tells accepts n m text old new e now_e sum none shown = reco
           batches = m.moves.batches;
           turns = m.moves.turns;
           given = m.moves.given;
+          rule = m.moves.rule;
           read_starts = m.moves.read_starts;
           read_replies = m.moves.read_replies;
           read_stimuli = m.moves.read_stimuli;
@@ -125,7 +127,7 @@ settled_early {Own} Tells accepts n m text old new e now_e sum none shown = reco
               subst (Stands new now_e later_starts later_replies later) (same allows later_starts later_replies later q t) t;
           says = λ ss rs later q starts_is replies_is s.
               let t = m.moves.stands ss rs later q starts_is replies_is s in
-              subst (λ (p : ModelRun). text_of p ≡ text_of q ++ text) (same allows (drop (length m.moves.starts) ss) (drop (length m.moves.replies) rs) later q t) (m.moves.says ss rs later q starts_is replies_is s);
+              subst (λ (p : ModelRun). text_of (names e.rule) p ≡ text_of (names e.rule) q ++ text) (same allows (drop (length m.moves.starts) ss) (drop (length m.moves.replies) rs) later q t) (m.moves.says ss rs later q starts_is replies_is s);
         };
         settled = m.settled;
       };
@@ -152,7 +154,7 @@ settles_all Tells accepts n a b old new r now_r all some = record {
 -- the engine with the network and the queue that a batch leaves
 engine_behind : (r now_r : Run) → now_r.app ≡ r.app → Waits r now_r → engine_then (engine_of r) now_r.net now_r.queue ≡ engine_of now_r
 engine_behind r now_r app waits =
-    ap₂ (λ (n : ℕ) (a : Managed). record { net = now_r.net; queue = now_r.queue; events = n; alive = a.state.alive; rest = a.state.rest; kept = kept_of index r.store; done = a.done; failed = a.failed }) (sym waits.events) (sym app)
+    ap₂ (λ (n : ℕ) (a : Managed). record { net = now_r.net; queue = now_r.queue; events = n; rule = app_value a.rule.now; alive = a.state.alive; rest = a.state.rest; kept = kept_of index r.store; done = a.done; failed = a.failed }) (sym waits.events) (sym app)
     ∙ ap (λ (slots : List Slot). record (engine_of now_r) { kept = kept_of index slots }) (sym waits.store)
 
 -- its lines are all that it noted
