@@ -9,8 +9,8 @@ use Rattle.of_match.specs.Key.{key_number}
 use Rattle.flow_table.specs.declared.view.ViewRow.{ViewRow}
 use Rattle.flow_table.specs.ViewRows.{ViewRows}
 use Rattle.flow_table.specs.declared.view.TableView.{TableView as Lent}
-use Rattle.flow_table.specs.View.{plain, plains}
-use Rattle.flow_table.specs.laws.PlainLaws.{plains-read, plains-set}
+use Rattle.flow_table.specs.View.{TableView, plain, plains}
+use Rattle.flow_table.specs.laws.PlainLaws.{plains-read, plains-set, switches-more}
 use Rattle.net_txn.specs.Views.{with_rows, is_viewed, IsViewAt, IsRowPlace}
 use Rattle.net_txn.specs.Undos.{switches_of}
 use Rattle.net_txn.specs.laws.ViewLaws.{with_rows-placed, IsViewAt-within}
@@ -75,45 +75,48 @@ room_placed views i v new at same =
 
 -- ---- One view more
 
-shown_more : (vs : List Lent) (v : Lent) → map (λ w. w.dpid) (plains (vs ++ v ∷ [])) ≡ map (λ w. w.dpid) (plains vs) ++ v.dpid ∷ []
-shown_more [] v = refl
-shown_more (w ∷ ws) v = ap (λ (ds : List ℕ). w.dpid ∷ ds) (shown_more ws v)
+pub as_many : (vs ws : List Lent) → plains vs ≡ plains ws → length vs ≡ length ws
+as_many vs ws is = sym (length-map vs plain) ∙ ap (λ (views : List TableView). length views) is ∙ length-map ws plain
 
-taken : (vs : List Lent) (i : ℕ) (v : Lent) → i < length vs → v ≡ get_or vs i v → take (i + 1) vs ≡ take i vs ++ v ∷ []
-taken vs i v within is = take_more vs i v within ∙ ap (λ (w : Lent). take i vs ++ w ∷ []) (sym is)
+taken : (views : List TableView) (vs : List Lent) (i : ℕ) (v : Lent) → plains vs ≡ views → i < length vs → v ≡ get_or vs i v → take (i + 1) views ≡ take i views ++ plain v ∷ []
+taken views vs i v shown within is =
+    let read : plain v ≡ get_or views i (plain v) = subst (λ (xs : List TableView). plain v ≡ get_or xs i (plain v)) shown (plains-read vs i v within is) in
+    let lt : i < length views = subst (λ (xs : List TableView). i < length xs) shown (subst (λ (n : ℕ). i < n) (sym (length-map vs plain)) within) in
+    take_more views i (plain v) lt ∙ ap (λ (w : TableView). take i views ++ w ∷ []) (sym read)
 
-pub switches_more : (vs : List Lent) (i : ℕ) (v : Lent) → i < length vs → v ≡ get_or vs i v → switches_of (plains (take (i + 1) vs)) ≡ v.dpid ∷ switches_of (plains (take i vs))
-switches_more vs i v within is =
-    ap (λ (ws : List Lent). switches_of (plains ws)) (taken vs i v within is)
-    ∙ ap (λ (ds : List ℕ). reverse ds) (shown_more (take i vs) v)
-    ∙ reverse-append (map (λ w. w.dpid) (plains (take i vs))) (v.dpid ∷ [])
+pub switches_more : (views : List TableView) (vs : List Lent) (i : ℕ) (v : Lent) → plains vs ≡ views → i < length vs → v ≡ get_or vs i v → switches_of (take (i + 1) views) ≡ v.dpid ∷ switches_of (take i views)
+switches_more views vs i v shown within is =
+    ap (λ (ds : List ℕ). reverse ds) (switches-more views vs i v shown within is) ∙ reverse-append (map (λ w. w.dpid) (take i views)) (v.dpid ∷ [])
 
 or_one_more : (a b c : Bool) → (a || (b || c)) ≡ ((a || b) || c)
 or_one_more true b c = refl
 or_one_more false b c = refl
 
-viewed_last : (d : ℕ) (vs : List Lent) (v : Lent) → is_viewed d (plains (vs ++ v ∷ [])) ≡ (is_viewed d (plains vs) || (v.dpid == d))
+viewed_last : (d : ℕ) (vs : List TableView) (v : TableView) → is_viewed d (vs ++ v ∷ []) ≡ (is_viewed d vs || (v.dpid == d))
 viewed_last d [] v = or-false (v.dpid == d)
-viewed_last d (w ∷ ws) v = ap (λ (later : Bool). w.dpid == d || later) (viewed_last d ws v) ∙ or_one_more (w.dpid == d) (is_viewed d (plains ws)) (v.dpid == d)
+viewed_last d (w ∷ ws) v = ap (λ (later : Bool). w.dpid == d || later) (viewed_last d ws v) ∙ or_one_more (w.dpid == d) (is_viewed d ws) (v.dpid == d)
 
 -- a switch among the views up to one stands before it, or is its switch
-pub viewed_more : (d : ℕ) (vs : List Lent) (i : ℕ) (v : Lent) → i < length vs → v ≡ get_or vs i v → is_viewed d (plains (take (i + 1) vs)) ≡ true → (is_viewed d (plains (take i vs)) ≡ true) ⊎ (v.dpid ≡ d)
-viewed_more d vs i v within is viewed =
-    let either : (is_viewed d (plains (take i vs)) || (v.dpid == d)) ≡ true = sym (ap (λ (ws : List Lent). is_viewed d (plains ws)) (taken vs i v within is) ∙ viewed_last d (take i vs) v) ∙ viewed in
-    elim (or_cases (is_viewed d (plains (take i vs))) (v.dpid == d) either) [
+pub viewed_more : (d : ℕ) (views : List TableView) (vs : List Lent) (i : ℕ) (v : Lent) → plains vs ≡ views → i < length vs → v ≡ get_or vs i v → is_viewed d (take (i + 1) views) ≡ true → (is_viewed d (take i views) ≡ true) ⊎ (v.dpid ≡ d)
+viewed_more d views vs i v shown within is viewed =
+    let either : (is_viewed d (take i views) || (v.dpid == d)) ≡ true = sym (ap (is_viewed d) (taken views vs i v shown within is) ∙ viewed_last d (take i views) (plain v)) ∙ viewed in
+    elim (or_cases (is_viewed d (take i views)) (v.dpid == d) either) [
       | inl before ↦ inl before
       | inr here ↦ inr (eqb-true v.dpid d here)
     ]
 
--- a switch that has a view is known
-pub viewed_there : (vs : List Lent) (i : ℕ) (v : Lent) → i < length vs → v ≡ get_or vs i v → is_viewed v.dpid (plains vs) ≡ true
-viewed_there [] i v within is = absurd (omega arith)
-viewed_there (w ∷ ws) zero v within is = viewed_here w v (is_viewed v.dpid (plains ws)) is
+viewed_at : (vs : List Lent) (i : ℕ) (v : Lent) → i < length vs → v ≡ get_or vs i v → is_viewed v.dpid (plains vs) ≡ true
+viewed_at [] i v within is = absurd (omega arith)
+viewed_at (w ∷ ws) zero v within is = viewed_here w v (is_viewed v.dpid (plains ws)) is
   where
     viewed_here : (w v : Lent) (later : Bool) → v ≡ w → (w.dpid == v.dpid || later) ≡ true
     viewed_here w v later same = let here : (w.dpid == v.dpid) ≡ true = eq-eqb w.dpid v.dpid (sym (ap (λ (x : Lent). x.dpid) same)) in rw here refl
-viewed_there (w ∷ ws) (suc i) v within is = viewed_later (w.dpid == v.dpid) (is_viewed v.dpid (plains ws)) (viewed_there ws i v (omega arith) is)
+viewed_at (w ∷ ws) (suc i) v within is = viewed_later (w.dpid == v.dpid) (is_viewed v.dpid (plains ws)) (viewed_at ws i v (omega arith) is)
   where
     viewed_later : (here later : Bool) → later ≡ true → (here || later) ≡ true
     viewed_later true later is = refl
     viewed_later false later is = is
+
+-- a switch that has a view is known
+pub viewed_there : (views : List TableView) (vs : List Lent) (i : ℕ) (v : Lent) → plains vs ≡ views → i < length vs → v ≡ get_or vs i v → is_viewed v.dpid views ≡ true
+viewed_there views vs i v shown within is = subst (λ (ws : List TableView). is_viewed v.dpid ws ≡ true) shown (viewed_at vs i v within is)

@@ -17,6 +17,7 @@ pub mod Releases
 pub mod ReleaseSteps
 pub mod ChangeSteps
 pub mod Undos
+pub mod NetUndos
 pub mod Said
 pub mod Asks
 pub mod AskSteps

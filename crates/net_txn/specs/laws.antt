@@ -29,6 +29,7 @@ pub mod ProgressLaws
 pub mod PartOrderLaws
 pub mod UndoLaws
 pub mod FurtherLaws
+pub mod NetUndoLaws
 pub mod RevertLaws
 pub mod WholeLaws
 pub mod PartLaws

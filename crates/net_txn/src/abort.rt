@@ -31,17 +31,6 @@ impl Net {
     {
         self.held.clear();
         let from = within_log(&self.log, start);
-        undo_log(
-            world,
-            self.alloc,
-            &mut self.buf,
-            &mut self.kept,
-            &mut self.rooms,
-            &mut self.ports,
-            &mut self.views,
-            &mut self.log,
-            from,
-            &mut self.xid,
-        )
+        undo_log(world, self, from)
     }
 }

@@ -1,6 +1,6 @@
 //! One change of a flow table.
 
-ghost use Rattle.std.specs.Prelude.{◌≡◌, ◌⊎◌, IfErr, OnOk, OnErr, MatchResult};
+ghost use Rattle.std.specs.Prelude.{◌≡◌, IfErr, OnOk, OnErr, MatchResult};
 ghost use Rattle.of_wire.specs.declared.message.Message.TheVariants as messages;
 ghost use Rattle.of_wire.specs.Grammar.{IsMessage};
 ghost use Rattle.net_txn.specs.Said.{Speaks};

@@ -5,7 +5,6 @@ ghost use Rattle.lego_model.specs.History.{lost_of};
 ghost use Rattle.outside.specs.Seen.{Continues};
 ghost use Rattle.outside.specs.InOrder.{MessagesSince};
 ghost use Rattle.flow_table.specs.View.{plains};
-ghost use Rattle.net_txn.specs.declared.ports.KnownPorts.{KnownPorts};
 ghost use Rattle.net_txn.specs.LinkSteps.{OnLinks, AsksWithoutStrays};
 ghost use Rattle.net_txn.specs.Said.{Speaks};
 ghost use Rattle.net_txn.specs.Causes.{IsCause};

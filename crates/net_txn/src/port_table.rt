@@ -1,6 +1,6 @@
 //! The known ports of switches, and those of the switches that were lost.
 
-ghost use Rattle.std.specs.Prelude.{◌≡◌, ◌==◌, ◌+◌, ◌<◌, ◌≤◌, not, List, [], ◌∷◌, ◌++◌, filter, length, take, drop, vec_len, vec_capacity, OnOk, OnErr, IfOk};
+ghost use Rattle.std.specs.Prelude.{◌≡◌, ◌==◌, ◌+◌, ◌<◌, ◌≤◌, not, [], ◌∷◌, ◌++◌, filter, take, drop, vec_len, vec_capacity, OnOk, OnErr};
 ghost use Rattle.net_txn.specs.Arriving.{known_after};
 ghost use Rattle.net_txn.specs.Ports.{lost_ports};
 

@@ -53,25 +53,24 @@ fn is_lost(called: &Result<(), Trouble>) -> bool
     matches!(called, Err(Trouble::Link))
 }
 
-/// Sends the inverse at a position.
-fn send_at<W: World>(
+/// Sends the inverse of the first of some entries.
+fn send_first<W: World>(
     world: &mut W,
     alloc: Global,
     log: &mut [Logged],
-    at: usize,
     since: u32,
     xid: Xid,
 ) -> Result<(), Trouble>
-    requires { at < length log.old }
-    ensures says { (e : Logged) → let entry = slice_index_or log.old at e in
+    requires { 0 < length log.old }
+    ensures says { (e : Logged) → let entry = slice_index_or log.old 0 e in
         SaysOne W.Tells entry.dpid (inverse_bytes xid entry.key) (W.seen world.old) (W.seen world.new) result }
-    ensures marked { (e : Logged) → log.new ≡ slice_set log.old at (with_progress (record { xid = xid; since = since; failed = is_err result; lost = loses_by result }) (slice_index_or log.old at e)) }
+    ensures marked { (e : Logged) → log.new ≡ slice_set log.old 0 (with_progress (record { xid = xid; since = since; failed = is_err result; lost = loses_by result }) (slice_index_or log.old 0 e)) }
     ensures same { map key_logged log.new ≡ map key_logged log.old }
-    ensures priority { (e : Logged) → (slice_index_or log.old at e).key.priority < 2 ^ 16 }
+    ensures priority { (e : Logged) → (slice_index_or log.old 0 e).key.priority < 2 ^ 16 }
 {
-    let dpid = log[at].dpid;
-    let _priority = log[at].key.priority;
-    let inverse = inverse_of(alloc, &log[at].key, xid);
+    let dpid = log[0].dpid;
+    let _priority = log[0].key.priority;
+    let inverse = inverse_of(alloc, &log[0].key, xid);
     let sent = send(world, dpid, &inverse);
     let progress = UndoProgress {
         xid,
@@ -79,25 +78,24 @@ fn send_at<W: World>(
         failed: sent.is_err(),
         lost: is_lost(&sent),
     };
-    mark(log, at, progress);
+    mark(log, 0, progress);
     sent
 }
 
-/// Sends a barrier to the switch of the inverse at a position, the newest of those that were reverted to it from another
-/// place on, and waits for its reply.
+/// Sends a barrier to the switch of the inverse at a position, the newest of those that were reverted to it, and waits
+/// for its reply.
 fn await_at<W: World>(
     world: &mut W,
     buf: &mut [u8],
     kept: &mut MessageQueue,
     log: &mut [Logged],
-    from: usize,
     at: usize,
     xid: Xid,
 ) -> Result<(), Trouble>
     requires room { most_message ≤ length buf.old }
-    requires place { (from ≤ at) × (at < length log.old) }
+    requires place { at < length log.old }
     ensures passes { (e : Logged) → let d = (slice_index_or log.old at e).dpid in
-        PassesBarrier W.Tells d xid (inverses_in d (drop from log.old)) (W.seen world.old) (W.seen world.new) kept.old kept.new buf.new result }
+        PassesBarrier W.Tells d xid (inverses_in d log.old) (W.seen world.old) (W.seen world.new) kept.old kept.new buf.new result }
     ensures marked { (e : Logged) → let entry = slice_index_or log.old at e in
         log.new ≡ slice_set log.old at (with_progress (record { xid = entry.progress.xid; since = 0; failed = is_err result; lost = loses_by result }) entry) }
     ensures same { map key_logged log.new ≡ map key_logged log.old }
@@ -105,7 +103,7 @@ fn await_at<W: World>(
 {
     let dpid = log[at].dpid;
     let sent = log[at].progress.xid;
-    let barred = pass_barrier(world, buf, kept, behind(log, from), dpid, xid);
+    let barred = pass_barrier(world, buf, kept, log, dpid, xid);
     let progress = UndoProgress {
         xid: sent,
         since: 0,
@@ -138,36 +136,35 @@ fn one_more(since: u32) -> u32
     }
 }
 
-/// Sends the inverse at a position, to a switch that is joined and has not failed.
+/// Sends the inverse of the first of some entries, to a switch that is joined and has not failed.
 fn revert_to<W: World>(
     world: &mut W,
     alloc: Global,
     buf: &mut [u8],
     kept: &mut MessageQueue,
     log: &mut [Logged],
-    at: usize,
     since: u32,
     xid: &mut Xid,
 ) -> Result<(), Trouble>
     requires room { most_message ≤ length buf.old }
-    requires place { at < length log.old }
+    requires place { 0 < length log.old }
     ensures undoing { (base : Seen W.Own) (views : List PlainView) (x : ℕ) (first : List (ℕ × List ℕ)) (p q : PortLists) (fault : Option TxnFault) (e : Logged) →
-        let d = (slice_index_or log.old at e).dpid in
-        let reverted = drop (at + 1) log.old in
+        let d = (slice_index_or log.old 0 e).dpid in
+        let reverted = drop 1 log.old in
         Further W.Tells views base (W.seen world.old) first kept.old p q x xid.old [] reverted fault → is_viewed d views ≡ true → (progress_of d reverted).failed ≡ false
         → ((progress_of d reverted).since < 4096 → since ≡ (progress_of d reverted).since + 1)
-        → Further W.Tells views base (W.seen world.new) first kept.new p (ports_of d result buf.new q) x xid.new [] (drop at log.new) (first_fault_of fault (fault_of d result buf.new)) }
+        → Further W.Tells views base (W.seen world.new) first kept.new p (ports_of d result buf.new q) x xid.new [] log.new (first_fault_of fault (fault_of d result buf.new)) }
     ensures same { map key_logged log.new ≡ map key_logged log.old }
     ensures least { 1 ≤ xid.new }
     ensures len { length buf.new ≡ length buf.old }
 {
     let id = take_xid(xid);
-    send_at(world, alloc, log, at, since, id)?;
+    send_first(world, alloc, log, since, id)?;
     if since < MOST_BEHIND_BARRIER {
         return Ok(());
     }
     let id = take_xid(xid);
-    await_at(world, buf, kept, log, at, at, id)
+    await_at(world, buf, kept, log, 0, id)
 }
 
 /// Tells whether an inverse is sent to a switch: it was joined and has not failed.
@@ -178,7 +175,8 @@ fn reverts(progress: UndoProgress, views: &[TableView], dpid: Dpid) -> bool
     !progress.failed && is_viewed(views, dpid)
 }
 
-/// Sends the inverse at a position, unless its switch has failed, was lost, or is not joined.
+/// Sends the inverse of the first of some entries, unless its switch has failed, was lost, or is not joined. Those behind
+/// it were reverted.
 pub(crate) fn revert<W: World>(
     world: &mut W,
     alloc: Global,
@@ -186,33 +184,23 @@ pub(crate) fn revert<W: World>(
     kept: &mut MessageQueue,
     views: &[TableView],
     log: &mut [Logged],
-    at: usize,
     xid: &mut Xid,
 ) -> Result<(), Trouble>
     requires room { most_message ≤ length buf.old }
-    requires place { at < length log.old }
+    requires place { 0 < length log.old }
     requires least { 1 ≤ xid.old }
     ensures undoing { (base : Seen W.Own) (x : ℕ) (first : List (ℕ × List ℕ)) (p q : PortLists) (fault : Option TxnFault) (e : Logged) →
-        let d = (slice_index_or log.old at e).dpid in
-        Further W.Tells (plains views.now) base (W.seen world.old) first kept.old p q x xid.old [] (drop (at + 1) log.old) fault
-        → Further W.Tells (plains views.now) base (W.seen world.new) first kept.new p (ports_of d result buf.new q) x xid.new [] (drop at log.new) (first_fault_of fault (fault_of d result buf.new)) }
+        let d = (slice_index_or log.old 0 e).dpid in
+        Further W.Tells (plains views.now) base (W.seen world.old) first kept.old p q x xid.old [] (drop 1 log.old) fault
+        → Further W.Tells (plains views.now) base (W.seen world.new) first kept.new p (ports_of d result buf.new q) x xid.new [] log.new (first_fault_of fault (fault_of d result buf.new)) }
     ensures same { map key_logged log.new ≡ map key_logged log.old }
     ensures least { 1 ≤ xid.new }
     ensures len { length buf.new ≡ length buf.old }
 {
-    let dpid = log[at].dpid;
-    let progress = progress_of(behind(log, at + 1), dpid);
+    let dpid = log[0].dpid;
+    let progress = progress_of(behind(log, 1), dpid);
     if reverts(progress, views, dpid) {
-        revert_to(
-            world,
-            alloc,
-            buf,
-            kept,
-            log,
-            at,
-            one_more(progress.since),
-            xid,
-        )
+        revert_to(world, alloc, buf, kept, log, one_more(progress.since), xid)
     } else {
         let left_alone = UndoProgress {
             xid: 0,
@@ -220,7 +208,7 @@ pub(crate) fn revert<W: World>(
             failed: true,
             lost: progress.lost,
         };
-        mark(log, at, left_alone);
+        mark(log, 0, left_alone);
         Ok(())
     }
 }
@@ -252,5 +240,5 @@ pub(crate) fn await_switch<W: World>(
         return Ok(());
     }
     let id = take_xid(xid);
-    await_at(world, buf, kept, log, 0, at, id)
+    await_at(world, buf, kept, log, at, id)
 }

@@ -8,7 +8,6 @@ ghost use Rattle.net_txn.specs.Views.{is_viewed};
 ghost use Rattle.net_txn.specs.Releases.{Commits};
 ghost use Rattle.net_txn.specs.Changes.{Changes};
 ghost use Rattle.net_txn.specs.Undos.{Undoes};
-ghost use Rattle.net_txn.specs.ChangeSteps.{Reaches, Steps};
 
 use crate::net::Net;
 use crate::queue::EventQueue;

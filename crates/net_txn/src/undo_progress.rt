@@ -1,6 +1,6 @@
 //! How far the inverses of a log came.
 
-ghost use Rattle.std.specs.Prelude.{◌≡◌, ◌<◌, [], length, None, Some, MatchOption, IfSome, IsOk};
+ghost use Rattle.std.specs.Prelude.{◌≡◌, ◌<◌, [], length, MatchOption, IfSome, IsOk};
 ghost use Rattle.of_wire.specs.Reading.{reading_of};
 ghost use Rattle.net_txn.specs.Undos.{progress_of, inverses_in, keys_in, IsProgressAt};
 ghost use Rattle.lego_model.specs.UndoFaults.{key_sent, key_refused};

@@ -20,7 +20,6 @@ use Rattle.lego_model.specs.BarrierWaits.{next_xid}
 use Rattle.lego_model.specs.Packets.{Held}
 use Rattle.lego_model.specs.AfterFault.{after_packets}
 use Rattle.net_txn.specs.declared.trouble.Trouble.{Trouble}
-use Rattle.net_txn.specs.declared.trouble.Trouble.TheVariants as troubles
 use Rattle.net_txn.specs.Waits.{IsRead}
 use Rattle.net_txn.specs.Said.{Said, Says, said_steps, Calls, unsaid, last_said, wait_said, frames_said, barrier_of, reply_heard}
 use Rattle.net_txn.specs.Releases.{packet_awaited, MovesBy}

@@ -1,9 +1,8 @@
 -- Laws of a log whose inverses are reverted: what a progress that is noted at a place leaves of an undo.
 use Rattle.std.specs.Prelude.{◌≡◌, ℕ, ◌+◌, ◌^◌, ◌<◌, Bool, true, false, List, [], ◌∷◌, length, drop, map, Option, None, Result, Ok, Err, OnOk, IfErr, is_err, refl}
-use Rattle.std.proofs.Common.{suc, get_or, set, sym, ap, ◌∙◌, subst, inl, inr, arith}
+use Rattle.std.proofs.Common.{get_or, set, sym, ap, ◌∙◌, subst, inl, inr, arith}
 use Rattle.std.proofs.lemmas.Bool.{cases_eq}
-use Rattle.std.proofs.Math.Seq.{drop-cons, map-set_same}
-use Rattle.std.proofs.lemmas.List.{drop-set}
+use Rattle.std.proofs.Math.Seq.{map-set_same}
 use Rattle.of_types.specs.declared.journal.Act.TheVariants.{Sent}
 use Rattle.flow_table.specs.View.{TableView}
 use Rattle.outside.specs.declared.step.WorldStep.TheVariants.{Acted}
@@ -25,49 +24,47 @@ use Rattle.net_txn.specs.Views.{is_viewed}
 use Rattle.net_txn.specs.laws.PartOrderLaws.{EndsStep, thinned_more, ends_skipped}
 use Rattle.net_txn.specs.laws.FurtherLaws.{first_or_none, Pending-of, Further-of, Further-inverse, Further-barred, Further-stuck, Further-skipped}
 
--- ---- A place of the log
+-- ---- The first entry
 
-marked_front : (log now : List Logged) (at : ℕ) (f : UndoProgress) (e : Logged) → at < length log → now ≡ set log at (with_progress f (get_or log at e)) → drop at now ≡ with_progress f (get_or log at e) ∷ drop (at + 1) log
-marked_front log now at f e lt is = rw is (drop-set log at (with_progress f (get_or log at e)) lt)
+cut_first : (log : List Logged) (e : Logged) → 0 < length log → log ≡ get_or log 0 e ∷ drop 1 log
+cut_first [] e some = absurd (omega arith)
+cut_first (l ∷ ls) e some = refl
 
-drop_at : (log : List Logged) (at : ℕ) (e : Logged) → at < length log → drop at log ≡ get_or log at e ∷ drop (at + 1) log
-drop_at log at e lt = let next : suc at ≡ at + 1 = omega arith in drop-cons log at e lt ∙ ap (λ (n : ℕ). get_or log at e ∷ drop n log) next
-
--- a progress at the front of what was reverted
-marked_reverted : (log now : List Logged) (at : ℕ) (f : UndoProgress) (e : Logged) → at < length log → now ≡ set log at (with_progress f (get_or log at e)) → drop at now ≡ set (drop at log) 0 (with_progress f (get_or (drop at log) 0 e))
-marked_reverted log now at f e lt is = marked_front log now at f e lt is ∙ ap (λ (xs : List Logged). set xs 0 (with_progress f (get_or xs 0 e))) (sym (drop_at log at e lt))
+marked_first : (log now : List Logged) (f : UndoProgress) (e : Logged) → 0 < length log → now ≡ set log 0 (with_progress f (get_or log 0 e)) → now ≡ with_progress f (get_or log 0 e) ∷ drop 1 log
+marked_first [] now f e some is = absurd (omega arith)
+marked_first (l ∷ ls) now f e some is = is
 
 -- ---- The inverse was sent
 
-pub skipped_at : {Own : Type 0} {Tells : Type 0} {views : List TableView} {base now : Seen Own} {kept kept1 : List (ℕ × List ℕ)} {ps qs : PortLists} {x y : ℕ} {switches : List ℕ} {fault : Option TxnFault} (log later : List Logged) (at : ℕ) (f : UndoProgress) (e : Logged) → at < length log → later ≡ set log at (with_progress f (get_or log at e)) → f.failed ≡ true
-    → f.lost ≡ (progress_of (get_or log at e).dpid (drop (at + 1) log)).lost → (is_viewed (get_or log at e).dpid views ≡ true → (progress_of (get_or log at e).dpid (drop (at + 1) log)).failed ≡ true) → Further Tells views base now kept kept1 ps qs x y switches (drop (at + 1) log) fault → Further Tells views base now kept kept1 ps qs x y switches (drop at later) fault
-skipped_at log later at f e lt is failed out stuck u = rw (marked_front log later at f e lt is) (Further-skipped (with_progress f (get_or log at e)) u stuck failed out)
+pub skipped_first : {Own : Type 0} {Tells : Type 0} {views : List TableView} {base now : Seen Own} {kept kept1 : List (ℕ × List ℕ)} {ps qs : PortLists} {x y : ℕ} {switches : List ℕ} {fault : Option TxnFault} (log later : List Logged) (f : UndoProgress) (e : Logged) → 0 < length log → later ≡ set log 0 (with_progress f (get_or log 0 e)) → f.failed ≡ true
+    → f.lost ≡ (progress_of (get_or log 0 e).dpid (drop 1 log)).lost → (is_viewed (get_or log 0 e).dpid views ≡ true → (progress_of (get_or log 0 e).dpid (drop 1 log)).failed ≡ true) → Further Tells views base now kept kept1 ps qs x y switches (drop 1 log) fault → Further Tells views base now kept kept1 ps qs x y switches later fault
+skipped_first log later f e lt is failed out stuck u = rw (marked_first log later f e lt is) (Further-skipped (with_progress f (get_or log 0 e)) u stuck failed out)
 
-pub stuck_at : {Own : Type 0} {Tells : Type 0} {views : List TableView} {base now next : Seen Own} {kept kept1 : List (ℕ × List ℕ)} {ps qs : PortLists} {x y z : ℕ} {switches : List ℕ} {before : Option TxnFault} (log later : List Logged) (at : ℕ) (f : UndoProgress) (e : Logged) (halt : Halt) → at < length log → later ≡ set log at (with_progress f (get_or log at e)) → f.failed ≡ true → f.lost ≡ is_lost halt → z ≡ next_xid y
-    → Further Tells views base now kept kept1 ps qs x y switches (drop (at + 1) log) before → is_viewed (get_or log at e).dpid views ≡ true → (progress_of (get_or log at e).dpid (drop (at + 1) log)).failed ≡ false
-    → Fails Tells (get_or log at e).dpid (inverses_in (get_or log at e).dpid (drop (at + 1) log)) now next halt → Further Tells views base next kept kept1 ps (ports_by (get_or log at e).dpid halt qs) x z [] (drop at later) (first_fault_of before (fault_by halt))
-stuck_at {kept1 = kept1} log later at f e halt lt is failed out step u known unfailed fails =
-    let d = (get_or log at e).dpid in
-    let g = with_progress f (get_or log at e) in
-    let reverted = drop (at + 1) log in
-    rw (marked_front log later at f e lt is, step) (Further-stuck d (g ∷ reverted) halt (Pending-of d u known unfailed) known (ap (λ (h : UndoProgress). h.failed) (progress_of-same d g reverted refl) ∙ failed) (ap (λ (h : UndoProgress). h.lost) (progress_of-same d g reverted refl) ∙ out)
+pub stuck_first : {Own : Type 0} {Tells : Type 0} {views : List TableView} {base now next : Seen Own} {kept kept1 : List (ℕ × List ℕ)} {ps qs : PortLists} {x y z : ℕ} {switches : List ℕ} {before : Option TxnFault} (log later : List Logged) (f : UndoProgress) (e : Logged) (halt : Halt) → 0 < length log → later ≡ set log 0 (with_progress f (get_or log 0 e)) → f.failed ≡ true → f.lost ≡ is_lost halt → z ≡ next_xid y
+    → Further Tells views base now kept kept1 ps qs x y switches (drop 1 log) before → is_viewed (get_or log 0 e).dpid views ≡ true → (progress_of (get_or log 0 e).dpid (drop 1 log)).failed ≡ false
+    → Fails Tells (get_or log 0 e).dpid (inverses_in (get_or log 0 e).dpid (drop 1 log)) now next halt → Further Tells views base next kept kept1 ps (ports_by (get_or log 0 e).dpid halt qs) x z [] later (first_fault_of before (fault_by halt))
+stuck_first {kept1 = kept1} log later f e halt lt is failed out step u known unfailed fails =
+    let d = (get_or log 0 e).dpid in
+    let g = with_progress f (get_or log 0 e) in
+    let reverted = drop 1 log in
+    rw (marked_first log later f e lt is, step) (Further-stuck d (g ∷ reverted) halt (Pending-of d u known unfailed) known (ap (λ (h : UndoProgress). h.failed) (progress_of-same d g reverted refl) ∙ failed) (ap (λ (h : UndoProgress). h.lost) (progress_of-same d g reverted refl) ∙ out)
     (λ c other. (progress_of-other c g reverted other, inverses_in-other c g reverted other)) (none_kept d kept1) (λ xs is. thinned_more xs (key_logged g) (map key_logged reverted) is) (inl refl) fails)
 
-pub sent_at : {Own : Type 0} {Tells : Type 0} {views : List TableView} {base now next : Seen Own} {kept kept1 : List (ℕ × List ℕ)} {ps qs : PortLists} {x y z : ℕ} {switches : List ℕ} {fault : Option TxnFault} (log later : List Logged) (at : ℕ) (f : UndoProgress) (e : Logged) → at < length log → later ≡ set log at (with_progress f (get_or log at e)) → f.failed ≡ false → f.lost ≡ false → f.xid ≡ y → y < 2 ^ 32 → (get_or log at e).key.priority < 2 ^ 16 → z ≡ next_xid y
-    → Further Tells views base now kept kept1 ps qs x y switches (drop (at + 1) log) fault → is_viewed (get_or log at e).dpid views ≡ true → (progress_of (get_or log at e).dpid (drop (at + 1) log)).failed ≡ false
-    → ((progress_of (get_or log at e).dpid (drop (at + 1) log)).since < 4096 → f.since ≡ (progress_of (get_or log at e).dpid (drop (at + 1) log)).since + 1)
-    → Moves Tells (get_or log at e).dpid (Acted (Sent (get_or log at e).dpid (inverse_bytes f.xid (get_or log at e).key)) ∷ []) now next → Pending Tells views base next kept kept1 ps qs x z [] (drop at later) fault (get_or log at e).dpid
-sent_at {Tells = Tells} {now = now} {next = next} log later at f e lt is well stays numbered lt_xid lt_priority step u known unfailed more m =
-    let d = (get_or log at e).dpid in
-    let g = with_progress f (get_or log at e) in
+pub sent_first : {Own : Type 0} {Tells : Type 0} {views : List TableView} {base now next : Seen Own} {kept kept1 : List (ℕ × List ℕ)} {ps qs : PortLists} {x y z : ℕ} {switches : List ℕ} {fault : Option TxnFault} (log later : List Logged) (f : UndoProgress) (e : Logged) → 0 < length log → later ≡ set log 0 (with_progress f (get_or log 0 e)) → f.failed ≡ false → f.lost ≡ false → f.xid ≡ y → y < 2 ^ 32 → (get_or log 0 e).key.priority < 2 ^ 16 → z ≡ next_xid y
+    → Further Tells views base now kept kept1 ps qs x y switches (drop 1 log) fault → is_viewed (get_or log 0 e).dpid views ≡ true → (progress_of (get_or log 0 e).dpid (drop 1 log)).failed ≡ false
+    → ((progress_of (get_or log 0 e).dpid (drop 1 log)).since < 4096 → f.since ≡ (progress_of (get_or log 0 e).dpid (drop 1 log)).since + 1)
+    → Moves Tells (get_or log 0 e).dpid (Acted (Sent (get_or log 0 e).dpid (inverse_bytes f.xid (get_or log 0 e).key)) ∷ []) now next → Pending Tells views base next kept kept1 ps qs x z [] later fault (get_or log 0 e).dpid
+sent_first {Tells = Tells} {now = now} {next = next} log later f e lt is well stays numbered lt_xid lt_priority step u known unfailed more m =
+    let d = (get_or log 0 e).dpid in
+    let g = with_progress f (get_or log 0 e) in
     let n = subst (λ (i : ℕ). Moves Tells d (Acted (Sent d (inverse_bytes i g.key)) ∷ []) now next) numbered m in
-    rw (marked_front log later at f e lt is, step) (Further-inverse d g u known unfailed refl numbered well stays more (record { is_xid = omega (arith, numbered, lt_xid); priority = lt_priority }) n)
+    rw (marked_first log later f e lt is, step) (Further-inverse d g u known unfailed refl numbered well stays more (record { is_xid = omega (arith, numbered, lt_xid); priority = lt_priority }) n)
 
-pub few_at : {Own : Type 0} {Tells : Type 0} {views : List TableView} {base now : Seen Own} {kept kept1 : List (ℕ × List ℕ)} {ps qs : PortLists} {x y : ℕ} {switches : List ℕ} {fault : Option TxnFault} (log later : List Logged) (at : ℕ) (f : UndoProgress) (e : Logged) → at < length log → later ≡ set log at (with_progress f (get_or log at e)) → f.since < 4096
-    → Pending Tells views base now kept kept1 ps qs x y switches (drop at later) fault (get_or log at e).dpid → is_viewed (get_or log at e).dpid views ≡ true → Further Tells views base now kept kept1 ps qs x y switches (drop at later) fault
-few_at log later at f e lt is few p known =
-    let d = (get_or log at e).dpid in
-    let same = ap (progress_of d) (marked_front log later at f e lt is) ∙ progress_of-same d (with_progress f (get_or log at e)) (drop (at + 1) log) refl in
+pub few_first : {Own : Type 0} {Tells : Type 0} {views : List TableView} {base now : Seen Own} {kept kept1 : List (ℕ × List ℕ)} {ps qs : PortLists} {x y : ℕ} {switches : List ℕ} {fault : Option TxnFault} (log later : List Logged) (f : UndoProgress) (e : Logged) → 0 < length log → later ≡ set log 0 (with_progress f (get_or log 0 e)) → f.since < 4096
+    → Pending Tells views base now kept kept1 ps qs x y switches later fault (get_or log 0 e).dpid → is_viewed (get_or log 0 e).dpid views ≡ true → Further Tells views base now kept kept1 ps qs x y switches later fault
+few_first log later f e lt is few p known =
+    let d = (get_or log 0 e).dpid in
+    let same = ap (progress_of d) (marked_first log later f e lt is) ∙ progress_of-same d (with_progress f (get_or log 0 e)) (drop 1 log) refl in
     Further-of d p known (rw same few)
 
 -- ---- The barrier was answered, or the switch failed
@@ -120,25 +117,17 @@ await_in d reverted j e (Ok u) buf at lt_xid step p known ends some ok err = unf
 await_in d reverted j e (Err t) buf at lt_xid step p known ends some ok err = stuck_in d reverted j e (halt_by d t buf) (is_of_link t) at (lost_link d t buf) step p known ends some err
 
 -- the inverse was sent just before
-pub await_reverted : {Own : Type 0} {Tells : Type 0} {views : List TableView} {base now next : Seen Own} {kept kept1 kept2 : List (ℕ × List ℕ)} {ps qs : PortLists} {x y z : ℕ} {switches : List ℕ} {before : Option TxnFault} (d : ℕ) (log later : List Logged) (at : ℕ) (e : Logged) (r : Result (Unit {0}) Trouble) (buf : List ℕ) → at < length log → (get_or log at e).dpid ≡ d
-    → later ≡ set log at (with_progress (record { xid = (get_or log at e).progress.xid; since = 0; failed = is_err r; lost = loses_by r }) (get_or log at e)) → y < 2 ^ 32 → z ≡ next_xid y
-    → Pending Tells views base now kept kept1 ps qs x y switches (drop at log) before d → is_viewed d views ≡ true → KeptMore (get_or log at e).dpid kept1 kept2
-    → OnOk r (AwaitsReplies Tells (alone (get_or log at e).dpid y) (barrier_sent (alone (get_or log at e).dpid y) ∷ []) (inverses_in (get_or log at e).dpid (drop at log)) now next kept1 kept2)
-    → IfErr r (λ t. Fails Tells (get_or log at e).dpid (inverses_in (get_or log at e).dpid (drop at log)) now next (halt_by (get_or log at e).dpid t buf))
-    → Further Tells views base next kept kept2 ps (ports_of d r buf qs) x z [] (drop at later) (first_fault_of before (fault_of d r buf))
-await_reverted {Tells = Tells} {views = views} {base = base} {now = now} {next = next} {kept = kept} {kept1 = kept1} {kept2 = kept2} {ps = ps} {qs = qs} {x = x} {y = y} {z = z} {before = before} d log later at e r buf lt is marked lt_xid step p known some ok err =
-    let reverted = drop at log in
-    let front = drop_at log at e lt in
-    let here : IsProgressAt d reverted 0 = subst (λ (xs : List Logged). IsProgressAt d xs 0) (sym front) is in
-    let first : get_or reverted 0 e ≡ get_or log at e = ap (λ (xs : List Logged). get_or xs 0 e) front in
-    let ok2 = subst (λ (n : ℕ). OnOk r (AwaitsReplies Tells (alone n y) (barrier_sent (alone n y) ∷ []) (inverses_in n reverted) now next kept1 kept2)) is ok in
-    let err2 = subst (λ (n : ℕ). IfErr r (λ t. Fails Tells n (inverses_in n reverted) now next (halt_by n t buf))) is err in
-    let u = await_in d reverted 0 e r buf here lt_xid step p known (inl refl) (subst (λ (n : ℕ). KeptMore n kept1 kept2) is some) ok2 err2 in
-    let g : UndoProgress = record { xid = (get_or log at e).progress.xid; since = 0; failed = is_err r; lost = loses_by r } in
-    let same : set reverted 0 (with_progress (record { xid = (get_or reverted 0 e).progress.xid; since = 0; failed = is_err r; lost = loses_by r }) (get_or reverted 0 e)) ≡ drop at later =
-    ap (λ (h : Logged). set reverted 0 (with_progress (record { xid = h.progress.xid; since = 0; failed = is_err r; lost = loses_by r }) h)) first
-    ∙ ap (λ (h : Logged). set reverted 0 (with_progress g h)) (sym first) ∙ sym (marked_reverted log later at g e lt marked) in
-    subst (λ (xs : List Logged). Further Tells views base next kept kept2 ps (ports_of d r buf qs) x z [] xs (first_fault_of before (fault_of d r buf))) same u
+pub await_reverted : {Own : Type 0} {Tells : Type 0} {views : List TableView} {base now next : Seen Own} {kept kept1 kept2 : List (ℕ × List ℕ)} {ps qs : PortLists} {x y z : ℕ} {switches : List ℕ} {before : Option TxnFault} (d : ℕ) (log later : List Logged) (e : Logged) (r : Result (Unit {0}) Trouble) (buf : List ℕ) → 0 < length log → (get_or log 0 e).dpid ≡ d
+    → later ≡ set log 0 (with_progress (record { xid = (get_or log 0 e).progress.xid; since = 0; failed = is_err r; lost = loses_by r }) (get_or log 0 e)) → y < 2 ^ 32 → z ≡ next_xid y
+    → Pending Tells views base now kept kept1 ps qs x y switches log before d → is_viewed d views ≡ true → KeptMore (get_or log 0 e).dpid kept1 kept2
+    → OnOk r (AwaitsReplies Tells (alone (get_or log 0 e).dpid y) (barrier_sent (alone (get_or log 0 e).dpid y) ∷ []) (inverses_in (get_or log 0 e).dpid log) now next kept1 kept2)
+    → IfErr r (λ t. Fails Tells (get_or log 0 e).dpid (inverses_in (get_or log 0 e).dpid log) now next (halt_by (get_or log 0 e).dpid t buf))
+    → Further Tells views base next kept kept2 ps (ports_of d r buf qs) x z [] later (first_fault_of before (fault_of d r buf))
+await_reverted {Tells = Tells} {now = now} {next = next} {kept1 = kept1} {kept2 = kept2} {y = y} d log later e r buf some is marked lt_xid step p known more ok err =
+    let here : IsProgressAt d log 0 = subst (λ (xs : List Logged). IsProgressAt d xs 0) (sym (cut_first log e some)) is in
+    let ok2 = subst (λ (n : ℕ). OnOk r (AwaitsReplies Tells (alone n y) (barrier_sent (alone n y) ∷ []) (inverses_in n log) now next kept1 kept2)) is ok in
+    let err2 = subst (λ (n : ℕ). IfErr r (λ t. Fails Tells n (inverses_in n log) now next (halt_by n t buf))) is err in
+    rw marked (await_in d log 0 e r buf here lt_xid step p known (inl refl) (subst (λ (n : ℕ). KeptMore n kept1 kept2) is more) ok2 err2)
 
 -- the switch of the newest inverse that was reverted to it
 pub await_expected : {Own : Type 0} {Tells : Type 0} {views : List TableView} {base now next : Seen Own} {kept kept1 kept2 : List (ℕ × List ℕ)} {ps qs : PortLists} {x y z : ℕ} {switches : List ℕ} {before : Option TxnFault} (d i : ℕ) (log later : List Logged) (at : ℕ) (e : Logged) (r : Result (Unit {0}) Trouble) (buf : List ℕ) → IsProgressAt d log at

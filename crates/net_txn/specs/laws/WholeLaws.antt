@@ -3,7 +3,6 @@ use Rattle.std.specs.Prelude.{◌≡◌, ◌==◌, ℕ, Bool, true, false, not, 
 use Rattle.std.proofs.Common.{sym, ap, ◌∙◌, subst}
 use Rattle.std.proofs.lemmas.List.Elements.{filter_agree}
 use Rattle.flow_table.specs.View.{TableView}
-use Rattle.lego_model.specs.Packets.{Held}
 use Rattle.net_txn.specs.Ports.{PortLists, ports_lost}
 use Rattle.net_txn.specs.Losing.{is_among}
 use Rattle.of_match.specs.declared.key.Key.{Key}
@@ -27,6 +26,7 @@ use Rattle.net_txn.specs.laws.LinkStepLaws.{OnLinks-by}
 use Rattle.net_txn.specs.laws.UndoLinkLaws.{steps_links, parts_bring, undo_releases_none}
 use Rattle.net_txn.specs.laws.UndoStrayLaws.{undo_place}
 use Rattle.net_txn.specs.Undos.{Undoes, UndoesLog, undone_net, next_free, was_lost, lost_parts, is_stuck, Further, steps_of, first_fault, ended_by, without_keys, parts_of, Part, inverses_in, keys_of, key_logged, HasPassedBarrier, Stands, IsRevertedOn}
+use Rattle.net_txn.specs.NetUndos.{ports_in}
 use Rattle.net_txn.specs.Views.{rows_at, is_viewed}
 
 key_step : (here : Bool) (x : ℕ) (k : Key) (pairs : List (ℕ × Key)) (keys : List Key) → map (λ p. p.1) pairs ≡ keys → map (λ p. p.1) (if here then (x, k) ∷ pairs else pairs) ≡ (if here then k ∷ keys else keys)
@@ -45,28 +45,20 @@ reverted_on known d old new parts reverted all same s barred = record {
   barred = λ k free. sym (s.since k free) ∙ barred k (s.stuck k ∙ free);
 }
 
--- what is kept where the log was undone, and then what is logged and held
-abbrev pub kept_now : NetState → List TableView → List Logged → List Held → List (ℕ × List ℕ) → PortLists → ℕ → ℕ → NetState
-kept_now net views log held kept ports xid room =
-    record { views = views; ports = ports.known; log = log; held = held; xid = xid; moment = net.moment; kept = kept; room = room; left = ports.left }
-
 lost_alike : {Own : Type 0} {Tells : Type 0} {views : List TableView} {old new : Seen Own} {kept all_kept : List (ℕ × List ℕ)} {ps qs : PortLists} {x y : ℕ} {switches : List ℕ} {reverted : List Logged} {fault : Option TxnFault}
     (f : Further Tells views old new kept all_kept ps qs x y switches reverted fault) (d : ℕ) → not (was_lost reverted d) ≡ not (is_among d (lost_parts f.parts))
 lost_alike {old = old} {new = new} f d = ap not ((f.undoing.stands d).out ∙ sym (among_out old.counts new.counts d f.parts (λ c. (f.undoing.stands c).run)))
 
-net_alike : (net : NetState) (views now_views : List TableView) (log : List Logged) (held : List Held) (kept now_kept : List (ℕ × List ℕ)) (ports now_ports : PortLists) (xid now_xid room : ℕ) → now_views ≡ views → now_kept ≡ kept → now_ports ≡ ports → now_xid ≡ xid
-    → kept_now net now_views log held now_kept now_ports now_xid room ≡ kept_now net views log held kept ports xid room
-net_alike net views now_views log held kept now_kept ports now_ports xid now_xid room same_views same_kept same_ports same_xid = rw (same_views, same_kept, same_ports, same_xid) refl
+-- what the host keeps where the log was undone
+now_alike : (net now : NetState) (views : List TableView) (log : List Logged) (kept : List (ℕ × List ℕ)) (ports : PortLists) (xid : ℕ) → now.views ≡ views → now.log ≡ log → now.held ≡ [] → now.kept ≡ kept → ports_in now ≡ ports → now.xid ≡ xid → now.moment ≡ net.moment
+    → now ≡ record { views = views; ports = ports.known; log = log; held = []; xid = xid; moment = net.moment; kept = kept; room = now.room; left = ports.left }
+now_alike net now views log kept ports xid same_views same_log none_held same_kept same_ports same_xid same_moment =
+    rw (sym same_views, sym same_log, sym same_kept, sym same_ports, sym same_xid, sym same_moment, sym none_held) refl
 
-pub later_alike : (net : NetState) (views : List TableView) (log now_log : List Logged) (held now_held : List Held) (kept : List (ℕ × List ℕ)) (ports : PortLists) (xid room : ℕ) → now_log ≡ log → now_held ≡ held
-    → kept_now net views log held kept ports xid room ≡ kept_now net views now_log now_held kept ports xid room
-later_alike net views log now_log held now_held kept ports xid room same_log same_held = rw (same_log, same_held) refl
-
-pub undoes : {Own : Type 0} {Tells : Type 0} (start from : ℕ) (old new : Seen Own) (net : NetState) (views : List TableView) (kept : List (ℕ × List ℕ)) (ports : PortLists) (xid room : ℕ) (result : Result (Unit {0}) TxnFault)
-    → take from net.log ≡ take start net.log → drop from net.log ≡ drop start net.log
-    → UndoesLog Tells net.views views old new net.kept kept (record { known = net.ports; left = net.left }) ports net.xid xid (map key_logged (drop from net.log)) result
-    → (net.room ≤ room + 1) × (IsOk result → room ≡ net.room) → Undoes Tells start old new net (kept_now net views (take from net.log) [] kept ports xid room) result
-undoes {Tells = Tells} start from old new net views kept ports xid room result front rest u fits =
+pub undoes : {Own : Type 0} {Tells : Type 0} (start from : ℕ) (old new : Seen Own) (net now : NetState) (result : Result (Unit {0}) TxnFault) → take from net.log ≡ take start net.log → drop from net.log ≡ drop start net.log
+    → UndoesLog Tells net.views now.views old new net.kept now.kept (ports_in net) (ports_in now) net.xid now.xid (map key_logged (drop from net.log)) result
+    → now.log ≡ take from net.log → now.held ≡ [] → now.moment ≡ net.moment → (net.room ≤ now.room + 1) × (IsOk result → now.room ≡ net.room) → Undoes Tells start old new net now result
+undoes {Tells = Tells} start from old new net now result front rest u log_is none_held same_moment fits =
     let f = u.further in
     let parts = f.parts in
     let lost = lost_parts parts in
@@ -79,13 +71,13 @@ undoes {Tells = Tells} start from old new net views kept ports xid room result f
     reverted_on (is_viewed d net.views) d old.counts new.counts (parts_of d parts) u.reverted keys all (f.undoing.stands d) (u.barred d) in
     let run : AllRun old.counts new.counts parts = λ c. (each c).run in
     let left = without_keys keys net.views in
-    let now_views : views ≡ filter (λ v. not (is_among v.dpid lost)) left =
+    let now_views : now.views ≡ filter (λ v. not (is_among v.dpid lost)) left =
     u.views_is ∙ filter_agree (λ v. not (was_lost u.reverted v.dpid)) (λ v. not (is_among v.dpid lost)) (λ v. lost_alike f v.dpid) (without_keys (map key_logged (drop from net.log)) net.views)
     ∙ ap (λ (ks : List (ℕ × Key)). filter (λ v. not (is_among v.dpid lost)) (without_keys ks net.views)) same_keys in
-    let now_kept : kept ≡ filter (λ m. not (is_among m.0 lost)) u.all_kept =
+    let now_kept : now.kept ≡ filter (λ m. not (is_among m.0 lost)) u.all_kept =
     u.kept_is ∙ filter_agree (λ m. not (was_lost u.reverted m.0)) (λ m. not (is_among m.0 lost)) (λ m. lost_alike f m.0) u.all_kept in
-    let base : NetState = record (undone_net start net) { xid = next_free net.xid parts; kept = u.all_kept; room = room } in
-    let rows : (d : ℕ) → is_stuck (parts_of d parts) ≡ false → rows_at d views ≡ rows_at d left = λ d free.
+    let base : NetState = record (undone_net start net) { xid = next_free net.xid parts; kept = u.all_kept; room = now.room } in
+    let rows : (d : ℕ) → is_stuck (parts_of d parts) ≡ false → rows_at d now.views ≡ rows_at d left = λ d free.
     ap (rows_at d) now_views ∙ lost-rows d lost left (free-among old.counts new.counts d parts (run d) free) in
     record {
       parts = parts;
@@ -104,8 +96,7 @@ undoes {Tells = Tells} start from old new net views kept ports xid room result f
       none_failed = λ ok d. none_failed old.counts new.counts result parts d run is ok;
       kept = u.all_kept;
       keeps = f.undoing.keeps;
-      net_is = ap (λ (log : List Logged). kept_now net views log [] kept ports xid room) front
-          ∙ net_alike net (filter (λ v. not (is_among v.dpid lost)) left) views (take start net.log) [] (filter (λ m. not (is_among m.0 lost)) u.all_kept) kept (ports_lost lost (record { known = net.ports; left = net.left })) ports (next_free net.xid parts) xid room now_views now_kept f.ports_is f.undoing.next
+      net_is = now_alike net now (filter (λ v. not (is_among v.dpid lost)) left) (take start net.log) (filter (λ m. not (is_among m.0 lost)) u.all_kept) (ports_lost lost (ports_in net)) (next_free net.xid parts) now_views (log_is ∙ front) none_held now_kept f.ports_is f.undoing.next same_moment
           ∙ sym (lose_all-so lost base);
       room = fits;
       others = λ d told unknown. others_stay old new d parts given (f.undoing.told told) run ((each d).unknown unknown);
@@ -120,7 +111,7 @@ undoes {Tells = Tells} start from old new net views kept ports xid room result f
       none_kept = λ told conforming ok ready. now_kept ∙ none_kept old new net.views parts result net.kept u.all_kept given (f.undoing.told told) run (λ c. (each c).unknown) is ok conforming ready f.undoing.keeps;
       plain = λ told conforming ready.
           plain old new net.views parts result given (f.undoing.told told) run (λ c. (each c).unknown) is (Conforming-before told f.undoing.continues conforming) conforming ready;
-      agrees = λ d told conforming free waits before. agrees old new d net.views views keys parts given (f.undoing.told told) each (rows d free) conforming free waits before;
-      tables_agree = λ d told free before. table_agrees old new d net.views views keys parts given (f.undoing.told told) each (rows d free) free before;
+      agrees = λ d told conforming free waits before. agrees old new d net.views now.views keys parts given (f.undoing.told told) each (rows d free) conforming free waits before;
+      tables_agree = λ d told free before. table_agrees old new d net.views now.views keys parts given (f.undoing.told told) each (rows d free) free before;
       failed_by = λ d failed in_still. fails_in_undo Tells d old new parts f.undoing.told run failed (sym (among_out old.counts new.counts d parts run) ∙ in_still);
     }

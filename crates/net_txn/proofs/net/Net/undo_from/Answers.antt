@@ -1,10 +1,10 @@
-use Rattle.std.proofs.Common.{◌≡◌, List, [], take, drop, subst}
+use Rattle.std.proofs.Common.{◌≡◌, List, take, drop, ◌∙◌, subst}
 use Rattle.std.specs.Prelude.{vec_len}
 use Rattle.net_txn.specs.declared.logged.Logged.{Logged}
 use Rattle.flow_table.specs.View.{plains}
 use Rattle.net_txn.specs.Net.{NetState}
 use Rattle.net_txn.specs.Undos.{Undoes}
-use Rattle.net_txn.specs.laws.WholeLaws.{kept_now, later_alike, undoes}
+use Rattle.net_txn.specs.laws.WholeLaws.{undoes}
 use Rattle.net_txn.proofs.net.Net.undo_from.Goals as goal
 
 pub returns : goal.returns
@@ -19,7 +19,5 @@ returns g c =
     let new = g.W.World.seen n.world in
     let front = subst (λ (xs : List Logged). take from xs ≡ take start xs) c.deref.ensures.value c.within_log-from.ensures.front in
     let rest = subst (λ (xs : List Logged). drop from xs ≡ drop start xs) c.deref.ensures.value c.within_log-from.ensures.rest in
-    let whole = undoes start from old new net (plains n.views.items) n.kept n.ports n.xid (vec_len n.rooms) c.undo_log.result front rest u.undoing u.room in
-    let same = later_alike net (plains n.views.items) (take from s.log.items) n.log.items [] c.clear.new.self.items n.kept n.ports n.xid (vec_len n.rooms) u.log c.clear.ensures.items in
-    subst (λ (x : NetState). Undoes g.W.World.Tells start old new x (kept_now net (plains n.views.items) n.log.items c.clear.new.self.items n.kept n.ports n.xid (vec_len n.rooms)) c.undo_log.result) c.self.view_is
-    (subst (λ (x : NetState). Undoes g.W.World.Tells start old new net x c.undo_log.result) same whole)
+    subst (λ (x : NetState). Undoes g.W.World.Tells start old new x n.net c.undo_log.result) c.self.view_is
+    (undoes start from old new net n.net c.undo_log.result front rest u.undoing u.log (u.held ∙ c.clear.ensures.items) u.moment u.room)
