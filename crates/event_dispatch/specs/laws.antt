@@ -5,6 +5,7 @@ pub mod WhyLaws
 pub mod ViewedLaws
 pub mod LastLaws
 pub mod LosingLaws
+pub mod PolicyLaws
 pub mod BatchLaws
 pub mod PlainLaws
 pub mod TalkingLaws

@@ -272,7 +272,7 @@ impl Run<'_> {
     #[tactic(auto, using(crate::specs::laws::WhyLaws::waits_then))]
     fn note_done(&mut self, word: TurnWord, out: &[(Dpid, u32)]) -> Result<(), AllocError>
         ensures waits { OnOk result (Waits self.old self.new) }
-        ensures adds { OnOk result (Adds (turn_line_of name word ++ out_text out.now) self.old self.new) }
+        ensures adds { OnOk result (Adds (turn_line_of (name_of self.old) word ++ out_text out.now) self.old self.new) }
     {
         self.note_turn(word)?;
         self.note_out(out)

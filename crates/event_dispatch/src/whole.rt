@@ -291,10 +291,10 @@ fn run<W: World, J: Judge, K: Sink>(
 ///
 /// The world is opened at the port. The words of the application's command start it, at first and after a failed turn where its
 /// policy for events of that kind says so; under `none` it is gone then. It is given events of the kinds that it is to be given,
-/// and has a turn of at most so many frames, as the policy says, at each. At most so many rounds are run; one is a batch and the events that wait then. The lines of an event are written when its
-/// dispatch has ended. However the run ends, the application is ended. A switch whose link fails is lost: it leaves, and the run
-/// goes on. What else is wrong with the outside, the sink or a switch ends the run, and so do events that are left after the last
-/// batch.
+/// and has a turn of at most so many frames, as the policy says, at each. At most so many rounds are run; one is a batch and the
+/// events that wait then. The lines of an event are written when its dispatch has ended. However the run ends, the application is
+/// ended. A switch whose link fails is lost: it leaves, and the run goes on. What else is wrong with the outside, the sink or a
+/// switch ends the run, and so do events that are left after the last batch.
 ///
 /// What is said of the reference run holds where fewer stimuli come than there are rounds. Of a run with as many stimuli as
 /// rounds, or more, nothing is promised of it yet. No clause speaks of the port or of the words of the command.

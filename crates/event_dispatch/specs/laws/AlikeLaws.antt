@@ -7,6 +7,7 @@ use Rattle.lego_io.specs.Sink.{TookPart}
 use Rattle.lego_model.specs.Controller.{Run as ModelRun}
 use Rattle.lego_io.specs.laws.ToldLaws.{append_known-append}
 use Rattle.flow_table.specs.View.{TableView}
+use Rattle.crash_policy.specs.Policies.{AppValue}
 use Rattle.lego_model.specs.Places.{Place}
 use Rattle.outside.specs.Seen.{Seen, Longer, Continues, journal}
 use Rattle.lego_model.specs.AtOnce.{AtOnce}
@@ -20,6 +21,7 @@ use Rattle.outside.specs.laws.QuiescenceLaws.{none_since-then, last_quiescent-of
 use Rattle.app_visor.specs.CallsFor.{CallsFor}
 use Rattle.app_visor.specs.laws.CalmLaws.{calls_then}
 use Rattle.run_laws.specs.Engine.{Engine}
+use Rattle.run_laws.specs.Facts.{takes_next}
 use Rattle.lego_model.specs.Application.{index}
 use Rattle.lego_model.specs.History.{stimuli_in}
 use Rattle.run_laws.specs.Readings.{JudgesAlike}
@@ -158,12 +160,12 @@ start_none Tells faults.Next a b old new e out cut = cut
 start_none Tells (faults.Txn fault) a b old new e out cut = cut
 start_none Tells faults.NoMemory a b old new e out cut = absurd out
 
--- and at an event only while the application is alive
-one_alive : {Own : Type 0} (Tells : Type 0) (accepts : List TableView → Bool) (fault : Fault) (a b : Option (List ℕ)) (old new : Seen Own) (e : Engine) → IsOutside fault → CutOne Tells accepts fault a b old new e → e.alive ≡ true
-one_alive Tells accepts faults.Write a b old new e out cut = absurd out
-one_alive Tells accepts faults.Next a b old new e out cut = cut.1.of_turn
-one_alive Tells accepts (faults.Txn fault) a b old new e out cut = cut.1.of_turn
-one_alive Tells accepts faults.NoMemory a b old new e out cut = absurd out
+-- and at an event only where the application has a turn at it
+one_takes : {Own : Type 0} (Tells : Type 0) (accepts : List TableView → Bool) (fault : Fault) (a b : Option (List ℕ)) (old new : Seen Own) (e : Engine) → IsOutside fault → CutOne Tells accepts fault a b old new e → takes_next e e.queue ≡ true
+one_takes Tells accepts faults.Write a b old new e out cut = absurd out
+one_takes Tells accepts faults.Next a b old new e out cut = cut.1.of_turn
+one_takes Tells accepts (faults.Txn fault) a b old new e out cut = cut.1.of_turn
+one_takes Tells accepts faults.NoMemory a b old new e out cut = absurd out
 
 -- ---- What is supposed of a world that was opened, whose run stopped somewhere
 
@@ -181,17 +183,17 @@ record Supposed {Own : Type 0} (Tells : Type 0) (accepts : List TableView → Bo
 
 -- A point from which the run went on to where it stopped: in a world that tells in order this kept its word as far as there, and no
 -- quiescent point lies behind; and what was left of the tables.
-record IsStop {Own : Type 0} (Tells Short : Type 0) (last stop : Seen Own) : Type 0 where
+record IsStop {Own : Type 0} (Tells Short : Type 0) (budget : ℕ) (last stop : Seen Own) : Type 0 where
   on : Continues Tells last stop
   keeps : InOrder last → Conforming last
   quiet : Conforming last → InOrder stop → IsLastQuiescent last stop
   own : CallsFor index last stop
-  left : Conforming last → InOrder stop → TablesLeft Short last stop
+  left : Conforming last → InOrder stop → TablesLeft budget Short last stop
 
 -- up to such a point
-cut_at : {Own : Type 0} {Tells Short : Type 0} {accepts : List TableView → Bool} {allows : List Place → Bool} {most : ℕ} (Alike : Seen Own → Type 0) (first stop seen : Seen Own) (p : Supposed Tells accepts allows most first stop seen) (last : Seen Own) → IsStop Tells Short last stop → (Conforming last → AtOnce index (journal stop.history)) → (Conforming last → Alike last)
-    → CutAt Short Alike seen
-cut_at {Tells = Tells} Alike first stop seen p last is said so =
+cut_at : {Own : Type 0} {Tells Short : Type 0} {accepts : List TableView → Bool} {allows : List Place → Bool} {most : ℕ} (rule : AppValue) (Alike : Seen Own → Type 0) (first stop seen : Seen Own) (p : Supposed Tells accepts allows most first stop seen) (last : Seen Own) → IsStop Tells Short rule.budget last stop → (Conforming last → AtOnce index (journal stop.history)) → (Conforming last → Alike last)
+    → CutAt rule Short Alike seen
+cut_at {Tells = Tells} rule Alike first stop seen p last is said so =
     let later = Continues-trans Tells last stop seen is.on p.later in
     record {
       last = last;
@@ -207,8 +209,8 @@ cut_at {Tells = Tells} Alike first stop seen p last is said so =
     }
 
 -- up to where it stopped
-writing_at : {Own : Type 0} {Tells : Type 0} {accepts : List TableView → Bool} {allows : List Place → Bool} {most : ℕ} (a b : Option (List ℕ)) (first stop seen : Seen Own) (p : Supposed Tells accepts allows most first stop seen) → (InOrder stop → Conforming stop) → (Conforming stop → CutInLines allows stop a b) → CutWriting allows seen a b
-writing_at a b first stop seen p keeps so = record {
+writing_at : {Own : Type 0} {Tells : Type 0} {accepts : List TableView → Bool} {allows : List Place → Bool} {most : ℕ} (rule : AppValue) (a b : Option (List ℕ)) (first stop seen : Seen Own) (p : Supposed Tells accepts allows most first stop seen) → (InOrder stop → Conforming stop) → (Conforming stop → CutInLines rule allows stop a b) → CutWriting rule allows seen a b
+writing_at rule a b first stop seen p keeps so = record {
   last = stop;
   given = p.later.given;
   later = p.later.told p.told;
@@ -222,78 +224,78 @@ writing_at a b first stop seen p keeps so = record {
 
 -- ---- The start
 
-start_alike : {Own : Type 0} {Tells : Type 0} {accepts : List TableView → Bool} {allows : List Place → Bool} {most : ℕ} {a b : Option (List ℕ)} {first stop seen : Seen Own} (p : Supposed Tells accepts allows most first stop seen) → b ≡ a → KeepsTalking Tells first stop → NoPoint Tells first stop → CutAlike allows seen a b
-start_alike {allows = allows} {a = a} {b = b} {first = first} {stop = stop} {seen = seen} p same talks no_point =
-    let is : IsStop _ (Unit {0}) first stop = record { on = p.before; keeps = keeps_first first p.opened; quiet = λ keeps order. last_quiescent-of (no_point.none_quiescent p.told); own = no_point.own p.told; left = λ keeps order. inl (talks.no_event p.told) } in
-    cut_at (λ (last : Seen _). CutForMemory allows seen last a b) first stop seen p first is (λ keeps. talks.talks p.told (settled-first first p.opened).speaks.at_once) (λ keeps.
-    none-so allows a b first seen p.opened (settled-first first p.opened) (none_since-then (no_point.none_quiescent p.told) (p.no_point.none_quiescent p.told)) keeps same)
+start_alike : {Own : Type 0} {Tells : Type 0} {accepts : List TableView → Bool} {allows : List Place → Bool} {most : ℕ} {a b : Option (List ℕ)} {first stop seen : Seen Own} (rule : AppValue) (p : Supposed Tells accepts allows most first stop seen) → b ≡ a → KeepsTalking Tells first stop → NoPoint Tells first stop → CutAlike rule allows seen a b
+start_alike {allows = allows} {a = a} {b = b} {first = first} {stop = stop} {seen = seen} rule p same talks no_point =
+    let is : IsStop _ (Unit {0}) rule.budget first stop = record { on = p.before; keeps = keeps_first first p.opened; quiet = λ keeps order. last_quiescent-of (no_point.none_quiescent p.told); own = no_point.own p.told; left = λ keeps order. inl (talks.no_event p.told) } in
+    cut_at rule (λ (last : Seen _). CutForMemory rule allows seen last a b) first stop seen p first is (λ keeps. talks.talks p.told (settled-first rule first p.opened).speaks.at_once) (λ keeps.
+    none-so rule allows a b first seen p.opened (settled-first rule first p.opened) (none_since-then (no_point.none_quiescent p.told) (p.no_point.none_quiescent p.told)) keeps same)
 
-start_writing : {Own : Type 0} {Tells : Type 0} {accepts : List TableView → Bool} {allows : List Place → Bool} {most : ℕ} {a b : Option (List ℕ)} {first stop seen : Seen Own} (p : Supposed Tells accepts allows most first stop seen) → StartPart Tells a b first stop engine_at_first → CutWriting allows seen a b
-start_writing {allows = allows} {a = a} {b = b} {first = first} {stop = stop} {seen = seen} p cut =
-    writing_at a b first stop seen p (keeps_to first stop p.told p.opened p.before cut.reads) (λ keeps.
-    start-so allows cut.more a b first stop cut.now_engine p.opened (cut.shown.moved p.told keeps (settled-first first p.opened)) keeps cut.part)
+start_writing : {Own : Type 0} {rule : AppValue} {Tells : Type 0} {accepts : List TableView → Bool} {allows : List Place → Bool} {most : ℕ} {a b : Option (List ℕ)} {first stop seen : Seen Own} (p : Supposed Tells accepts allows most first stop seen) → StartPart Tells a b first stop (engine_at_first rule) → CutWriting rule allows seen a b
+start_writing {rule = rule} {allows = allows} {a = a} {b = b} {first = first} {stop = stop} {seen = seen} p cut =
+    writing_at rule a b first stop seen p (keeps_to first stop p.told p.opened p.before cut.reads) (λ keeps.
+    start-so rule allows cut.more a b first stop cut.now_engine p.opened (cut.shown.moved p.told keeps (settled-first rule first p.opened)) keeps cut.part)
 
 -- ---- Rounds
 
-begun_moved : {Own : Type 0} {Tells : Type 0} {accepts : List TableView → Bool} {allows : List Place → Bool} {most : ℕ} {fault : Fault} {a b : Option (List ℕ)} {first stop seen : Seen Own} (p : Supposed Tells accepts allows most first stop seen) (g : CutGoing Tells accepts fault a b first stop engine_at_first) → Conforming g.rounds.mid → Moved [] all_started g.text first g.begun engine_at_first (engine_of g.begun_run)
-begun_moved {first = first} p g keeps = g.starts.moved p.told (Conforming-before p.told g.rounds.on keeps) (settled-first first p.opened)
+begun_moved : {Own : Type 0} {rule : AppValue} {Tells : Type 0} {accepts : List TableView → Bool} {allows : List Place → Bool} {most : ℕ} {fault : Fault} {a b : Option (List ℕ)} {first stop seen : Seen Own} (p : Supposed Tells accepts allows most first stop seen) (g : CutGoing Tells accepts fault a b first stop (engine_at_first rule)) → Conforming g.rounds.mid → Moved [] all_started g.text first g.begun (engine_at_first rule) (engine_of g.begun_run)
+begun_moved {rule = rule} {first = first} p g keeps = g.starts.moved p.told (Conforming-before p.told g.rounds.on keeps) (settled-first rule first p.opened)
 
-rounds_moved : {Own : Type 0} {Tells : Type 0} {accepts : List TableView → Bool} {allows : List Place → Bool} {most : ℕ} {fault : Fault} {a b : Option (List ℕ)} {first stop seen : Seen Own} (p : Supposed Tells accepts allows most first stop seen) (g : CutGoing Tells accepts fault a b first stop engine_at_first) → Conforming g.rounds.mid → Rounds allows g.rounds.number g.rounds.rounds.text g.begun g.rounds.mid (engine_of g.begun_run) (engine_of g.rounds.mid_run)
+rounds_moved : {Own : Type 0} {rule : AppValue} {Tells : Type 0} {accepts : List TableView → Bool} {allows : List Place → Bool} {most : ℕ} {fault : Fault} {a b : Option (List ℕ)} {first stop seen : Seen Own} (p : Supposed Tells accepts allows most first stop seen) (g : CutGoing Tells accepts fault a b first stop (engine_at_first rule)) → Conforming g.rounds.mid → Rounds allows g.rounds.number g.rounds.rounds.text g.begun g.rounds.mid (engine_of g.begun_run) (engine_of g.rounds.mid_run)
 rounds_moved {allows = allows} p g keeps = g.rounds.rounds.shown.rounds_is allows p.told keeps p.judges (begun_moved p g keeps).settled
 
-rounds_held : {Own : Type 0} {Tells : Type 0} {accepts : List TableView → Bool} {allows : List Place → Bool} {most : ℕ} {fault : Fault} {a b : Option (List ℕ)} {first stop seen : Seen Own} (p : Supposed Tells accepts allows most first stop seen) (g : CutGoing Tells accepts fault a b first stop engine_at_first) → g.rounds.held ≡ append_known a (g.text ++ g.rounds.rounds.text)
+rounds_held : {Own : Type 0} {rule : AppValue} {Tells : Type 0} {accepts : List TableView → Bool} {allows : List Place → Bool} {most : ℕ} {fault : Fault} {a b : Option (List ℕ)} {first stop seen : Seen Own} (p : Supposed Tells accepts allows most first stop seen) (g : CutGoing Tells accepts fault a b first stop (engine_at_first rule)) → g.rounds.held ≡ append_known a (g.text ++ g.rounds.rounds.text)
 rounds_held {a = a} p g = (writes_then g.text g.rounds.rounds.text a g.held g.rounds.held g.begun_run g.rounds.mid_run g.writes g.rounds.rounds.writes).written
 
-rounds_gone : {Own : Type 0} {Tells : Type 0} {accepts : List TableView → Bool} {allows : List Place → Bool} {most : ℕ} {fault : Fault} {a b : Option (List ℕ)} {first stop seen : Seen Own} (p : Supposed Tells accepts allows most first stop seen) (g : CutGoing Tells accepts fault a b first stop engine_at_first) → Conforming g.rounds.mid → GoneSoFar allows true 0 (g.text ++ g.rounds.rounds.text) first g.rounds.mid engine_at_first (engine_of g.rounds.mid_run)
-rounds_gone {allows = allows} {first = first} p g keeps =
-    gone-rounds allows g.rounds.number g.text g.rounds.rounds.text first g.begun g.rounds.mid engine_at_first (engine_of g.begun_run) (engine_of g.rounds.mid_run) (begun_moved p g keeps) (rounds_moved p g keeps)
+rounds_gone : {Own : Type 0} {rule : AppValue} {Tells : Type 0} {accepts : List TableView → Bool} {allows : List Place → Bool} {most : ℕ} {fault : Fault} {a b : Option (List ℕ)} {first stop seen : Seen Own} (p : Supposed Tells accepts allows most first stop seen) (g : CutGoing Tells accepts fault a b first stop (engine_at_first rule)) → Conforming g.rounds.mid → GoneSoFar allows true 0 (g.text ++ g.rounds.rounds.text) first g.rounds.mid (engine_at_first rule) (engine_of g.rounds.mid_run)
+rounds_gone {rule = rule} {allows = allows} {first = first} p g keeps =
+    gone-rounds allows g.rounds.number g.text g.rounds.rounds.text first g.begun g.rounds.mid (engine_at_first rule) (engine_of g.begun_run) (engine_of g.rounds.mid_run) (begun_moved p g keeps) (rounds_moved p g keeps)
 
 -- a batch more
-batch_gone : {Own : Type 0} {Tells : Type 0} {accepts : List TableView → Bool} {allows : List Place → Bool} {most : ℕ} {fault : Fault} {a b : Option (List ℕ)} {first stop seen : Seen Own} (p : Supposed Tells accepts allows most first stop seen) (g : CutGoing Tells accepts fault a b first stop engine_at_first) (rest : Rest) (noted : List ℕ) (behind : Seen Own) (e : Engine) → Conforming g.rounds.mid → Conforming behind → IsBatch Tells rest noted g.rounds.mid behind (engine_of g.rounds.mid_run) e → GoneSoFar allows true 0 ((g.text ++ g.rounds.rounds.text) ++ noted) first behind engine_at_first e
-batch_gone {allows = allows} {first = first} p g rests.Idle noted behind e keeps_mid keeps batch =
-    gone-happens allows g.rounds.number g.text g.rounds.rounds.text noted first g.begun g.rounds.mid behind engine_at_first (engine_of g.begun_run) (engine_of g.rounds.mid_run) e (begun_moved p g keeps_mid) (rounds_moved p g keeps_mid)
+batch_gone : {Own : Type 0} {rule : AppValue} {Tells : Type 0} {accepts : List TableView → Bool} {allows : List Place → Bool} {most : ℕ} {fault : Fault} {a b : Option (List ℕ)} {first stop seen : Seen Own} (p : Supposed Tells accepts allows most first stop seen) (g : CutGoing Tells accepts fault a b first stop (engine_at_first rule)) (rest : Rest) (noted : List ℕ) (behind : Seen Own) (e : Engine) → Conforming g.rounds.mid → Conforming behind → IsBatch Tells rest noted g.rounds.mid behind (engine_of g.rounds.mid_run) e → GoneSoFar allows true 0 ((g.text ++ g.rounds.rounds.text) ++ noted) first behind (engine_at_first rule) e
+batch_gone {rule = rule} {allows = allows} {first = first} p g rests.Idle noted behind e keeps_mid keeps batch =
+    gone-happens allows g.rounds.number g.text g.rounds.rounds.text noted first g.begun g.rounds.mid behind (engine_at_first rule) (engine_of g.begun_run) (engine_of g.rounds.mid_run) e (begun_moved p g keeps_mid) (rounds_moved p g keeps_mid)
     (batch.happens p.told keeps (rounds_moved p g keeps_mid).moved.settled)
-batch_gone {allows = allows} {first = first} p g rests.End noted behind e keeps_mid keeps batch =
+batch_gone {rule = rule} {allows = allows} {first = first} p g rests.End noted behind e keeps_mid keeps batch =
     let settled = (rounds_moved p g keeps_mid).moved.settled in
     let none : noted ≡ [] = batch.none_noted p.told keeps settled in
-    subst (λ (text : List ℕ). GoneSoFar allows true 0 text first behind engine_at_first e) (sym (ap (λ (xs : List ℕ). (g.text ++ g.rounds.rounds.text) ++ xs) none ∙ append-nil (g.text ++ g.rounds.rounds.text)))
-    (gone-still allows true 0 (g.text ++ g.rounds.rounds.text) first g.rounds.mid behind engine_at_first (engine_of g.rounds.mid_run) e (rounds_gone p g keeps_mid)
+    subst (λ (text : List ℕ). GoneSoFar allows true 0 text first behind (engine_at_first rule) e) (sym (ap (λ (xs : List ℕ). (g.text ++ g.rounds.rounds.text) ++ xs) none ∙ append-nil (g.text ++ g.rounds.rounds.text)))
+    (gone-still allows true 0 (g.text ++ g.rounds.rounds.text) first g.rounds.mid behind (engine_at_first rule) (engine_of g.rounds.mid_run) e (rounds_gone p g keeps_mid)
     (subst (λ (text : List ℕ). Moved [] (λ (r : ModelRun). r) text g.rounds.mid behind (engine_of g.rounds.mid_run) e) none (batch.over.moved p.told keeps settled)))
 
 -- and events behind it
-behind_gone : {Own : Type 0} {Tells : Type 0} {accepts : List TableView → Bool} {allows : List Place → Bool} {most : ℕ} {fault : Fault} {a b : Option (List ℕ)} {first stop seen : Seen Own} (p : Supposed Tells accepts allows most first stop seen) (g : CutGoing Tells accepts fault a b first stop engine_at_first) (h : CutBehind Tells accepts fault g.rounds.held b g.rounds.mid stop g.rounds.mid_run) → Conforming h.mid → GoneSoFar allows true 0 ((g.text ++ g.rounds.rounds.text) ++ h.noted) first h.mid engine_at_first (engine_of h.mid_run)
+behind_gone : {Own : Type 0} {rule : AppValue} {Tells : Type 0} {accepts : List TableView → Bool} {allows : List Place → Bool} {most : ℕ} {fault : Fault} {a b : Option (List ℕ)} {first stop seen : Seen Own} (p : Supposed Tells accepts allows most first stop seen) (g : CutGoing Tells accepts fault a b first stop (engine_at_first rule)) (h : CutBehind Tells accepts fault g.rounds.held b g.rounds.mid stop g.rounds.mid_run) → Conforming h.mid → GoneSoFar allows true 0 ((g.text ++ g.rounds.rounds.text) ++ h.noted) first h.mid (engine_at_first rule) (engine_of h.mid_run)
 behind_gone p g h keeps = batch_gone p g h.rest h.noted h.mid (engine_of h.mid_run) (Conforming-before p.told h.first keeps) keeps h.batch
 
-some_gone : {Own : Type 0} {Tells : Type 0} {accepts : List TableView → Bool} {allows : List Place → Bool} {most : ℕ} {fault : Fault} {a b : Option (List ℕ)} {first stop seen : Seen Own} (p : Supposed Tells accepts allows most first stop seen) (g : CutGoing Tells accepts fault a b first stop engine_at_first) (h : CutBehind Tells accepts fault g.rounds.held b g.rounds.mid stop g.rounds.mid_run) → Conforming h.some.mid → GoneSoFar allows true h.some.number (((g.text ++ g.rounds.rounds.text) ++ h.noted) ++ h.some.some.text) first h.some.mid engine_at_first (engine_of h.some.mid_run)
-some_gone {allows = allows} {first = first} p g h keeps =
+some_gone : {Own : Type 0} {rule : AppValue} {Tells : Type 0} {accepts : List TableView → Bool} {allows : List Place → Bool} {most : ℕ} {fault : Fault} {a b : Option (List ℕ)} {first stop seen : Seen Own} (p : Supposed Tells accepts allows most first stop seen) (g : CutGoing Tells accepts fault a b first stop (engine_at_first rule)) (h : CutBehind Tells accepts fault g.rounds.held b g.rounds.mid stop g.rounds.mid_run) → Conforming h.some.mid → GoneSoFar allows true h.some.number (((g.text ++ g.rounds.rounds.text) ++ h.noted) ++ h.some.some.text) first h.some.mid (engine_at_first rule) (engine_of h.some.mid_run)
+some_gone {rule = rule} {allows = allows} {first = first} p g h keeps =
     let before = behind_gone p g h (Conforming-before p.told h.some.on keeps) in
-    gone-more allows true h.some.number ((g.text ++ g.rounds.rounds.text) ++ h.noted) h.some.some.text first h.mid h.some.mid engine_at_first (engine_of h.mid_run) (engine_of h.some.mid_run) before
+    gone-more allows true h.some.number ((g.text ++ g.rounds.rounds.text) ++ h.noted) h.some.some.text first h.mid h.some.mid (engine_at_first rule) (engine_of h.mid_run) (engine_of h.some.mid_run) before
     (h.some.some.shown.moved allows p.told keeps p.judges before.moved.settled)
 
-noted_held : {Own : Type 0} {Tells : Type 0} {accepts : List TableView → Bool} {allows : List Place → Bool} {most : ℕ} {fault : Fault} {a b : Option (List ℕ)} {first stop seen : Seen Own} (p : Supposed Tells accepts allows most first stop seen) (g : CutGoing Tells accepts fault a b first stop engine_at_first) (h : CutBehind Tells accepts fault g.rounds.held b g.rounds.mid stop g.rounds.mid_run) → h.held ≡ append_known a ((g.text ++ g.rounds.rounds.text) ++ h.noted)
+noted_held : {Own : Type 0} {rule : AppValue} {Tells : Type 0} {accepts : List TableView → Bool} {allows : List Place → Bool} {most : ℕ} {fault : Fault} {a b : Option (List ℕ)} {first stop seen : Seen Own} (p : Supposed Tells accepts allows most first stop seen) (g : CutGoing Tells accepts fault a b first stop (engine_at_first rule)) (h : CutBehind Tells accepts fault g.rounds.held b g.rounds.mid stop g.rounds.mid_run) → h.held ≡ append_known a ((g.text ++ g.rounds.rounds.text) ++ h.noted)
 noted_held {a = a} p g h = h.written ∙ ap (λ (o : Option (List ℕ)). append_known o h.noted) (rounds_held p g) ∙ sym (append_known-append a (g.text ++ g.rounds.rounds.text) h.noted)
 
-some_held : {Own : Type 0} {Tells : Type 0} {accepts : List TableView → Bool} {allows : List Place → Bool} {most : ℕ} {fault : Fault} {a b : Option (List ℕ)} {first stop seen : Seen Own} (p : Supposed Tells accepts allows most first stop seen) (g : CutGoing Tells accepts fault a b first stop engine_at_first) (h : CutBehind Tells accepts fault g.rounds.held b g.rounds.mid stop g.rounds.mid_run) → h.some.held ≡ append_known a (((g.text ++ g.rounds.rounds.text) ++ h.noted) ++ h.some.some.text)
+some_held : {Own : Type 0} {rule : AppValue} {Tells : Type 0} {accepts : List TableView → Bool} {allows : List Place → Bool} {most : ℕ} {fault : Fault} {a b : Option (List ℕ)} {first stop seen : Seen Own} (p : Supposed Tells accepts allows most first stop seen) (g : CutGoing Tells accepts fault a b first stop (engine_at_first rule)) (h : CutBehind Tells accepts fault g.rounds.held b g.rounds.mid stop g.rounds.mid_run) → h.some.held ≡ append_known a (((g.text ++ g.rounds.rounds.text) ++ h.noted) ++ h.some.some.text)
 some_held {a = a} p g h =
     h.some.some.writes.written ∙ ap (λ (o : Option (List ℕ)). append_known o h.some.some.text) (noted_held p g h) ∙ sym (append_known-append a ((g.text ++ g.rounds.rounds.text) ++ h.noted) h.some.some.text)
 
 -- what came up to there was read
-rounds_on : {Own : Type 0} {Tells : Type 0} {accepts : List TableView → Bool} {allows : List Place → Bool} {most : ℕ} {fault : Fault} {a b : Option (List ℕ)} {first stop seen : Seen Own} (p : Supposed Tells accepts allows most first stop seen) (g : CutGoing Tells accepts fault a b first stop engine_at_first) → Continues Tells first g.rounds.mid
+rounds_on : {Own : Type 0} {rule : AppValue} {Tells : Type 0} {accepts : List TableView → Bool} {allows : List Place → Bool} {most : ℕ} {fault : Fault} {a b : Option (List ℕ)} {first stop seen : Seen Own} (p : Supposed Tells accepts allows most first stop seen) (g : CutGoing Tells accepts fault a b first stop (engine_at_first rule)) → Continues Tells first g.rounds.mid
 rounds_on {Tells = Tells} {first = first} p g = Continues-trans Tells first g.begun g.rounds.mid g.first g.rounds.on
 
-rounds_read : {Own : Type 0} {Tells : Type 0} {accepts : List TableView → Bool} {allows : List Place → Bool} {most : ℕ} {fault : Fault} {a b : Option (List ℕ)} {first stop seen : Seen Own} (p : Supposed Tells accepts allows most first stop seen) (g : CutGoing Tells accepts fault a b first stop engine_at_first) → Reads Tells first g.rounds.mid net_at_first g.rounds.mid_run.net
+rounds_read : {Own : Type 0} {rule : AppValue} {Tells : Type 0} {accepts : List TableView → Bool} {allows : List Place → Bool} {most : ℕ} {fault : Fault} {a b : Option (List ℕ)} {first stop seen : Seen Own} (p : Supposed Tells accepts allows most first stop seen) (g : CutGoing Tells accepts fault a b first stop (engine_at_first rule)) → Reads Tells first g.rounds.mid net_at_first g.rounds.mid_run.net
 rounds_read {first = first} p g = reads_then first g.begun g.rounds.mid net_at_first g.begun_run.net g.rounds.mid_run.net g.first g.rounds.on g.starts_read g.rounds.reads
 
-some_on : {Own : Type 0} {Tells : Type 0} {accepts : List TableView → Bool} {allows : List Place → Bool} {most : ℕ} {fault : Fault} {a b : Option (List ℕ)} {first stop seen : Seen Own} (p : Supposed Tells accepts allows most first stop seen) (g : CutGoing Tells accepts fault a b first stop engine_at_first) (h : CutBehind Tells accepts fault g.rounds.held b g.rounds.mid stop g.rounds.mid_run) → Continues Tells first h.some.mid
+some_on : {Own : Type 0} {rule : AppValue} {Tells : Type 0} {accepts : List TableView → Bool} {allows : List Place → Bool} {most : ℕ} {fault : Fault} {a b : Option (List ℕ)} {first stop seen : Seen Own} (p : Supposed Tells accepts allows most first stop seen) (g : CutGoing Tells accepts fault a b first stop (engine_at_first rule)) (h : CutBehind Tells accepts fault g.rounds.held b g.rounds.mid stop g.rounds.mid_run) → Continues Tells first h.some.mid
 some_on {Tells = Tells} {first = first} p g h = Continues-trans Tells first h.mid h.some.mid (Continues-trans Tells first g.rounds.mid h.mid (rounds_on p g) h.first) h.some.on
 
-some_read : {Own : Type 0} {Tells : Type 0} {accepts : List TableView → Bool} {allows : List Place → Bool} {most : ℕ} {fault : Fault} {a b : Option (List ℕ)} {first stop seen : Seen Own} (p : Supposed Tells accepts allows most first stop seen) (g : CutGoing Tells accepts fault a b first stop engine_at_first) (h : CutBehind Tells accepts fault g.rounds.held b g.rounds.mid stop g.rounds.mid_run) → Reads Tells first h.some.mid net_at_first h.some.mid_run.net
+some_read : {Own : Type 0} {rule : AppValue} {Tells : Type 0} {accepts : List TableView → Bool} {allows : List Place → Bool} {most : ℕ} {fault : Fault} {a b : Option (List ℕ)} {first stop seen : Seen Own} (p : Supposed Tells accepts allows most first stop seen) (g : CutGoing Tells accepts fault a b first stop (engine_at_first rule)) (h : CutBehind Tells accepts fault g.rounds.held b g.rounds.mid stop g.rounds.mid_run) → Reads Tells first h.some.mid net_at_first h.some.mid_run.net
 some_read {Tells = Tells} {first = first} p g h =
     let behind = reads_then first g.rounds.mid h.mid net_at_first g.rounds.mid_run.net h.mid_run.net (rounds_on p g) h.first (rounds_read p g) h.reads in
     reads_then first h.mid h.some.mid net_at_first h.mid_run.net h.some.mid_run.net (Continues-trans Tells first g.rounds.mid h.mid (rounds_on p g) h.first) h.some.on behind h.some.reads
 
 -- a fault ended what comes next, which leaves no quiescent point behind
-round_stop : {Own : Type 0} {Tells Short : Type 0} {accepts : List TableView → Bool} {allows : List Place → Bool} {most : ℕ} {fault : Fault} {a b : Option (List ℕ)} {first stop seen : Seen Own} (p : Supposed Tells accepts allows most first stop seen) (g : CutGoing Tells accepts fault a b first stop engine_at_first) → KeepsTalking Tells g.rounds.mid stop → StopsBatch Tells g.rounds.mid stop g.rounds.mid_run.net → IsStop Tells Short g.rounds.mid stop
+round_stop : {Own : Type 0} {rule : AppValue} {Tells Short : Type 0} {accepts : List TableView → Bool} {allows : List Place → Bool} {most : ℕ} {fault : Fault} {a b : Option (List ℕ)} {first stop seen : Seen Own} (p : Supposed Tells accepts allows most first stop seen) (g : CutGoing Tells accepts fault a b first stop (engine_at_first rule)) → KeepsTalking Tells g.rounds.mid stop → StopsBatch Tells g.rounds.mid stop g.rounds.mid_run.net → IsStop Tells Short rule.budget g.rounds.mid stop
 round_stop {first = first} {stop = stop} {seen = seen} p g talks stops = record {
   on = g.rounds.later;
   keeps = keeps_to first g.rounds.mid p.told p.opened (rounds_on p g) (rounds_read p g);
@@ -304,15 +306,15 @@ round_stop {first = first} {stop = stop} {seen = seen} p g talks stops = record 
   left = λ keeps order. inl (talks.no_event p.told);
 }
 
-some_stop : {Own : Type 0} {Tells Short Other : Type 0} {accepts : List TableView → Bool} {allows : List Place → Bool} {most : ℕ} {fault : Fault} {a b : Option (List ℕ)} {first stop seen : Seen Own} (p : Supposed Tells accepts allows most first stop seen) (g : CutGoing Tells accepts fault a b first stop engine_at_first) (h : CutBehind Tells accepts fault g.rounds.held b g.rounds.mid stop g.rounds.mid_run) → AtMostThisPoint Tells h.some.mid stop → (Short → Other) → DispatchLeft Tells Short h.some.mid stop (engine_of h.some.mid_run) → IsStop Tells Other h.some.mid stop
-some_stop {first = first} {stop = stop} {seen = seen} p g h here short dispatch = record {
+some_stop : {Own : Type 0} {rule : AppValue} {Tells Short Other : Type 0} {accepts : List TableView → Bool} {allows : List Place → Bool} {most : ℕ} {fault : Fault} {a b : Option (List ℕ)} {first stop seen : Seen Own} (p : Supposed Tells accepts allows most first stop seen) (g : CutGoing Tells accepts fault a b first stop (engine_at_first rule)) (h : CutBehind Tells accepts fault g.rounds.held b g.rounds.mid stop g.rounds.mid_run) → AtMostThisPoint Tells h.some.mid stop → (Short → Other) → DispatchLeft Tells Short h.some.mid stop (engine_of h.some.mid_run) → IsStop Tells Other rule.budget h.some.mid stop
+some_stop {Short = Short} {first = first} {stop = stop} {seen = seen} p g h here short dispatch = record {
   on = h.some.later;
   keeps = keeps_to first h.some.mid p.told p.opened (some_on p g h) (some_read p g h);
   quiet = λ keeps order. here.last p.told order (calm_rest h.some.mid h.some.mid_run.net keeps (some_gone p g h keeps).moved.settled.calm);
   own = here.own p.told;
   left = λ keeps order.
-      let settled = (some_gone p g h keeps).moved.settled in
-      tables_for short (dispatch.left p.told keeps order settled.calm.ready settled.speaks);
+      let gone = some_gone p g h keeps in
+      tables_for short (subst (λ (r : AppValue). TablesLeft r.budget Short h.some.mid stop) gone.moved.moves.rule (dispatch.left p.told keeps order gone.moved.settled.calm.ready gone.moved.settled.speaks));
 }
 
 -- a fault that is not the sink's ends no lines of a batch
@@ -322,77 +324,77 @@ noted_none Tells faults.Next a b old new r other cut = cut
 noted_none Tells (faults.Txn fault) a b old new r other cut = cut
 noted_none Tells faults.NoMemory a b old new r other cut = cut
 
-round_alike : {Own : Type 0} {Tells : Type 0} {accepts : List TableView → Bool} {allows : List Place → Bool} {most : ℕ} {fault : Fault} {a b : Option (List ℕ)} {first stop seen : Seen Own} (p : Supposed Tells accepts allows most first stop seen) (g : CutGoing Tells accepts fault a b first stop engine_at_first) → NotWrite fault → CutRound Tells accepts fault g.rounds.held b g.rounds.mid stop g.rounds.mid_run → CutAlike allows seen a b
-round_alike {allows = allows} {fault = fault} {a = a} {b = b} {first = first} {stop = stop} {seen = seen} p g other (inl still) =
-    cut_at (λ (last : Seen _). CutForMemory allows seen last a b) first stop seen p g.rounds.mid (round_stop p g still.1 still.2) (λ keeps. still.1.talks p.told (rounds_gone p g keeps).moved.settled.speaks.at_once) (λ keeps.
-    some-so allows 0 (g.text ++ g.rounds.rounds.text) a b first g.rounds.mid seen (engine_of g.rounds.mid_run) p.opened (rounds_gone p g keeps) (omega arith) keeps
+round_alike : {Own : Type 0} {rule : AppValue} {Tells : Type 0} {accepts : List TableView → Bool} {allows : List Place → Bool} {most : ℕ} {fault : Fault} {a b : Option (List ℕ)} {first stop seen : Seen Own} (p : Supposed Tells accepts allows most first stop seen) (g : CutGoing Tells accepts fault a b first stop (engine_at_first rule)) → NotWrite fault → CutRound Tells accepts fault g.rounds.held b g.rounds.mid stop g.rounds.mid_run → CutAlike rule allows seen a b
+round_alike {rule = rule} {allows = allows} {fault = fault} {a = a} {b = b} {first = first} {stop = stop} {seen = seen} p g other (inl still) =
+    cut_at rule (λ (last : Seen _). CutForMemory rule allows seen last a b) first stop seen p g.rounds.mid (round_stop p g still.1 still.2) (λ keeps. still.1.talks p.told (rounds_gone p g keeps).moved.settled.speaks.at_once) (λ keeps.
+    some-so rule allows 0 (g.text ++ g.rounds.rounds.text) a b first g.rounds.mid seen (engine_of g.rounds.mid_run) p.opened (rounds_gone p g keeps) (omega arith) keeps
     (still_held fault g.rounds.held b still.0 ∙ rounds_held p g))
-round_alike {Tells = Tells} {accepts = accepts} {allows = allows} {fault = fault} {a = a} {b = b} {first = first} {stop = stop} {seen = seen} p g other (inr (inl h)) =
-    cut_at (λ (last : Seen _). CutForMemory allows seen last a b) first stop seen p h.some.mid (some_stop p g h (one_here Tells accepts fault h.some.held b h.some.mid stop (engine_of h.some.mid_run) other h.some.one) (may_be_short fault)
+round_alike {rule = rule} {Tells = Tells} {accepts = accepts} {allows = allows} {fault = fault} {a = a} {b = b} {first = first} {stop = stop} {seen = seen} p g other (inr (inl h)) =
+    cut_at rule (λ (last : Seen _). CutForMemory rule allows seen last a b) first stop seen p h.some.mid (some_stop p g h (one_here Tells accepts fault h.some.held b h.some.mid stop (engine_of h.some.mid_run) other h.some.one) (may_be_short fault)
     (one_left Tells accepts fault h.some.held b h.some.mid stop (engine_of h.some.mid_run) other h.some.one))
     (λ keeps. (one_talks Tells accepts fault h.some.held b h.some.mid stop (engine_of h.some.mid_run) other h.some.one).talks p.told (some_gone p g h keeps).moved.settled.speaks) (λ keeps.
-    some-so allows h.some.number (((g.text ++ g.rounds.rounds.text) ++ h.noted) ++ h.some.some.text) a b first h.some.mid seen (engine_of h.some.mid_run) p.opened (some_gone p g h keeps) (omega (arith, h.some.few)) keeps
+    some-so rule allows h.some.number (((g.text ++ g.rounds.rounds.text) ++ h.noted) ++ h.some.some.text) a b first h.some.mid seen (engine_of h.some.mid_run) p.opened (some_gone p g h keeps) (omega (arith, h.some.few)) keeps
     (one_held Tells accepts fault h.some.held b h.some.mid stop (engine_of h.some.mid_run) other h.some.one ∙ some_held p g h))
 round_alike {Tells = Tells} {fault = fault} {b = b} {stop = stop} p g other (inr (inr noted)) = absurd (noted_none Tells fault g.rounds.held b g.rounds.mid stop g.rounds.mid_run other noted)
 
-round_lines : {Own : Type 0} {Tells : Type 0} {accepts : List TableView → Bool} {allows : List Place → Bool} {most : ℕ} {fault : Fault} {a b : Option (List ℕ)} {first stop seen : Seen Own} (p : Supposed Tells accepts allows most first stop seen) (g : CutGoing Tells accepts fault a b first stop engine_at_first) → IsOutside fault → CutRound Tells accepts fault g.rounds.held b g.rounds.mid stop g.rounds.mid_run → CutWithLines allows seen a b
-round_lines {allows = allows} {fault = fault} {a = a} {b = b} {first = first} {stop = stop} {seen = seen} p g out (inl still) =
-    cut_at (λ (last : Seen _). CutBehindLines allows last a b) first stop seen p g.rounds.mid (round_stop p g still.1 still.2) (λ keeps. still.1.talks p.told (rounds_gone p g keeps).moved.settled.speaks.at_once) (λ keeps.
-    rounds-so allows g.rounds.number g.text g.rounds.rounds.text a b first g.begun g.rounds.mid (engine_of g.begun_run) (engine_of g.rounds.mid_run) p.opened (begun_moved p g keeps) (rounds_moved p g keeps) keeps
+round_lines : {Own : Type 0} {rule : AppValue} {Tells : Type 0} {accepts : List TableView → Bool} {allows : List Place → Bool} {most : ℕ} {fault : Fault} {a b : Option (List ℕ)} {first stop seen : Seen Own} (p : Supposed Tells accepts allows most first stop seen) (g : CutGoing Tells accepts fault a b first stop (engine_at_first rule)) → IsOutside fault → CutRound Tells accepts fault g.rounds.held b g.rounds.mid stop g.rounds.mid_run → CutWithLines rule allows seen a b
+round_lines {rule = rule} {allows = allows} {fault = fault} {a = a} {b = b} {first = first} {stop = stop} {seen = seen} p g out (inl still) =
+    cut_at rule (λ (last : Seen _). CutBehindLines rule allows last a b) first stop seen p g.rounds.mid (round_stop p g still.1 still.2) (λ keeps. still.1.talks p.told (rounds_gone p g keeps).moved.settled.speaks.at_once) (λ keeps.
+    rounds-so rule allows g.rounds.number g.text g.rounds.rounds.text a b first g.begun g.rounds.mid (engine_of g.begun_run) (engine_of g.rounds.mid_run) p.opened (begun_moved p g keeps) (rounds_moved p g keeps) keeps
     (still_held fault g.rounds.held b still.0 ∙ rounds_held p g))
-round_lines {Tells = Tells} {accepts = accepts} {allows = allows} {fault = fault} {a = a} {b = b} {first = first} {stop = stop} {seen = seen} p g out (inr (inl h)) =
+round_lines {rule = rule} {Tells = Tells} {accepts = accepts} {allows = allows} {fault = fault} {a = a} {b = b} {first = first} {stop = stop} {seen = seen} p g out (inr (inl h)) =
     let other = not_write fault out in
-    cut_at (λ (last : Seen _). CutBehindLines allows last a b) first stop seen p h.some.mid (some_stop p g h (one_here Tells accepts fault h.some.held b h.some.mid stop (engine_of h.some.mid_run) other h.some.one) (not_short fault out)
+    cut_at rule (λ (last : Seen _). CutBehindLines rule allows last a b) first stop seen p h.some.mid (some_stop p g h (one_here Tells accepts fault h.some.held b h.some.mid stop (engine_of h.some.mid_run) other h.some.one) (not_short fault out)
     (one_left Tells accepts fault h.some.held b h.some.mid stop (engine_of h.some.mid_run) other h.some.one))
     (λ keeps. (one_talks Tells accepts fault h.some.held b h.some.mid stop (engine_of h.some.mid_run) other h.some.one).talks p.told (some_gone p g h keeps).moved.settled.speaks) (λ keeps.
-    lines-so allows h.some.number (((g.text ++ g.rounds.rounds.text) ++ h.noted) ++ h.some.some.text) a b first h.some.mid (engine_of h.some.mid_run) p.opened (some_gone p g h keeps) (omega (arith, h.some.few))
-    (inr (inr (one_alive Tells accepts fault h.some.held b h.some.mid stop (engine_of h.some.mid_run) out h.some.one))) keeps
+    lines-so rule allows h.some.number (((g.text ++ g.rounds.rounds.text) ++ h.noted) ++ h.some.some.text) a b first h.some.mid (engine_of h.some.mid_run) p.opened (some_gone p g h keeps) (omega (arith, h.some.few))
+    (inr (inr (one_takes Tells accepts fault h.some.held b h.some.mid stop (engine_of h.some.mid_run) out h.some.one))) keeps
     (one_held Tells accepts fault h.some.held b h.some.mid stop (engine_of h.some.mid_run) other h.some.one ∙ some_held p g h))
 round_lines {Tells = Tells} {fault = fault} {b = b} {stop = stop} p g out (inr (inr noted)) = absurd (noted_none Tells fault g.rounds.held b g.rounds.mid stop g.rounds.mid_run (not_write fault out) noted)
 
 -- the sink failed at what a batch noted: it had a stimulus, since the last one notes nothing
-noted_lines : {Own : Type 0} {Tells : Type 0} {accepts : List TableView → Bool} {allows : List Place → Bool} {most : ℕ} {a b : Option (List ℕ)} {first stop seen : Seen Own} (p : Supposed Tells accepts allows most first stop seen) (g : CutGoing Tells accepts faults.Write a b first stop engine_at_first) (rest : Rest) (noted : List ℕ) (e : Engine) → IsBatch Tells rest noted g.rounds.mid stop (engine_of g.rounds.mid_run) e
-    → (noted ≡ [] → ⊥) → TookPart g.rounds.held b noted → Conforming stop → CutInLines allows stop a b
-noted_lines {allows = allows} {a = a} {b = b} {first = first} {stop = stop} p g rests.Idle noted e batch some part keeps =
+noted_lines : {Own : Type 0} {rule : AppValue} {Tells : Type 0} {accepts : List TableView → Bool} {allows : List Place → Bool} {most : ℕ} {a b : Option (List ℕ)} {first stop seen : Seen Own} (p : Supposed Tells accepts allows most first stop seen) (g : CutGoing Tells accepts faults.Write a b first stop (engine_at_first rule)) (rest : Rest) (noted : List ℕ) (e : Engine) → IsBatch Tells rest noted g.rounds.mid stop (engine_of g.rounds.mid_run) e
+    → (noted ≡ [] → ⊥) → TookPart g.rounds.held b noted → Conforming stop → CutInLines rule allows stop a b
+noted_lines {rule = rule} {allows = allows} {a = a} {b = b} {first = first} {stop = stop} p g rests.Idle noted e batch some part keeps =
     let keeps_mid = Conforming-before p.told g.rounds.later keeps in
-    let gone = gone-rounds allows g.rounds.number g.text g.rounds.rounds.text first g.begun g.rounds.mid engine_at_first (engine_of g.begun_run) (engine_of g.rounds.mid_run) (begun_moved p g keeps_mid) (rounds_moved p g keeps_mid) in
-    loss-so allows (g.text ++ g.rounds.rounds.text) noted a b first g.rounds.mid stop (engine_of g.rounds.mid_run) e p.opened gone refl (batch.happens p.told keeps (rounds_moved p g keeps_mid).moved.settled) keeps
+    let gone = gone-rounds allows g.rounds.number g.text g.rounds.rounds.text first g.begun g.rounds.mid (engine_at_first rule) (engine_of g.begun_run) (engine_of g.rounds.mid_run) (begun_moved p g keeps_mid) (rounds_moved p g keeps_mid) in
+    loss-so rule allows (g.text ++ g.rounds.rounds.text) noted a b first g.rounds.mid stop (engine_of g.rounds.mid_run) e p.opened gone refl (batch.happens p.told keeps (rounds_moved p g keeps_mid).moved.settled) keeps
     (subst (λ (held : Option (List ℕ)). TookPart held b noted) (rounds_held p g) part)
 noted_lines p g rests.End noted e batch some part keeps = absurd (some (batch.none_noted p.told keeps (rounds_moved p g (Conforming-before p.told g.rounds.later keeps)).moved.settled))
 
-round_writing : {Own : Type 0} {Tells : Type 0} {accepts : List TableView → Bool} {allows : List Place → Bool} {most : ℕ} {a b : Option (List ℕ)} {first stop seen : Seen Own} (p : Supposed Tells accepts allows most first stop seen) (g : CutGoing Tells accepts faults.Write a b first stop engine_at_first) → CutRound Tells accepts faults.Write g.rounds.held b g.rounds.mid stop g.rounds.mid_run → CutWriting allows seen a b
+round_writing : {Own : Type 0} {rule : AppValue} {Tells : Type 0} {accepts : List TableView → Bool} {allows : List Place → Bool} {most : ℕ} {a b : Option (List ℕ)} {first stop seen : Seen Own} (p : Supposed Tells accepts allows most first stop seen) (g : CutGoing Tells accepts faults.Write a b first stop (engine_at_first rule)) → CutRound Tells accepts faults.Write g.rounds.held b g.rounds.mid stop g.rounds.mid_run → CutWriting rule allows seen a b
 round_writing p g (inl still) = absurd still.0
-round_writing {allows = allows} {a = a} {b = b} {first = first} {stop = stop} {seen = seen} p g (inr (inl h)) =
+round_writing {rule = rule} {allows = allows} {a = a} {b = b} {first = first} {stop = stop} {seen = seen} p g (inr (inl h)) =
     let one = h.some.one in
     let reads = reads_then first h.some.mid stop net_at_first h.some.mid_run.net one.now_engine.net (some_on p g h) h.some.later (some_read p g h) one.reads in
-    writing_at a b first stop seen p (keeps_to first stop p.told p.opened p.before reads) (λ keeps.
+    writing_at rule a b first stop seen p (keeps_to first stop p.told p.opened p.before reads) (λ keeps.
     let gone = some_gone p g h (Conforming-before p.told h.some.later keeps) in
-    event-so allows h.some.number (((g.text ++ g.rounds.rounds.text) ++ h.noted) ++ h.some.some.text) one.more a b first h.some.mid stop (engine_of h.some.mid_run) one.now_engine p.opened gone
+    event-so rule allows h.some.number (((g.text ++ g.rounds.rounds.text) ++ h.noted) ++ h.some.some.text) one.more a b first h.some.mid stop (engine_of h.some.mid_run) one.now_engine p.opened gone
     (one.shown.moved allows p.told keeps p.judges gone.moved.settled) h.some.few keeps
     (subst (λ (held : Option (List ℕ)). TookPart held b one.more) (some_held p g h) one.part))
-round_writing {allows = allows} {a = a} {b = b} {first = first} {stop = stop} {seen = seen} p g (inr (inr h)) =
+round_writing {rule = rule} {allows = allows} {a = a} {b = b} {first = first} {stop = stop} {seen = seen} p g (inr (inr h)) =
     let reads = reads_then first g.rounds.mid stop net_at_first g.rounds.mid_run.net h.now_run.net (rounds_on p g) g.rounds.later (rounds_read p g) h.reads in
-    writing_at a b first stop seen p (keeps_to first stop p.told p.opened p.before reads) (λ keeps. noted_lines p g h.rest h.noted (engine_of h.now_run) h.batch h.some h.part keeps)
+    writing_at rule a b first stop seen p (keeps_to first stop p.told p.opened p.before reads) (λ keeps. noted_lines p g h.rest h.noted (engine_of h.now_run) h.batch h.some h.part keeps)
 
 -- ---- The end
 
-last_gone : {Own : Type 0} {Tells : Type 0} {accepts : List TableView → Bool} {allows : List Place → Bool} {most : ℕ} {fault : Fault} {a b : Option (List ℕ)} {first stop seen : Seen Own} (p : Supposed Tells accepts allows most first stop seen) (n : CutEnding Tells accepts most fault a b first stop engine_at_first) → Conforming n.last → GoneSoFar allows true 1000 (n.text ++ n.rounds.text) first n.last engine_at_first (engine_of n.last_run)
-last_gone {Tells = Tells} {accepts = accepts} {allows = allows} {most = most} {first = first} {stop = stop} {seen = seen} p n keeps =
+last_gone : {Own : Type 0} {rule : AppValue} {Tells : Type 0} {accepts : List TableView → Bool} {allows : List Place → Bool} {most : ℕ} {fault : Fault} {a b : Option (List ℕ)} {first stop seen : Seen Own} (p : Supposed Tells accepts allows most first stop seen) (n : CutEnding Tells accepts most fault a b first stop (engine_at_first rule)) → Conforming n.last → GoneSoFar allows true 1000 (n.text ++ n.rounds.text) first n.last (engine_at_first rule) (engine_of n.last_run)
+last_gone {rule = rule} {Tells = Tells} {accepts = accepts} {allows = allows} {most = most} {first = first} {stop = stop} {seen = seen} p n keeps =
     let later = Continues-trans Tells n.last stop seen n.later p.later in
-    gone-whole allows (n.text ++ n.rounds.text) first n.last engine_at_first (engine_of n.last_run)
-    ((whole-of Tells accepts most n.text n.rounds.text first n.begun n.last engine_at_first (engine_of n.begun_run) (engine_of n.last_run) n.on n.starts n.rounds.shown).whole_is allows p.told keeps p.judges (settled-first first p.opened)
+    gone-whole allows (n.text ++ n.rounds.text) first n.last (engine_at_first rule) (engine_of n.last_run)
+    ((whole-of Tells accepts most n.text n.rounds.text first n.begun n.last (engine_at_first rule) (engine_of n.begun_run) (engine_of n.last_run) n.on n.starts n.rounds.shown).whole_is allows p.told keeps p.judges (settled-first rule first p.opened)
     (p.few n.last keeps later.given (later.told p.told)))
 
-last_held : {Own : Type 0} {Tells : Type 0} {accepts : List TableView → Bool} {allows : List Place → Bool} {most : ℕ} {fault : Fault} {a b : Option (List ℕ)} {first stop seen : Seen Own} (p : Supposed Tells accepts allows most first stop seen) (n : CutEnding Tells accepts most fault a b first stop engine_at_first) → n.last_held ≡ append_known a (n.text ++ n.rounds.text)
+last_held : {Own : Type 0} {rule : AppValue} {Tells : Type 0} {accepts : List TableView → Bool} {allows : List Place → Bool} {most : ℕ} {fault : Fault} {a b : Option (List ℕ)} {first stop seen : Seen Own} (p : Supposed Tells accepts allows most first stop seen) (n : CutEnding Tells accepts most fault a b first stop (engine_at_first rule)) → n.last_held ≡ append_known a (n.text ++ n.rounds.text)
 last_held {a = a} p n = (writes_then n.text n.rounds.text a n.held n.last_held n.begun_run n.last_run n.writes n.rounds.writes).written
 
-last_on : {Own : Type 0} {Tells : Type 0} {accepts : List TableView → Bool} {allows : List Place → Bool} {most : ℕ} {fault : Fault} {a b : Option (List ℕ)} {first stop seen : Seen Own} (p : Supposed Tells accepts allows most first stop seen) (n : CutEnding Tells accepts most fault a b first stop engine_at_first) → Continues Tells first n.last
+last_on : {Own : Type 0} {rule : AppValue} {Tells : Type 0} {accepts : List TableView → Bool} {allows : List Place → Bool} {most : ℕ} {fault : Fault} {a b : Option (List ℕ)} {first stop seen : Seen Own} (p : Supposed Tells accepts allows most first stop seen) (n : CutEnding Tells accepts most fault a b first stop (engine_at_first rule)) → Continues Tells first n.last
 last_on {Tells = Tells} {first = first} p n = Continues-trans Tells first n.begun n.last n.first n.on
 
-last_read : {Own : Type 0} {Tells : Type 0} {accepts : List TableView → Bool} {allows : List Place → Bool} {most : ℕ} {fault : Fault} {a b : Option (List ℕ)} {first stop seen : Seen Own} (p : Supposed Tells accepts allows most first stop seen) (n : CutEnding Tells accepts most fault a b first stop engine_at_first) → Reads Tells first n.last net_at_first n.last_run.net
+last_read : {Own : Type 0} {rule : AppValue} {Tells : Type 0} {accepts : List TableView → Bool} {allows : List Place → Bool} {most : ℕ} {fault : Fault} {a b : Option (List ℕ)} {first stop seen : Seen Own} (p : Supposed Tells accepts allows most first stop seen) (n : CutEnding Tells accepts most fault a b first stop (engine_at_first rule)) → Reads Tells first n.last net_at_first n.last_run.net
 last_read {first = first} p n = reads_then first n.begun n.last net_at_first n.begun_run.net n.last_run.net n.first n.on n.starts_read n.rounds_read
 
-last_stop : {Own : Type 0} {Tells Short : Type 0} {accepts : List TableView → Bool} {allows : List Place → Bool} {most : ℕ} {fault : Fault} {a b : Option (List ℕ)} {first stop seen : Seen Own} (p : Supposed Tells accepts allows most first stop seen) (n : CutEnding Tells accepts most fault a b first stop engine_at_first) → KeepsTalking Tells n.last stop → NoPoint Tells n.last stop → IsStop Tells Short n.last stop
+last_stop : {Own : Type 0} {rule : AppValue} {Tells Short : Type 0} {accepts : List TableView → Bool} {allows : List Place → Bool} {most : ℕ} {fault : Fault} {a b : Option (List ℕ)} {first stop seen : Seen Own} (p : Supposed Tells accepts allows most first stop seen) (n : CutEnding Tells accepts most fault a b first stop (engine_at_first rule)) → KeepsTalking Tells n.last stop → NoPoint Tells n.last stop → IsStop Tells Short rule.budget n.last stop
 last_stop {first = first} {stop = stop} {seen = seen} p n talks no_point = record {
   on = n.later;
   keeps = keeps_to first n.last p.told p.opened (last_on p n) (last_read p n);
@@ -401,58 +403,58 @@ last_stop {first = first} {stop = stop} {seen = seen} p n talks no_point = recor
   left = λ keeps order. inl (talks.no_event p.told);
 }
 
-end_alike : {Own : Type 0} {Tells : Type 0} {accepts : List TableView → Bool} {allows : List Place → Bool} {most : ℕ} {fault : Fault} {a b : Option (List ℕ)} {first stop seen : Seen Own} (p : Supposed Tells accepts allows most first stop seen) (n : CutEnding Tells accepts most fault a b first stop engine_at_first) → NotWrite fault → CutAlike allows seen a b
-end_alike {Tells = Tells} {allows = allows} {fault = fault} {a = a} {b = b} {first = first} {stop = stop} {seen = seen} p n other =
-    cut_at (λ (last : Seen _). CutForMemory allows seen last a b) first stop seen p n.last (last_stop p n (end_talks Tells fault n.last_held b n.last stop (engine_of n.last_run) other n.ends) (end_quietly Tells fault n.last_held b n.last stop (engine_of n.last_run) other n.ends))
+end_alike : {Own : Type 0} {rule : AppValue} {Tells : Type 0} {accepts : List TableView → Bool} {allows : List Place → Bool} {most : ℕ} {fault : Fault} {a b : Option (List ℕ)} {first stop seen : Seen Own} (p : Supposed Tells accepts allows most first stop seen) (n : CutEnding Tells accepts most fault a b first stop (engine_at_first rule)) → NotWrite fault → CutAlike rule allows seen a b
+end_alike {rule = rule} {Tells = Tells} {allows = allows} {fault = fault} {a = a} {b = b} {first = first} {stop = stop} {seen = seen} p n other =
+    cut_at rule (λ (last : Seen _). CutForMemory rule allows seen last a b) first stop seen p n.last (last_stop p n (end_talks Tells fault n.last_held b n.last stop (engine_of n.last_run) other n.ends) (end_quietly Tells fault n.last_held b n.last stop (engine_of n.last_run) other n.ends))
     (λ keeps. (end_talks Tells fault n.last_held b n.last stop (engine_of n.last_run) other n.ends).talks p.told (last_gone p n keeps).moved.settled.speaks.at_once) (λ keeps.
-    some-so allows 1000 (n.text ++ n.rounds.text) a b first n.last seen (engine_of n.last_run) p.opened (last_gone p n keeps) (omega arith) keeps
+    some-so rule allows 1000 (n.text ++ n.rounds.text) a b first n.last seen (engine_of n.last_run) p.opened (last_gone p n keeps) (omega arith) keeps
     (end_held Tells fault n.last_held b n.last stop (engine_of n.last_run) other n.ends ∙ last_held p n))
 
-end_lines : {Own : Type 0} {Tells : Type 0} {accepts : List TableView → Bool} {allows : List Place → Bool} {most : ℕ} {fault : Fault} {a b : Option (List ℕ)} {first stop seen : Seen Own} (p : Supposed Tells accepts allows most first stop seen) (n : CutEnding Tells accepts most fault a b first stop engine_at_first) → IsOutside fault → CutWithLines allows seen a b
-end_lines {Tells = Tells} {allows = allows} {fault = fault} {a = a} {b = b} {first = first} {stop = stop} {seen = seen} p n out =
+end_lines : {Own : Type 0} {rule : AppValue} {Tells : Type 0} {accepts : List TableView → Bool} {allows : List Place → Bool} {most : ℕ} {fault : Fault} {a b : Option (List ℕ)} {first stop seen : Seen Own} (p : Supposed Tells accepts allows most first stop seen) (n : CutEnding Tells accepts most fault a b first stop (engine_at_first rule)) → IsOutside fault → CutWithLines rule allows seen a b
+end_lines {rule = rule} {Tells = Tells} {allows = allows} {fault = fault} {a = a} {b = b} {first = first} {stop = stop} {seen = seen} p n out =
     let other = not_write fault out in
-    cut_at (λ (last : Seen _). CutBehindLines allows last a b) first stop seen p n.last (last_stop p n (end_talks Tells fault n.last_held b n.last stop (engine_of n.last_run) other n.ends) (end_quietly Tells fault n.last_held b n.last stop (engine_of n.last_run) other n.ends))
+    cut_at rule (λ (last : Seen _). CutBehindLines rule allows last a b) first stop seen p n.last (last_stop p n (end_talks Tells fault n.last_held b n.last stop (engine_of n.last_run) other n.ends) (end_quietly Tells fault n.last_held b n.last stop (engine_of n.last_run) other n.ends))
     (λ keeps. (end_talks Tells fault n.last_held b n.last stop (engine_of n.last_run) other n.ends).talks p.told (last_gone p n keeps).moved.settled.speaks.at_once) (λ keeps.
-    lines-so allows 1000 (n.text ++ n.rounds.text) a b first n.last (engine_of n.last_run) p.opened (last_gone p n keeps) (omega arith) (inr (inl n.none_left)) keeps
+    lines-so rule allows 1000 (n.text ++ n.rounds.text) a b first n.last (engine_of n.last_run) p.opened (last_gone p n keeps) (omega arith) (inr (inl n.none_left)) keeps
     (end_held Tells fault n.last_held b n.last stop (engine_of n.last_run) other n.ends ∙ last_held p n))
 
-end_writing : {Own : Type 0} {Tells : Type 0} {accepts : List TableView → Bool} {allows : List Place → Bool} {most : ℕ} {a b : Option (List ℕ)} {first stop seen : Seen Own} (p : Supposed Tells accepts allows most first stop seen) (n : CutEnding Tells accepts most faults.Write a b first stop engine_at_first) → CutWriting allows seen a b
-end_writing {allows = allows} {a = a} {b = b} {first = first} {stop = stop} {seen = seen} p n =
+end_writing : {Own : Type 0} {rule : AppValue} {Tells : Type 0} {accepts : List TableView → Bool} {allows : List Place → Bool} {most : ℕ} {a b : Option (List ℕ)} {first stop seen : Seen Own} (p : Supposed Tells accepts allows most first stop seen) (n : CutEnding Tells accepts most faults.Write a b first stop (engine_at_first rule)) → CutWriting rule allows seen a b
+end_writing {rule = rule} {allows = allows} {a = a} {b = b} {first = first} {stop = stop} {seen = seen} p n =
     let cut = n.ends in
     let reads = reads_then first n.last stop net_at_first n.last_run.net cut.now_net (last_on p n) n.later (last_read p n) cut.reads in
-    writing_at a b first stop seen p (keeps_to first stop p.told p.opened p.before reads) (λ keeps.
+    writing_at rule a b first stop seen p (keeps_to first stop p.told p.opened p.before reads) (λ keeps.
     let gone = last_gone p n (Conforming-before p.told n.later keeps) in
     let shown = cut.shown p.told keeps gone.moved.settled.calm in
-    end-so allows shown.lost (n.text ++ n.rounds.text) cut.more a b first n.last stop (engine_of n.last_run) p.opened gone n.none_left shown.text_is shown.leaves keeps
+    end-so rule allows shown.lost (n.text ++ n.rounds.text) cut.more a b first n.last stop (engine_of n.last_run) p.opened gone n.none_left shown.text_is shown.leaves keeps
     (subst (λ (held : Option (List ℕ)). TookPart held b cut.more) (last_held p n) cut.part))
 
 -- ---- All of it
 
-goes_alike : {Own : Type 0} {Tells : Type 0} {accepts : List TableView → Bool} {allows : List Place → Bool} {most : ℕ} {fault : Fault} {a b : Option (List ℕ)} {first stop seen : Seen Own} (p : Supposed Tells accepts allows most first stop seen) → NotWrite fault → CutGoes Tells accepts most fault a b first stop engine_at_first → CutAlike allows seen a b
-goes_alike {Tells = Tells} {fault = fault} {a = a} {b = b} {first = first} {stop = stop} p other (inl cut) = start_alike p (start_held Tells fault a b first stop engine_at_first other cut) (start_talks Tells fault a b first stop engine_at_first other cut) (start_quietly Tells fault a b first stop engine_at_first other cut)
+goes_alike : {Own : Type 0} {rule : AppValue} {Tells : Type 0} {accepts : List TableView → Bool} {allows : List Place → Bool} {most : ℕ} {fault : Fault} {a b : Option (List ℕ)} {first stop seen : Seen Own} (p : Supposed Tells accepts allows most first stop seen) → NotWrite fault → CutGoes Tells accepts most fault a b first stop (engine_at_first rule) → CutAlike rule allows seen a b
+goes_alike {rule = rule} {Tells = Tells} {fault = fault} {a = a} {b = b} {first = first} {stop = stop} p other (inl cut) = start_alike rule p (start_held Tells fault a b first stop (engine_at_first rule) other cut) (start_talks Tells fault a b first stop (engine_at_first rule) other cut) (start_quietly Tells fault a b first stop (engine_at_first rule) other cut)
 goes_alike p other (inr (inl g)) = round_alike p g other g.rounds.round
 goes_alike p other (inr (inr n)) = end_alike p n other
 
-goes_lines : {Own : Type 0} {Tells : Type 0} {accepts : List TableView → Bool} {allows : List Place → Bool} {most : ℕ} {fault : Fault} {a b : Option (List ℕ)} {first stop seen : Seen Own} (p : Supposed Tells accepts allows most first stop seen) → IsOutside fault → CutGoes Tells accepts most fault a b first stop engine_at_first → CutWithLines allows seen a b
-goes_lines {Tells = Tells} {fault = fault} {a = a} {b = b} {first = first} {stop = stop} p out (inl cut) = absurd (start_none Tells fault a b first stop engine_at_first out cut)
+goes_lines : {Own : Type 0} {rule : AppValue} {Tells : Type 0} {accepts : List TableView → Bool} {allows : List Place → Bool} {most : ℕ} {fault : Fault} {a b : Option (List ℕ)} {first stop seen : Seen Own} (p : Supposed Tells accepts allows most first stop seen) → IsOutside fault → CutGoes Tells accepts most fault a b first stop (engine_at_first rule) → CutWithLines rule allows seen a b
+goes_lines {rule = rule} {Tells = Tells} {fault = fault} {a = a} {b = b} {first = first} {stop = stop} p out (inl cut) = absurd (start_none Tells fault a b first stop (engine_at_first rule) out cut)
 goes_lines p out (inr (inl g)) = round_lines p g out g.rounds.round
 goes_lines p out (inr (inr n)) = end_lines p n out
 
-goes_writing : {Own : Type 0} {Tells : Type 0} {accepts : List TableView → Bool} {allows : List Place → Bool} {most : ℕ} {a b : Option (List ℕ)} {first stop seen : Seen Own} (p : Supposed Tells accepts allows most first stop seen) → CutGoes Tells accepts most faults.Write a b first stop engine_at_first → CutWriting allows seen a b
+goes_writing : {Own : Type 0} {rule : AppValue} {Tells : Type 0} {accepts : List TableView → Bool} {allows : List Place → Bool} {most : ℕ} {a b : Option (List ℕ)} {first stop seen : Seen Own} (p : Supposed Tells accepts allows most first stop seen) → CutGoes Tells accepts most faults.Write a b first stop (engine_at_first rule) → CutWriting rule allows seen a b
 goes_writing p (inl cut) = start_writing p cut
 goes_writing p (inr (inl g)) = round_writing p g g.rounds.round
 goes_writing p (inr (inr n)) = end_writing p n
 
-by_fault : {Own : Type 0} {Tells : Type 0} {accepts : List TableView → Bool} {allows : List Place → Bool} {most : ℕ} {a b : Option (List ℕ)} {first stop seen : Seen Own} (fault : Fault) (p : Supposed Tells accepts allows most first stop seen) → CutGoes Tells accepts most fault a b first stop engine_at_first
-    → IsCut allows seen a b (served_by fault)
-by_fault faults.Write p goes = goes_writing p goes
-by_fault faults.Next p goes = goes_lines p tt goes
-by_fault (faults.Txn fault) p goes = goes_lines p tt goes
-by_fault faults.NoMemory p goes = inl (goes_alike p tt goes)
+by_fault : {Own : Type 0} {Tells : Type 0} {accepts : List TableView → Bool} {allows : List Place → Bool} {most : ℕ} {a b : Option (List ℕ)} {first stop seen : Seen Own} (rule : AppValue) (fault : Fault) (p : Supposed Tells accepts allows most first stop seen) → CutGoes Tells accepts most fault a b first stop (engine_at_first rule)
+    → IsCut rule allows seen a b (served_by fault)
+by_fault rule faults.Write p goes = goes_writing p goes
+by_fault rule faults.Next p goes = goes_lines p tt goes
+by_fault rule (faults.Txn fault) p goes = goes_lines p tt goes
+by_fault rule faults.NoMemory p goes = inl (goes_alike p tt goes)
 
 -- Of a world that was opened, however far it keeps its word.
-pub so_cut : {Own : Type 0} (Tells : Type 0) (accepts : List TableView → Bool) (allows : List Place → Bool) (most : ℕ) (end : Served) (a b : Option (List ℕ)) (old first seen : Seen Own) → PremiseSoFar Tells accepts allows most old seen → IsOpened first
-    → Continues Tells first seen → CutRun Tells accepts most end a b first seen engine_at_first → IsCut allows seen a b end
-so_cut Tells accepts allows most end a b old first seen premise opened whole cut =
+pub so_cut : {Own : Type 0} (rule : AppValue) (Tells : Type 0) (accepts : List TableView → Bool) (allows : List Place → Bool) (most : ℕ) (end : Served) (a b : Option (List ℕ)) (old first seen : Seen Own) → PremiseSoFar Tells accepts allows most old seen → IsOpened first
+    → Continues Tells first seen → CutRun Tells accepts most end a b first seen (engine_at_first rule) → IsCut rule allows seen a b end
+so_cut rule Tells accepts allows most end a b old first seen premise opened whole cut =
     let p : Supposed Tells accepts allows most first cut.stop seen = record { told = premise.told; judges = premise.judges; opened = opened; few = premise.few; whole = whole; before = cut.before; later = cut.later; talks = cut.talks; no_point = cut.no_point; none_moves = cut.none_moves } in
-    subst (IsCut allows seen a b) (sym cut.end_is) (by_fault cut.fault p cut.goes)
+    subst (IsCut rule allows seen a b) (sym cut.end_is) (by_fault rule cut.fault p cut.goes)

@@ -1,12 +1,14 @@
 -- Laws of parts of a run that a fault ended.
-use Rattle.std.proofs.Common.{◌≡◌, ℕ, ◌^◌, ◌<◌, Bool, true, List, [], ◌∷◌, ◌++◌, drop, Option, Some, Result, Ok, Err, IfErr, OnErr, IsErrAnd, refl, sym, ap, ◌∙◌, subst, arith, inl, inr}
+use Rattle.std.proofs.Common.{◌≡◌, ℕ, ◌^◌, ◌<◌, ◌&&◌, Bool, true, false, List, [], ◌∷◌, ◌++◌, drop, Option, Some, Result, Ok, Err, IfErr, OnErr, IsErrAnd, refl, sym, ap, ◌∙◌, subst, arith, inl, inr}
 use Rattle.std.specs.Prelude.{slice_get}
 use Rattle.lego_io.specs.Sink.{TookPart}
 use Rattle.flow_table.specs.View.{TableView}
 use Rattle.app_frames.specs.declared.frame.Event.{Event}
 use Rattle.outside.specs.Seen.{Seen, Continues}
 use Rattle.outside.specs.laws.SeenLaws.{Continues-refl, Continues-trans}
+use Rattle.crash_policy.specs.Asking.{is_given}
 use Rattle.run_laws.specs.Engine.{Engine}
+use Rattle.run_laws.specs.Facts.{takes_event, takes_next}
 use Rattle.run_laws.specs.LastReport.{last_text}
 use Rattle.run_laws.specs.laws.StartShownLaws.{start-shown}
 use Rattle.run_laws.specs.laws.EventLaws.{next-shown}
@@ -50,41 +52,52 @@ still_is Tells a b faults.NoMemory contents now_contents why same = same
 
 -- ---- Events
 
-pub one_still : {Own : Type 0} (Tells : Type 0) (accepts : List TableView → Bool) (fault : Fault) (contents now_contents : Option (List ℕ)) (old new : Seen Own) (e : Engine) → IsStill fault contents now_contents → FailsIn Tells fault old new e → AtMostThisPoint Tells old new → CutOne Tells accepts fault contents now_contents old new e
+pub one_still : {Own : Type 0} (Tells : Type 0) (accepts : List TableView → Bool) (fault : Fault) (contents now_contents : Option (List ℕ)) (old new : Seen Own) (e : Engine) → IsStill fault contents now_contents → FailsIn Tells fault (takes_next e e.queue) old new e → AtMostThisPoint Tells old new → CutOne Tells accepts fault contents now_contents old new e
 one_still Tells accepts faults.Write contents now_contents old new e still talks here = absurd still
 one_still Tells accepts faults.Next contents now_contents old new e still talks here = (still, talks, here)
 one_still Tells accepts (faults.Txn fault) contents now_contents old new e still talks here = (still, talks, here)
 one_still Tells accepts faults.NoMemory contents now_contents old new e still talks here = (still, talks, here)
 
 -- memory ran out before the event was given to the application
-pub fails_short : {Own : Type 0} (Tells : Type 0) (seen : Seen Own) (e : Engine) → FailsIn Tells faults.NoMemory seen seen e
-fails_short Tells seen e = record { talks = goes_none Tells seen e; of_turn = tt; left = left_none Tells (IsShort faults.NoMemory) seen e }
+pub fails_short : {Own : Type 0} (Tells : Type 0) (takes : Bool) (seen : Seen Own) (e : Engine) → FailsIn Tells faults.NoMemory takes seen seen e
+fails_short Tells takes seen e = record { talks = goes_none Tells seen e; of_turn = tt; left = left_none Tells (IsShort faults.NoMemory) seen e }
 
-of_alive : (fault : Fault) (e : Engine) → e.alive ≡ true → IsOfTurn fault e
-of_alive faults.Write e alive = tt
-of_alive faults.Next e alive = alive
-of_alive (faults.Txn fault) e alive = alive
-of_alive faults.NoMemory e alive = tt
+of_takes : (fault : Fault) (takes : Bool) → takes ≡ true → IsOfTurn fault takes
+of_takes faults.Write takes is = tt
+of_takes faults.Next takes is = is
+of_takes (faults.Txn fault) takes is = is
+of_takes faults.NoMemory takes is = tt
+
+both_first : (x y : Bool) → (x && y) ≡ true → x ≡ true
+both_first true y is = refl
+both_first false y is = is
+
+-- an application that has a turn at an event is alive
+pub takes_alive : (e : Engine) (event : Event) → takes_event e event ≡ true → e.alive ≡ true
+takes_alive e event takes = both_first e.alive (is_given e.rule event.kind) takes
 
 -- or its turn stopped
-pub fails_turn : {Own T : Type 0} (Tells : Type 0) (rest : List ℕ) (old new : Seen Own) (e : Engine) (net : NetState) (result : Result T Fault) → e.alive ≡ true → rest ≡ e.rest → net ≡ e.net → OnErr result (TurnTalks Tells index rest old new) → IfErr result (λ fault. TurnLeft Tells (IsShort fault) rest old new net)
-    → IfErr result (λ fault. FailsIn Tells fault old new e)
-fails_turn Tells rest old new e net (Ok x) alive same stands talks left = tt
-fails_turn Tells rest old new e net (Err fault) alive same stands talks left = record { talks = goes_turn Tells rest old new e alive same talks; of_turn = of_alive fault e alive; left = left_turn Tells (IsShort fault) rest old new net e alive same stands left }
-
-of_turn_as : (fault : Fault) (e now_e : Engine) → now_e.alive ≡ e.alive → IsOfTurn fault e → IsOfTurn fault now_e
-of_turn_as faults.Write e now_e same of_turn = tt
-of_turn_as faults.Next e now_e same of_turn = same ∙ of_turn
-of_turn_as (faults.Txn fault) e now_e same of_turn = same ∙ of_turn
-of_turn_as faults.NoMemory e now_e same of_turn = tt
+pub fails_turn : {Own T : Type 0} (Tells : Type 0) (event : Event) (budget : ℕ) (rest : List ℕ) (old new : Seen Own) (e : Engine) (net : NetState) (result : Result T Fault) → takes_event e event ≡ true → budget ≡ e.rule.budget → rest ≡ e.rest → net ≡ e.net → OnErr result (TurnTalks Tells index rest old new)
+    → IfErr result (λ fault. TurnLeft Tells (IsShort fault) budget rest old new net) → IfErr result (λ fault. FailsIn Tells fault (takes_event e event) old new e)
+fails_turn Tells event budget rest old new e net (Ok x) takes frames same stands talks left = tt
+fails_turn Tells event budget rest old new e net (Err fault) takes frames same stands talks left = record {
+  talks = goes_turn Tells rest old new e (takes_alive e event takes) same talks;
+  of_turn = of_takes fault (takes_event e event) takes;
+  left = left_turn Tells (IsShort fault) budget rest old new net e (takes_alive e event takes) frames same stands left;
+}
 
 -- the engine had other events that wait
-pub fails_as : {Own : Type 0} (Tells : Type 0) (fault : Fault) (old new : Seen Own) (e now_e : Engine) → now_e.alive ≡ e.alive → now_e.rest ≡ e.rest → now_e.net ≡ e.net → FailsIn Tells fault old new e → FailsIn Tells fault old new now_e
-fails_as Tells fault old new e now_e alive rest net fails = record {
+pub fails_as : {Own : Type 0} (Tells : Type 0) (fault : Fault) (takes now_takes : Bool) (old new : Seen Own) (e now_e : Engine) → takes ≡ now_takes → now_e.rule ≡ e.rule → now_e.alive ≡ e.alive → now_e.rest ≡ e.rest → now_e.net ≡ e.net → FailsIn Tells fault takes old new e
+    → FailsIn Tells fault now_takes old new now_e
+fails_as Tells fault takes now_takes old new e now_e same rule alive rest net fails = record {
   talks = goes_as Tells old new e now_e (sym alive) (sym rest) fails.talks;
-  of_turn = of_turn_as fault e now_e alive fails.of_turn;
-  left = left_as Tells (IsShort fault) old new e now_e alive rest net fails.left;
+  of_turn = subst (IsOfTurn fault) same fails.of_turn;
+  left = left_as Tells (IsShort fault) old new e now_e rule alive rest net fails.left;
 }
+
+-- it is the oldest of those that wait, or was
+pub takes_oldest : (e now_e : Engine) (event : Event) (queue : List Event) → takes_event now_e event ≡ takes_event e event → Some event ≡ slice_get queue 0 → takes_event now_e event ≡ takes_next e queue
+takes_oldest e now_e event queue same waits = same ∙ ap (λ (q : List Event). takes_next e q) (sym (first_event queue event waits))
 
 -- it was dispatched, and the sink failed
 pub one_unwritten : {Own : Type 0} (Tells : Type 0) (accepts : List TableView → Bool) (event : Event) (contents now_contents : Option (List ℕ)) (old new : Seen Own) (r : Run) (queue : List Event) (mid : Run) → Continues Tells old new → r.events < 2 ^ 63 → Some event ≡ slice_get r.queue 0

@@ -135,13 +135,13 @@ stop_undone {Tells = Tells} {old = old} {mid = mid} {new = new} net begun own s 
   own = own;
 })
 
-pub played_places : {Own : Type 0} {Tells : Type 0} {accepts : List TableView → Bool} {app number : ℕ} {event : Event} {old new : Seen Own} {queue now_queue : List Event} {rest unread : List ℕ} (closing : Closing) (net now_net : NetState) → (Tells → CallsFor index old new)
-    → PlaysTurn Tells accepts app number event closing old new net now_net queue now_queue rest unread → NoStray Tells old new net
+pub played_places : {Own : Type 0} {Tells : Type 0} {accepts : List TableView → Bool} {app budget number : ℕ} {event : Event} {old new : Seen Own} {queue now_queue : List Event} {rest unread : List ℕ} (closing : Closing) (net now_net : NetState) → (Tells → CallsFor index old new)
+    → PlaysTurn Tells accepts app budget number event closing old new net now_net queue now_queue rest unread → NoStray Tells old new net
 played_places (closings.Done stop out) net now_net own plays = turn_committed net refl own plays.turns plays.played
 played_places (closings.Failed cause) net now_net own plays = turn_undone net refl own plays.turns plays.played.0
 
-pub played_reads : {Own : Type 0} {Tells : Type 0} {accepts : List TableView → Bool} {app number : ℕ} {event : Event} {old new : Seen Own} {queue now_queue : List Event} {rest unread : List ℕ} (closing : Closing) (net now_net : NetState)
-    → PlaysTurn Tells accepts app number event closing old new net now_net queue now_queue rest unread → Reads Tells old new net now_net
+pub played_reads : {Own : Type 0} {Tells : Type 0} {accepts : List TableView → Bool} {app budget number : ℕ} {event : Event} {old new : Seen Own} {queue now_queue : List Event} {rest unread : List ℕ} (closing : Closing) (net now_net : NetState)
+    → PlaysTurn Tells accepts app budget number event closing old new net now_net queue now_queue rest unread → Reads Tells old new net now_net
 played_reads {old = old} {new = new} (closings.Done stop out) net now_net plays = record {
   abreast = λ told order abreast. commits_abreast plays.played told (turn_abreast plays.turns told abreast);
   read = λ told order abreast.

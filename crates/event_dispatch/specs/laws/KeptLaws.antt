@@ -270,8 +270,8 @@ played_read : {Own : Type 0} (Tells : Type 0) (start : ℕ) (mid new : Seen Own)
 played_read Tells start mid new (closings.Done stop out) mid_net now_net queue now_queue played read = commits_read mid_net now_net played read
 played_read Tells start mid new (closings.Failed cause) mid_net now_net queue now_queue played read = undoes_read mid_net now_net played.0 read
 
-pub turn_read : {Own Tells : Type 0} {accepts : List TableView → Bool} {app number : ℕ} {event : Event} {old new : Seen Own} {queue now_queue : List Event} {rest unread : List ℕ} (closing : Closing) (net now_net : NetState)
-    → PlaysTurn Tells accepts app number event closing old new net now_net queue now_queue rest unread → AreRead net.kept → AreRead now_net.kept
+pub turn_read : {Own Tells : Type 0} {accepts : List TableView → Bool} {app budget number : ℕ} {event : Event} {old new : Seen Own} {queue now_queue : List Event} {rest unread : List ℕ} (closing : Closing) (net now_net : NetState)
+    → PlaysTurn Tells accepts app budget number event closing old new net now_net queue now_queue rest unread → AreRead net.kept → AreRead now_net.kept
 turn_read {Tells = Tells} {app = app} {old = old} {new = new} {queue = queue} {now_queue = now_queue} closing net now_net plays read =
     played_read Tells _ plays.mid new closing plays.mid_net now_net queue now_queue plays.played (chain_read Tells app (Talk (give_act plays.turns.given app _) ∷ plays.turns.trace) old plays.mid net plays.mid_net plays.turns.chain read)
 

@@ -12,7 +12,6 @@ use Rattle.flow_table.specs.View.{TableView}
 use Rattle.flow_table.specs.Switch.{SwitchState}
 use Rattle.undo_laws.specs.Owned.{owned_switch}
 use Rattle.lego_model.specs.Answers.{rows_of_table, rows_of_view}
-use Rattle.lego_model.specs.Application.{name}
 use Rattle.lego_model.specs.RunReport.{lost_line, flow_line, app_line, end_line, switch_text}
 use Rattle.net_txn.specs.declared.ports.KnownPorts.{KnownPorts}
 use Rattle.net_txn.specs.Losing.{is_among, lost_net, lose_all}
@@ -40,7 +39,7 @@ use Rattle.run_laws.specs.Endings.{Leaves}
 use Rattle.run_laws.specs.laws.LeaveLaws.{asked-leaves}
 use Rattle.event_dispatch.specs.declared.run.Run.{Run}
 use Rattle.event_dispatch.specs.Runs.{WaitsAtEnd}
-use Rattle.event_dispatch.specs.Shows.{engine_of, Adds}
+use Rattle.event_dispatch.specs.Shows.{engine_of, name_of, Adds}
 use Rattle.event_dispatch.specs.ReportEnd.{FindsFlags, FlowsSoFar, TableSaid, AsksShown, AsksNone, AsksAs, Says, SaysOf, TableShown, TablesShown, LastShown, NextRow}
 
 -- ---- Text that is noted
@@ -451,7 +450,7 @@ none-among d (v ∷ vs) none =
 
 engine_end-lost : (lost : List ℕ) (r mid : Run) → engine_of mid ≡ record (engine_of r) { net = record (lose_all lost r.net) { xid = mid.net.xid } } → engine_end (engine_of mid) ≡ engine_end (engine_of r)
 engine_end-lost lost r mid is =
-    ap engine_end is ∙ ap (λ (moment : ℕ). app_line name r.app.state.alive r.app.done r.app.failed ++ end_line moment r.events) (lose_all-moment lost r.net)
+    ap engine_end is ∙ ap (λ (moment : ℕ). app_line (name_of r) r.app.state.alive r.app.done r.app.failed ++ end_line moment r.events) (lose_all-moment lost r.net)
 
 pub last_shown : {Own : Type 0} {Tells : Type 0} {ds : List ℕ} {old new : Seen Own} {r mid now_r : Run} → Continues Tells old new → ds ≡ map (λ v. v.dpid) r.net.views → TablesShown Tells ds old new r mid → Adds (engine_end (engine_of mid)) mid now_r
     → LastShown Tells old new r now_r

@@ -5,6 +5,7 @@ use Rattle.of_wire.specs.Reading.{reading_of}
 use Rattle.flow_table.specs.View.{TableView}
 use Rattle.flow_table.specs.Switch.{SwitchState}
 use Rattle.app_frames.specs.declared.frame.Event.{Event}
+use Rattle.crash_policy.specs.Policies.{AppValue}
 use Rattle.lego_model.specs.Places.{Place}
 use Rattle.outside.specs.declared.item.Item.{Item}
 use Rattle.outside.specs.declared.item.Item.TheVariants as items
@@ -318,10 +319,10 @@ unopened_plain Tells old new (ends.Txn fault) is = absurd is
 unopened_plain Tells old new (ends.EventsLeft left) is = tt
 unopened_plain Tells old new ends.NoMemory is = tt
 
-pub served_plain : {Own : Type 0} (Tells : Type 0) (accepts : List TableView → Bool) (most : ℕ) (end : Served) (old mid new : Seen Own) → (Tells → mid.history ≡ old.history ++ Opened ∷ []) → PlainWhole Tells accepts most mid new engine_at_first end
+pub served_plain : {Own : Type 0} (rule : AppValue) (Tells : Type 0) (accepts : List TableView → Bool) (most : ℕ) (end : Served) (old mid new : Seen Own) → (Tells → mid.history ≡ old.history ++ Opened ∷ []) → PlainWhole Tells accepts most mid new (engine_at_first rule) end
     → (allows : List Place → Bool) → Premise Tells accepts allows most old new → EndsPlain old new end
-served_plain Tells accepts most end old mid new opened whole allows p =
-    ends_behind old mid new end (Opened ∷ [], opened p.told) (whole.plain allows p.told p.keeps p.judges (settled-first mid (opened_is old mid p.untouched (opened p.told))) p.few)
+served_plain rule Tells accepts most end old mid new opened whole allows p =
+    ends_behind old mid new end (Opened ∷ [], opened p.told) (whole.plain allows p.told p.keeps p.judges (settled-first rule mid (opened_is old mid p.untouched (opened p.told))) p.few)
 
 pub on_err : {T E : Type 0} {P Q : E → Type 0} (r : Result T E) → ((e : E) → P e → Q e) → IfErr r P → IfErr r Q
 on_err (Ok x) f p = tt

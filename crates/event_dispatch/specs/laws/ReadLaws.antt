@@ -15,6 +15,7 @@ use Rattle.outside.specs.Quiescence.{NoneQuiescent}
 use Rattle.outside.specs.laws.QuiescenceLaws.{none_since-by}
 use Rattle.net_txn.specs.Net.{NetState}
 use Rattle.net_txn.specs.LinkSteps.{MakesNoStrayCall}
+use Rattle.crash_policy.specs.Policies.{AppValue}
 use Rattle.lego_model.specs.UndoFaults.{AreExpectedOnLinks}
 use Rattle.net_txn.specs.laws.LinkStrayLaws.{no_strays_by, no_strays_then}
 use Rattle.app_visor.specs.CallsFor.{IsCallFor}
@@ -154,12 +155,12 @@ all_read Tells old mid new later opened has told none order =
     let is : IsOpened mid = opened told ∙ ap (λ (steps : List WorldStep). steps ++ Opened ∷ []) none in
     messages-of new (Conforming-on mid new told later (keeps_first mid is (InOrder-before told later order)) order (has.read told order (abreast_first mid is)))
 
-pub failed_read : {Own : Type 0} (Tells : Type 0) (accepts : List TableView → Bool) (most : ℕ) (end : Served) (a b : Option (List ℕ)) (old mid new : Seen Own) → Continues Tells mid new → (Tells → mid.history ≡ old.history ++ Opened ∷ []) → RunsAs Tells accepts most (Err end) a b mid new
+pub failed_read : {Own : Type 0} (rule : AppValue) (Tells : Type 0) (accepts : List TableView → Bool) (most : ℕ) (end : Served) (a b : Option (List ℕ)) (old mid new : Seen Own) → Continues Tells mid new → (Tells → mid.history ≡ old.history ++ Opened ∷ []) → RunsAs rule Tells accepts most (Err end) a b mid new
     → ReadsEnd Tells end mid new net_at_first → Tells → old.history ≡ [] → InOrder new → IsReadServed new end
-failed_read Tells accepts most (served.EventsLeft left) a b old mid new later opened runs reads told none order = all_read Tells old mid new later opened reads told none order
-failed_read Tells accepts most (served.Ended events) a b old mid new later opened runs reads told none order = absurd runs
-failed_read Tells accepts most served.WriteFault a b old mid new later opened runs reads told none order = tt
-failed_read Tells accepts most served.Shut a b old mid new later opened runs reads told none order = tt
-failed_read Tells accepts most served.NextFault a b old mid new later opened runs reads told none order = tt
-failed_read Tells accepts most (served.Txn fault) a b old mid new later opened runs reads told none order = tt
-failed_read Tells accepts most served.NoMemory a b old mid new later opened runs reads told none order = tt
+failed_read rule Tells accepts most (served.EventsLeft left) a b old mid new later opened runs reads told none order = all_read Tells old mid new later opened reads told none order
+failed_read rule Tells accepts most (served.Ended events) a b old mid new later opened runs reads told none order = absurd runs
+failed_read rule Tells accepts most served.WriteFault a b old mid new later opened runs reads told none order = tt
+failed_read rule Tells accepts most served.Shut a b old mid new later opened runs reads told none order = tt
+failed_read rule Tells accepts most served.NextFault a b old mid new later opened runs reads told none order = tt
+failed_read rule Tells accepts most (served.Txn fault) a b old mid new later opened runs reads told none order = tt
+failed_read rule Tells accepts most served.NoMemory a b old mid new later opened runs reads told none order = tt

@@ -6,6 +6,7 @@ use Rattle.std.proofs.lemmas.List.{append-nil, length-append}
 use Rattle.of_types.specs.declared.journal.WorldStim.{WorldStim}
 use Rattle.flow_table.specs.View.{TableView}
 use Rattle.app_frames.specs.declared.frame.Event.{Event}
+use Rattle.crash_policy.specs.Policies.{app_value}
 use Rattle.lego_model.specs.Journal.{Reply, Start}
 use Rattle.lego_model.specs.Places.{Place}
 use Rattle.lego_model.specs.Losses.{Losses}
@@ -152,7 +153,7 @@ settles_all Tells accepts n a b old new r now_r all some = record {
 -- the engine with the network and the queue that a batch leaves
 engine_behind : (r now_r : Run) → now_r.app ≡ r.app → Waits r now_r → engine_then (engine_of r) now_r.net now_r.queue ≡ engine_of now_r
 engine_behind r now_r app waits =
-    ap₂ (λ (n : ℕ) (a : Managed). record { net = now_r.net; queue = now_r.queue; events = n; alive = a.state.alive; rest = a.state.rest; kept = kept_of index r.store; done = a.done; failed = a.failed }) (sym waits.events) (sym app)
+    ap₂ (λ (n : ℕ) (a : Managed). record { net = now_r.net; queue = now_r.queue; events = n; rule = app_value a.rule.now; alive = a.state.alive; rest = a.state.rest; kept = kept_of index r.store; done = a.done; failed = a.failed }) (sym waits.events) (sym app)
     ∙ ap (λ (slots : List Slot). record (engine_of now_r) { kept = kept_of index slots }) (sym waits.store)
 
 -- its lines are all that it noted

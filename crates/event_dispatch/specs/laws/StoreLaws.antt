@@ -75,21 +75,21 @@ rests_closed closing app slots mid_slots now_slots at rests keeps is = record {
       (subst (λ (x : Slot). HasStaged [] x) (sym (slot_of-with_slot app (closes_slot closing) mid_slots (within app slots mid_slots (place app slots at rests) keeps))) (none_staged closing (slot_of app mid_slots))));
 }
 
-pub held : (Own : Type 0) (Tells : Type 0) (accepts : List TableView → Bool) (number : ℕ) (event : Event) (old new : Seen Own) (net now_net : NetState) (queue now_queue : List Event) (rest unread : List ℕ) (closing : Result Closing Fault) (app : ℕ) (slots mid_slots now_slots : List Slot)
+pub held : (Own : Type 0) (Tells : Type 0) (accepts : List TableView → Bool) (budget number : ℕ) (event : Event) (old new : Seen Own) (net now_net : NetState) (queue now_queue : List Event) (rest unread : List ℕ) (closing : Result Closing Fault) (app : ℕ) (slots mid_slots now_slots : List Slot)
     → app ≡ index → StoreRests slots → KeepsSlots app slots mid_slots → now_slots ≡ with_slot app (closes_slot closing) mid_slots
-    → IfOk closing (λ c. PlaysStaged Tells accepts app number event c old new net now_net queue now_queue rest unread slots mid_slots) → IfOk closing (λ c. HoldsTurn Tells accepts app number event c old new net now_net queue now_queue rest unread (kept_of app slots) (kept_of app now_slots))
-held Own Tells accepts number event old new net now_net queue now_queue rest unread (Ok (closings.Done stop out)) app slots mid_slots now_slots at rests keeps is staged = record {
+    → IfOk closing (λ c. PlaysStaged Tells accepts app budget number event c old new net now_net queue now_queue rest unread slots mid_slots) → IfOk closing (λ c. HoldsTurn Tells accepts app budget number event c old new net now_net queue now_queue rest unread (kept_of app slots) (kept_of app now_slots))
+held Own Tells accepts budget number event old new net now_net queue now_queue rest unread (Ok (closings.Done stop out)) app slots mid_slots now_slots at rests keeps is staged = record {
   plays = staged.plays;
   kept_is = kept_done app mid_slots now_slots (within app slots mid_slots (place app slots at rests) keeps) is
       ∙ ap (λ (s : List Slot). (slot_of app s).pending.checkpoint) staged.staged_is
       ∙ pending_handed app (handed staged.plays.turns.outcome) slots (place app slots at rests) (quiet app slots at rests);
 }
-held Own Tells accepts number event old new net now_net queue now_queue rest unread (Ok (closings.Failed cause)) app slots mid_slots now_slots at rests keeps is staged = record {
+held Own Tells accepts budget number event old new net now_net queue now_queue rest unread (Ok (closings.Failed cause)) app slots mid_slots now_slots at rests keeps is staged = record {
   plays = staged.plays;
   kept_is = kept_dropped app mid_slots now_slots (within app slots mid_slots (place app slots at rests) keeps) is ∙ keeps.kept
       ∙ ap (λ (checkpoint : Option (List ℕ)). unwrap_or checkpoint (kept_of app slots)) (sym (none_handed cause unread staged.plays.turns.outcome staged.plays.turns.ends));
 }
-held Own Tells accepts number event old new net now_net queue now_queue rest unread (Err fault) app slots mid_slots now_slots at rests keeps is staged = tt
+held Own Tells accepts budget number event old new net now_net queue now_queue rest unread (Err fault) app slots mid_slots now_slots at rests keeps is staged = tt
 
 pub unkept : (closing : Result Closing Fault) (app : ℕ) (slots mid_slots now_slots : List Slot) → app ≡ index → StoreRests slots → KeepsSlots app slots mid_slots → now_slots ≡ with_slot app (closes_slot closing) mid_slots → OnErr closing (kept_of app now_slots ≡ kept_of app slots)
 unkept (Ok c) app slots mid_slots now_slots at rests keeps is = tt

@@ -135,20 +135,20 @@ turn_ends app rest old mid new is turns links = record {
       leads_at_once app old new a (leads_on_then app a.last first.after old mid new first.converses (leads_on_links app first.after links told));
 }
 
-turn_played : {Own : Type 0} (Tells : Type 0) (accepts : List TableView → Bool) (app number : ℕ) (event : Event) (closing : Closing) (old new : Seen Own) (net now_net : NetState) (queue now_queue : List Event) (rest unread : List ℕ)
-    → PlaysTurn Tells accepts app number event closing old new net now_net queue now_queue rest unread → TurnTalks Tells app rest old new
-turn_played Tells accepts app number event (closings.Done stop out) old new net now_net queue now_queue rest unread plays = turn_ends app rest old plays.mid new (event_is number net.moment event) plays.turns plays.played.links
-turn_played Tells accepts app number event (closings.Failed cause) old new net now_net queue now_queue rest unread plays = turn_ends app rest old plays.mid new (event_is number net.moment event) plays.turns plays.played.0.links
+turn_played : {Own : Type 0} (Tells : Type 0) (accepts : List TableView → Bool) (app budget number : ℕ) (event : Event) (closing : Closing) (old new : Seen Own) (net now_net : NetState) (queue now_queue : List Event) (rest unread : List ℕ)
+    → PlaysTurn Tells accepts app budget number event closing old new net now_net queue now_queue rest unread → TurnTalks Tells app rest old new
+turn_played Tells accepts app budget number event (closings.Done stop out) old new net now_net queue now_queue rest unread plays = turn_ends app rest old plays.mid new (event_is number net.moment event) plays.turns plays.played.links
+turn_played Tells accepts app budget number event (closings.Failed cause) old new net now_net queue now_queue rest unread plays = turn_ends app rest old plays.mid new (event_is number net.moment event) plays.turns plays.played.0.links
 
 -- of the one application
 pub turn_of : {Own : Type 0} (Tells : Type 0) (app : ℕ) (rest : List ℕ) (old new : Seen Own) → app ≡ index → TurnTalks Tells app rest old new → TurnTalks Tells index rest old new
 turn_of Tells app rest old new is talks = subst (λ (i : ℕ). TurnTalks Tells i rest old new) is talks
 
 -- it was played, and what followed goes on
-pub turn_closed : {Own : Type 0} {Tells : Type 0} {accepts : List TableView → Bool} {number : ℕ} {event : Event} {closing : Closing} {net now_net : NetState} {queue now_queue : List Event} {unread : List ℕ} (app : ℕ) (rest : List ℕ) (old mid new : Seen Own) → app ≡ index
-    → PlaysTurn Tells accepts app number event closing old mid net now_net queue now_queue rest unread → KeepsTalking Tells mid new → TurnTalks Tells index rest old new
-turn_closed {Tells = Tells} {accepts = accepts} {number = number} {event = event} {closing = closing} {net = net} {now_net = now_net} {queue = queue} {now_queue = now_queue} {unread = unread} app rest old mid new is plays later =
-    let first = turn_of Tells app rest old mid is (turn_played Tells accepts app number event closing old mid net now_net queue now_queue rest unread plays) in
+pub turn_closed : {Own : Type 0} {Tells : Type 0} {accepts : List TableView → Bool} {budget number : ℕ} {event : Event} {closing : Closing} {net now_net : NetState} {queue now_queue : List Event} {unread : List ℕ} (app : ℕ) (rest : List ℕ) (old mid new : Seen Own) → app ≡ index
+    → PlaysTurn Tells accepts app budget number event closing old mid net now_net queue now_queue rest unread → KeepsTalking Tells mid new → TurnTalks Tells index rest old new
+turn_closed {Tells = Tells} {accepts = accepts} {budget = budget} {number = number} {event = event} {closing = closing} {net = net} {now_net = now_net} {queue = queue} {now_queue = now_queue} {unread = unread} app rest old mid new is plays later =
+    let first = turn_of Tells app rest old mid is (turn_played Tells accepts app budget number event closing old mid net now_net queue now_queue rest unread plays) in
     record { talks = λ told a runs passes. later.talks told (first.talks told a runs passes) }
 
 -- ---- Behind parts of a run that were done

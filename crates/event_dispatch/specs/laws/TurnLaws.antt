@@ -5,6 +5,8 @@ use Rattle.std.specs.Global.{Global}
 use Rattle.flow_table.specs.View.{TableView}
 use Rattle.app_frames.specs.declared.cause.Cause.{Cause}
 use Rattle.app_frames.specs.declared.frame.Event.{Event}
+use Rattle.crash_policy.specs.Asking.{rule_at}
+use Rattle.crash_policy.specs.Policies.{app_value}
 use Rattle.lego_model.specs.Controller.{event_frame}
 use Rattle.lego_model.specs.RunReport.{turn_line}
 use Rattle.lego_model.specs.declared.turn.TurnWord.TheVariants as words
@@ -20,13 +22,13 @@ use Rattle.app_visor.specs.Attempts.{kept_of}
 use Rattle.app_visor.specs.Turns.{StagesTurn}
 use Rattle.checkpoint_store.specs.Slots.{Slot}
 use Rattle.run_laws.specs.Engine.{Engine}
-use Rattle.lego_model.specs.Application.{index, budget, name}
+use Rattle.lego_model.specs.Application.{index}
 use Rattle.batch_laws.specs.Knowledge.{lost_text}
-use Rattle.run_laws.specs.Facts.{turn_word, out_text, all_told, StartsAgain}
+use Rattle.run_laws.specs.Facts.{turn_word, out_text, all_told, Follows}
 use Rattle.event_dispatch.specs.declared.closing.Closing.{Closing}
 use Rattle.event_dispatch.specs.declared.closing.Closing.TheVariants as closings
 use Rattle.event_dispatch.specs.declared.run.Run.{Run}
-use Rattle.event_dispatch.specs.Shows.{engine_of, played_run}
+use Rattle.event_dispatch.specs.Shows.{engine_of, name_of, played_run}
 use Rattle.event_dispatch.specs.Serves.{Closes, HasTurn}
 use Rattle.event_dispatch.specs.Stored.{PlaysStaged, HoldsTurn}
 use Rattle.event_dispatch.specs.laws.StoreLaws.{none_handed}
@@ -34,12 +36,12 @@ use Rattle.event_dispatch.specs.laws.StoreLaws.{none_handed}
 -- ---- A turn, from its event on
 
 turn_at : {Own : Type 0} (Tells : Type 0) (accepts : List TableView → Bool) (event : Event) (closing : Closing) (old mid new : Seen Own) (net : NetState) (queue : List Event) (app : AppState) (slots : List Slot) (r now_r : Run)
-    → HoldsTurn Tells accepts index r.events event closing old mid r.net net r.queue queue r.app.state.rest app.rest (kept_of index r.store) (kept_of index slots) → app.alive ≡ r.app.state.alive → Closes Tells closing mid new (played_run net queue app slots r) now_r
+    → HoldsTurn Tells accepts index r.app.rule.now.budget r.events event closing old mid r.net net r.queue queue r.app.state.rest app.rest (kept_of index r.store) (kept_of index slots) → app.alive ≡ r.app.state.alive → Closes Tells event.kind closing mid new (played_run net queue app slots r) now_r
     → HasTurn Tells accepts event old new r now_r
 turn_at Tells accepts event (closings.Done stop out) old mid new net queue app slots r now_r holds alive closes =
     let plays = holds.plays in
     record {
-      text = turn_line name (turn_word (ends.Done stop)) ++ (out_text out.items ++ lost_text net.left);
+      text = turn_line (name_of r) (turn_word (ends.Done stop)) ++ (out_text out.items ++ lost_text net.left);
       takes = record {
         mid = plays.mid;
         mid_net = plays.mid_net;
@@ -64,7 +66,7 @@ turn_at Tells accepts event (closings.Failed cause) old mid new net queue app sl
     let same : kept_of index slots ≡ kept_of index r.store =
     holds.kept_is ∙ ap (λ (checkpoint : Option (List ℕ)). unwrap_or checkpoint (kept_of index r.store)) (none_handed cause app.rest plays.turns.outcome plays.turns.ends) in
     record {
-      text = turn_line name (words.Failed cause) ++ (lost_text net.left ++ closes.text);
+      text = turn_line (name_of r) (words.Failed cause) ++ (lost_text net.left ++ closes.text);
       takes = record {
         mid = plays.mid;
         mid_net = plays.mid_net;
@@ -76,10 +78,10 @@ turn_at Tells accepts event (closings.Failed cause) old mid new net queue app sl
           undone_net = net;
           undoes = plays.played.0;
           later_text = closes.text;
-          starts = subst (λ (e : Engine). StartsAgain Tells closes.text mid new e (engine_of now_r))
+          follows = subst (λ (e : Engine). Follows Tells (rule_at (app_value r.app.rule.now) event.kind) closes.text mid new e (engine_of now_r))
               (ap (λ (unread : List ℕ). all_told net queue (record (engine_of r) { alive = app.alive; rest = unread; kept = kept_of index slots; failed = r.app.failed + 1 })) plays.turns.leaves
               ∙ ap₂ (λ (q : List Event) (b : Bool). all_told net q (record (engine_of r) { alive = b; rest = []; kept = kept_of index slots; failed = r.app.failed + 1 })) plays.played.1 alive
-              ∙ ap (λ (kept : List ℕ). all_told net r.queue (record (engine_of r) { rest = []; kept = kept; failed = r.app.failed + 1 })) same) closes.starts;
+              ∙ ap (λ (kept : List ℕ). all_told net r.queue (record (engine_of r) { rest = []; kept = kept; failed = r.app.failed + 1 })) same) closes.follows;
           text_is = refl;
         };
       };
@@ -87,18 +89,18 @@ turn_at Tells accepts event (closings.Failed cause) old mid new net queue app sl
     }
 
 pub turn_is : {Own : Type 0} (Tells : Type 0) (accepts : List TableView → Bool) (event : Event) (closing : Closing) (old mid new : Seen Own) (net : NetState) (queue : List Event) (app : AppState) (slots : List Slot) (r now_r : Run) → r.app.state.index ≡ index
-    → HoldsTurn Tells accepts r.app.state.index r.events event closing old mid r.net net r.queue queue r.app.state.rest app.rest (kept_of r.app.state.index r.store) (kept_of r.app.state.index slots) → app.alive ≡ r.app.state.alive
-    → Closes Tells closing mid new (played_run net queue app slots r) now_r → HasTurn Tells accepts event old new r now_r
+    → HoldsTurn Tells accepts r.app.state.index r.app.rule.now.budget r.events event closing old mid r.net net r.queue queue r.app.state.rest app.rest (kept_of r.app.state.index r.store) (kept_of r.app.state.index slots) → app.alive ≡ r.app.state.alive
+    → Closes Tells event.kind closing mid new (played_run net queue app slots r) now_r → HasTurn Tells accepts event old new r now_r
 turn_is Tells accepts event closing old mid new net queue app slots r now_r at holds alive closes =
     turn_at Tells accepts event closing old mid new net queue app slots r now_r
-    (subst (λ (i : ℕ). HoldsTurn Tells accepts i r.events event closing old mid r.net net r.queue queue r.app.state.rest app.rest (kept_of i r.store) (kept_of i slots)) at holds) alive closes
+    (subst (λ (i : ℕ). HoldsTurn Tells accepts i r.app.rule.now.budget r.events event closing old mid r.net net r.queue queue r.app.state.rest app.rest (kept_of i r.store) (kept_of i slots)) at holds) alive closes
 
 -- ---- A turn that was played in a transaction
 
-pub play_done : {Own : Type 0} {Tells : Type 0} {accepts : List TableView → Bool} {app number start now_start : ℕ} {event : Event} {end : TurnEnd} {stop : Bool} {out : Vec (ℕ × ℕ) Global} {old mid new : Seen Own} {net txn_net mid_net left_net now_net : NetState} {queue now_queue : List Event} {rest unread : List ℕ}
+pub play_done : {Own : Type 0} {Tells : Type 0} {accepts : List TableView → Bool} {app budget number start now_start : ℕ} {event : Event} {end : TurnEnd} {stop : Bool} {out : Vec (ℕ × ℕ) Global} {old mid new : Seen Own} {net txn_net mid_net left_net now_net : NetState} {queue now_queue : List Event} {rest unread : List ℕ}
     {slots now_slots : List Slot} → txn_net ≡ net → start ≡ length net.log → end ≡ ends.Done stop → StagesTurn Tells accepts app budget rest (event_frame number txn_net.moment event) old mid txn_net mid_net end unread slots now_slots → now_start ≡ start
-    → now_net ≡ left_net → Commits Tells now_start mid new mid_net left_net queue now_queue (Ok out.items) → PlaysStaged Tells accepts app number event (closings.Done stop out) old new net now_net queue now_queue rest unread slots now_slots
-play_done {Tells = Tells} {accepts = accepts} {app = app} {number = number} {start = start} {now_start = now_start} {event = event} {end = end} {stop = stop} {out = out} {old = old} {mid = mid} {new = new} {net = net} {txn_net = txn_net} {mid_net = mid_net} {left_net = left_net} {queue = queue}
+    → now_net ≡ left_net → Commits Tells now_start mid new mid_net left_net queue now_queue (Ok out.items) → PlaysStaged Tells accepts app budget number event (closings.Done stop out) old new net now_net queue now_queue rest unread slots now_slots
+play_done {Tells = Tells} {accepts = accepts} {app = app} {budget = budget} {number = number} {start = start} {now_start = now_start} {event = event} {end = end} {stop = stop} {out = out} {old = old} {mid = mid} {new = new} {net = net} {txn_net = txn_net} {mid_net = mid_net} {left_net = left_net} {queue = queue}
     {now_queue = now_queue} {rest = rest} {unread = unread} {slots = slots} {now_slots = now_slots} same at is turns kept here commits =
     let stages : StagesTurn Tells accepts app budget rest (event_frame number net.moment event) old mid net mid_net (ends.Done stop) unread slots now_slots =
     subst (λ (e : TurnEnd). StagesTurn Tells accepts app budget rest (event_frame number net.moment event) old mid net mid_net e unread slots now_slots) is
@@ -114,10 +116,10 @@ play_done {Tells = Tells} {accepts = accepts} {app = app} {number = number} {sta
       staged_is = stages.staged_is;
     }
 
-pub play_failed : {Own : Type 0} {Tells : Type 0} {accepts : List TableView → Bool} {app number start now_start : ℕ} {event : Event} {end : TurnEnd} {cause : Cause} {result : Result (Unit {0}) TxnFault} {old mid new : Seen Own} {net txn_net mid_net left_net now_net : NetState} {queue now_queue : List Event}
+pub play_failed : {Own : Type 0} {Tells : Type 0} {accepts : List TableView → Bool} {app budget number start now_start : ℕ} {event : Event} {end : TurnEnd} {cause : Cause} {result : Result (Unit {0}) TxnFault} {old mid new : Seen Own} {net txn_net mid_net left_net now_net : NetState} {queue now_queue : List Event}
     {rest unread : List ℕ} {slots now_slots : List Slot} → txn_net ≡ net → start ≡ length net.log → end ≡ ends.Failed cause → StagesTurn Tells accepts app budget rest (event_frame number txn_net.moment event) old mid txn_net mid_net end unread slots now_slots → now_start ≡ start → result ≡ Ok tt → now_net ≡ left_net
-    → now_queue ≡ queue → Undoes Tells now_start mid new mid_net left_net result → PlaysStaged Tells accepts app number event (closings.Failed cause) old new net now_net queue now_queue rest unread slots now_slots
-play_failed {Tells = Tells} {accepts = accepts} {app = app} {number = number} {start = start} {now_start = now_start} {event = event} {end = end} {cause = cause} {result = result} {old = old} {mid = mid} {new = new} {net = net} {txn_net = txn_net} {mid_net = mid_net}
+    → now_queue ≡ queue → Undoes Tells now_start mid new mid_net left_net result → PlaysStaged Tells accepts app budget number event (closings.Failed cause) old new net now_net queue now_queue rest unread slots now_slots
+play_failed {Tells = Tells} {accepts = accepts} {app = app} {budget = budget} {number = number} {start = start} {now_start = now_start} {event = event} {end = end} {cause = cause} {result = result} {old = old} {mid = mid} {new = new} {net = net} {txn_net = txn_net} {mid_net = mid_net}
     {left_net = left_net} {now_net = now_net} {rest = rest} {unread = unread} {slots = slots} {now_slots = now_slots} same at is turns kept ok here waits undoes =
     let stages : StagesTurn Tells accepts app budget rest (event_frame number net.moment event) old mid net mid_net (ends.Failed cause) unread slots now_slots =
     subst (λ (e : TurnEnd). StagesTurn Tells accepts app budget rest (event_frame number net.moment event) old mid net mid_net e unread slots now_slots) is

@@ -3,6 +3,7 @@ use Rattle.std.proofs.Common.{◌≡◌, ℕ, Bool, List, [], ◌∷◌, ◌++�
 use Rattle.std.specs.Io.KnownBytes.{append_known}
 use Rattle.std.proofs.lemmas.List.{append-nil}
 use Rattle.flow_table.specs.View.{TableView}
+use Rattle.crash_policy.specs.Policies.{AppValue}
 use Rattle.lego_model.specs.Places.{Place}
 use Rattle.lego_model.specs.History.{lost_of}
 use Rattle.outside.specs.declared.step.WorldStep.{WorldStep}
@@ -166,28 +167,28 @@ goes_then Tells accepts most (Err served.NoMemory) a b old mid new r now_r later
 
 -- ---- From an engine before anything happened
 
-pub runs_done : {Own : Type 0} (Tells : Type 0) (accepts : List TableView → Bool) (most : ℕ) (a b : Option (List ℕ)) (old new : Seen Own) (r now_r : Run) → engine_of r ≡ engine_at_first → GoesAs Tells accepts most (Ok tt) a b old new r now_r → RunsAs Tells accepts most (Ok now_r.events) a b old new
-runs_done Tells accepts most a b old new r now_r first goes = subst (RunsOut Tells accepts most now_r.events a b old new) first goes
+pub runs_done : {Own : Type 0} (rule : AppValue) (Tells : Type 0) (accepts : List TableView → Bool) (most : ℕ) (a b : Option (List ℕ)) (old new : Seen Own) (r now_r : Run) → engine_of r ≡ engine_at_first rule → GoesAs Tells accepts most (Ok tt) a b old new r now_r → RunsAs rule Tells accepts most (Ok now_r.events) a b old new
+runs_done rule Tells accepts most a b old new r now_r first goes = subst (RunsOut Tells accepts most now_r.events a b old new) first goes
 
-runs_failed : {Own : Type 0} (Tells : Type 0) (accepts : List TableView → Bool) (most : ℕ) (end : Served) (a b : Option (List ℕ)) (old new : Seen Own) (r now_r : Run) → engine_of r ≡ engine_at_first → GoesAs Tells accepts most (Err end) a b old new r now_r → RunsAs Tells accepts most (Err end) a b old new
-runs_failed Tells accepts most (served.EventsLeft left) a b old new r now_r first goes = subst (RunsFull Tells accepts most left a b old new) first goes
-runs_failed Tells accepts most (served.Ended events) a b old new r now_r first goes = absurd goes
-runs_failed Tells accepts most served.WriteFault a b old new r now_r first goes = tt
-runs_failed Tells accepts most served.Shut a b old new r now_r first goes = tt
-runs_failed Tells accepts most served.NextFault a b old new r now_r first goes = tt
-runs_failed Tells accepts most (served.Txn fault) a b old new r now_r first goes = tt
-runs_failed Tells accepts most served.NoMemory a b old new r now_r first goes = tt
+runs_failed : {Own : Type 0} (rule : AppValue) (Tells : Type 0) (accepts : List TableView → Bool) (most : ℕ) (end : Served) (a b : Option (List ℕ)) (old new : Seen Own) (r now_r : Run) → engine_of r ≡ engine_at_first rule → GoesAs Tells accepts most (Err end) a b old new r now_r → RunsAs rule Tells accepts most (Err end) a b old new
+runs_failed rule Tells accepts most (served.EventsLeft left) a b old new r now_r first goes = subst (RunsFull Tells accepts most left a b old new) first goes
+runs_failed rule Tells accepts most (served.Ended events) a b old new r now_r first goes = absurd goes
+runs_failed rule Tells accepts most served.WriteFault a b old new r now_r first goes = tt
+runs_failed rule Tells accepts most served.Shut a b old new r now_r first goes = tt
+runs_failed rule Tells accepts most served.NextFault a b old new r now_r first goes = tt
+runs_failed rule Tells accepts most (served.Txn fault) a b old new r now_r first goes = tt
+runs_failed rule Tells accepts most served.NoMemory a b old new r now_r first goes = tt
 
 -- what a `?` answers
-pub runs_by : {Own : Type 0} (Tells : Type 0) (accepts : List TableView → Bool) (most : ℕ) (a b : Option (List ℕ)) (old new : Seen Own) (r now_r : Run) (end : Served) (result : Result ℕ Served) → IsErrAnd result (λ s. s ≡ end) → engine_of r ≡ engine_at_first
-    → GoesAs Tells accepts most (Err end) a b old new r now_r → RunsAs Tells accepts most result a b old new
-runs_by Tells accepts most a b old new r now_r end (Ok x) is first goes = absurd is
-runs_by Tells accepts most a b old new r now_r end (Err s) is first goes = subst (λ (e : Served). RunsAs Tells accepts most (Err e) a b old new) (sym is) (runs_failed Tells accepts most end a b old new r now_r first goes)
+pub runs_by : {Own : Type 0} (rule : AppValue) (Tells : Type 0) (accepts : List TableView → Bool) (most : ℕ) (a b : Option (List ℕ)) (old new : Seen Own) (r now_r : Run) (end : Served) (result : Result ℕ Served) → IsErrAnd result (λ s. s ≡ end) → engine_of r ≡ engine_at_first rule
+    → GoesAs Tells accepts most (Err end) a b old new r now_r → RunsAs rule Tells accepts most result a b old new
+runs_by rule Tells accepts most a b old new r now_r end (Ok x) is first goes = absurd is
+runs_by rule Tells accepts most a b old new r now_r end (Err s) is first goes = subst (λ (e : Served). RunsAs rule Tells accepts most (Err e) a b old new) (sym is) (runs_failed rule Tells accepts most end a b old new r now_r first goes)
 
 -- memory ran out before anything was done
-pub runs_short : {Own : Type 0} (Tells : Type 0) (accepts : List TableView → Bool) (most : ℕ) (a b : Option (List ℕ)) (old new : Seen Own) (result : Result ℕ Served) → IsErrAnd result (λ s. s ≡ served.NoMemory) → RunsAs Tells accepts most result a b old new
-runs_short Tells accepts most a b old new (Ok x) is = absurd is
-runs_short Tells accepts most a b old new (Err s) is = subst (λ (e : Served). RunsAs Tells accepts most (Err e) a b old new) (sym is) tt
+pub runs_short : {Own : Type 0} (rule : AppValue) (Tells : Type 0) (accepts : List TableView → Bool) (most : ℕ) (a b : Option (List ℕ)) (old new : Seen Own) (result : Result ℕ Served) → IsErrAnd result (λ s. s ≡ served.NoMemory) → RunsAs rule Tells accepts most result a b old new
+runs_short rule Tells accepts most a b old new (Ok x) is = absurd is
+runs_short rule Tells accepts most a b old new (Err s) is = subst (λ (e : Served). RunsAs rule Tells accepts most (Err e) a b old new) (sym is) tt
 
 -- ---- Of a world on which no call was made
 
@@ -213,62 +214,62 @@ short_by Tells old new opening.Shut is told = absurd cc
 short_by Tells old new opening.Short is told = λ tells. (told tells).history ∙ append-nil old.history
 
 -- it could not be opened
-pub cut_unopened : {Own : Type 0} (Tells : Type 0) (contents : Option (List ℕ)) (old new : Seen Own) (end : Served) → IsUnopened Tells old new end → (allows : List Place → Bool) → Tells → old.history ≡ [] → IsCut allows new contents contents end
-cut_unopened Tells contents old new served.Shut left allows told none = record { history = left told ∙ ap (λ (h : List WorldStep). h ++ NotOpened ∷ []) none; still = refl }
-cut_unopened Tells contents old new served.NoMemory left allows told none = inr (record { history = left told ∙ none; still = refl })
-cut_unopened Tells contents old new (served.EventsLeft n) left allows told none = absurd left
-cut_unopened Tells contents old new (served.Ended events) left allows told none = absurd left
-cut_unopened Tells contents old new served.WriteFault left allows told none = absurd left
-cut_unopened Tells contents old new served.NextFault left allows told none = absurd left
-cut_unopened Tells contents old new (served.Txn fault) left allows told none = absurd left
+pub cut_unopened : {Own : Type 0} (rule : AppValue) (Tells : Type 0) (contents : Option (List ℕ)) (old new : Seen Own) (end : Served) → IsUnopened Tells old new end → (allows : List Place → Bool) → Tells → old.history ≡ [] → IsCut rule allows new contents contents end
+cut_unopened rule Tells contents old new served.Shut left allows told none = record { history = left told ∙ ap (λ (h : List WorldStep). h ++ NotOpened ∷ []) none; still = refl }
+cut_unopened rule Tells contents old new served.NoMemory left allows told none = inr (record { history = left told ∙ none; still = refl })
+cut_unopened rule Tells contents old new (served.EventsLeft n) left allows told none = absurd left
+cut_unopened rule Tells contents old new (served.Ended events) left allows told none = absurd left
+cut_unopened rule Tells contents old new served.WriteFault left allows told none = absurd left
+cut_unopened rule Tells contents old new served.NextFault left allows told none = absurd left
+cut_unopened rule Tells contents old new (served.Txn fault) left allows told none = absurd left
 
-pub alike_unopened : {Own : Type 0} (Tells : Type 0) (accepts : List TableView → Bool) (most : ℕ) (contents : Option (List ℕ)) (old new : Seen Own) (end : Served) → IsUnopened Tells old new end → (allows : List Place → Bool) → Premise Tells accepts allows most old new → IsAlike allows new contents contents end
-alike_unopened Tells accepts most contents old new served.Shut left allows p = cut_unopened Tells contents old new served.Shut left allows p.told p.untouched
-alike_unopened Tells accepts most contents old new served.NoMemory left allows p = cut_unopened Tells contents old new served.NoMemory left allows p.told p.untouched
-alike_unopened Tells accepts most contents old new (served.EventsLeft n) left allows p = absurd left
-alike_unopened Tells accepts most contents old new (served.Ended events) left allows p = absurd left
-alike_unopened Tells accepts most contents old new served.WriteFault left allows p = absurd left
-alike_unopened Tells accepts most contents old new served.NextFault left allows p = absurd left
-alike_unopened Tells accepts most contents old new (served.Txn fault) left allows p = absurd left
+pub alike_unopened : {Own : Type 0} (rule : AppValue) (Tells : Type 0) (accepts : List TableView → Bool) (most : ℕ) (contents : Option (List ℕ)) (old new : Seen Own) (end : Served) → IsUnopened Tells old new end → (allows : List Place → Bool) → Premise Tells accepts allows most old new → IsAlike rule allows new contents contents end
+alike_unopened rule Tells accepts most contents old new served.Shut left allows p = cut_unopened rule Tells contents old new served.Shut left allows p.told p.untouched
+alike_unopened rule Tells accepts most contents old new served.NoMemory left allows p = cut_unopened rule Tells contents old new served.NoMemory left allows p.told p.untouched
+alike_unopened rule Tells accepts most contents old new (served.EventsLeft n) left allows p = absurd left
+alike_unopened rule Tells accepts most contents old new (served.Ended events) left allows p = absurd left
+alike_unopened rule Tells accepts most contents old new served.WriteFault left allows p = absurd left
+alike_unopened rule Tells accepts most contents old new served.NextFault left allows p = absurd left
+alike_unopened rule Tells accepts most contents old new (served.Txn fault) left allows p = absurd left
 
-pub alike_done : {Own : Type 0} (Tells : Type 0) (accepts : List TableView → Bool) (most events : ℕ) (a b : Option (List ℕ)) (old mid new : Seen Own) → (Tells → mid.history ≡ old.history ++ Opened ∷ []) → RunsAs Tells accepts most (Ok events) a b mid new
-    → (allows : List Place → Bool) → Premise Tells accepts allows most old new → IsAlike allows new a b (served.Ended events)
-alike_done Tells accepts most events a b old mid new opened runs allows p =
+pub alike_done : {Own : Type 0} (rule : AppValue) (Tells : Type 0) (accepts : List TableView → Bool) (most events : ℕ) (a b : Option (List ℕ)) (old mid new : Seen Own) → (Tells → mid.history ≡ old.history ++ Opened ∷ []) → RunsAs rule Tells accepts most (Ok events) a b mid new
+    → (allows : List Place → Bool) → Premise Tells accepts allows most old new → IsAlike rule allows new a b (served.Ended events)
+alike_done rule Tells accepts most events a b old mid new opened runs allows p =
     let is = opened_is old mid p.untouched (opened p.told) in
-    subst (λ (n : ℕ). IsAlike allows new a b (served.Ended n)) (sym runs.events_is) (record {
-      alike = ran-out Tells accepts allows most a b mid new runs.last p.told p.keeps p.judges is p.few runs.out;
-      none_to_come = runs.none_to_come.none allows p.told p.keeps p.judges (settled-first mid is) p.few;
+    subst (λ (n : ℕ). IsAlike rule allows new a b (served.Ended n)) (sym runs.events_is) (record {
+      alike = ran-out rule Tells accepts allows most a b mid new runs.last p.told p.keeps p.judges is p.few runs.out;
+      none_to_come = runs.none_to_come.none allows p.told p.keeps p.judges (settled-first rule mid is) p.few;
     })
 
 -- a fault ended it
-pub cut_failed : {Own : Type 0} (Tells : Type 0) (accepts : List TableView → Bool) (most : ℕ) (end : Served) (a b : Option (List ℕ)) (old mid new : Seen Own) → (Tells → mid.history ≡ old.history ++ Opened ∷ []) → Continues Tells mid new → RunsAs Tells accepts most (Err end) a b mid new
-    → CutAs Tells accepts most end a b mid new engine_at_first → (allows : List Place → Bool) → PremiseSoFar Tells accepts allows most old new → IsCut allows new a b end
-cut_failed Tells accepts most (served.EventsLeft left) a b old mid new opened on runs cut allows p = tt
-cut_failed Tells accepts most (served.Ended events) a b old mid new opened on runs cut allows p = absurd runs
-cut_failed Tells accepts most served.WriteFault a b old mid new opened on runs cut allows p = so_cut Tells accepts allows most served.WriteFault a b old mid new p (opened_is old mid p.untouched (opened p.told)) on cut
-cut_failed Tells accepts most served.Shut a b old mid new opened on runs cut allows p = so_cut Tells accepts allows most served.Shut a b old mid new p (opened_is old mid p.untouched (opened p.told)) on cut
-cut_failed Tells accepts most served.NextFault a b old mid new opened on runs cut allows p = so_cut Tells accepts allows most served.NextFault a b old mid new p (opened_is old mid p.untouched (opened p.told)) on cut
-cut_failed Tells accepts most (served.Txn fault) a b old mid new opened on runs cut allows p = so_cut Tells accepts allows most (served.Txn fault) a b old mid new p (opened_is old mid p.untouched (opened p.told)) on cut
-cut_failed Tells accepts most served.NoMemory a b old mid new opened on runs cut allows p = so_cut Tells accepts allows most served.NoMemory a b old mid new p (opened_is old mid p.untouched (opened p.told)) on cut
+pub cut_failed : {Own : Type 0} (rule : AppValue) (Tells : Type 0) (accepts : List TableView → Bool) (most : ℕ) (end : Served) (a b : Option (List ℕ)) (old mid new : Seen Own) → (Tells → mid.history ≡ old.history ++ Opened ∷ []) → Continues Tells mid new → RunsAs rule Tells accepts most (Err end) a b mid new
+    → CutAs Tells accepts most end a b mid new (engine_at_first rule) → (allows : List Place → Bool) → PremiseSoFar Tells accepts allows most old new → IsCut rule allows new a b end
+cut_failed rule Tells accepts most (served.EventsLeft left) a b old mid new opened on runs cut allows p = tt
+cut_failed rule Tells accepts most (served.Ended events) a b old mid new opened on runs cut allows p = absurd runs
+cut_failed rule Tells accepts most served.WriteFault a b old mid new opened on runs cut allows p = so_cut rule Tells accepts allows most served.WriteFault a b old mid new p (opened_is old mid p.untouched (opened p.told)) on cut
+cut_failed rule Tells accepts most served.Shut a b old mid new opened on runs cut allows p = so_cut rule Tells accepts allows most served.Shut a b old mid new p (opened_is old mid p.untouched (opened p.told)) on cut
+cut_failed rule Tells accepts most served.NextFault a b old mid new opened on runs cut allows p = so_cut rule Tells accepts allows most served.NextFault a b old mid new p (opened_is old mid p.untouched (opened p.told)) on cut
+cut_failed rule Tells accepts most (served.Txn fault) a b old mid new opened on runs cut allows p = so_cut rule Tells accepts allows most (served.Txn fault) a b old mid new p (opened_is old mid p.untouched (opened p.told)) on cut
+cut_failed rule Tells accepts most served.NoMemory a b old mid new opened on runs cut allows p = so_cut rule Tells accepts allows most served.NoMemory a b old mid new p (opened_is old mid p.untouched (opened p.told)) on cut
 
 -- one that keeps its word to the end does so up to every point
 premise_so_far : {Own : Type 0} (Tells : Type 0) (accepts : List TableView → Bool) (allows : List Place → Bool) (most : ℕ) (old new : Seen Own) → Premise Tells accepts allows most old new → PremiseSoFar Tells accepts allows most old new
 premise_so_far Tells accepts allows most old new p = record { told = p.told; judges = p.judges; untouched = p.untouched; few = λ front keeps given later. fewer-front front new later p.few }
 
-pub alike_failed : {Own : Type 0} (Tells : Type 0) (accepts : List TableView → Bool) (most : ℕ) (end : Served) (a b : Option (List ℕ)) (old mid new : Seen Own) → (Tells → mid.history ≡ old.history ++ Opened ∷ []) → Continues Tells mid new → RunsAs Tells accepts most (Err end) a b mid new
-    → CutAs Tells accepts most end a b mid new engine_at_first → (allows : List Place → Bool) → Premise Tells accepts allows most old new → IsAlike allows new a b end
-alike_failed Tells accepts most (served.EventsLeft left) a b old mid new opened on runs cut allows p =
+pub alike_failed : {Own : Type 0} (rule : AppValue) (Tells : Type 0) (accepts : List TableView → Bool) (most : ℕ) (end : Served) (a b : Option (List ℕ)) (old mid new : Seen Own) → (Tells → mid.history ≡ old.history ++ Opened ∷ []) → Continues Tells mid new → RunsAs rule Tells accepts most (Err end) a b mid new
+    → CutAs Tells accepts most end a b mid new (engine_at_first rule) → (allows : List Place → Bool) → Premise Tells accepts allows most old new → IsAlike rule allows new a b end
+alike_failed rule Tells accepts most (served.EventsLeft left) a b old mid new opened on runs cut allows p =
     let is = opened_is old mid p.untouched (opened p.told) in
     record {
-      alike = ran-full Tells accepts allows most left a b mid new p.told p.keeps p.judges is p.few runs.full;
-      none_to_come = runs.none_to_come.none allows p.told p.keeps p.judges (settled-first mid is) p.few;
+      alike = ran-full rule Tells accepts allows most left a b mid new p.told p.keeps p.judges is p.few runs.full;
+      none_to_come = runs.none_to_come.none allows p.told p.keeps p.judges (settled-first rule mid is) p.few;
     }
-alike_failed Tells accepts most (served.Ended events) a b old mid new opened on runs cut allows p = absurd runs
-alike_failed Tells accepts most served.WriteFault a b old mid new opened on runs cut allows p = cut_failed Tells accepts most served.WriteFault a b old mid new opened on runs cut allows (premise_so_far Tells accepts allows most old new p)
-alike_failed Tells accepts most served.Shut a b old mid new opened on runs cut allows p = cut_failed Tells accepts most served.Shut a b old mid new opened on runs cut allows (premise_so_far Tells accepts allows most old new p)
-alike_failed Tells accepts most served.NextFault a b old mid new opened on runs cut allows p = cut_failed Tells accepts most served.NextFault a b old mid new opened on runs cut allows (premise_so_far Tells accepts allows most old new p)
-alike_failed Tells accepts most (served.Txn fault) a b old mid new opened on runs cut allows p = cut_failed Tells accepts most (served.Txn fault) a b old mid new opened on runs cut allows (premise_so_far Tells accepts allows most old new p)
-alike_failed Tells accepts most served.NoMemory a b old mid new opened on runs cut allows p = cut_failed Tells accepts most served.NoMemory a b old mid new opened on runs cut allows (premise_so_far Tells accepts allows most old new p)
+alike_failed rule Tells accepts most (served.Ended events) a b old mid new opened on runs cut allows p = absurd runs
+alike_failed rule Tells accepts most served.WriteFault a b old mid new opened on runs cut allows p = cut_failed rule Tells accepts most served.WriteFault a b old mid new opened on runs cut allows (premise_so_far Tells accepts allows most old new p)
+alike_failed rule Tells accepts most served.Shut a b old mid new opened on runs cut allows p = cut_failed rule Tells accepts most served.Shut a b old mid new opened on runs cut allows (premise_so_far Tells accepts allows most old new p)
+alike_failed rule Tells accepts most served.NextFault a b old mid new opened on runs cut allows p = cut_failed rule Tells accepts most served.NextFault a b old mid new opened on runs cut allows (premise_so_far Tells accepts allows most old new p)
+alike_failed rule Tells accepts most (served.Txn fault) a b old mid new opened on runs cut allows p = cut_failed rule Tells accepts most (served.Txn fault) a b old mid new opened on runs cut allows (premise_so_far Tells accepts allows most old new p)
+alike_failed rule Tells accepts most served.NoMemory a b old mid new opened on runs cut allows p = cut_failed rule Tells accepts most served.NoMemory a b old mid new opened on runs cut allows (premise_so_far Tells accepts allows most old new p)
 
 -- what ends a run before its end promises nothing of it
 fault_finishes : {Own : Type 0} (Tells : Type 0) (fault : Fault) (a b : Option (List ℕ)) (old new : Seen Own) (r now_r : Run) → Finishes Tells (Err (served_by fault)) a b old new r now_r

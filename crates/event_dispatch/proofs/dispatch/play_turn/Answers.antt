@@ -105,13 +105,13 @@ returns-in_ok-abort-in-Ok-Failed-clause-reads g c = played_reads _ _ _ (returns-
 
 pub returns-in_err-out-in-Ok-Done-clause-left : goal.returns-in_err-out-in-Ok-Done-clause-left
 returns-in_err-out-in-Ok-Done-clause-left g c =
-    if_err (λ (fault : Fault). TurnLeft g.W.World.Tells (IsShort fault) c.args.app.now.rest (g.W.World.seen c.args.world.now) (g.W.World.seen c.commit.new.world) c.args.net.now) (fault_of c.in_err-out-in-Ok-Done.field-0.0) c.from_residual.result c.from_residual.ensures.1
+    if_err (λ (fault : Fault). TurnLeft g.W.World.Tells (IsShort fault) c.args.occasion.budget c.args.app.now.rest (g.W.World.seen c.args.world.now) (g.W.World.seen c.commit.new.world) c.args.net.now) (fault_of c.in_err-out-in-Ok-Done.field-0.0) c.from_residual.result c.from_residual.ensures.1
     (left_committed c.args.net.now c.in_err-out-in-Ok-Done.field-0.0 c.requires.index c.begin-txn.ensures.net c.begin-txn.ensures.start c.turn.ensures.start c.in-Ok-Done.field-0-is (event_is c.args.occasion.number c.begin-txn.result.net.now.moment c.args.occasion.event.now)
     c.in-Ok-Done.ensures.ok.turns c.in_err-out-in-Ok-Done.ensures)
 
 pub returns-in_err-abort-in-Ok-Failed-clause-left : goal.returns-in_err-abort-in-Ok-Failed-clause-left
 returns-in_err-abort-in-Ok-Failed-clause-left g c =
-    if_err (λ (fault : Fault). TurnLeft g.W.World.Tells (IsShort fault) c.args.app.now.rest (g.W.World.seen c.args.world.now) (g.W.World.seen c.abort.new.world) c.args.net.now) (fault_of c.in_err-abort-in-Ok-Failed.field-0.0) c.from_residual-in_err-abort-in-Ok-Failed.result c.from_residual-in_err-abort-in-Ok-Failed.ensures.1
+    if_err (λ (fault : Fault). TurnLeft g.W.World.Tells (IsShort fault) c.args.occasion.budget c.args.app.now.rest (g.W.World.seen c.args.world.now) (g.W.World.seen c.abort.new.world) c.args.net.now) (fault_of c.in_err-abort-in-Ok-Failed.field-0.0) c.from_residual-in_err-abort-in-Ok-Failed.result c.from_residual-in_err-abort-in-Ok-Failed.ensures.1
     (left_failed c.args.app.now.rest c.args.net.now c.begin-txn.ensures.net c.begin-txn.ensures.start c.turn.ensures.start c.in-Ok-Failed.ensures.ok.turns c.abort.ensures)
 
 pub returns-in-Err-clause-left : goal.returns-in-Err-clause-left

@@ -4,6 +4,7 @@ use Rattle.event_dispatch.specs.laws.CutLaws.{if_err, fails_short, fails_turn}
 use Rattle.event_dispatch.specs.Plain.{PlainTurn}
 use Rattle.std.proofs.Common.{refl, ap, sym, ◌∙◌, rules}
 use Rattle.run_laws.specs.Engine.{Engine}
+use Rattle.run_laws.specs.Facts.{takes_event}
 use Rattle.event_dispatch.specs.declared.fault.Fault.{Fault}
 use Rattle.event_dispatch.specs.Cut.{FailsIn}
 use Rattle.event_dispatch.specs.Shows.{engine_of}
@@ -31,17 +32,18 @@ returns-clause-plain g c =
     on_err c.take_turn.result (λ fault turn. turn_noted (g.W.World.seen c.args.world.now) (g.W.World.seen c.take_turn.new.world) c.args.self.now.net c.note.new.self.net fault (ap (λ (e : Engine). e.net) c.in_ok-note.ensures.adds.engine) turn) c.take_turn.ensures.plain
 
 pub returns-in_err-line-clause-fails : goal.returns-in_err-line-clause-fails
-returns-in_err-line-clause-fails g c = if_err (λ (fault : Fault). FailsIn g.W.World.Tells fault (g.W.World.seen c.args.world.now) (g.W.World.seen c.args.world.now) (engine_of c.args.self.now)) faults.NoMemory c.from_residual.result c.from_residual.ensures.1 (fails_short g.W.World.Tells (g.W.World.seen c.args.world.now) (engine_of c.args.self.now))
+returns-in_err-line-clause-fails g c = if_err (λ (fault : Fault). FailsIn g.W.World.Tells fault (takes_event (engine_of c.args.self.now) c.args.event.now) (g.W.World.seen c.args.world.now) (g.W.World.seen c.args.world.now) (engine_of c.args.self.now)) faults.NoMemory c.from_residual.result c.from_residual.ensures.1 (fails_short g.W.World.Tells (takes_event (engine_of c.args.self.now) c.args.event.now) (g.W.World.seen c.args.world.now) (engine_of c.args.self.now))
 
 pub returns-in_err-note-clause-fails : goal.returns-in_err-note-clause-fails
-returns-in_err-note-clause-fails g c = if_err (λ (fault : Fault). FailsIn g.W.World.Tells fault (g.W.World.seen c.args.world.now) (g.W.World.seen c.args.world.now) (engine_of c.args.self.now)) faults.NoMemory c.from_residual-in_err-note.result c.from_residual-in_err-note.ensures.1 (fails_short g.W.World.Tells (g.W.World.seen c.args.world.now) (engine_of c.args.self.now))
+returns-in_err-note-clause-fails g c = if_err (λ (fault : Fault). FailsIn g.W.World.Tells fault (takes_event (engine_of c.args.self.now) c.args.event.now) (g.W.World.seen c.args.world.now) (g.W.World.seen c.args.world.now) (engine_of c.args.self.now)) faults.NoMemory c.from_residual-in_err-note.result c.from_residual-in_err-note.ensures.1 (fails_short g.W.World.Tells (takes_event (engine_of c.args.self.now) c.args.event.now) (g.W.World.seen c.args.world.now) (engine_of c.args.self.now))
 
 pub returns-then-len-gt-MOST_BODY-clause-fails : goal.returns-then-len-gt-MOST_BODY-clause-fails
-returns-then-len-gt-MOST_BODY-clause-fails g c = fails_short g.W.World.Tells (g.W.World.seen c.args.world.now) (engine_of c.args.self.now)
+returns-then-len-gt-MOST_BODY-clause-fails g c = fails_short g.W.World.Tells (takes_event (engine_of c.args.self.now) c.args.event.now) (g.W.World.seen c.args.world.now) (engine_of c.args.self.now)
 
 pub returns-clause-fails : goal.returns-clause-fails
 returns-clause-fails g c =
-    fails_turn g.W.World.Tells c.note.new.self.app.state.rest (g.W.World.seen c.args.world.now) (g.W.World.seen c.take_turn.new.world) (engine_of c.args.self.now) c.note.new.self.net c.take_turn.result (sym (ap (λ (e : Engine). e.alive) c.in_ok-note.ensures.adds.engine) ∙ (search rules)) (ap (λ (e : Engine). e.rest) c.in_ok-note.ensures.adds.engine)
+    fails_turn g.W.World.Tells c.args.event.now c.note.new.self.app.rule.now.budget c.note.new.self.app.state.rest (g.W.World.seen c.args.world.now) (g.W.World.seen c.take_turn.new.world) (engine_of c.args.self.now) c.note.new.self.net c.take_turn.result
+    (sym (ap (λ (e : Engine). takes_event e c.args.event.now) c.in_ok-note.ensures.adds.engine) ∙ (search rules)) (ap (λ (e : Engine). e.rule.budget) c.in_ok-note.ensures.adds.engine) (ap (λ (e : Engine). e.rest) c.in_ok-note.ensures.adds.engine)
     (ap (λ (e : Engine). e.net) c.in_ok-note.ensures.adds.engine) c.take_turn.ensures.talks c.take_turn.ensures.left
 
 pub returns-in_err-line-clause-places : goal.returns-in_err-line-clause-places

@@ -2,13 +2,14 @@ use Rattle.event_dispatch.specs.declared.fault.Fault.TheVariants as faults
 use Rattle.std.proofs.Common.{rules, refl, ap}
 use Rattle.event_dispatch.specs.laws.RoundLaws.{one_settled, none_settled}
 use Rattle.event_dispatch.specs.laws.PlainLaws.{run_anyway, run_turn}
-use Rattle.event_dispatch.specs.laws.CutLaws.{if_err, still_is, fails_as, one_still, one_unwritten}
+use Rattle.event_dispatch.specs.laws.CutLaws.{if_err, still_is, fails_as, takes_oldest, one_still, one_unwritten}
 use Rattle.event_dispatch.specs.Plain.{PlainRun}
 use Rattle.event_dispatch.specs.Shows.{engine_of}
 use Rattle.event_dispatch.specs.Why.{served_by}
 use Rattle.event_dispatch.specs.declared.fault.Fault.{Fault}
 use Rattle.event_dispatch.specs.Cut.{CutOne}
 use Rattle.run_laws.specs.Engine.{Engine}
+use Rattle.run_laws.specs.Facts.{takes_event, takes_next}
 use Rattle.event_dispatch.specs.laws.SteadyLaws.{places_none, reads_none}
 use Rattle.event_dispatch.specs.laws.DispatchStrayLaws.{reads_over}
 use Rattle.event_dispatch.proofs.run.Run.dispatch_oldest.Goals as goal
@@ -35,7 +36,7 @@ returns-in_err-dispatch-clause-cut g c =
     if_err (λ (fault : Fault). CutOne g.W.World.Tells (g.J.Judge.accepts c.args.judge.now) fault (g.K.Sink.contents c.args.sink.now) (g.K.Sink.contents c.args.sink.now) (g.W.World.seen c.args.world.now) (g.W.World.seen c.dispatch.new.world) (engine_of c.args.self.now)) c.in_err-dispatch.field-0.0 c.from_residual.result c.from_residual.ensures.1
     (one_still g.W.World.Tells (g.J.Judge.accepts c.args.judge.now) c.in_err-dispatch.field-0.0 (g.K.Sink.contents c.args.sink.now) (g.K.Sink.contents c.args.sink.now) (g.W.World.seen c.args.world.now) (g.W.World.seen c.dispatch.new.world) (engine_of c.args.self.now)
     (still_is g.W.World.Tells (g.W.World.seen c.args.world.now) (g.W.World.seen c.dispatch.new.world) c.in_err-dispatch.field-0.0 (g.K.Sink.contents c.args.sink.now) (g.K.Sink.contents c.args.sink.now) c.in_err-dispatch.ensures.why refl)
-    (fails_as g.W.World.Tells c.in_err-dispatch.field-0.0 (g.W.World.seen c.args.world.now) (g.W.World.seen c.dispatch.new.world) (engine_of (record c.args.self.now { queue = c.take_first.new.self })) (engine_of c.args.self.now) refl refl refl c.in_err-dispatch.ensures.fails) c.dispatch.ensures.here)
+    (fails_as g.W.World.Tells c.in_err-dispatch.field-0.0 (takes_event (engine_of (record c.args.self.now { queue = c.take_first.new.self })) c.in-Some.event) (takes_next (engine_of c.args.self.now) c.args.self.now.queue) (g.W.World.seen c.args.world.now) (g.W.World.seen c.dispatch.new.world) (engine_of (record c.args.self.now { queue = c.take_first.new.self })) (engine_of c.args.self.now) (takes_oldest (engine_of c.args.self.now) (engine_of (record c.args.self.now { queue = c.take_first.new.self })) c.in-Some.event c.args.self.now.queue refl c.in-Some.ensures.first) refl refl refl refl c.in_err-dispatch.ensures.fails) c.dispatch.ensures.here)
 
 pub returns-in_err-write-clause-cut : goal.returns-in_err-write-clause-cut
 returns-in_err-write-clause-cut g c =

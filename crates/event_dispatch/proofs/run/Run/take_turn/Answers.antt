@@ -54,12 +54,12 @@ returns-clause-reads g c = reads_then (g.W.World.seen c.args.world.now) (g.W.Wor
 
 pub returns-in_err-closing-clause-left : goal.returns-in_err-closing-clause-left
 returns-in_err-closing-clause-left g c =
-    if_err (λ (fault : Fault). TurnLeft g.W.World.Tells (IsShort fault) c.args.self.now.app.state.rest (g.W.World.seen c.args.world.now) (g.W.World.seen c.hold_turn.new.world) c.args.self.now.net) c.in_err-closing.field-0.0 c.from_residual.result c.from_residual.ensures.1
+    if_err (λ (fault : Fault). TurnLeft g.W.World.Tells (IsShort fault) c.args.self.now.app.rule.now.budget c.args.self.now.app.state.rest (g.W.World.seen c.args.world.now) (g.W.World.seen c.hold_turn.new.world) c.args.self.now.net) c.in_err-closing.field-0.0 c.from_residual.result c.from_residual.ensures.1
     c.in_err-closing.ensures.left
 
 pub returns-in_err-close-clause-left : goal.returns-in_err-close-clause-left
 returns-in_err-close-clause-left g c =
-    if_err (λ (fault : Fault). TurnLeft g.W.World.Tells (IsShort fault) c.args.self.now.app.state.rest (g.W.World.seen c.args.world.now) (g.W.World.seen c.close.new.world) c.args.self.now.net) faults.NoMemory c.from_residual-in_err-close.result c.from_residual-in_err-close.ensures.1
+    if_err (λ (fault : Fault). TurnLeft g.W.World.Tells (IsShort fault) c.args.self.now.app.rule.now.budget c.args.self.now.app.state.rest (g.W.World.seen c.args.world.now) (g.W.World.seen c.close.new.world) c.args.self.now.net) faults.NoMemory c.from_residual-in_err-close.result c.from_residual-in_err-close.ensures.1
     (left_closed c.args.self.now.app.state.index c.in_ok-closing.closing (g.W.World.seen c.args.world.now) (g.W.World.seen c.hold_turn.new.world) (g.W.World.seen c.close.new.world) c.args.self.now.net c.hold_turn.new.net c.requires.index c.hold_turn.ensures.continues
     c.close.ensures.continues c.close.ensures.own c.in_ok-closing.ensures.plays.plays)
 
