@@ -179,12 +179,13 @@ impl Run<'_> {
         ensures talks { KeepsTalking W.Tells (W.seen world.old) (W.seen world.new) }
         ensures own { W.Tells → OwnSteps index (W.seen world.old) (W.seen world.new) }
     {
+        let app = self.app.rule;
         let back = restart(
             self.alloc,
             world,
             &self.store,
             &mut self.app.state,
-            &self.app.rule.command,
+            &app.command,
         )?;
         self.note_start(back)
     }
@@ -319,11 +320,11 @@ impl Run<'_> {
     }
 
     /// Gives the application its turn at an event, whose frame four bytes can count.
-    fn take_turn<W: World, J: Judge>(
+    fn take_turn<'x, W: World, J: Judge>(
         &mut self,
         world: &mut W,
-        judge: &J,
-        event: &Event,
+        judge: &'x J,
+        event: &'x Event,
     ) -> Result<(), Fault>
         requires done { self.old.app.done < self.old.events }
         requires failed { self.old.app.failed < self.old.events }
@@ -344,6 +345,7 @@ impl Run<'_> {
         ensures plain { IfErr result (PlainTurn W.Tells (W.seen world.old) (W.seen world.new) self.old.net) }
         ensures left { IfErr result (λ fault. TurnLeft W.Tells (IsShort fault) self.old.app.rule.now.budget self.old.app.state.rest (W.seen world.old) (W.seen world.new) self.old.net) }
     {
+        let budget = self.app.rule.budget;
         let closing = hold_turn(
             world,
             &mut self.net,
@@ -352,7 +354,7 @@ impl Run<'_> {
             &mut self.app.state,
             Occasion {
                 alloc: self.alloc,
-                budget: self.app.rule.budget,
+                budget,
                 number: self.events,
                 event,
                 judge,

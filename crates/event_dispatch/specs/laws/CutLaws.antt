@@ -1,17 +1,17 @@
 -- Laws of parts of a run that a fault ended.
-use Rattle.std.proofs.Common.{◌≡◌, ℕ, ◌^◌, ◌<◌, ◌&&◌, Bool, true, false, List, [], ◌∷◌, ◌++◌, drop, Option, Some, Result, Ok, Err, IfErr, OnErr, IsErrAnd, refl, sym, ap, ◌∙◌, subst, arith, inl, inr}
+use Rattle.std.proofs.Common.{◌≡◌, ℕ, ◌^◌, ◌<◌, Bool, true, List, [], ◌∷◌, ◌++◌, drop, Option, Some, Result, Ok, Err, IfErr, OnErr, IsErrAnd, refl, sym, ap, ◌∙◌, subst, arith, inl, inr}
 use Rattle.std.specs.Prelude.{slice_get}
 use Rattle.lego_io.specs.Sink.{TookPart}
 use Rattle.flow_table.specs.View.{TableView}
 use Rattle.app_frames.specs.declared.frame.Event.{Event}
 use Rattle.outside.specs.Seen.{Seen, Continues}
 use Rattle.outside.specs.laws.SeenLaws.{Continues-refl, Continues-trans}
-use Rattle.crash_policy.specs.Asking.{is_given}
 use Rattle.run_laws.specs.Engine.{Engine}
 use Rattle.run_laws.specs.Facts.{takes_event, takes_next}
 use Rattle.run_laws.specs.LastReport.{last_text}
 use Rattle.run_laws.specs.laws.StartShownLaws.{start-shown}
 use Rattle.run_laws.specs.laws.EventLaws.{next-shown}
+use Rattle.run_laws.specs.laws.DialogueLaws.{takes_alive}
 use Rattle.event_dispatch.specs.declared.batch.Rest.{Rest}
 use Rattle.event_dispatch.specs.declared.fault.Fault.{Fault}
 use Rattle.event_dispatch.specs.declared.fault.Fault.TheVariants as faults
@@ -67,14 +67,6 @@ of_takes faults.Write takes is = tt
 of_takes faults.Next takes is = is
 of_takes (faults.Txn fault) takes is = is
 of_takes faults.NoMemory takes is = tt
-
-both_first : (x y : Bool) → (x && y) ≡ true → x ≡ true
-both_first true y is = refl
-both_first false y is = is
-
--- an application that has a turn at an event is alive
-pub takes_alive : (e : Engine) (event : Event) → takes_event e event ≡ true → e.alive ≡ true
-takes_alive e event takes = both_first e.alive (is_given e.rule event.kind) takes
 
 -- or its turn stopped
 pub fails_turn : {Own T : Type 0} (Tells : Type 0) (event : Event) (budget : ℕ) (rest : List ℕ) (old new : Seen Own) (e : Engine) (net : NetState) (result : Result T Fault) → takes_event e event ≡ true → budget ≡ e.rule.budget → rest ≡ e.rest → net ≡ e.net → OnErr result (TurnTalks Tells index rest old new)
