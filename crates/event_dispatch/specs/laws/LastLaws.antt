@@ -272,6 +272,14 @@ table_out Tells d seen r out = record {
 
 -- ---- Switches, one after the other
 
+-- of none at all
+pub tables_none : {Own : Type 0} (Tells : Type 0) (seen : Seen Own) (r : Run) → TablesShown Tells [] seen seen r r
+tables_none Tells seen r = record {
+  shown = λ apart told keeps ready sound.
+      says-of [] (λ lost. flat_map (shown_text lost r.net.views (state seen)) []) seen seen r r
+      (record { lines = sym (nothing_more r.lines.items); engine = refl; index = refl; switches = λ e. refl; waits = ready.waits; asked = asked-nothing seen });
+}
+
 left_twice : (a b : Bool) (o : Option SwitchState) → (if b then None else (if a then None else o)) ≡ (if a || b then None else o)
 left_twice true true o = refl
 left_twice true false o = refl

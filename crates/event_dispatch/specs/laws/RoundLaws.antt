@@ -37,7 +37,7 @@ use Rattle.event_dispatch.specs.Batch.{standing_of, BatchShown}
 use Rattle.event_dispatch.specs.Shows.{engine_of, queued_run}
 use Rattle.app_visor.specs.Attempts.{kept_of}
 use Rattle.checkpoint_store.specs.Slots.{Slot}
-use Rattle.lego_model.specs.Application.{index}
+use Rattle.lego_model.specs.Application.{index, names}
 use Rattle.event_dispatch.specs.Serves.{Writes, Starts, IsDispatched, DispatchesOldest, DispatchesSome, DispatchesWaiting, IsBatch, GoesRound, GoesRounds, GoesToEnd, Begins}
 use Rattle.run_laws.specs.laws.EndingLaws.{known-append}
 
@@ -116,6 +116,7 @@ settled_early {Own} Tells accepts n m text old new e now_e sum none shown = reco
           batches = m.moves.batches;
           turns = m.moves.turns;
           given = m.moves.given;
+          rule = m.moves.rule;
           read_starts = m.moves.read_starts;
           read_replies = m.moves.read_replies;
           read_stimuli = m.moves.read_stimuli;
@@ -126,7 +127,7 @@ settled_early {Own} Tells accepts n m text old new e now_e sum none shown = reco
               subst (Stands new now_e later_starts later_replies later) (same allows later_starts later_replies later q t) t;
           says = λ ss rs later q starts_is replies_is s.
               let t = m.moves.stands ss rs later q starts_is replies_is s in
-              subst (λ (p : ModelRun). text_of p ≡ text_of q ++ text) (same allows (drop (length m.moves.starts) ss) (drop (length m.moves.replies) rs) later q t) (m.moves.says ss rs later q starts_is replies_is s);
+              subst (λ (p : ModelRun). text_of (names e.rule) p ≡ text_of (names e.rule) q ++ text) (same allows (drop (length m.moves.starts) ss) (drop (length m.moves.replies) rs) later q t) (m.moves.says ss rs later q starts_is replies_is s);
         };
         settled = m.settled;
       };

@@ -73,17 +73,17 @@ returns-then-len-gt-MOST_BODY-clause-here g c = quietly_here (quietly_none g.W.W
 pub returns-then-len-gt-MOST_BODY-clause-later : goal.returns-then-len-gt-MOST_BODY-clause-later
 returns-then-len-gt-MOST_BODY-clause-later g c = λ told. calm_later (calm_none index (g.W.World.seen c.args.world.now))
 
-pub returns-then-not-self-clause-places : goal.returns-then-not-self-clause-places
-returns-then-not-self-clause-places g c = places_none g.W.World.Tells (g.W.World.seen c.args.world.now) c.args.self.now.net
+pub returns-then-not-takes-clause-places : goal.returns-then-not-takes-clause-places
+returns-then-not-takes-clause-places g c = places_none g.W.World.Tells (g.W.World.seen c.args.world.now) c.args.self.now.net
 
-pub returns-then-not-self-clause-here : goal.returns-then-not-self-clause-here
-returns-then-not-self-clause-here g c = quietly_here (quietly_none g.W.World.Tells (g.W.World.seen c.args.world.now))
+pub returns-then-not-takes-clause-here : goal.returns-then-not-takes-clause-here
+returns-then-not-takes-clause-here g c = quietly_here (quietly_none g.W.World.Tells (g.W.World.seen c.args.world.now))
 
-pub returns-then-not-self-clause-later : goal.returns-then-not-self-clause-later
-returns-then-not-self-clause-later g c = λ told. calm_later (calm_none index (g.W.World.seen c.args.world.now))
+pub returns-then-not-takes-clause-later : goal.returns-then-not-takes-clause-later
+returns-then-not-takes-clause-later g c = λ told. calm_later (calm_none index (g.W.World.seen c.args.world.now))
 
-pub returns-then-not-self-clause-reads : goal.returns-then-not-self-clause-reads
-returns-then-not-self-clause-reads g c = reads_none g.W.World.Tells (g.W.World.seen c.args.world.now) c.args.self.now.net c.note.new.self.net (ap (λ (e : Engine). e.net.views) c.in_ok-note.ensures.adds.engine)
+pub returns-then-not-takes-clause-reads : goal.returns-then-not-takes-clause-reads
+returns-then-not-takes-clause-reads g c = reads_none g.W.World.Tells (g.W.World.seen c.args.world.now) c.args.self.now.net c.note.new.self.net (ap (λ (e : Engine). e.net.views) c.in_ok-note.ensures.adds.engine)
 
 pub returns-clause-places : goal.returns-clause-places
 returns-clause-places g c = places_as c.args.self.now.net c.note.new.self.net (ap (λ (e : Engine). e.net.views) c.in_ok-note.ensures.adds.engine) c.take_turn.ensures.places

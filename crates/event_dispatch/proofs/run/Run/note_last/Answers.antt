@@ -3,7 +3,7 @@ use Rattle.std.proofs.Common.{◌∙◌, ℕ, List, get_or, take, sym, subst, re
 use Rattle.std.proofs.lemmas.List.{take_more}
 use Rattle.event_dispatch.specs.laws.WhyLaws.{ends_then, continues_then}
 use Rattle.event_dispatch.specs.ReportEnd.{TablesShown}
-use Rattle.event_dispatch.specs.laws.LastLaws.{take_whole, tables_next, last_shown}
+use Rattle.event_dispatch.specs.laws.LastLaws.{take_whole, tables_none, tables_next, last_shown}
 use Rattle.event_dispatch.specs.laws.PlainLaws.{calm_anyway, tables_then}
 use Rattle.event_dispatch.specs.laws.CutLaws.{if_err}
 use Rattle.event_dispatch.specs.Plain.{PlainCalm}
@@ -73,5 +73,5 @@ loop-dpid-init g c = record {
   places = places_none g.W.World.Tells (g.W.World.seen c.args.world.now) c.args.self.now.net;
   reads = reads_none g.W.World.Tells (g.W.World.seen c.args.world.now) c.args.self.now.net c.args.self.now.net refl;
   no_point = quietly_none g.W.World.Tells (g.W.World.seen c.args.world.now);
-  shown = (search rules);
+  shown = tables_none g.W.World.Tells (g.W.World.seen c.args.world.now) c.args.self.now;
 }
