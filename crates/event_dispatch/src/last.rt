@@ -170,7 +170,13 @@ impl Run<'_> {
         ensures adds { OnOk result (Adds (engine_end (engine_of self.old)) self.old self.new) }
     {
         let app = &self.app;
-        let line = app_line(self.alloc, app.rule.name.as_str(), app.state.alive, app.done, app.failed)?;
+        let line = app_line(
+            self.alloc,
+            app.rule.name.as_str(),
+            app.state.alive,
+            app.done,
+            app.failed,
+        )?;
         let last = end_line(self.alloc, self.net.moment(), self.events)?;
         self.note(&line)?;
         self.note(&last)
