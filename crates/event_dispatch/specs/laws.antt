@@ -5,7 +5,6 @@ pub mod WhyLaws
 pub mod ViewedLaws
 pub mod LastLaws
 pub mod LosingLaws
-pub mod PolicyLaws
 pub mod BatchLaws
 pub mod PlainLaws
 pub mod TalkingLaws

@@ -1,27 +1,17 @@
 -- Laws of the switches that were lost, which are told one after the other.
-use Rattle.std.specs.Prelude.{◌≡◌, ℕ, ◌+◌, ◌<◌, Bool, List, length, [], ◌∷◌, ◌++◌, drop, slice_get, Some, None}
+use Rattle.std.specs.Prelude.{◌≡◌, ℕ, ◌<◌, List, length, [], ◌∷◌, ◌++◌, drop, slice_get, Some, None}
 use Rattle.std.specs.Option.{option_map}
 use Rattle.std.proofs.Common.{refl, sym, ap, ap₂, ◌∙◌, subst, append_assoc, arith}
-use Rattle.app_frames.specs.declared.cause.Cause.{Cause}
 use Rattle.app_frames.specs.declared.frame.Event.{Event}
-use Rattle.app_frames.specs.declared.frame.EventKind.{EventKind}
-use Rattle.crash_policy.specs.Asking.{rule_at}
-use Rattle.crash_policy.specs.Policies.{AppValue, app_value}
-use Rattle.lego_model.specs.Application.{index}
-use Rattle.lego_model.specs.RunReport.{lost_line, turn_line}
-use Rattle.lego_model.specs.declared.turn.TurnWord.TheVariants as words
-use Rattle.outside.specs.Seen.{Seen}
-use Rattle.app_visor.specs.declared.state.TurnEnd.TheVariants as ends
+use Rattle.lego_model.specs.RunReport.{lost_line}
 use Rattle.net_txn.specs.declared.ports.KnownPorts.{KnownPorts}
 use Rattle.net_txn.specs.Net.{NetState}
 use Rattle.net_txn.specs.Leaving.{left_event}
 use Rattle.batch_laws.specs.Knowledge.{left_events, lost_text}
 use Rattle.run_laws.specs.Engine.{Engine}
-use Rattle.run_laws.specs.Facts.{turn_word, out_text, all_told, Follows}
 use Rattle.event_dispatch.specs.declared.run.Run.{Run}
 use Rattle.event_dispatch.specs.Runs.{Waits}
-use Rattle.event_dispatch.specs.Shows.{engine_of, name_of, Adds, TellsLost, TellsOn}
-use Rattle.event_dispatch.specs.Serves.{GoesOn, IsCounted, IsFollowed}
+use Rattle.event_dispatch.specs.Shows.{engine_of, Adds, TellsLost, TellsOn}
 use Rattle.event_dispatch.specs.laws.WhyLaws.{waits_then}
 
 no_more : {A : Type 0} (xs : List A) → xs ++ [] ≡ xs
@@ -103,37 +93,3 @@ pub waits_next : (r at mid : Run) (net : NetState) (queue : List Event) → Wait
 waits_next r at mid net queue so_far rest noted =
     let all = waits_then r (record at { net = net }) mid (waits_all r at net so_far rest) noted in
     record { room = all.room; events = all.events; done = all.done; failed = all.failed; store = all.store; left = all.left }
-
--- ---- A turn is closed
-
--- how it ended is noted, and then those that were lost are told
-told_engine : {text : List ℕ} (r mid told : Run) → Adds text r mid → TellsLost mid told → engine_of told ≡ all_told r.net r.queue (engine_of r)
-told_engine r mid told adds tells = tells.engine ∙ ap (λ (e : Engine). all_told e.net e.queue e) adds.engine
-
-told_lines : {text : List ℕ} (r mid told : Run) → Adds text r mid → TellsLost mid told → told.lines.items ≡ (r.lines.items ++ text) ++ lost_text r.net.left
-told_lines r mid told adds tells = tells.lines ∙ ap₂ (λ (xs : List ℕ) (ps : List KnownPorts). xs ++ lost_text ps) adds.lines (ap (λ (e : Engine). e.net.left) adds.engine)
-
-pub counted : {Own : Type 0} {stop : Bool} {out : List (ℕ × ℕ)} (seen : Seen Own) (r mid told : Run) → Adds (turn_line (name_of r) (turn_word (ends.Done stop)) ++ out_text out) (record r { app = record r.app { done = r.app.done + 1 } }) mid → TellsLost mid told → IsCounted stop out seen seen r told
-counted {stop = stop} {out = out} seen r mid told adds tells =
-    let ended = turn_line (name_of r) (turn_word (ends.Done stop)) in
-    record {
-      seen = refl;
-      engine = told_engine (record r { app = record r.app { done = r.app.done + 1 } }) mid told adds tells;
-      notes = told_lines (record r { app = record r.app { done = r.app.done + 1 } }) mid told adds tells ∙ append_assoc r.lines.items (ended ++ out_text out) (lost_text r.net.left) ∙ ap (λ (xs : List ℕ). r.lines.items ++ xs) (append_assoc ended (out_text out) (lost_text r.net.left));
-    }
-
--- the rule of the application stays, while how it ended is noted and those that were lost are told
-told_rule : {text : List ℕ} (r mid told : Run) → Adds text r mid → TellsLost mid told → app_value told.app.rule.now ≡ app_value r.app.rule.now
-told_rule r mid told adds tells = ap (λ (e : Engine). e.rule) tells.engine ∙ ap (λ (e : Engine). e.rule) adds.engine
-
-pub followed : {Own : Type 0} {Tells : Type 0} {kind : EventKind} {old new : Seen Own} (cause : Cause) (r mid told now_r : Run) → Adds (turn_line (name_of r) (words.Failed cause)) (record r { app = record r.app { failed = r.app.failed + 1 } }) mid → TellsLost mid told → GoesOn Tells kind old new told now_r
-    → IsFollowed Tells kind cause old new r now_r
-followed {Tells = Tells} {kind = kind} {old = old} {new = new} cause r mid told now_r adds tells goes =
-    let ended = turn_line (name_of r) (words.Failed cause) in
-    let failed : Run = record r { app = record r.app { failed = r.app.failed + 1 } } in
-    record {
-      text = goes.text;
-      follows = subst (λ (e : Engine). Follows Tells (rule_at (app_value r.app.rule.now) kind) goes.text old new e (engine_of now_r)) (told_engine failed mid told adds tells)
-          (subst (λ (rule : AppValue). Follows Tells (rule_at rule kind) goes.text old new (engine_of told) (engine_of now_r)) (told_rule failed mid told adds tells) goes.follows);
-      notes = goes.notes ∙ ap (λ (xs : List ℕ). xs ++ goes.text) (told_lines failed mid told adds tells) ∙ append_assoc (r.lines.items ++ ended) (lost_text r.net.left) goes.text ∙ append_assoc r.lines.items ended (lost_text r.net.left ++ goes.text);
-    }

@@ -15,7 +15,7 @@ use Rattle.outside.specs.declared.item.Item.TheVariants as items
 use Rattle.outside.specs.declared.faults.NextFault.{NextFault}
 use Rattle.outside.specs.declared.faults.NextFault.TheVariants as coming
 use Rattle.outside.specs.Seen.{Seen, Continues, journal}
-use Rattle.outside.specs.State.{State, Link, state, is_running, link_of, switch_in, switch_of, after_act, after_step, after_steps}
+use Rattle.outside.specs.State.{State, state, is_running, switch_of, after_act, after_step, after_steps}
 use Rattle.outside.specs.Calls.{Nexts, Ends, stim_steps, item_step, next_steps, end_steps}
 use Rattle.outside.specs.laws.StateLaws.{state-append}
 use Rattle.outside.specs.laws.CallLaws.{Ends-state}

@@ -6,14 +6,7 @@ use Rattle.lego_model.specs.Application.{index}
 use Rattle.event_dispatch.specs.laws.DispatchStrayLaws.{started_quietly, started_places, started_reads}
 use Rattle.event_dispatch.specs.laws.TalkingLaws.{keeps_ended}
 use Rattle.event_dispatch.specs.laws.WhyLaws.{ends_continue}
-use Rattle.event_dispatch.specs.laws.PolicyLaws.{left_by}
 use Rattle.event_dispatch.proofs.run.Run.leave.Goals as goal
-
-pub returns-clause-leaves : goal.returns-clause-leaves
-returns-clause-leaves g c = on_ok_weaker c.note_gone.result (λ adds. left_by c.args.self.now c.note_gone.new.self c.end.ensures adds) c.note_gone.ensures.adds
-
-pub returns-clause-continues : goal.returns-clause-continues
-returns-clause-continues g c = ends_continue c.end.ensures
 
 pub returns-clause-places : goal.returns-clause-places
 returns-clause-places g c = started_places index c.args.self.now.net refl (own_ended c.end.ensures)
