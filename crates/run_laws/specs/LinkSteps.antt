@@ -54,7 +54,7 @@ pub record TellsSame {Own : Type 0} (old new : Seen Own) : Type 0 where
   pub given : given_in new ≡ given_in old
   pub stims : stimuli_in new ≡ stimuli_in old
 
--- what no attempt changes
+-- what no attempt to start and no end changes
 pub record TriesKeep (s t : State) : Type 0 where
   pub links : t.links ≡ s.links
   pub rests : Rests s t

@@ -196,13 +196,13 @@ lost-stands {Own} x first now e ss rs later r same_net same_queue l keeps_old h 
       life = λ alive. subst LastStands (sym own) (s.life alive);
     })
 
-happen-text : (x : WorldStim) (later : Losses) (r : Run) → r.losses ≡ ahead (false ∷ []) [] later → text_of (happen x r) ≡ text_of r ++ []
-happen-text x later r is = ap text_of (happen-by x r None (flag-so false later r x is ∙ no_flag x)) ∙ sym (append-nil (text_of r))
+happen-text : (called : List (List ℕ)) (x : WorldStim) (later : Losses) (r : Run) → r.losses ≡ ahead (false ∷ []) [] later → text_of called (happen x r) ≡ text_of called r ++ []
+happen-text called x later r is = ap (text_of called) (happen-by x r None (flag-so false later r x is ∙ no_flag x)) ∙ sym (append-nil (text_of called r))
 
-lost-text : (x : WorldStim) (d : ℕ) (later : Losses) (r : Run) → lost_at true x ≡ Some d → r.losses ≡ ahead (true ∷ []) [] later → text_of (happen x r) ≡ text_of r ++ lost_line d
-lost-text x d later r of is =
-    ap text_of (happen-by x r (Some d) (flag-so true later r x is ∙ of)) ∙ flat_map-append (line_text names) r.lines (Lost d ∷ [])
-    ∙ ap (λ (more : List ℕ). text_of r ++ more) (append-nil (lost_line d))
+lost-text : (called : List (List ℕ)) (x : WorldStim) (d : ℕ) (later : Losses) (r : Run) → lost_at true x ≡ Some d → r.losses ≡ ahead (true ∷ []) [] later → text_of called (happen x r) ≡ text_of called r ++ lost_line d
+lost-text called x d later r of is =
+    ap (text_of called) (happen-by x r (Some d) (flag-so true later r x is ∙ of)) ∙ flat_map-append (line_text called) r.lines (Lost d ∷ [])
+    ∙ ap (λ (more : List ℕ). text_of called r ++ more) (append-nil (lost_line d))
 
 -- ---- The batch
 
@@ -247,11 +247,12 @@ batch-happens Tells x text first now e told later keeps_old settled same_net sam
           batches = false ∷ [];
           turns = [];
           given = done.given;
+          rule = refl;
           read_starts = ap (λ (acts : List Act). starts_in acts) own ∙ sym (append-nil (starts_in (own_acts old)));
           read_replies = ap (λ (acts : List Act). replies_in acts) own ∙ sym (append-nil (replies_in (own_acts old)));
           read_stimuli = done.stimuli_is;
           stands = λ ss rs more r starts_is replies_is s. happens-stands x first now e ss rs more r same_net same_queue done keeps_old h s;
-          says = λ ss rs more r starts_is replies_is s. happen-text x more r s.losses_is;
+          says = λ ss rs more r starts_is replies_is s. happen-text (names e.rule) x more r s.losses_is;
         };
       };
     })
@@ -272,11 +273,12 @@ batch-happens Tells x text first now e told later keeps_old settled same_net sam
           batches = true ∷ [];
           turns = [];
           given = l.given;
+          rule = refl;
           read_starts = ap (λ (acts : List Act). starts_in acts) own ∙ sym (append-nil (starts_in (own_acts old)));
           read_replies = ap (λ (acts : List Act). replies_in acts) own ∙ sym (append-nil (replies_in (own_acts old)));
           read_stimuli = l.stimuli_is;
           stands = λ ss rs more r starts_is replies_is s. lost-stands x first now e ss rs more r same_net same_queue l keeps_old h s;
-          says = λ ss rs more r starts_is replies_is s. lost-text x l.dpid more r l.of_stimulus s.losses_is;
+          says = λ ss rs more r starts_is replies_is s. lost-text (names e.rule) x l.dpid more r l.of_stimulus s.losses_is;
         };
       };
     })
@@ -312,6 +314,7 @@ batch-over {Own} text first now e settled same_net same_queue over noted =
         batches = [];
         turns = [];
         given = over.given;
+        rule = refl;
         read_starts = ap (λ (acts : List Act). starts_in acts) own ∙ sym (append-nil (starts_in (own_acts old)));
         read_replies = ap (λ (acts : List Act). replies_in acts) own ∙ sym (append-nil (replies_in (own_acts old)));
         read_stimuli = ap (λ (js : List Act). stimuli js) journal_same ∙ sym (append-nil (stimuli_in old));
@@ -330,6 +333,6 @@ batch-over {Own} text first now e settled same_net same_queue over noted =
           marks = subst (λ (t : State). AgreeMarks t.marks r.marks) (sym over.state_is) s.marks;
           life = λ alive. subst LastStands (sym own) (s.life alive);
         };
-        says = λ ss rs more r starts_is replies_is s. sym (append-nil (text_of r));
+        says = λ ss rs more r starts_is replies_is s. sym (append-nil (text_of (names e.rule) r));
       };
     })

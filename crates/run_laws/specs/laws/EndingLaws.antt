@@ -3,6 +3,7 @@ use Rattle.std.proofs.Common.{◌≡◌, ℕ, ◌<◌, Bool, List, [], ◌++◌,
 use Rattle.std.specs.Io.KnownBytes.{append_known}
 use Rattle.std.proofs.lemmas.List.{append-nil, append_assoc}
 use Rattle.flow_table.specs.View.{TableView}
+use Rattle.crash_policy.specs.Policies.{AppValue}
 use Rattle.lego_model.specs.Places.{Place}
 use Rattle.lego_model.specs.Controller.{settle}
 use Rattle.outside.specs.Seen.{Seen, Continues}
@@ -60,19 +61,19 @@ leaves-then lost a b c m n = record {
 
 -- ---- Of a world that was opened
 
-pub ran-out : {Own : Type 0} (Tells : Type 0) (accepts : List TableView → Bool) (allows : List Place → Bool) (most : ℕ) (contents now_contents : Option (List ℕ)) (old new : Seen Own) (e : Engine) → Tells → Conforming new → JudgesAlike Own allows accepts → IsOpened old
-    → length (stimuli_in new) < most → RanOut Tells accepts most contents now_contents old new engine_at_first e → EndsAlike allows new contents now_contents e.events
-ran-out Tells accepts allows most contents now_contents old new e told keeps judges opened few out =
+pub ran-out : {Own : Type 0} (rule : AppValue) (Tells : Type 0) (accepts : List TableView → Bool) (allows : List Place → Bool) (most : ℕ) (contents now_contents : Option (List ℕ)) (old new : Seen Own) (e : Engine) → Tells → Conforming new → JudgesAlike Own allows accepts → IsOpened old
+    → length (stimuli_in new) < most → RanOut Tells accepts most contents now_contents old new (engine_at_first rule) e → EndsAlike rule allows new contents now_contents e.events
+ran-out rule Tells accepts allows most contents now_contents old new e told keeps judges opened few out =
     let few_last = fewer-before Tells out.last new told out.later few in
-    let moved = out.whole_is.whole_is allows told (Conforming-before told out.later keeps) judges (settled-first old opened) few_last in
+    let moved = out.whole_is.whole_is allows told (Conforming-before told out.later keeps) judges (settled-first rule old opened) few_last in
     let done = out.finish.shown told keeps moved.moved.settled.calm in
-    ends-alike allows done.lost out.text out.last new e contents now_contents keeps done.leaves moved.moved.settled (ran allows done.lost moved.stimuli out.text old out.last e opened moved.moved.moves) (done.leaves.at_once moved.moved.settled.speaks.at_once) out.none_left
+    ends-alike rule allows done.lost out.text out.last new e contents now_contents keeps done.leaves moved.moved.settled (ran rule allows done.lost moved.stimuli out.text old out.last e opened moved.moved.moves) (done.leaves.at_once moved.moved.settled.speaks.at_once) out.none_left
     (done.written ∙ known-append contents out.text (last_text done.lost out.last e))
 
-pub ran-full : {Own : Type 0} (Tells : Type 0) (accepts : List TableView → Bool) (allows : List Place → Bool) (most left : ℕ) (contents now_contents : Option (List ℕ)) (old new : Seen Own) → Tells → Conforming new → JudgesAlike Own allows accepts → IsOpened old
-    → length (stimuli_in new) < most → RanFull Tells accepts most left contents now_contents old new engine_at_first → LeavesAlike allows new contents now_contents left
-ran-full Tells accepts allows most left contents now_contents old new told keeps judges opened few full =
+pub ran-full : {Own : Type 0} (rule : AppValue) (Tells : Type 0) (accepts : List TableView → Bool) (allows : List Place → Bool) (most left : ℕ) (contents now_contents : Option (List ℕ)) (old new : Seen Own) → Tells → Conforming new → JudgesAlike Own allows accepts → IsOpened old
+    → length (stimuli_in new) < most → RanFull Tells accepts most left contents now_contents old new (engine_at_first rule) → LeavesAlike rule allows new contents now_contents left
+ran-full rule Tells accepts allows most left contents now_contents old new told keeps judges opened few full =
     let few_last = fewer-before Tells full.last new told full.later few in
-    let moved = full.whole_is.whole_is allows told (Conforming-before told full.later keeps) judges (settled-first old opened) few_last in
-    subst (λ (n : ℕ). LeavesAlike allows new contents now_contents n) (sym full.left_is)
-    (leaves-alike allows full.text full.last new full.now_engine contents now_contents keeps (full.leaves.shown told keeps) moved.moved.settled (ran allows [] moved.stimuli full.text old full.last full.now_engine opened moved.moved.moves) ((full.leaves.shown told keeps).at_once moved.moved.settled.speaks.at_once) full.contents_is)
+    let moved = full.whole_is.whole_is allows told (Conforming-before told full.later keeps) judges (settled-first rule old opened) few_last in
+    subst (λ (n : ℕ). LeavesAlike rule allows new contents now_contents n) (sym full.left_is)
+    (leaves-alike rule allows full.text full.last new full.now_engine contents now_contents keeps (full.leaves.shown told keeps) moved.moved.settled (ran rule allows [] moved.stimuli full.text old full.last full.now_engine opened moved.moved.moves) ((full.leaves.shown told keeps).at_once moved.moved.settled.speaks.at_once) full.contents_is)

@@ -17,12 +17,12 @@ use Rattle.switch_laws.specs.laws.OrderlyLaws.{orderly-whole}
 use Rattle.batch_laws.specs.Calm.{Calm}
 use Rattle.run_laws.specs.Engine.{Engine, with_number}
 use Rattle.lego_model.specs.Application.{index}
-use Rattle.run_laws.specs.Facts.{IsTurn, Dispatches}
+use Rattle.run_laws.specs.Facts.{takes_event, IsTurn, Dispatches}
 use Rattle.run_laws.specs.Readings.{AreRead, JudgesAlike}
 use Rattle.run_laws.specs.Moves.{AtRest, Moved, Shown}
 use Rattle.lego_model.specs.ReferenceRun.{dispatch_next}
 use Rattle.run_laws.specs.laws.TurnMoveLaws.{turn_moves}
-use Rattle.run_laws.specs.laws.DialogueLaws.{turn_goes_on}
+use Rattle.run_laws.specs.laws.DialogueLaws.{takes_alive, turn_goes_on}
 use Rattle.run_laws.specs.laws.DispatchLaws.{dispatch-moves, dispatch-life, next-moves, none-moves}
 use Rattle.run_laws.specs.laws.OrderlyRunLaws.{turn-orderly}
 
@@ -43,7 +43,7 @@ tries-heard {Own} Tells app kept (suc n) (t ∷ ts) old new are = (
 
 pub are-read : {Own : Type 0} (Tells : Type 0) (accepts : List TableView → Bool) → AreRead Own Tells accepts
 are-read Tells accepts = record {
-  turn = λ number moment event rest old mid net mid_net end unread told t stood.
+  turn = λ budget number moment event rest old mid net mid_net end unread told t stood.
       let r = turn_told t told (event_is number moment event) stood in
       record { starts = r.starts; replies = r.replies; heard = t.heard; life = r.life };
   tries = λ kept old new found tries told s.
@@ -53,10 +53,10 @@ are-read Tells accepts = record {
 
 -- ---- An event
 
-calm-by : {Own : Type 0} (Tells : Type 0) (accepts : List TableView → Bool) (allows : List Place → Bool) (event : Event) (text : List ℕ) (old new : Seen Own) (e now_e : Engine) (alive : Bool) → e.alive ≡ alive → Tells → Conforming new → JudgesAlike Own allows accepts
-    → e.events + 1 < 2 ^ 64 → AtRest old e → IsTurn Tells accepts event alive text old new (with_number e) now_e → Calm new now_e.net
+calm-by : {Own : Type 0} (Tells : Type 0) (accepts : List TableView → Bool) (allows : List Place → Bool) (event : Event) (text : List ℕ) (old new : Seen Own) (e now_e : Engine) (takes : Bool) → takes_event e event ≡ takes → Tells → Conforming new → JudgesAlike Own allows accepts
+    → e.events + 1 < 2 ^ 64 → AtRest old e → IsTurn Tells accepts event takes text old new (with_number e) now_e → Calm new now_e.net
 calm-by Tells accepts allows event text old new e now_e true is told keeps judges few settled turn =
-    (turn_moves Tells accepts allows event text old new (with_number e) now_e told keeps judges (are-read Tells accepts) few (settled.life is) settled.calm turn).alike.calm
+    (turn_moves Tells accepts allows event text old new (with_number e) now_e told keeps judges (are-read Tells accepts) few (settled.life (takes_alive e event is)) settled.calm turn).alike.calm
 calm-by Tells accepts allows event text old new e now_e false is told keeps judges few settled turn =
     subst (λ (s : Seen _). Calm s now_e.net) (sym turn.0) (subst (λ (x : Engine). Calm old x.net) (sym turn.1) settled.calm)
 
@@ -65,10 +65,10 @@ pub dispatch-moved : {Own : Type 0} (Tells : Type 0) (accepts : List TableView �
 dispatch-moved Tells accepts allows event text old new e now_e told keeps continues judges few settled d = record {
   moves = dispatch-moves Tells accepts allows event text old new e now_e told keeps continues judges (are-read Tells accepts) few settled.life settled.calm d;
   settled = record {
-    calm = calm-by Tells accepts allows event d.turn_text old new e now_e e.alive refl told keeps judges few settled d.turn;
+    calm = calm-by Tells accepts allows event d.turn_text old new e now_e (takes_event e event) refl told keeps judges few settled d.turn;
     life = dispatch-life Tells accepts allows event text old new e now_e told keeps judges (are-read Tells accepts) few settled.life settled.calm d;
-    speaks = turn_goes_on Tells accepts event e.alive d.turn_text old new (with_number e) now_e told refl (record { at_once = settled.speaks.at_once; rest_is = settled.speaks.rest_is }) d.turn;
-    orderly = orderly-whole index old new settled.orderly (turn-orderly Tells accepts event e.alive d.turn_text old new (with_number e) now_e told keeps settled.calm (are-read Tells accepts) d.turn);
+    speaks = turn_goes_on Tells accepts event (takes_event e event) d.turn_text old new (with_number e) now_e told refl (record { at_once = settled.speaks.at_once; rest_is = settled.speaks.rest_is }) d.turn;
+    orderly = orderly-whole index old new settled.orderly (turn-orderly Tells accepts event (takes_event e event) d.turn_text old new (with_number e) now_e told keeps settled.calm (are-read Tells accepts) d.turn);
   };
 }
 

@@ -9,6 +9,7 @@ use Rattle.of_types.specs.declared.journal.WorldStim.{WorldStim}
 use Rattle.flow_table.specs.Switch.{Declared, SwitchState}
 use Rattle.undo_laws.specs.Owned.{owned_switch}
 use Rattle.app_frames.specs.declared.frame.Event.{Event}
+use Rattle.crash_policy.specs.Policies.{AppValue}
 use Rattle.lego_model.specs.Journal.{Reply, Start}
 use Rattle.lego_model.specs.Places.{Place}
 use Rattle.lego_model.specs.Scripted.{AreFronts, AreStartFronts}
@@ -28,7 +29,7 @@ use Rattle.run_laws.specs.Engine.{Engine, Stands}
 use Rattle.lego_model.specs.Application.{index, names}
 use Rattle.run_laws.specs.laws.PointLaws.{marks_more, mark_alike}
 use Rattle.net_txn.specs.Losing.{is_among}
-use Rattle.run_laws.specs.LastReport.{last_text, switch_left}
+use Rattle.run_laws.specs.LastReport.{last_text, last_lines, switch_left}
 use Rattle.run_laws.specs.laws.LastReportLaws.{report-ends, last-shown}
 use Rattle.lego_model.specs.ReferenceRun.{RunsAlike, fresh, reference_said, AreSaid}
 use Rattle.run_laws.specs.laws.WholeLaws.{told-said}
@@ -41,10 +42,10 @@ use Rattle.run_laws.specs.Endings.{Leaves}
 use Rattle.lego_model.specs.WholeRun.{EndsAs, LeavesAs, EndsAlike, LeavesAlike}
 
 -- the reference controller's run is the same
-reference-same : {Own : Type 0} (allows : List Place → Bool) (losses : Losses) (lost : List ℕ) (last new : Seen Own) (starts : List Start) (replies : List Reply) → Leaves lost last new → reference_said allows losses new starts replies ≡ reference_said allows losses last starts replies
-reference-same {Own} allows losses lost last new starts replies l =
-    ap (λ (g : Given Own). reference allows g.declared (fresh starts replies ∷ []) losses (stimuli_in new)) l.given
-    ∙ ap (λ (xs : List WorldStim). reference allows last.given.declared (fresh starts replies ∷ []) losses xs) l.stimuli
+reference-same : {Own : Type 0} (rule : AppValue) (allows : List Place → Bool) (losses : Losses) (lost : List ℕ) (last new : Seen Own) (starts : List Start) (replies : List Reply) → Leaves lost last new → reference_said rule allows losses new starts replies ≡ reference_said rule allows losses last starts replies
+reference-same {Own} rule allows losses lost last new starts replies l =
+    ap (λ (g : Given Own). reference allows g.declared (fresh rule starts replies ∷ []) losses (stimuli_in new)) l.given
+    ∙ ap (λ (xs : List WorldStim). reference allows last.given.declared (fresh rule starts replies ∷ []) losses xs) l.stimuli
 
 -- and the same was said of the application
 pub said-before : {Own : Type 0} (lost : List ℕ) (last new : Seen Own) (starts : List Start) (replies : List Reply) → Leaves lost last new → AreSaid new starts replies → AreSaid last starts replies
@@ -122,51 +123,53 @@ all-in-order lost last new settled l = orderly-whole index last new settled.orde
 
 -- ---- All was dispatched
 
-ends-as : {Own : Type 0} (allows : List Place → Bool) (lost : List ℕ) (text : List ℕ) (last new : Seen Own) (e : Engine) (contents now_contents : Option (List ℕ)) (starts : List Start) (replies : List Reply) → Conforming new → Leaves lost last new → (ran : Ran allows lost text last e)
-    → e.queue ≡ [] → now_contents ≡ append_known contents (text ++ last_text lost last e) → AreSaid new starts replies → EndsAs new contents now_contents e.events (reference_said allows ran.losses new starts replies)
-ends-as allows lost text last new e contents now_contents starts replies keeps l ran none written said =
-    let r = reference_said allows ran.losses last starts replies in
+ends-as : {Own : Type 0} (rule : AppValue) (allows : List Place → Bool) (lost : List ℕ) (text : List ℕ) (last new : Seen Own) (e : Engine) (contents now_contents : Option (List ℕ)) (starts : List Start) (replies : List Reply) → Conforming new → Leaves lost last new → (ran : Ran rule allows lost text last e)
+    → e.queue ≡ [] → now_contents ≡ append_known contents (text ++ last_text lost last e) → AreSaid new starts replies → EndsAs rule new contents now_contents e.events (reference_said rule allows ran.losses new starts replies)
+ends-as rule allows lost text last new e contents now_contents starts replies keeps l ran none written said =
+    let r = reference_said rule allows ran.losses last starts replies in
     let so = ran.as_said starts replies (said-before lost last new starts replies l said) in
-    let report : run_report names r ≡ text ++ last_text lost last e =
-    report-ends r ∙ ap₂ (λ (a b : List ℕ). a ++ b) so.text_is (last-shown lost last e so.starts so.replies r so.stands) in
-    subst (EndsAs new contents now_contents e.events) (sym (reference-same allows ran.losses lost last new starts replies l)) (record {
+    let last_is : last_lines (names rule) r ≡ last_text lost last e =
+    subst (λ (x : AppValue). last_lines (names x) r ≡ last_text lost last e) so.rule_is (last-shown lost last e so.starts so.replies r so.stands) in
+    let report : run_report (names rule) r ≡ text ++ last_text lost last e =
+    report-ends (names rule) r ∙ ap₂ (λ (a b : List ℕ). a ++ b) so.text_is last_is in
+    subst (EndsAs rule new contents now_contents e.events) (sym (reference-same rule allows ran.losses lost last new starts replies l)) (record {
       alike = ends-so lost last new e so.starts so.replies r keeps l so.stands;
       none_left = so.stands.queue ∙ none;
       events_is = sym so.stands.events;
       report = written ∙ ap (append_known contents) (sym report);
     })
 
-pub ends-alike : {Own : Type 0} (allows : List Place → Bool) (lost : List ℕ) (text : List ℕ) (last new : Seen Own) (e : Engine) (contents now_contents : Option (List ℕ)) → Conforming new → Leaves lost last new → AtRest last e → Ran allows lost text last e
-    → AtOnce index (journal new.history) → e.queue ≡ [] → now_contents ≡ append_known contents (text ++ last_text lost last e) → EndsAlike allows new contents now_contents e.events
-ends-alike allows lost text last new e contents now_contents keeps l settled ran said none written =
+pub ends-alike : {Own : Type 0} (rule : AppValue) (allows : List Place → Bool) (lost : List ℕ) (text : List ℕ) (last new : Seen Own) (e : Engine) (contents now_contents : Option (List ℕ)) → Conforming new → Leaves lost last new → AtRest last e → Ran rule allows lost text last e
+    → AtOnce index (journal new.history) → e.queue ≡ [] → now_contents ≡ append_known contents (text ++ last_text lost last e) → EndsAlike rule allows new contents now_contents e.events
+ends-alike rule allows lost text last new e contents now_contents keeps l settled ran said none written =
     record {
       losses = ran.losses;
-      as_told = ends-as allows lost text last new e contents now_contents (starts_in (own_acts new)) (replies_in (own_acts new)) keeps l ran none written (told-said new);
-      as_said = λ starts replies is. ends-as allows lost text last new e contents now_contents starts replies keeps l ran none written is;
+      as_told = ends-as rule allows lost text last new e contents now_contents (starts_in (own_acts new)) (replies_in (own_acts new)) keeps l ran none written (told-said new);
+      as_said = λ starts replies is. ends-as rule allows lost text last new e contents now_contents starts replies keeps l ran none written is;
       at_once = said;
       in_order = all-in-order lost last new settled l;
     }
 
 -- ---- Some events were left
 
-leaves-as : {Own : Type 0} (allows : List Place → Bool) (text : List ℕ) (last new : Seen Own) (e : Engine) (contents now_contents : Option (List ℕ)) (starts : List Start) (replies : List Reply) → Conforming new → Leaves [] last new → (ran : Ran allows [] text last e)
-    → now_contents ≡ append_known contents text → AreSaid new starts replies → LeavesAs new contents now_contents (length e.queue) (reference_said allows ran.losses new starts replies)
-leaves-as allows text last new e contents now_contents starts replies keeps l ran written said =
-    let r = reference_said allows ran.losses last starts replies in
+leaves-as : {Own : Type 0} (rule : AppValue) (allows : List Place → Bool) (text : List ℕ) (last new : Seen Own) (e : Engine) (contents now_contents : Option (List ℕ)) (starts : List Start) (replies : List Reply) → Conforming new → Leaves [] last new → (ran : Ran rule allows [] text last e)
+    → now_contents ≡ append_known contents text → AreSaid new starts replies → LeavesAs rule new contents now_contents (length e.queue) (reference_said rule allows ran.losses new starts replies)
+leaves-as rule allows text last new e contents now_contents starts replies keeps l ran written said =
+    let r = reference_said rule allows ran.losses last starts replies in
     let so = ran.as_said starts replies (said-before [] last new starts replies l said) in
-    subst (LeavesAs new contents now_contents (length e.queue)) (sym (reference-same allows ran.losses [] last new starts replies l)) (record {
+    subst (LeavesAs rule new contents now_contents (length e.queue)) (sym (reference-same rule allows ran.losses [] last new starts replies l)) (record {
       alike = runs-alike last new e so.starts so.replies (at_last []) r keeps l so.stands;
       left_is = ap (λ (q : List Event). length q) (sym so.stands.queue);
       report = written ∙ ap (append_known contents) (sym so.text_is);
     })
 
-pub leaves-alike : {Own : Type 0} (allows : List Place → Bool) (text : List ℕ) (last new : Seen Own) (e : Engine) (contents now_contents : Option (List ℕ)) → Conforming new → Leaves [] last new → AtRest last e → Ran allows [] text last e
-    → AtOnce index (journal new.history) → now_contents ≡ append_known contents text → LeavesAlike allows new contents now_contents (length e.queue)
-leaves-alike allows text last new e contents now_contents keeps l settled ran said written =
+pub leaves-alike : {Own : Type 0} (rule : AppValue) (allows : List Place → Bool) (text : List ℕ) (last new : Seen Own) (e : Engine) (contents now_contents : Option (List ℕ)) → Conforming new → Leaves [] last new → AtRest last e → Ran rule allows [] text last e
+    → AtOnce index (journal new.history) → now_contents ≡ append_known contents text → LeavesAlike rule allows new contents now_contents (length e.queue)
+leaves-alike rule allows text last new e contents now_contents keeps l settled ran said written =
     record {
       losses = ran.losses;
-      as_told = leaves-as allows text last new e contents now_contents (starts_in (own_acts new)) (replies_in (own_acts new)) keeps l ran written (told-said new);
-      as_said = λ starts replies is. leaves-as allows text last new e contents now_contents starts replies keeps l ran written is;
+      as_told = leaves-as rule allows text last new e contents now_contents (starts_in (own_acts new)) (replies_in (own_acts new)) keeps l ran written (told-said new);
+      as_said = λ starts replies is. leaves-as rule allows text last new e contents now_contents starts replies keeps l ran written is;
       at_once = said;
       in_order = all-in-order [] last new settled l;
     }

@@ -1,11 +1,12 @@
 -- Where a run begins: a world that was just opened, and an engine before anything happened, stand as the reference controller does before it
 -- starts its application.
-use Rattle.std.proofs.Common.{◌≡◌, ◌==◌, ℕ, true, List, [], ◌∷◌, map, Option, Some, None, refl, sym, ap, ap₂, ◌∙◌, subst, inl, inr, true≢false}
+use Rattle.std.proofs.Common.{◌≡◌, ◌==◌, ℕ, true, List, [], ◌∷◌, map, Option, None, refl, sym, ap, ap₂, ◌∙◌, subst, inl, inr, true≢false}
 use Rattle.std.proofs.lemmas.Bool.{cases_Bool}
 use Rattle.std.specs.Option.{option_map}
 use Rattle.std.specs.List.{AllByRecursion}
 use Rattle.std.proofs.lemmas.Option.{none-some}
 use Rattle.flow_table.specs.Switch.{Declared, SwitchState}
+use Rattle.crash_policy.specs.Policies.{AppValue}
 use Rattle.of_types.specs.declared.journal.Act.{Act}
 use Rattle.lego_model.specs.Journal.{Reply, Start, inputs, released, losses}
 use Rattle.lego_model.specs.Agreement.{AgreeMarks}
@@ -83,8 +84,8 @@ pub no-acts : {Own : Type 0} (seen : Seen Own) → IsOpened seen → journal see
 unfolding journal
 no-acts seen is = ap (λ (h : List WorldStep). journal h) is
 
-pub settled-first : {Own : Type 0} (seen : Seen Own) → IsOpened seen → AtRest seen engine_at_first
-settled-first seen is = record {
+pub settled-first : {Own : Type 0} (rule : AppValue) (seen : Seen Own) → IsOpened seen → AtRest seen (engine_at_first rule)
+settled-first rule seen is = record {
   calm = calm-first seen is;
   life = λ alive. absurd (true≢false (sym alive));
   speaks = record {
@@ -113,16 +114,16 @@ unfolding losses
 lost-first seen is = ap (λ (js : List Act). losses js) (no-acts seen is)
 
 -- The two stand alike before anything is started.
-pub stands-first : {Own : Type 0} (seen : Seen Own) (starts : List Start) (replies : List Reply) (losses : Losses) → IsOpened seen
-    → Stands seen engine_at_first starts replies losses (before_start seen.given.declared losses (fresh starts replies))
+pub stands-first : {Own : Type 0} (rule : AppValue) (seen : Seen Own) (starts : List Start) (replies : List Reply) (losses : Losses) → IsOpened seen
+    → Stands seen (engine_at_first rule) starts replies losses (before_start seen.given.declared losses (fresh rule starts replies))
 unfolding shown_places at_first
-stands-first seen starts replies losses is = record {
+stands-first rule seen starts replies losses is = record {
   calm = calm-first seen is;
   moment = sym (ap (λ (s : State). s.moment) (state-opened seen is));
   places = sym (places-out (shown_switch [] (state seen)) seen.given.declared (λ d. ap (λ (o : Option SwitchState). option_map (owned_switch (flags_at d [])) o) (none-joined seen is d)));
   queue = refl;
   events = refl;
-  apps = sym (ap (λ (given : List (List ℕ)). app_at engine_at_first given starts replies ∷ []) (given-first seen is));
+  apps = sym (ap (λ (given : List (List ℕ)). app_at (engine_at_first rule) given starts replies ∷ []) (given-first seen is));
   released = sym (released-first seen is);
   lost = sym (lost-first seen is);
   losses_is = refl;

@@ -55,7 +55,7 @@ use Rattle.lego_model.specs.OrderlySteps.{IsOrderly}
 use Rattle.switch_laws.specs.laws.OrderlyLaws.{orderly-none, orderly-then, rows-orderly, rows-release-none}
 use Rattle.switch_laws.specs.laws.ShownUndoLaws.{no-rows}
 use Rattle.run_laws.specs.Engine.{Engine, Stands}
-use Rattle.lego_model.specs.Application.{index, names, name}
+use Rattle.lego_model.specs.Application.{index, names}
 use Rattle.lego_model.specs.History.{own_acts, given_in, stimuli_in, lost_of}
 use Rattle.lego_model.specs.ReferenceRun.{text_of}
 use Rattle.run_laws.specs.laws.DialogueLaws.{others_at_once}
@@ -215,24 +215,24 @@ places-shown lost declared views s up are stand agrees joined =
 -- ---- The whole
 
 -- the report of a run of the reference controller is the text of its lines, and its last lines
-pub report-ends : (r : Run) → run_report names r ≡ text_of r ++ last_lines r
+pub report-ends : (called : List (List ℕ)) (r : Run) → run_report called r ≡ text_of called r ++ last_lines called r
 unfolding run_report
-report-ends r =
-    ap (λ (text : List ℕ). text ++ end_line r.moment r.events) (append_assoc (text_of r) (places_lines r) (apps_text names r.apps))
-    ∙ append_assoc (text_of r) (places_lines r ++ apps_text names r.apps) (end_line r.moment r.events)
+report-ends called r =
+    ap (λ (text : List ℕ). text ++ end_line r.moment r.events) (append_assoc (text_of called r) (places_lines r) (apps_text called r.apps))
+    ∙ append_assoc (text_of called r) (places_lines r ++ apps_text called r.apps) (end_line r.moment r.events)
   where
     places_lines : Run → List ℕ
     places_lines q = flat_map (place_lines q.losses.last) q.places
 
 -- Where engine and reference controller stand alike, they say the same at the end.
-pub last-shown : {Own : Type 0} (lost : List ℕ) (seen : Seen Own) (e : Engine) (starts : List Start) (replies : List Reply) (r : Run) → Stands seen e starts replies (at_last lost) r → last_lines r ≡ last_text lost seen e
+pub last-shown : {Own : Type 0} (lost : List ℕ) (seen : Seen Own) (e : Engine) (starts : List Start) (replies : List Reply) (r : Run) → Stands seen e starts replies (at_last lost) r → last_lines (names e.rule) r ≡ last_text lost seen e
 last-shown lost seen e starts replies r stands =
     let last_is : r.losses.last ≡ lost = ap (λ (l : Losses). l.last) stands.losses_is in
     let moment : r.moment ≡ e.net.moment = stands.moment ∙ sym stands.calm.moment in
     let first_text : List ℕ = flat_map (place_lines lost) (shown_places seen.given.declared e.net.views (state seen)) in
     rw (last_is, stands.places, stands.apps, moment, stands.events)
-    (ap (λ (text : List ℕ). (first_text ++ text) ++ end_line e.net.moment e.events) (append-nil (app_line name e.alive e.done e.failed))
-    ∙ append_assoc first_text (app_line name e.alive e.done e.failed) (end_line e.net.moment e.events))
+    (ap (λ (text : List ℕ). (first_text ++ text) ++ end_line e.net.moment e.events) (append-nil (app_line e.rule.name e.alive e.done e.failed))
+    ∙ append_assoc first_text (app_line e.rule.name e.alive e.done e.failed) (end_line e.net.moment e.events))
 
 -- ---- What it leaves
 

@@ -21,6 +21,7 @@ use Rattle.app_visor.specs.laws.DialogueLaws.{converses_ended}
 use Rattle.run_laws.specs.laws.DialogueLaws.{at_once_then, runs_now}
 use Rattle.run_laws.specs.laws.TellLaws.{released_same, lost_same}
 use Rattle.lego_model.specs.Application.{index}
+use Rattle.run_laws.specs.LinkSteps.{TriesKeep}
 use Rattle.run_laws.specs.LastReport.{OnlyAsked, switch_left}
 use Rattle.run_laws.specs.Endings.{Leaves}
 
@@ -49,14 +50,14 @@ record IsEnd (running : Bool) : Type 0 where
   stimuli_is : stimuli (journal (end_steps index running)) ≡ []
   released_is : released (journal (end_steps index running)) ≡ []
   lost_is : losses (journal (end_steps index running)) ≡ []
-  marks : (s : State) → (after_steps (end_steps index running) s).marks ≡ s.marks
+  keeps : (s : State) → TriesKeep s (after_steps (end_steps index running) s)
   switches : (d : ℕ) (s : State) → switch_of d (after_steps (end_steps index running) s) ≡ switch_of d s
   orderly : AllByRecursion (IsOrderly index) (end_steps index running)
 
 is-end : (running : Bool) → IsEnd running
 unfolding end_steps journal inputs stimuli released losses switch_of after_act after_step
-is-end true = record { own = refl; inputs_is = refl; stimuli_is = refl; released_is = refl; lost_is = refl; marks = λ s. refl; switches = λ d s. refl; orderly = (refl, tt) }
-is-end false = record { own = refl; inputs_is = refl; stimuli_is = refl; released_is = refl; lost_is = refl; marks = λ s. refl; switches = λ d s. refl; orderly = tt }
+is-end true = record { own = refl; inputs_is = refl; stimuli_is = refl; released_is = refl; lost_is = refl; keeps = λ s. record { links = refl; rests = record { begun = refl; due = refl; moment = refl }; marks = refl }; switches = λ d s. refl; orderly = (refl, tt) }
+is-end false = record { own = refl; inputs_is = refl; stimuli_is = refl; released_is = refl; lost_is = refl; keeps = λ s. record { links = refl; rests = record { begun = refl; due = refl; moment = refl }; marks = refl }; switches = λ d s. refl; orderly = tt }
 
 -- The application is ended, if it runs.
 pub end-leaves : {Own : Type 0} (Tells : Type 0) (old new : Seen Own) → Tells → Ends Tells index old new → Leaves [] old new
@@ -77,8 +78,13 @@ end-leaves Tells old new told ends =
       stimuli = ap (λ (acts : List Act). stimuli acts) longer ∙ stimuli-append (journal old.history) (journal steps) ∙ ap (λ (xs : List WorldStim). stimuli_in old ++ xs) is.stimuli_is ∙ append-nil (stimuli_in old);
       released = released_same old new (journal steps) longer is.released_is;
       lost_is = lost_same old new (journal steps) longer is.lost_is ∙ sym (append-nil (lost_of old));
-      marks = ap (λ (s : State). s.marks) after ∙ is.marks (state old);
+      marks = ap (λ (s : State). s.marks) after ∙ (is.keeps (state old)).marks;
       switches = λ d. ap (λ (s : State). switch_of d s) after ∙ is.switches d (state old);
       at_once = λ said. let ended = converses_ended Tells index said.last old new ends told (runs_now old said) in at_once_then ended.0 old new said ended.1.0;
       orderly = record { steps = steps; history = (ends.told told).history; orderly = is.orderly };
     }
+
+-- It moves no switch, and makes no mark.
+pub end-keeps : {Own : Type 0} (Tells : Type 0) (old new : Seen Own) → Tells → Ends Tells index old new → TriesKeep (state old) (state new)
+end-keeps Tells old new told ends =
+    subst (λ (s : State). TriesKeep (state old) s) (sym (Ends-state told ends)) ((is-end (is_running index (state old))).keeps (state old))

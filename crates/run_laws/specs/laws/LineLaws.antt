@@ -13,19 +13,18 @@ use Rattle.lego_model.specs.RunReport.{event_line, out_line, start_line, gone_li
 use Rattle.app_visor.specs.declared.state.TurnEnd.{TurnEnd}
 use Rattle.app_visor.specs.declared.state.TurnEnd.TheVariants as ends
 use Rattle.app_visor.specs.Turns.{IsEnd}
-use Rattle.lego_model.specs.Application.{names, name}
 use Rattle.run_laws.specs.Facts.{gone_text, starts_text, turn_word, out_text}
 use Rattle.run_laws.specs.LastReport.{lines_text}
 
-gone_lines : (back : Bool) → lines_text (gone_line 0 back) ≡ gone_text back
-gone_lines true = refl
-gone_lines false = append-nil (gone_line_of name)
+gone_lines : (name : List ℕ) (back : Bool) → lines_text (name ∷ []) (gone_line 0 back) ≡ gone_text name back
+gone_lines name true = refl
+gone_lines name false = append-nil (gone_line_of name)
 
 -- the lines of attempts
-pub starts_lines : (tries : List Tried) (back : Bool) → lines_text (map (Started 0) tries ++ gone_line 0 back) ≡ starts_text tries back
-starts_lines [] back = gone_lines back
-starts_lines (t ∷ tries) back =
-    ap (λ (text : List ℕ). start_line name t ++ text) (starts_lines tries back) ∙ sym (append_assoc (start_line name t) (flat_map (start_line name) tries) (gone_text back))
+pub starts_lines : (name : List ℕ) (tries : List Tried) (back : Bool) → lines_text (name ∷ []) (map (Started 0) tries ++ gone_line 0 back) ≡ starts_text name tries back
+starts_lines name [] back = gone_lines name back
+starts_lines name (t ∷ tries) back =
+    ap (λ (text : List ℕ). start_line name t ++ text) (starts_lines name tries back) ∙ sym (append_assoc (start_line name t) (flat_map (start_line name) tries) (gone_text name back))
 
 done_word : (stop : Bool) (checkpoint : Option (List ℕ)) (rest : List ℕ) → turn_word (ends.Done stop) ≡ outcome_word (Completed stop checkpoint rest)
 done_word true checkpoint rest = refl
@@ -40,14 +39,14 @@ word_is (ends.Failed why) unread (Completed stops checkpoint rest) is = absurd i
 word_is (ends.Failed why) unread (Failed cause) is = ap (λ c. words.Failed c) is
 
 -- the lines of packets
-pub outs_is : (packets : List Held) → out_text (map (λ h. (h.0, length h.1.payload)) packets) ≡ lines_text (out_lines packets)
-outs_is [] = refl
-outs_is (h ∷ packets) = ap (λ (text : List ℕ). out_line h.0 (length h.1.payload) ++ text) (outs_is packets)
+pub outs_is : (names : List (List ℕ)) (packets : List Held) → out_text (map (λ h. (h.0, length h.1.payload)) packets) ≡ lines_text names (out_lines packets)
+outs_is names [] = refl
+outs_is names (h ∷ packets) = ap (λ (text : List ℕ). out_line h.0 (length h.1.payload) ++ text) (outs_is names packets)
 
 -- an event's line, and the lines behind it
-pub event_lines : (lines more : List Line) (number : ℕ) (event : Event) → lines_text ((lines ++ Dispatched number event ∷ []) ++ more) ≡ lines_text lines ++ (event_line number event.kind event.dpid ++ lines_text more)
-event_lines lines more number event =
+pub event_lines : (names : List (List ℕ)) (lines more : List Line) (number : ℕ) (event : Event) → lines_text names ((lines ++ Dispatched number event ∷ []) ++ more) ≡ lines_text names lines ++ (event_line number event.kind event.dpid ++ lines_text names more)
+event_lines names lines more number event =
     let here = event_line number event.kind event.dpid in
     flat_map-append (line_text names) (lines ++ Dispatched number event ∷ []) more
-    ∙ ap (λ (text : List ℕ). text ++ lines_text more) (flat_map-append (line_text names) lines (Dispatched number event ∷ []) ∙ ap (λ (text : List ℕ). lines_text lines ++ text) (append-nil here))
-    ∙ append_assoc (lines_text lines) here (lines_text more)
+    ∙ ap (λ (text : List ℕ). text ++ lines_text names more) (flat_map-append (line_text names) lines (Dispatched number event ∷ []) ∙ ap (λ (text : List ℕ). lines_text names lines ++ text) (append-nil here))
+    ∙ append_assoc (lines_text names lines) here (lines_text names more)

@@ -4,6 +4,7 @@ use Rattle.std.proofs.lemmas.List.{append-nil, append_assoc}
 use Rattle.of_types.specs.declared.journal.WorldStim.{WorldStim}
 use Rattle.lego_model.specs.Journal.{Reply, Start}
 use Rattle.flow_table.specs.View.{TableView}
+use Rattle.crash_policy.specs.Policies.{AppValue}
 use Rattle.lego_model.specs.Places.{Place}
 use Rattle.lego_model.specs.Controller.{Run}
 use Rattle.lego_model.specs.Losses.{TurnLosses, Losses}
@@ -12,6 +13,7 @@ use Rattle.outside.specs.Seen.{Seen, Continues}
 use Rattle.outside.specs.laws.StateLaws.{Conforming-before}
 use Rattle.lego_model.specs.History.{starts_in, replies_in, own_acts, stimuli_in}
 use Rattle.run_laws.specs.Engine.{Engine, Stands, ahead}
+use Rattle.lego_model.specs.Application.{names}
 use Rattle.lego_model.specs.ReferenceRun.{text_of}
 use Rattle.run_laws.specs.Moves.{AtRest, Moves, Moved, Shown}
 
@@ -31,11 +33,12 @@ moves-none seen e = record {
   batches = [];
   turns = [];
   given = refl;
+  rule = refl;
   read_starts = sym (append-nil (starts_in (own_acts seen)));
   read_replies = sym (append-nil (replies_in (own_acts seen)));
   read_stimuli = sym (append-nil (stimuli_in seen));
   stands = λ ss rs later r starts_is replies_is s. s;
-  says = λ ss rs later r starts_is replies_is s. sym (append-nil (text_of r));
+  says = λ ss rs later r starts_is replies_is s. sym (append-nil (text_of (names e.rule) r));
 }
 
 pub moves-then : {Own : Type 0} (xs ys : List WorldStim) (f g : Run → Run) (first second : List ℕ) (a b c : Seen Own) (e1 e2 e3 : Engine)
@@ -46,6 +49,7 @@ moves-then {Own} xs ys f g first second a b c e1 e2 e3 m n = record {
   batches = m.batches ++ n.batches;
   turns = m.turns ++ n.turns;
   given = n.given ∙ m.given;
+  rule = n.rule ∙ m.rule;
   read_starts = longer (starts_in (own_acts a)) (starts_in (own_acts b)) (starts_in (own_acts c)) m.starts n.starts m.read_starts n.read_starts;
   read_replies = longer (replies_in (own_acts a)) (replies_in (own_acts b)) (replies_in (own_acts c)) m.replies n.replies m.read_replies n.read_replies;
   read_stimuli = longer (stimuli_in a) (stimuli_in b) (stimuli_in c) xs ys m.read_stimuli n.read_stimuli;
@@ -60,9 +64,10 @@ moves-then {Own} xs ys f g first second a b c e1 e2 e3 m n = record {
       let here = subst (λ (l : Losses). Stands a e1 ss rs l r) (ahead-then m.batches n.batches m.turns n.turns later) s in
       let fs = start_fronts-parts m.starts n.starts ss starts_is in
       let fr = fronts-parts m.replies n.replies rs replies_is in
-      n.says (drop (length m.starts) ss) (drop (length m.replies) rs) later (f r) fs.1 fr.1 (m.stands ss rs (ahead n.batches n.turns later) r fs.0 fr.0 here)
+      subst (λ (rule : AppValue). text_of (names rule) (g (f r)) ≡ text_of (names rule) (f r) ++ second) m.rule
+      (n.says (drop (length m.starts) ss) (drop (length m.replies) rs) later (f r) fs.1 fr.1 (m.stands ss rs (ahead n.batches n.turns later) r fs.0 fr.0 here))
       ∙ ap (λ (t : List ℕ). t ++ second) (m.says ss rs (ahead n.batches n.turns later) r fs.0 fr.0 here)
-      ∙ append_assoc (text_of r) first second;
+      ∙ append_assoc (text_of (names e1.rule) r) first second;
 }
 
 -- another function that does the same wherever the two stand alike
@@ -74,12 +79,13 @@ moves-as xs f g text a b e1 e2 same m = record {
   batches = m.batches;
   turns = m.turns;
   given = m.given;
+  rule = m.rule;
   read_starts = m.read_starts;
   read_replies = m.read_replies;
   read_stimuli = m.read_stimuli;
   stands = λ ss rs later r starts_is replies_is s.
       subst (Stands b e2 (drop (length m.starts) ss) (drop (length m.replies) rs) later) (same ss rs (ahead m.batches m.turns later) r s) (m.stands ss rs later r starts_is replies_is s);
-  says = λ ss rs later r starts_is replies_is s. subst (λ (q : Run). text_of q ≡ text_of r ++ text) (same ss rs (ahead m.batches m.turns later) r s) (m.says ss rs later r starts_is replies_is s);
+  says = λ ss rs later r starts_is replies_is s. subst (λ (q : Run). text_of (names e1.rule) q ≡ text_of (names e1.rule) r ++ text) (same ss rs (ahead m.batches m.turns later) r s) (m.says ss rs later r starts_is replies_is s);
 }
 
 pub moved-none : {Own : Type 0} (seen : Seen Own) (e : Engine) → AtRest seen e → Moved [] (λ r. r) [] seen seen e e
@@ -105,6 +111,7 @@ moved-so xs ys f text a b e1 e2 same m = record {
     batches = m.moves.batches;
     turns = m.moves.turns;
     given = m.moves.given;
+    rule = m.moves.rule;
     read_starts = m.moves.read_starts;
     read_replies = m.moves.read_replies;
     read_stimuli = m.moves.read_stimuli ∙ ap (λ (zs : List WorldStim). stimuli_in a ++ zs) same;

@@ -7,11 +7,15 @@ use Rattle.of_types.specs.declared.journal.Act.{Act}
 use Rattle.of_types.specs.declared.journal.Act.TheVariants.{Stim, Started, Gave, Gone, Took, Ended, Sent, Got, Lost}
 use Rattle.flow_table.specs.View.{TableView}
 use Rattle.app_frames.specs.declared.frame.Event.{Event}
+use Rattle.app_frames.specs.declared.frame.EventKind.{EventKind}
+use Rattle.crash_policy.specs.declared.policy_file.Policy.{Policy}
+use Rattle.crash_policy.specs.declared.policy_file.Policy.TheVariants as policy
+use Rattle.crash_policy.specs.Asking.{rule_at}
 use Rattle.lego_model.specs.Journal.{is_of}
 use Rattle.lego_model.specs.Controller.{attempts, event_frame}
 use Rattle.outside.specs.Seen.{Seen, Continues}
 use Rattle.outside.specs.Conforming.{Conforming}
-use Rattle.outside.specs.laws.SeenLaws.{Continues-trans}
+use Rattle.outside.specs.laws.SeenLaws.{Continues-trans, Ends-continues}
 use Rattle.outside.specs.laws.StateLaws.{Conforming-before}
 use Rattle.batch_laws.specs.laws.KeepingLaws.{Conforming-in_order}
 use Rattle.outside.specs.State.{State, is_running, state}
@@ -34,10 +38,11 @@ use Rattle.lego_model.specs.OrderlySteps.{IsOrderly}
 use Rattle.switch_laws.specs.laws.OrderlyLaws.{orderly-same, orderly-then, exchange-orderly, undo-orderly, release-orderly}
 use Rattle.run_laws.specs.Engine.{Engine}
 use Rattle.lego_model.specs.Application.{index}
-use Rattle.run_laws.specs.Facts.{StartsAgain, all_told, IsClosed, TakesTurn, IsTurn}
+use Rattle.run_laws.specs.Facts.{StartsAgain, Follows, all_told, IsClosed, TakesTurn, IsTurn}
 use Rattle.run_laws.specs.Readings.{AreRead}
 use Rattle.run_laws.specs.laws.ChainLaws.{try_own, told_state, tries_continue}
 use Rattle.run_laws.specs.laws.LinkStepLaws.{talk_step}
+use Rattle.run_laws.specs.laws.LeaveLaws.{end-leaves}
 use Rattle.run_laws.specs.laws.TellLaws.{talk_loses, chain_ready}
 
 -- ---- Calls for an application
@@ -100,35 +105,50 @@ pub starts-orderly : {Own : Type 0} (Tells : Type 0) (accepts : List TableView �
 starts-orderly Tells accepts text old new e now_e told reads s =
     tries-orderly Tells index e.kept attempts s.restarts.all old new told s.restarts.are (reads.tries e.kept old new s.found s.tries told s.restarts).own
 
+-- ---- What follows a turn that failed
+
+follows-orderly : {Own : Type 0} (Tells : Type 0) (accepts : List TableView → Bool) (rule : Policy) (text : List ℕ) (old new : Seen Own) (e now_e : Engine) → Tells → AreRead Own Tells accepts → Follows Tells rule text old new e now_e → OrderlySince index old new
+follows-orderly Tells accepts policy.None text old new e now_e told reads gone = (end-leaves Tells old new told gone.ends).orderly
+follows-orderly Tells accepts policy.Absolute text old new e now_e told reads s = starts-orderly Tells accepts text old new e now_e told reads s
+follows-orderly Tells accepts policy.Equivalence text old new e now_e told reads s = starts-orderly Tells accepts text old new e now_e told reads s
+
+starts-continue : {Own : Type 0} (Tells : Type 0) (text : List ℕ) (old new : Seen Own) (e now_e : Engine) → StartsAgain Tells text old new e now_e → Continues Tells old new
+starts-continue Tells text old new e now_e s = tries_continue Tells index e.kept attempts s.restarts.all old new s.restarts.are
+
+follows-continue : {Own : Type 0} (Tells : Type 0) (rule : Policy) (text : List ℕ) (old new : Seen Own) (e now_e : Engine) → Follows Tells rule text old new e now_e → Continues Tells old new
+follows-continue Tells policy.None text old new e now_e gone = Ends-continues gone.ends
+follows-continue Tells policy.Absolute text old new e now_e s = starts-continue Tells text old new e now_e s
+follows-continue Tells policy.Equivalence text old new e now_e s = starts-continue Tells text old new e now_e s
+
 -- ---- A turn
 
-closed-orderly : {Own : Type 0} (Tells : Type 0) (accepts : List TableView → Bool) (end : TurnEnd) (checkpoint : Option (List ℕ)) (unread text : List ℕ) (start : ℕ) (mid new : Seen Own) (mid_net : NetState) (e now_e : Engine) → Tells → Conforming new → Ready mid mid_net → AreRead Own Tells accepts
-    → IsClosed Tells end checkpoint unread text start mid new mid_net e now_e → OrderlySince index mid new
-closed-orderly Tells accepts (ends.Done stop) checkpoint unread text start mid new mid_net e now_e told keeps ready reads closed =
+closed-orderly : {Own : Type 0} (Tells : Type 0) (accepts : List TableView → Bool) (kind : EventKind) (end : TurnEnd) (checkpoint : Option (List ℕ)) (unread text : List ℕ) (start : ℕ) (mid new : Seen Own) (mid_net : NetState) (e now_e : Engine) → Tells → Conforming new → Ready mid mid_net → AreRead Own Tells accepts
+    → IsClosed Tells kind end checkpoint unread text start mid new mid_net e now_e → OrderlySince index mid new
+closed-orderly Tells accepts kind (ends.Done stop) checkpoint unread text start mid new mid_net e now_e told keeps ready reads closed =
     release-orderly index Tells start mid new mid_net closed.net e.queue closed.queue (Ok closed.sent) told (Conforming-in_order new keeps) (ready-joined mid mid_net ready) closed.commits
-closed-orderly Tells accepts (ends.Failed cause) checkpoint unread text start mid new mid_net e now_e told keeps ready reads closed =
-    let starts = closed.starts.restarts in
-    let kept = Conforming-before told (tries_continue Tells index e.kept attempts starts.all closed.undone new starts.are) keeps in
+closed-orderly Tells accepts kind (ends.Failed cause) checkpoint unread text start mid new mid_net e now_e told keeps ready reads closed =
+    let undone_e = all_told closed.undone_net e.queue (record e { rest = []; failed = e.failed + 1 }) in
+    let kept = Conforming-before told (follows-continue Tells (rule_at e.rule kind) closed.later_text closed.undone new undone_e now_e closed.follows) keeps in
     orderly-then index mid closed.undone new (undo-orderly index Tells start mid closed.undone mid_net closed.undone_net (Ok tt) told (Conforming-in_order closed.undone kept) (ready-joined mid mid_net ready) closed.undoes)
-    (starts-orderly Tells accepts closed.later_text closed.undone new (all_told closed.undone_net e.queue (record e { rest = []; failed = e.failed + 1 })) now_e told reads closed.starts)
+    (follows-orderly Tells accepts (rule_at e.rule kind) closed.later_text closed.undone new undone_e now_e told reads closed.follows)
 
-closed-continues : {Own : Type 0} (Tells : Type 0) (end : TurnEnd) (checkpoint : Option (List ℕ)) (unread text : List ℕ) (start : ℕ) (mid new : Seen Own) (mid_net : NetState) (e now_e : Engine) → IsClosed Tells end checkpoint unread text start mid new mid_net e now_e → Continues Tells mid new
-closed-continues Tells (ends.Done stop) checkpoint unread text start mid new mid_net e now_e closed = closed.commits.continues
-closed-continues Tells (ends.Failed cause) checkpoint unread text start mid new mid_net e now_e closed =
-    let starts = closed.starts.restarts in
-    Continues-trans Tells mid closed.undone new closed.undoes.continues (tries_continue Tells index e.kept attempts starts.all closed.undone new starts.are)
+closed-continues : {Own : Type 0} (Tells : Type 0) (kind : EventKind) (end : TurnEnd) (checkpoint : Option (List ℕ)) (unread text : List ℕ) (start : ℕ) (mid new : Seen Own) (mid_net : NetState) (e now_e : Engine) → IsClosed Tells kind end checkpoint unread text start mid new mid_net e now_e → Continues Tells mid new
+closed-continues Tells kind (ends.Done stop) checkpoint unread text start mid new mid_net e now_e closed = closed.commits.continues
+closed-continues Tells kind (ends.Failed cause) checkpoint unread text start mid new mid_net e now_e closed =
+    Continues-trans Tells mid closed.undone new closed.undoes.continues
+    (follows-continue Tells (rule_at e.rule kind) closed.later_text closed.undone new (all_told closed.undone_net e.queue (record e { rest = []; failed = e.failed + 1 })) now_e closed.follows)
 
 taken-orderly : {Own : Type 0} (Tells : Type 0) (accepts : List TableView → Bool) (event : Event) (text : List ℕ) (old new : Seen Own) (e now_e : Engine) → Tells → Conforming new → Calm old e.net → AreRead Own Tells accepts → TakesTurn Tells accepts event text old new e now_e → OrderlySince index old new
 taken-orderly Tells accepts event text old new e now_e told keeps calm reads turn =
     let trace = Talk (give_act turn.turns.given index (event_frame e.events e.net.moment event)) ∷ turn.turns.trace in
-    let kept = Conforming-before told (closed-continues Tells turn.end (handed turn.turns.outcome) turn.unread text (length e.net.log) turn.mid new turn.mid_net e now_e turn.closed) keeps in
+    let kept = Conforming-before told (closed-continues Tells event.kind turn.end (handed turn.turns.outcome) turn.unread text (length e.net.log) turn.mid new turn.mid_net e now_e turn.closed) keeps in
     let first : Goes (length e.net.log) [] old old e.net e.net = record { since = begun old e.net; ready = calm.ready } in
     orderly-then index old turn.mid new
     (chain-orderly Tells (length e.net.log) [] old e.net trace old turn.mid e.net turn.mid_net told kept turn.turns.chain first)
-    (closed-orderly Tells accepts turn.end (handed turn.turns.outcome) turn.unread text (length e.net.log) turn.mid new turn.mid_net e now_e told keeps
+    (closed-orderly Tells accepts event.kind turn.end (handed turn.turns.outcome) turn.unread text (length e.net.log) turn.mid new turn.mid_net e now_e told keeps
     (chain_ready Tells (length e.net.log) [] old e.net trace old turn.mid e.net turn.mid_net told kept turn.turns.chain first) reads turn.closed)
 
-pub turn-orderly : {Own : Type 0} (Tells : Type 0) (accepts : List TableView → Bool) (event : Event) (alive : Bool) (text : List ℕ) (old new : Seen Own) (e now_e : Engine) → Tells → Conforming new → Calm old e.net → AreRead Own Tells accepts → IsTurn Tells accepts event alive text old new e now_e
+pub turn-orderly : {Own : Type 0} (Tells : Type 0) (accepts : List TableView → Bool) (event : Event) (takes : Bool) (text : List ℕ) (old new : Seen Own) (e now_e : Engine) → Tells → Conforming new → Calm old e.net → AreRead Own Tells accepts → IsTurn Tells accepts event takes text old new e now_e
     → OrderlySince index old new
 turn-orderly Tells accepts event true text old new e now_e told keeps calm reads turn = taken-orderly Tells accepts event text old new e now_e told keeps calm reads turn
 turn-orderly Tells accepts event false text old new e now_e told keeps calm reads turn = orderly-same index old new turn.0

@@ -1,5 +1,5 @@
 -- The law of a turn: the engine's turn is the turn of the reference controller, whose switches and application come to the same, whether
--- the turn was done and its packets released, or failed and was undone, and the application started again.
+-- the turn was done and its packets released, or failed and was undone, and the application started again or gone.
 use Rattle.std.proofs.Common.{◌≡◌, ℕ, ◌+◌, ◌^◌, ◌<◌, Bool, true, false, List, [], ◌∷◌, ◌++◌, length, map, Option, Some, Ok, if◌then◌else◌, refl, sym, ap, ap₂, ◌∙◌, subst}
 use Rattle.std.specs.Prelude.{unwrap_or}
 use Rattle.std.proofs.lemmas.Bool.{eq-eqb}
@@ -12,6 +12,7 @@ use Rattle.app_frames.specs.declared.frame.Event.{Event}
 use Rattle.app_frames.specs.declared.frame.Answer.{Answer}
 use Rattle.app_frames.specs.declared.cause.Cause.{Cause}
 use Rattle.app_frames.specs.declared.cause.Tried.{Tried}
+use Rattle.crash_policy.specs.Asking.{rule_at}
 use Rattle.lego_model.specs.declared.turn.TurnWord.{TurnWord}
 use Rattle.lego_model.specs.Journal.{Reply, Start, inputs, reply_of}
 use Rattle.lego_model.specs.Places.{Place}
@@ -20,7 +21,7 @@ use Rattle.lego_model.specs.Turns.{Outcome, Completed, Failed, turn_of}
 use Rattle.lego_model.specs.Scripted.{IsFront, is_heard}
 use Rattle.lego_model.specs.laws.ScriptedLaws.{turn-front}
 use Rattle.lego_model.specs.Losses.{PacketLoss, TurnLosses}
-use Rattle.lego_model.specs.Controller.{table_of, App, Turned, Started, attempts, started, gone_line, event_frame, answer_frame, given_in as given_by_turn, Release, release, undoing, undone_release, out_lines, lost_lines, leavers, turn}
+use Rattle.lego_model.specs.Controller.{table_of, App, Turned, Started, after_failure, gone_line, event_frame, answer_frame, given_in as given_by_turn, Release, release, undoing, undone_release, out_lines, lost_lines, leavers, turn}
 use Rattle.lego_model.specs.RunReport.{turn_line, lost_line, line_text}
 use Rattle.outside.specs.Seen.{Given, Seen}
 use Rattle.outside.specs.State.{State, Mark, state, marks_at_event}
@@ -51,7 +52,7 @@ use Rattle.batch_laws.specs.Calm.{Calm}
 use Rattle.journal_laws.specs.Readings.{LastStands}
 use Rattle.lego_model.specs.History.{starts_in, replies_in, own_acts, given_in, released_of, lost_of}
 use Rattle.run_laws.specs.Engine.{Engine, app_at}
-use Rattle.lego_model.specs.Application.{index, budget, names, name}
+use Rattle.lego_model.specs.Application.{index, names}
 use Rattle.batch_laws.specs.Knowledge.{left_events, lost_text}
 use Rattle.run_laws.specs.Facts.{turn_word, out_text, all_told, IsClosed, TakesTurn}
 use Rattle.run_laws.specs.Readings.{AreRead, JudgesAlike}
@@ -65,7 +66,7 @@ use Rattle.run_laws.specs.laws.ChainLaws.{chain_rests, chain_marks, given_marks,
 use Rattle.run_laws.specs.laws.TellLaws.{chain_tells, chain_keeps}
 use Rattle.run_laws.specs.LastReport.{lines_text}
 use Rattle.run_laws.specs.laws.LineLaws.{word_is, outs_is}
-use Rattle.run_laws.specs.laws.StartMoveLaws.{starts_alike}
+use Rattle.run_laws.specs.laws.StartMoveLaws.{follows_alike}
 use Rattle.run_laws.specs.EventMoves.{StartsAlike, TurnAlike, TurnMoves}
 
 -- ---- How all stands when the application is done or failed
@@ -109,7 +110,7 @@ behind_event false frame acts answers is = subst NoEvents (sym is) tt
 
 at_end : {Own : Type 0} (Tells : Type 0) (accepts : List TableView → Bool) (allows : List Place → Bool) (event : Event) (old mid : Seen Own) (e : Engine) (mid_net : NetState) (end : TurnEnd) (unread : List ℕ)
     → Tells → Conforming mid → JudgesAlike Own allows accepts → e.events < 2 ^ 64 → Calm old e.net
-    → (t : Turns Tells accepts index budget e.rest (event_frame e.events e.net.moment event) old mid e.net mid_net end unread) → is_heard budget e.rest (reply_by t.given t.trace) ≡ true
+    → (t : Turns Tells accepts index e.rule.budget e.rest (event_frame e.events e.net.moment event) old mid e.net mid_net end unread) → is_heard e.rule.budget e.rest (reply_by t.given t.trace) ≡ true
     → AtEnd allows event old mid e mid_net t.given (reply_by t.given t.trace) t.answers t.outcome
 at_end Tells accepts allows event old mid e mid_net end unread told keeps judges few calm t heard =
     let frame = event_frame e.events e.net.moment event in
@@ -118,7 +119,7 @@ at_end Tells accepts allows event old mid e mid_net end unread told keeps judges
     let given_is : mid.given ≡ old.given = (Chain-continues Tells index whole old mid e.net mid_net t.chain).given in
     let judged : allows (places_at old mid mid_net) ≡ accepts mid_net.views =
     subst (λ (g : Given _). allows (shown_places g.declared mid_net.views (state mid)) ≡ accepts mid_net.views) given_is (judges.alike mid mid_net) in
-    let shown = turn-shown Tells accepts allows index budget e.rest frame old mid e.net mid_net end unread told keeps calm.ready t judged in
+    let shown = turn-shown Tells accepts allows index e.rule.budget e.rest frame old mid e.net mid_net end unread told keeps calm.ready t judged in
     record {
       messages = shown.messages;
       left = shown.left;
@@ -132,8 +133,8 @@ at_end Tells accepts allows event old mid e mid_net end unread told keeps judges
           let losses : TurnLosses = record { messages = shown.messages; packets = packets; undone = undone } in
           turn_is allows e.events e.net.moment event losses (places_at old old e.net) (app_at e (given_in old) starts (said ∷ replies)) said
           (played_on (play_at old mid mid_net [] shown.left) t.answers t.outcome) refl
-          (turn-front (table_of allows) budget e.rest (reply_by t.given t.trace) said (fresh_play shown.messages (places_at old old e.net)) heard front
-          ∙ ap (λ (p : Play). turn_of (table_of allows) budget e.rest (reply_by t.given t.trace) p) (fresh_is old e.net shown.messages calm.held)
+          (turn-front (table_of allows) e.rule.budget e.rest (reply_by t.given t.trace) said (fresh_play shown.messages (places_at old old e.net)) heard front
+          ∙ ap (λ (p : Play). turn_of (table_of allows) e.rule.budget e.rest (reply_by t.given t.trace) p) (fresh_is old e.net shown.messages calm.held)
           ∙ shown.played);
     }
 
@@ -148,8 +149,8 @@ given_is false trace = refl
 
 abbrev done_app : Engine → Option (List ℕ) → List Start → List Reply → List (List ℕ) → List ℕ → App
 done_app e checkpoint starts replies inputs rest = record {
+  rule = e.rule;
   alive = e.alive;
-  budget = budget;
   rest = rest;
   kept = unwrap_or checkpoint e.kept;
   inputs = inputs;
@@ -181,9 +182,9 @@ all_left old mid new first_net mid_net then_net net left more none first same la
 }
 
 -- their lines
-losts_is : (gone : List KnownPorts) → lost_text gone ≡ lines_text (lost_lines (leavers (left_events gone)))
-losts_is [] = refl
-losts_is (k ∷ gone) = ap (λ (text : List ℕ). lost_line k.dpid ++ text) (losts_is gone)
+losts_is : (names : List (List ℕ)) (gone : List KnownPorts) → lost_text gone ≡ lines_text names (lost_lines (leavers (left_events gone)))
+losts_is names [] = refl
+losts_is names (k ∷ gone) = ap (λ (text : List ℕ). lost_line k.dpid ++ text) (losts_is names gone)
 
 -- what the release of the held packets leaves, in the places of the beginning
 record ReleasedSince {Own : Type 0} (old mid new : Seen Own) (mid_net net : NetState) (losing : List PacketLoss) (release_is : Release) : Type 0 where
@@ -200,7 +201,7 @@ released_since {Own} old mid new start sent mid_net net queue now_queue given sh
     }
 
 done_alike : {Own : Type 0} (Tells : Type 0) (allows : List Place → Bool) (event : Event) (stop : Bool) (unread text : List ℕ) (old mid new : Seen Own) (e : Engine) (mid_net net : NetState) (queue : List Event) (sent : List (ℕ × ℕ)) (given : Bool) (trace : List (Beat Own)) (answers : List Answer) (outcome : Outcome)
-    → Tells → Conforming new → mid.given ≡ old.given → Commits Tells (length e.net.log) mid new mid_net net e.queue queue (Ok sent) → IsEnd (ends.Done stop) unread outcome → text ≡ turn_line name (turn_word (ends.Done stop)) ++ (out_text sent ++ lost_text net.left)
+    → Tells → Conforming new → mid.given ≡ old.given → Commits Tells (length e.net.log) mid new mid_net net e.queue queue (Ok sent) → IsEnd (ends.Done stop) unread outcome → text ≡ turn_line e.rule.name (turn_word (ends.Done stop)) ++ (out_text sent ++ lost_text net.left)
     → given_in mid ≡ given_in old ++ given_by_turn given (event_frame e.events e.net.moment event) answers → Calm old e.net
     → AtEnd allows event old mid e mid_net given (reply_by given trace) answers outcome → AlikeBy allows event text old new e (done_engine (handed outcome) unread net queue e) [] (reply_by given trace)
 done_alike Tells allows event stop unread text old mid new e mid_net net queue sent given trace answers (Failed cause) told keeps given_stays commits is text_is inputs_are calm at = absurd is
@@ -233,16 +234,17 @@ done_alike Tells allows event stop unread text old mid new e mid_net net queue s
         released = shown.released_is ∙ ap (λ (ps : List Held). ps ++ there_is.packets) at.chain.released;
         lost = all.lost;
         events = refl;
+        rule = refl;
         marks = only.marks ∙ at.marks;
         turned = λ later_starts said later_replies starts_is front. at.turned shown.losing [] later_starts said later_replies front
             ∙ ap₂ (λ (b : Bool) (r : Release). done_turn r (at.left ++ r.left) (done_app e checkpoint later_starts later_replies (given_in old ++ given_by_turn b frame answers) rest) outcome b) (front.given ∙ given_is given trace) (sym since.is)
             ∙ ap₂ (λ (i : List (List ℕ)) (x : List ℕ). done_turn there_is left (done_app e checkpoint later_starts later_replies i x) outcome given) (sym (tells.given ∙ inputs_are)) (sym is.1);
         text_is = λ later_starts later_replies. text_is
-            ∙ ap₂ (λ (word : TurnWord) (more : List ℕ). turn_line name word ++ more) (word_is (ends.Done stop) unread outcome is)
-            (ap₂ (λ (a b : List ℕ). a ++ b) (ap out_text (commits.ended.answer_is ∙ ap (λ (hs : List Held). map (λ h. (h.0, length h.1.payload)) hs) (sym shown.packets)) ∙ outs_is there_is.packets)
-            (losts_is net.left ∙ ap (λ (es : List Event). lines_text (lost_lines (leavers es))) all.events)
-            ∙ sym (flat_map-append (line_text names) (out_lines there_is.packets) (lost_lines (leavers left)))
-            ∙ ap lines_text (sym (append-nil (out_lines there_is.packets ++ lost_lines (leavers left)))));
+            ∙ ap₂ (λ (word : TurnWord) (more : List ℕ). turn_line e.rule.name word ++ more) (word_is (ends.Done stop) unread outcome is)
+            (ap₂ (λ (a b : List ℕ). a ++ b) (ap out_text (commits.ended.answer_is ∙ ap (λ (hs : List Held). map (λ h. (h.0, length h.1.payload)) hs) (sym shown.packets)) ∙ outs_is (names e.rule) there_is.packets)
+            (losts_is (names e.rule) net.left ∙ ap (λ (es : List Event). lines_text (names e.rule) (lost_lines (leavers es))) all.events)
+            ∙ sym (flat_map-append (line_text (names e.rule)) (out_lines there_is.packets) (lost_lines (leavers left)))
+            ∙ ap (lines_text (names e.rule)) (sym (append-nil (out_lines there_is.packets ++ lost_lines (leavers left)))));
       };
     }
 
@@ -250,8 +252,8 @@ done_alike Tells allows event stop unread text old mid new e mid_net net queue s
 
 abbrev failed_app : Engine → List Start → List Reply → List (List ℕ) → App
 failed_app e starts replies inputs = record {
+  rule = e.rule;
   alive = e.alive;
-  budget = budget;
   rest = [];
   kept = e.kept;
   inputs = inputs;
@@ -268,8 +270,8 @@ abbrev failed_engine : NetState → Engine → Engine
 failed_engine undone_net e = all_told undone_net e.queue (record e { rest = []; failed = e.failed + 1 })
 
 failed_alike : {Own : Type 0} (Tells : Type 0) (allows : List Place → Bool) (event : Event) (cause : Cause) (unread text later_text : List ℕ) (old mid undone new : Seen Own) (e now_e : Engine) (mid_net undone_net : NetState) (given : Bool) (trace : List (Beat Own)) (answers : List Answer) (outcome : Outcome)
-    → Tells → Conforming undone → mid.given ≡ old.given → Undoes Tells (length e.net.log) mid undone mid_net undone_net (Ok tt) → (again : StartsAlike Tells later_text undone new (failed_engine undone_net e) now_e)
-    → IsEnd (ends.Failed cause) unread outcome → text ≡ turn_line name (turn_word (ends.Failed cause)) ++ (lost_text undone_net.left ++ later_text) → given_in mid ≡ given_in old ++ given_by_turn given (event_frame e.events e.net.moment event) answers → Calm old e.net
+    → Tells → Conforming undone → mid.given ≡ old.given → Undoes Tells (length e.net.log) mid undone mid_net undone_net (Ok tt) → (again : StartsAlike Tells (rule_at e.rule event.kind) later_text undone new (failed_engine undone_net e) now_e)
+    → IsEnd (ends.Failed cause) unread outcome → text ≡ turn_line e.rule.name (turn_word (ends.Failed cause)) ++ (lost_text undone_net.left ++ later_text) → given_in mid ≡ given_in old ++ given_by_turn given (event_frame e.events e.net.moment event) answers → Calm old e.net
     → AtEnd allows event old mid e mid_net given (reply_by given trace) answers outcome → AlikeBy allows event text old new e now_e again.starts (reply_by given trace)
 failed_alike Tells allows event cause unread text later_text old mid undone new e now_e mid_net undone_net given trace answers (Completed stops checkpoint rest) told keeps given_stays undoes again is text_is inputs_are calm at = absurd is
 failed_alike {Own} Tells allows event cause unread text later_text old mid undone new e now_e mid_net undone_net given trace answers (Failed why) told keeps given_stays undoes again is text_is inputs_are calm at =
@@ -306,32 +308,33 @@ failed_alike {Own} Tells allows event cause unread text later_text old mid undon
         released = again.released ∙ undo-releases-none Tells start mid undone mid_net undone_net (Ok tt) told undoes ∙ at.chain.released ∙ sym (append-nil (released_of old));
         lost = again.lost ∙ all.lost;
         events = again.events;
+        rule = again.rule;
         marks = again.keeps.marks ∙ only.marks ∙ at.marks;
         turned = λ said_starts said later_replies starts_is front. at.turned [] gone said_starts said later_replies front
-            ∙ ap₂ (λ (b : Bool) (r : List Place × List Event). failed_turn r (at.left ++ r.1) (started attempts (failed_app e said_starts later_replies (given_in old ++ given_by_turn b frame answers))) outcome b) (front.given ∙ given_is given trace) after_is
-            ∙ ap (λ (i : List (List ℕ)). failed_turn (places_at old undone undone_net, shown.left) left (started attempts (failed_app e said_starts later_replies i)) outcome given) (sym (tells.given ∙ inputs_are))
+            ∙ ap₂ (λ (b : Bool) (r : List Place × List Event). failed_turn r (at.left ++ r.1) (after_failure (rule_at e.rule event.kind) (failed_app e said_starts later_replies (given_in old ++ given_by_turn b frame answers))) outcome b) (front.given ∙ given_is given trace) after_is
+            ∙ ap (λ (i : List (List ℕ)). failed_turn (places_at old undone undone_net, shown.left) left (after_failure (rule_at e.rule event.kind) (failed_app e said_starts later_replies i)) outcome given) (sym (tells.given ∙ inputs_are))
             ∙ ap (λ (a : App × List Tried). failed_turn (places_at old undone undone_net, shown.left) left a outcome given) (again.app said_starts later_replies starts_is);
         text_is = λ later_starts later_replies. text_is
-            ∙ ap₂ (λ (word : TurnWord) (more : List ℕ). turn_line name word ++ more) (word_is (ends.Failed cause) unread outcome is)
-            (ap₂ (λ (a b : List ℕ). a ++ b) (losts_is undone_net.left ∙ ap (λ (es : List Event). lines_text (lost_lines (leavers es))) all.events) again.text_is
-            ∙ sym (flat_map-append (line_text names) (lost_lines (leavers left)) (map (Started 0) again.tries ++ gone_line 0 now_e.alive)));
+            ∙ ap₂ (λ (word : TurnWord) (more : List ℕ). turn_line e.rule.name word ++ more) (word_is (ends.Failed cause) unread outcome is)
+            (ap₂ (λ (a b : List ℕ). a ++ b) (losts_is (names e.rule) undone_net.left ∙ ap (λ (es : List Event). lines_text (names e.rule) (lost_lines (leavers es))) all.events) again.text_is
+            ∙ sym (flat_map-append (line_text (names e.rule)) (lost_lines (leavers left)) (map (Started 0) again.tries ++ gone_line 0 now_e.alive)));
       };
     }
 
 -- ---- The whole
 
 turn_tells : {Own : Type 0} (Tells : Type 0) (accepts : List TableView → Bool) (event : Event) (old mid : Seen Own) (e : Engine) (mid_net : NetState) (end : TurnEnd) (unread : List ℕ) → Tells
-    → (t : Turns Tells accepts index budget e.rest (event_frame e.events e.net.moment event) old mid e.net mid_net end unread)
+    → (t : Turns Tells accepts index e.rule.budget e.rest (event_frame e.events e.net.moment event) old mid e.net mid_net end unread)
     → TellsGiven old mid (given_by_turn t.given (event_frame e.events e.net.moment event) t.answers)
 turn_tells Tells accepts event old mid e mid_net end unread told t =
     subst (TellsGiven old mid) t.inputs_is (chain_tells Tells (Talk (give_act t.given index (event_frame e.events e.net.moment event)) ∷ t.trace) old mid e.net mid_net told t.chain)
 
 closed_moves : {Own : Type 0} (Tells : Type 0) (accepts : List TableView → Bool) (allows : List Place → Bool) (event : Event) (text : List ℕ) (old mid new : Seen Own) (e now_e : Engine) (mid_net : NetState) (end : TurnEnd) (unread : List ℕ)
     → Tells → Conforming new → JudgesAlike Own allows accepts → AreRead Own Tells accepts → e.events < 2 ^ 64 → LastStands (own_acts old) → Calm old e.net
-    → (t : Turns Tells accepts index budget e.rest (event_frame e.events e.net.moment event) old mid e.net mid_net end unread) → IsClosed Tells end (handed t.outcome) unread text (length e.net.log) mid new mid_net e now_e
+    → (t : Turns Tells accepts index e.rule.budget e.rest (event_frame e.events e.net.moment event) old mid e.net mid_net end unread) → IsClosed Tells event.kind end (handed t.outcome) unread text (length e.net.log) mid new mid_net e now_e
     → TurnMoves allows event text old new e now_e
 closed_moves Tells accepts allows event text old mid new e now_e mid_net (ends.Done stop) unread told keeps judges reads few stands calm t closed =
-    let read = reads.turn e.events e.net.moment event e.rest old mid e.net mid_net (ends.Done stop) unread told t stands in
+    let read = reads.turn e.rule.budget e.events e.net.moment event e.rest old mid e.net mid_net (ends.Done stop) unread told t stands in
     let commits = closed.commits in
     let keeps_mid = Conforming-before told commits.continues keeps in
     let told_is = turn_tells Tells accepts event old mid e mid_net (ends.Done stop) unread told t in
@@ -353,10 +356,10 @@ closed_moves Tells accepts allows event text old mid new e now_e mid_net (ends.D
       alike = by.alike;
     })
 closed_moves Tells accepts allows event text old mid new e now_e mid_net (ends.Failed cause) unread told keeps judges reads few stands calm t closed =
-    let read = reads.turn e.events e.net.moment event e.rest old mid e.net mid_net (ends.Failed cause) unread told t stands in
+    let read = reads.turn e.rule.budget e.events e.net.moment event e.rest old mid e.net mid_net (ends.Failed cause) unread told t stands in
     let undone = closed.undone in
     let undone_net = closed.undone_net in
-    let again = starts_alike Tells accepts closed.later_text undone new (failed_engine undone_net e) now_e told reads closed.starts in
+    let again = follows_alike Tells accepts (rule_at e.rule event.kind) closed.later_text undone new (failed_engine undone_net e) now_e told reads closed.follows in
     let keeps_undone = Conforming-before told again.continues keeps in
     let keeps_mid = Conforming-before told closed.undoes.continues keeps_undone in
     let told_is = turn_tells Tells accepts event old mid e mid_net (ends.Failed cause) unread told t in

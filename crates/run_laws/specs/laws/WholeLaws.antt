@@ -3,6 +3,7 @@ use Rattle.std.proofs.Common.{◌≡◌, ℕ, Bool, List, [], ◌∷◌, ◌++�
 use Rattle.of_types.specs.declared.journal.Act.{Act}
 use Rattle.of_types.specs.declared.journal.WorldStim.{WorldStim}
 use Rattle.flow_table.specs.Switch.{Declared}
+use Rattle.crash_policy.specs.Policies.{AppValue}
 use Rattle.lego_model.specs.Journal.{Reply, Start, is_of, stimuli}
 use Rattle.lego_model.specs.Places.{Place}
 use Rattle.lego_model.specs.Scripted.{AreFronts, AreStartFronts}
@@ -12,7 +13,7 @@ use Rattle.lego_model.specs.Controller.{App, Run, reference}
 use Rattle.outside.specs.Seen.{Given, Seen}
 use Rattle.lego_model.specs.History.{starts_in, replies_in, own_acts, stimuli_in}
 use Rattle.run_laws.specs.Engine.{Engine, Stands, ahead}
-use Rattle.lego_model.specs.Application.{index}
+use Rattle.lego_model.specs.Application.{index, names}
 use Rattle.lego_model.specs.ReferenceRun.{text_of, fresh, before_start, reference_said, AreSaid}
 use Rattle.run_laws.specs.Moves.{Moves}
 use Rattle.run_laws.specs.laws.FirstLaws.{no-acts, stands-first}
@@ -42,28 +43,29 @@ said-of first last starts told_starts replies told_replies is read_starts read_r
   subst (λ (l : List Reply). AreFronts l replies) (read_replies ∙ ap (λ (acts : List Act). replies_in acts ++ told_replies) (no-own first is)) said.1,
 )
 
-ran-said : {Own : Type 0} (allows : List Place → Bool) (lost : List ℕ) (xs : List WorldStim) (text : List ℕ) (first last : Seen Own) (e : Engine) (starts : List Start) (replies : List Reply) → IsOpened first
-    → (m : Moves xs (whole allows xs) text first last engine_at_first e) → AreSaid last starts replies → RanAs (at_last lost) text last e (reference_said allows (ahead m.batches m.turns (at_last lost)) last starts replies)
-ran-said {Own} allows lost xs text first last e starts replies is m said =
+ran-said : {Own : Type 0} (rule : AppValue) (allows : List Place → Bool) (lost : List ℕ) (xs : List WorldStim) (text : List ℕ) (first last : Seen Own) (e : Engine) (starts : List Start) (replies : List Reply) → IsOpened first
+    → (m : Moves xs (whole allows xs) text first last (engine_at_first rule) e) → AreSaid last starts replies → RanAs rule (at_last lost) text last e (reference_said rule allows (ahead m.batches m.turns (at_last lost)) last starts replies)
+ran-said {Own} rule allows lost xs text first last e starts replies is m said =
     let losses = ahead m.batches m.turns (at_last lost) in
     let fronts = said-of first last starts m.starts replies m.replies is m.read_starts m.read_replies said in
     let stims : stimuli_in last ≡ xs = m.read_stimuli ∙ ap (λ (ys : List WorldStim). ys ++ xs) (no-stimuli first is) in
-    let r0 : Run = before_start first.given.declared losses (fresh starts replies) in
-    let at_first : Stands first engine_at_first starts replies losses r0 = stands-first first starts replies losses is in
-    let same : whole allows xs r0 ≡ reference_said allows losses last starts replies =
-    sym (ap (λ (g : Given Own). reference allows g.declared (fresh starts replies ∷ []) losses (stimuli_in last)) m.given
-    ∙ ap (λ (ys : List WorldStim). reference allows first.given.declared (fresh starts replies ∷ []) losses ys) stims
-    ∙ reference-whole allows first.given.declared (fresh starts replies) losses xs) in
+    let r0 : Run = before_start first.given.declared losses (fresh rule starts replies) in
+    let at_first : Stands first (engine_at_first rule) starts replies losses r0 = stands-first rule first starts replies losses is in
+    let same : whole allows xs r0 ≡ reference_said rule allows losses last starts replies =
+    sym (ap (λ (g : Given Own). reference allows g.declared (fresh rule starts replies ∷ []) losses (stimuli_in last)) m.given
+    ∙ ap (λ (ys : List WorldStim). reference allows first.given.declared (fresh rule starts replies ∷ []) losses ys) stims
+    ∙ reference-whole allows first.given.declared (fresh rule starts replies) losses xs) in
     record {
       starts = drop (length m.starts) starts;
       replies = drop (length m.replies) replies;
+      rule_is = m.rule;
       stands = subst (Stands last e (drop (length m.starts) starts) (drop (length m.replies) replies) (at_last lost)) same (m.stands starts replies (at_last lost) r0 fronts.0 fronts.1 at_first);
-      text_is = subst (λ (r : Run). text_of r ≡ text) same (m.says starts replies (at_last lost) r0 fronts.0 fronts.1 at_first);
+      text_is = subst (λ (r : Run). text_of (names rule) r ≡ text) same (m.says starts replies (at_last lost) r0 fronts.0 fronts.1 at_first);
     }
 
-pub ran : {Own : Type 0} (allows : List Place → Bool) (lost : List ℕ) (xs : List WorldStim) (text : List ℕ) (first last : Seen Own) (e : Engine) → IsOpened first → Moves xs (whole allows xs) text first last engine_at_first e
-    → Ran allows lost text last e
-ran allows lost xs text first last e is m = record {
+pub ran : {Own : Type 0} (rule : AppValue) (allows : List Place → Bool) (lost : List ℕ) (xs : List WorldStim) (text : List ℕ) (first last : Seen Own) (e : Engine) → IsOpened first → Moves xs (whole allows xs) text first last (engine_at_first rule) e
+    → Ran rule allows lost text last e
+ran rule allows lost xs text first last e is m = record {
   losses = ahead m.batches m.turns (at_last lost);
-  as_said = λ starts replies said. ran-said allows lost xs text first last e starts replies is m said;
+  as_said = λ starts replies said. ran-said rule allows lost xs text first last e starts replies is m said;
 }
