@@ -11,13 +11,12 @@ use Rattle.lego_model.specs.declared.fault.TxnFault.{TxnFault}
 use Rattle.lego_model.specs.declared.fault.TxnFault.TheVariants as faults
 use Rattle.lego_model.specs.SwitchFaults.{IsWhyTxn}
 use Rattle.event_dispatch.specs.laws.WhyLaws.{IsWhyTxn-behind}
-use Rattle.lego_model.specs.SessionLines.{SessionValue}
 use Rattle.legosdn.specs.declared.stop.Refusal.{Refusal}
 use Rattle.legosdn.specs.declared.stop.Stop.{Stop}
 use Rattle.legosdn.specs.declared.stop.Stop.TheVariants.{Usage, Refused, ReadFault, WriteFault, Shut, NextFault, SwitchBroke, Diverged, EventsLeft, NoMemory}
 use Rattle.legosdn.specs.Input.{session_of}
 use Rattle.legosdn.specs.Stops.{stop_status, stop_line, refusal_line, stop_of_switch}
-use Rattle.legosdn.specs.Headline.{Faults, faults_of, IsNoSession, IsReadCause, IsRunCause, IsCause, IsEarly, Loaded, LoadedAt, RunsNoOther, NeverRuns, Wrote}
+use Rattle.legosdn.specs.Headline.{Faults, faults_of, IsNoSession, IsReadCause, IsRunCause, IsCause, IsEarly, IsLoaded, LoadedAt, RunsNoOther, NeverRuns, Wrote}
 use Rattle.legosdn.proofs.Statuses.{is_refused, not_late}
 use Rattle.legosdn.proofs.Loads.{late_loaded, no_other}
 
@@ -153,21 +152,23 @@ refused_at_three Tells IsRefused contents faults old mid new told before after s
     let both = refused_line Tells IsRefused contents faults old mid new told before after stop r.0 r.1 why early line in
     (r.0, both.0, both.1)
 
-pub no_both : (session : SessionValue) (refusal : Refusal) → Ok session ≡ Err refusal → ⊥
-no_both session refusal e = absurd cc
+-- ---- A refused input
 
-refused_or_loaded : {left : Option (List ℕ)} {seen : Seen Scripts} {bytes : List ℕ} {refusal : Refusal} → Loaded (Some bytes) left seen → session_of bytes ≡ Err refusal → ⊥
-refused_or_loaded loaded e = no_both _ _ (sym loaded.spelled ∙ ap session_of loaded.whole ∙ e)
+pub no_both : {A : Type 0} (x : A) (line : List ℕ) → Ok x ≡ Err line → ⊥
+no_both x line e = absurd cc
 
-none_done : (bytes : List ℕ) (left : Option (List ℕ)) (seen : Seen Scripts) (refusal : Refusal) → RunsNoOther (Some bytes) left seen → session_of bytes ≡ Err refusal → seen.history ≡ []
-none_done bytes left seen refusal (inl none) e = none
-none_done bytes left seen refusal (inr loaded) e = absurd (refused_or_loaded loaded e)
+refused_or_loaded : {left : Option (List ℕ)} {seen : Seen Scripts} {bytes line : List ℕ} → IsLoaded (Some bytes) left seen → session_of bytes ≡ Err line → ⊥
+refused_or_loaded loaded e = no_both _ _ (sym loaded.1.spelled ∙ ap session_of loaded.1.whole ∙ e)
+
+none_done : (bytes : List ℕ) (left : Option (List ℕ)) (seen : Seen Scripts) (line : List ℕ) → RunsNoOther (Some bytes) left seen → session_of bytes ≡ Err line → seen.history ≡ []
+none_done bytes left seen line (inl none) e = none
+none_done bytes left seen line (inr loaded) e = absurd (refused_or_loaded loaded e)
 
 -- one that spells a session is none
-pub none_refused : (told left : Option (List ℕ)) (seen : Seen Scripts) (refusal : Refusal) (status : ℕ) → Loaded told left seen → IfSome told (λ input. session_of input ≡ Err refusal → NeverRuns status seen)
-none_refused None left seen refusal status loaded = tt
-none_refused (Some bytes) left seen refusal status loaded = λ e. absurd (refused_or_loaded loaded e)
+pub none_refused : (told left : Option (List ℕ)) (seen : Seen Scripts) (line : List ℕ) (status : ℕ) → IsLoaded told left seen → IfSome told (λ input. session_of input ≡ Err line → NeverRuns status seen)
+none_refused None left seen line status loaded = tt
+none_refused (Some bytes) left seen line status loaded = λ e. absurd (refused_or_loaded loaded e)
 
-pub refuses : (told left : Option (List ℕ)) (seen : Seen Scripts) (stop : Stop) (refusal : Refusal) → LoadedAt stop told left seen → IfSome told (λ input. session_of input ≡ Err refusal → NeverRuns (stop_status stop) seen)
-refuses None left seen stop refusal loaded = tt
-refuses (Some bytes) left seen stop refusal loaded = λ e. (not_late stop (λ late. refused_or_loaded (late_loaded (Some bytes) left seen stop late loaded) e), none_done bytes left seen refusal (no_other (Some bytes) left seen stop loaded) e)
+pub refuses : (told left : Option (List ℕ)) (seen : Seen Scripts) (stop : Stop) (line : List ℕ) → LoadedAt stop told left seen → IfSome told (λ input. session_of input ≡ Err line → NeverRuns (stop_status stop) seen)
+refuses None left seen stop line loaded = tt
+refuses (Some bytes) left seen stop line loaded = λ e. (not_late stop (λ late. refused_or_loaded (late_loaded (Some bytes) left seen stop late loaded) e), none_done bytes left seen line (no_other (Some bytes) left seen stop loaded) e)

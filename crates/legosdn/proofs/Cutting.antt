@@ -1,11 +1,18 @@
 -- The first separator of a text.
-use Rattle.std.proofs.Common.{◌≡◌, ℕ, ◌+◌, ◌-◌, ◌<◌, ◌≤◌, false, List, length, ap, arith, codes, inl, inr}
+use Rattle.std.specs.Prelude.{◌≢◌, suc, All}
+use Rattle.std.proofs.Common.{◌≡◌, ◌⊎◌, ℕ, ◌+◌, ◌-◌, ◌<◌, ◌≤◌, Bool, true, false, List, [], ◌∷◌, ◌++◌, length, map, take, drop, get_or, Some, refl, sym, ap, ◌∙◌, arith, codes, inl, inr, take-append-drop, drop-cons, add-one, append_assoc, append-nil, length-append, length-take}
 use Rattle.std.specs.Str.{bytes_eq}
-use Rattle.std.proofs.lemmas.Bool.{cases_Bool}
+use Rattle.std.specs.List.{position}
+use Rattle.std.proofs.lemmas.Bool.{cases_Bool, eqb-true, eqb-false, le-ltb}
+use Rattle.std.proofs.lemmas.Grind.{get_or_default_zero}
+use Rattle.std.proofs.lemmas.List.{get_or-take, take_rest}
+use Rattle.std.proofs.lemmas.List.Quantifiers.{position-Some}
 use Rattle.std.proofs.lemmas.Slice.Eq.{bytes_eq-Decides}
-use Rattle.lego_io.specs.Lines.{lines_of, most_line}
+use Rattle.std.proofs.Math.Seq.{take-append_seam}
+use Rattle.lego_io.specs.Lines.{cut_at_lf, without_cr, lines_of, most_line}
+use Rattle.lego_io.specs.laws.LinesLaws.{cut_at_lf-line, is_lf}
 use Rattle.lego_model.specs.Words.{is_word}
-use Rattle.legosdn.specs.Input.{is_separator, behind_separator}
+use Rattle.legosdn.specs.Input.{most_input, is_separator, before_separator, policy_text, behind_separator, session_behind, session_of}
 
 -- ---- The separator
 
@@ -16,9 +23,102 @@ pub long_is_none : (line : List ℕ) → most_line < length line → is_separato
 unfolding is_word
 long_is_none line long = elim (cases_Bool (bytes_eq line (codes "---"))) [ inl same ↦ absurd (three line long ((bytes_eq-Decides line (codes "---")).0 same)) | inr other ↦ other ]
 
--- how far the search for the separator has come: the lines left are numbered from here
+-- ---- A line that LF ends, and what stands behind it
+
+pub record FirstLine (text rest : List ℕ) : Type 0 where
+  pub line : List ℕ
+  pub whole : text ≡ line ++ 10 ∷ rest
+  pub cut : cut_at_lf text ≡ line ∷ cut_at_lf rest
+
+is_other : (text : List ℕ) (k d : ℕ) → k < length text → is_lf (get_or text k 0) ≡ false → get_or text k d ≢ 10
+is_other text k d lt other e = eqb-false (get_or text k 0) 10 other (sym (get_or_default_zero text k d lt) ∙ e)
+
+no_lf_before : (text : List ℕ) (end : ℕ) → end ≤ length text → ((k : ℕ) → k < end → is_lf (get_or text k 0) ≡ false) → All (λ byte. byte ≢ 10) (take end text)
+no_lf_before text end within before k d lt =
+    let below : k < end = omega (arith, length-take end text) in
+    rw (get_or-take end text k d below) (is_other text k d (omega arith) (before k below))
+
+cut_there : (text : List ℕ) (end : ℕ) → end < length text → is_lf (get_or text end 0) ≡ true → text ≡ take end text ++ 10 ∷ drop (end + 1) text
+cut_there text end within here =
+    rw add-one (sym (take-append-drop end text) ∙ ap (λ (rest : List ℕ). take end text ++ rest) (drop-cons text end 0 within ∙ ap (λ (byte : ℕ). byte ∷ drop (suc end) text) (eqb-true _ _ here)))
+
+pub first_line : (text : List ℕ) (end : ℕ) → position is_lf text ≡ Some end → FirstLine text (take (length text - (end + 1)) (drop (end + 1) text))
+first_line text end found =
+    let at = position-Some is_lf text end 0 found in
+    let whole = cut_there text end at.0 at.1 in
+    let rest = sym (take_rest text (end + 1)) in
+    record {
+      line = take end text;
+      whole = whole ∙ ap (λ (bytes : List ℕ). take end text ++ 10 ∷ bytes) rest;
+      cut = ap cut_at_lf whole ∙ cut_at_lf-line (take end text) (drop (end + 1) text) (no_lf_before text end (omega (arith, at.0)) at.2) ∙ ap (λ (bytes : List ℕ). take end text ∷ cut_at_lf bytes) rest;
+    }
+
+-- ---- How far the search for the separator has come
+
+-- the text before what is left, of which no line is the separator
+pub record Passed (input rest : List ℕ) : Type 0 where
+  pub front : List ℕ
+  pub whole : input ≡ front ++ rest
+  pub before : before_separator (cut_at_lf input) ≡ front ++ before_separator (cut_at_lf rest)
+
+-- the lines left are numbered from here
 pub record Reached (input rest : List ℕ) (number : ℕ) : Type 0 where
   pub left : behind_separator 1 (lines_of input) ≡ behind_separator number (lines_of rest)
   pub counted : 1 ≤ number
   pub within : number + length rest ≤ length input + 1
   pub first : number ≡ 1 → length rest ≡ length input
+  pub passed : (rest ≡ []) ⊎ Passed input rest
+
+none_passed : (input : List ℕ) → Passed input input
+none_passed input = record { front = []; whole = refl; before = refl }
+
+pub begins : (input rest : List ℕ) → rest ≡ input → (rest ≡ []) ⊎ Passed input rest
+begins input rest is = rw is (inr (none_passed input))
+
+-- what a test of the first line says, where there is one
+abbrev pub Tells : Bool → List ℕ → Type 0
+Tells answer text = (line : List ℕ) → (lines : List (List ℕ)) → lines_of text ≡ line ∷ lines → answer ≡ is_separator line
+
+line_before : (line : List ℕ) (cuts : List (List ℕ)) → is_separator (without_cr line) ≡ false → before_separator (line ∷ cuts) ≡ line ++ 10 ∷ before_separator cuts
+line_before line cuts other = rw other refl
+
+line_passed : (input rest behind : List ℕ) → Passed input rest → FirstLine rest behind → Tells false rest → Passed input behind
+unfolding lines_of
+line_passed input rest behind p first tells =
+    let other = sym (tells (without_cr first.line) (lines_of behind) (ap (map without_cr) first.cut)) in
+    let joined = λ (bytes : List ℕ). append_assoc p.front (first.line ++ 10 ∷ []) bytes ∙ ap (λ (xs : List ℕ). p.front ++ xs) (append_assoc first.line (10 ∷ []) bytes) in
+    record {
+      front = p.front ++ (first.line ++ 10 ∷ []);
+      whole = p.whole ∙ ap (λ (xs : List ℕ). p.front ++ xs) first.whole ∙ sym (joined behind);
+      before = p.before ∙ ap (λ (cuts : List (List ℕ)). p.front ++ before_separator cuts) first.cut ∙ ap (λ (xs : List ℕ). p.front ++ xs) (line_before first.line (cut_at_lf behind) other)
+          ∙ sym (joined (before_separator (cut_at_lf behind)));
+    }
+
+pub goes_on : (input rest behind : List ℕ) → 0 < length rest → (rest ≡ []) ⊎ Passed input rest → (behind ≡ []) ⊎ FirstLine rest behind → Tells false rest → (behind ≡ []) ⊎ Passed input behind
+goes_on input rest behind some (inl none) found tells = absurd (let few : length rest ≡ 0 = ap length none in omega (arith, some, few))
+goes_on input rest behind some (inr p) (inl none) tells = inl none
+goes_on input rest behind some (inr p) (inr first) tells = inr (line_passed input rest behind p first tells)
+
+-- ---- What stands before it
+
+none_before : (cuts : List (List ℕ)) → ((line : List ℕ) → (lines : List (List ℕ)) → map without_cr cuts ≡ line ∷ lines → true ≡ is_separator line) → before_separator cuts ≡ []
+none_before [] tells = refl
+none_before (cut ∷ cuts) tells = rw (sym (tells (without_cr cut) (map without_cr cuts) refl)) refl
+
+passed_is : (input rest : List ℕ) → Passed input rest → Tells true rest → take (length input - length rest) input ≡ policy_text input
+unfolding lines_of policy_text
+passed_is input rest p tells =
+    let few : length input ≡ length p.front + length rest = ap length p.whole ∙ length-append p.front rest in
+    let count : length input - length rest ≡ length p.front = omega (arith, few) in
+    ap (λ (n : ℕ). take n input) count ∙ ap (take (length p.front)) p.whole ∙ take-append_seam p.front rest
+    ∙ sym (p.before ∙ ap (λ (xs : List ℕ). p.front ++ xs) (none_before (cut_at_lf rest) tells) ∙ append-nil p.front)
+
+pub policy_before : (input rest : List ℕ) → 0 < length rest → (rest ≡ []) ⊎ Passed input rest → Tells true rest → take (length input - length rest) input ≡ policy_text input
+policy_before input rest some (inl none) tells = absurd (let few : length rest ≡ 0 = ap length none in omega (arith, some, few))
+policy_before input rest some (inr p) tells = passed_is input rest p tells
+
+-- ---- What an input spells
+
+pub session_is : (input : List ℕ) → length input ≤ most_input → session_of input ≡ session_behind (policy_text input) (behind_separator 1 (lines_of input))
+unfolding session_of
+session_is input within = rw (le-ltb most_input (length input) within) refl

@@ -3,6 +3,8 @@ use Rattle.std.proofs.Common.{◌≡◌, ℕ, List, Option, Some, None, Result, 
 use Rattle.std.specs.Result.{IsErrAnd}
 use Rattle.lego_io.specs.Lines.{lines_of}
 use Rattle.lego_io.specs.Source.{ended}
+use Rattle.crash_policy.specs.Policies.{AppValue}
+use Rattle.crash_policy.specs.Order.{policy_of}
 use Rattle.outside.specs.Seen.{Seen, Continues}
 use Rattle.sim_world.specs.Scripts.{Scripts}
 use Rattle.sim_world.specs.World.{WorldData}
@@ -13,58 +15,103 @@ use Rattle.session_text.specs.declared.text_fault.SessionError.{SessionError}
 use Rattle.session_text.specs.declared.text_fault.SessionError.TheVariants as text
 use Rattle.session_text.specs.Loading.{given_by, LoadFails}
 use Rattle.legosdn.specs.declared.stop.Refusal.{Refusal}
-use Rattle.legosdn.specs.declared.stop.Refusal.TheVariants.{Session}
+use Rattle.legosdn.specs.declared.stop.Refusal.TheVariants.{Separator, Session}
 use Rattle.legosdn.specs.declared.stop.Stop.{Stop}
 use Rattle.legosdn.specs.declared.stop.Stop.TheVariants.{Usage, Refused, ReadFault, WriteFault, Shut, NextFault, SwitchBroke, Diverged, EventsLeft, NoMemory}
 use Rattle.lego_model.specs.Application.{names as app_names}
-use Rattle.legosdn.specs.Input.{or_refused, session_lines, session_of}
-use Rattle.legosdn.specs.Stops.{stop_of_session}
-use Rattle.legosdn.specs.Headline.{IsNoSession, IsReadCause, IsRunCause, IsLate, Loaded, LoadedAt, LoadedAs, RunsNoOther}
+use Rattle.legosdn.specs.Input.{Read, with_read, app_in, or_refused, session_lines, session_behind, session_of}
+use Rattle.legosdn.specs.Stops.{refusal_line, stop_of_session}
+use Rattle.legosdn.specs.Headline.{IsNoSession, IsReadCause, IsPolicyCause, IsRunCause, IsLate, Loaded, IsLoaded, LoadedAt, LoadedAs, RunsNoOther}
 
-session_text-lines : (names : List (List ℕ)) (n : ℕ) (bytes : List ℕ) → names ≡ app_names → session_text names n bytes ≡ session_lines n (lines_of bytes)
+session_text-lines : (app : AppValue) (names : List (List ℕ)) (n : ℕ) (bytes : List ℕ) → names ≡ app_names app → session_text names n bytes ≡ session_lines app n (lines_of bytes)
 unfolding session_text session_lines
-session_text-lines names n bytes named = rw named refl
+session_text-lines app names n bytes named = rw named refl
 
--- what is read of the bytes behind the separator is what the input spells
-pub record Behind (told : Option (List ℕ)) (input : List ℕ) (n : ℕ) (bytes : List ℕ) (names : List (List ℕ)) : Type 0 where
+-- The application is that of the policy before the separator, and what is read of the bytes behind it is what the input spells.
+pub record Behind (told : Option (List ℕ)) (app : AppValue) (input : List ℕ) (n : ℕ) (bytes : List ℕ) (names : List (List ℕ)) : Type 0 where
   pub whole : IfSome told (λ left. input ≡ left)
-  pub spelled : session_of input ≡ or_refused (session_lines n (lines_of bytes))
-  pub named : names ≡ app_names
+  pub spelled : session_of input ≡ or_refused app (session_lines app n (lines_of bytes))
+  pub named : names ≡ app_names app
 
-pub loads : (told left : Option (List ℕ)) (seen : Seen Scripts) (input : List ℕ) (n : ℕ) (bytes : List ℕ) (names : List (List ℕ)) → Behind told input n bytes names → left ≡ ended told
-    → (s : SessionValue) × (session_text names n bytes ≡ Ok s) × Begins (given_by s) seen → Loaded told left seen
-loads told left seen input n bytes names behind end read = record {
+-- with what the input is cut into, and what is read of its policy
+pub record CutInto (input policy text : List ℕ) (behind : Option (ℕ × List (List ℕ))) : Type 0 where
+  pub spelled : session_of input ≡ session_behind policy behind
+  pub policy_is : text ≡ policy
+
+pub spelled_behind : (app : AppValue) (input policy text : List ℕ) (behind : Option (ℕ × List (List ℕ))) (n : ℕ) (lines : List (List ℕ)) → CutInto input policy text behind → behind ≡ Some (n, lines)
+    → app_in (policy_of text) ≡ Ok app → session_of input ≡ or_refused app (session_lines app n lines)
+spelled_behind app input policy text behind n lines c found read =
+    c.spelled ∙ ap (session_behind policy) found
+    ∙ ap (λ (bytes : List ℕ). with_read (app_in (policy_of bytes)) (λ x. or_refused x (session_lines x n lines))) (sym c.policy_is)
+    ∙ ap (λ (r : Read AppValue). with_read r (λ x. or_refused x (session_lines x n lines))) read
+
+pub loads : (told left : Option (List ℕ)) (seen : Seen Scripts) (app : AppValue) (input : List ℕ) (n : ℕ) (bytes : List ℕ) (names : List (List ℕ)) → Behind told app input n bytes names → left ≡ ended told
+    → (s : SessionValue) × (session_text names n bytes ≡ Ok s) × Begins (given_by s) seen → Loaded app told left seen
+loads told left seen app input n bytes names behind end read = record {
   input = input;
   session = read.0;
   whole = behind.whole;
   end = end;
-  spelled = behind.spelled ∙ ap or_refused (sym (session_text-lines names n bytes behind.named) ∙ read.1);
+  spelled = behind.spelled ∙ ap (or_refused app) (sym (session_text-lines app names n bytes behind.named) ∙ read.1);
   given = read.2.all;
 }
 
-told_refused : (told : Option (List ℕ)) (input : List ℕ) (refusal : Refusal) → IfSome told (λ left. input ≡ left) → session_of input ≡ Err refusal → IfSome told (λ bytes. session_of bytes ≡ Err refusal)
+-- ---- Why it is none
+
+told_refused : (told : Option (List ℕ)) (input : List ℕ) (refusal : Refusal) → IfSome told (λ left. input ≡ left) → IsNoSession refusal input → IfSome told (IsNoSession refusal)
 told_refused None input refusal whole e = tt
-told_refused (Some left) input refusal whole e = subst (λ (bytes : List ℕ). session_of bytes ≡ Err refusal) whole e
+told_refused (Some left) input refusal whole e = subst (IsNoSession refusal) whole e
 
-session_cause : (told : Option (List ℕ)) (old new : ℕ) (input : List ℕ) (n : ℕ) (bytes : List ℕ) (names : List (List ℕ)) (w v : WorldData) (error : SessionError) → Behind told input n bytes names
+-- there is no separator
+pub separator_causes : {T : Type 0} (told : Option (List ℕ)) (old new : ℕ) (input policy : List ℕ) (behind : Option (ℕ × List (List ℕ))) (refusal : Refusal) (result : Result T Stop) → IsErrAnd result (λ stop. stop ≡ Refused refusal)
+    → IfSome told (λ left. input ≡ left) → session_of input ≡ session_behind policy behind → refusal ≡ Separator → behind ≡ None → IfErr result (IsReadCause IsNoSession told old new)
+separator_causes told old new input policy behind refusal (Ok x) is whole spelled separator none = tt
+separator_causes told old new input policy behind refusal (Err stop) is whole spelled separator none =
+    rw is (told_refused told input refusal whole (spelled ∙ ap (session_behind policy) none ∙ ap refusal_line (sym separator)))
+
+-- the policy gives no application
+policy_cause : (told : Option (List ℕ)) (old new : ℕ) (input policy text : List ℕ) (behind : Option (ℕ × List (List ℕ))) (n : ℕ) (lines : List (List ℕ)) (stop : Stop) → IfSome told (λ left. input ≡ left) → CutInto input policy text behind
+    → behind ≡ Some (n, lines) → IsPolicyCause text stop → IsReadCause IsNoSession told old new stop
+policy_cause told old new input policy text behind n lines Usage whole c found cause = absurd cause
+policy_cause told old new input policy text behind n lines (Refused refusal) whole c found cause =
+    told_refused told input refusal whole
+    (c.spelled ∙ ap (session_behind policy) found
+    ∙ ap (λ (bytes : List ℕ). with_read (app_in (policy_of bytes)) (λ x. or_refused x (session_lines x n lines))) (sym c.policy_is)
+    ∙ ap (λ (r : Read AppValue). with_read r (λ x. or_refused x (session_lines x n lines))) cause)
+policy_cause told old new input policy text behind n lines ReadFault whole c found cause = absurd cause
+policy_cause told old new input policy text behind n lines WriteFault whole c found cause = absurd cause
+policy_cause told old new input policy text behind n lines Shut whole c found cause = absurd cause
+policy_cause told old new input policy text behind n lines NextFault whole c found cause = absurd cause
+policy_cause told old new input policy text behind n lines (SwitchBroke d) whole c found cause = absurd cause
+policy_cause told old new input policy text behind n lines (Diverged d) whole c found cause = absurd cause
+policy_cause told old new input policy text behind n lines (EventsLeft left) whole c found cause = absurd cause
+policy_cause told old new input policy text behind n lines NoMemory whole c found cause = tt
+
+pub policy_causes : {T : Type 0} (told : Option (List ℕ)) (old new : ℕ) (input policy text : List ℕ) (behind : Option (ℕ × List (List ℕ))) (n : ℕ) (lines : List (List ℕ)) (stop : Stop) (result : Result T Stop) → IsErrAnd result (λ s. s ≡ stop)
+    → IfSome told (λ left. input ≡ left) → CutInto input policy text behind → behind ≡ Some (n, lines) → IsPolicyCause text stop → IfErr result (IsReadCause IsNoSession told old new)
+policy_causes told old new input policy text behind n lines stop (Ok x) is whole c found cause = tt
+policy_causes told old new input policy text behind n lines stop (Err s) is whole c found cause = rw is (policy_cause told old new input policy text behind n lines stop whole c found cause)
+
+-- the text behind is no session of it
+session_cause : (told : Option (List ℕ)) (old new : ℕ) (app : AppValue) (input : List ℕ) (n : ℕ) (bytes : List ℕ) (names : List (List ℕ)) (w v : WorldData) (error : SessionError) → Behind told app input n bytes names
     → LoadFails error w v (session_text names n bytes) → IsReadCause IsNoSession told old new (stop_of_session error)
-session_cause told old new input n bytes names w v text.NoMemory behind fails = tt
-session_cause told old new input n bytes names w v (text.Bad fault) behind fails =
-    told_refused told input (Session fault) behind.whole (behind.spelled ∙ ap or_refused (sym (session_text-lines names n bytes behind.named) ∙ fails.0))
+session_cause told old new app input n bytes names w v text.NoMemory behind fails = tt
+session_cause told old new app input n bytes names w v (text.Bad fault) behind fails =
+    told_refused told input (Session fault) behind.whole (behind.spelled ∙ ap (or_refused app) (sym (session_text-lines app names n bytes behind.named) ∙ fails.0))
 
-pub session_causes : {T : Type 0} (told : Option (List ℕ)) (old new : ℕ) (input : List ℕ) (n : ℕ) (bytes : List ℕ) (names : List (List ℕ)) (w v : WorldData) (error : SessionError) (result : Result T Stop)
-    → IsErrAnd result (λ stop. stop ≡ stop_of_session error) → Behind told input n bytes names → LoadFails error w v (session_text names n bytes) → IfErr result (IsReadCause IsNoSession told old new)
-session_causes told old new input n bytes names w v error (Ok x) is behind fails = tt
-session_causes told old new input n bytes names w v error (Err stop) is behind fails = rw is (session_cause told old new input n bytes names w v error behind fails)
+pub session_causes : {T : Type 0} (told : Option (List ℕ)) (old new : ℕ) (app : AppValue) (input : List ℕ) (n : ℕ) (bytes : List ℕ) (names : List (List ℕ)) (w v : WorldData) (error : SessionError) (result : Result T Stop)
+    → IsErrAnd result (λ stop. stop ≡ stop_of_session error) → Behind told app input n bytes names → LoadFails error w v (session_text names n bytes) → IfErr result (IsReadCause IsNoSession told old new)
+session_causes told old new app input n bytes names w v error (Ok x) is behind fails = tt
+session_causes told old new app input n bytes names w v error (Err stop) is behind fails = rw is (session_cause told old new app input n bytes names w v error behind fails)
 
 -- ---- What the world was given, however a command ended
 
 -- it may have been read before what was done
-pub loaded_on : {told left : Option (List ℕ)} (old new : Seen Scripts) → Continues (Unit {0}) old new → Loaded told left old → Loaded told left new
+pub loaded_on : {app : AppValue} {told left : Option (List ℕ)} (old new : Seen Scripts) → Continues (Unit {0}) old new → Loaded app told left old → Loaded app told left new
 loaded_on old new on loaded = record { input = loaded.input; session = loaded.session; whole = loaded.whole; end = loaded.end; spelled = loaded.spelled; given = on.given ∙ loaded.given }
 
 -- the world was run
-loaded_at : (told left : Option (List ℕ)) (seen old : Seen Scripts) (k l : ℕ) (stop : Stop) → IsRunCause (Unit {0}) k l old seen stop → Loaded told left seen → LoadedAt stop told left seen
+loaded_at : (told left : Option (List ℕ)) (seen old : Seen Scripts) (k l : ℕ) (stop : Stop) → IsRunCause (Unit {0}) k l old seen stop → IsLoaded told left seen → LoadedAt stop told left seen
 loaded_at told left seen old k l Usage cause loaded = absurd cause
 loaded_at told left seen old k l (Refused refusal) cause loaded = absurd cause
 loaded_at told left seen old k l ReadFault cause loaded = absurd cause
@@ -76,7 +123,7 @@ loaded_at told left seen old k l (Diverged d) cause loaded = loaded
 loaded_at told left seen old k l (EventsLeft n) cause loaded = loaded
 loaded_at told left seen old k l NoMemory cause loaded = inr loaded
 
-pub loaded_as : {T : Type 0} (told left : Option (List ℕ)) (seen old : Seen Scripts) (k l : ℕ) (result : Result T Stop) → IfErr result (IsRunCause (Unit {0}) k l old seen) → Loaded told left seen → LoadedAs result told left seen
+pub loaded_as : {T : Type 0} (told left : Option (List ℕ)) (seen old : Seen Scripts) (k l : ℕ) (result : Result T Stop) → IfErr result (IsRunCause (Unit {0}) k l old seen) → IsLoaded told left seen → LoadedAs result told left seen
 loaded_as told left seen old k l (Ok x) cause loaded = loaded
 loaded_as told left seen old k l (Err stop) cause loaded = loaded_at told left seen old k l stop cause loaded
 
@@ -99,7 +146,7 @@ unread_as told left seen k l stop (Err s) is none cause = subst (λ (t : Stop). 
 
 -- ---- What follows
 
-pub late_loaded : (told left : Option (List ℕ)) (seen : Seen Scripts) (stop : Stop) → IsLate stop → LoadedAt stop told left seen → Loaded told left seen
+pub late_loaded : (told left : Option (List ℕ)) (seen : Seen Scripts) (stop : Stop) → IsLate stop → LoadedAt stop told left seen → IsLoaded told left seen
 late_loaded told left seen Usage late loaded = absurd late
 late_loaded told left seen (Refused refusal) late loaded = absurd late
 late_loaded told left seen ReadFault late loaded = absurd late

@@ -1,23 +1,64 @@
 -- What is read of a policy, and why it is not taken.
-use Rattle.std.proofs.Common.{◌≡◌, ℕ, ◌≤◌, List, Option, Some, None, Result, Ok, Err, IfSome, IfErr, length, refl, sym, ap, subst, ◌∙◌}
+use Rattle.std.proofs.Common.{◌≡◌, ◌≤◌, ℕ, true, false, List, [], ◌∷◌, ◌++◌, Option, Some, None, Result, Ok, Err, IfSome, IfErr, length, refl, sym, ap, subst, ◌∙◌}
 use Rattle.std.specs.Result.{IsErrAnd}
 use Rattle.std.proofs.lemmas.Bool.{le-ltb}
 use Rattle.lego_io.specs.Source.{ended}
 use Rattle.crash_policy.specs.declared.policy_fault.PolicyFault.{PolicyFault}
 use Rattle.crash_policy.specs.declared.policy_fault.PolicyFault.TheVariants.{Text, UnknownKey, Missing, Range, Double, NoMemory}
-use Rattle.crash_policy.specs.Policies.{PolicyValue}
+use Rattle.crash_policy.specs.Policies.{AppValue}
 use Rattle.crash_policy.specs.Faults.{Refuses}
 use Rattle.crash_policy.specs.Order.{policy_of}
 use Rattle.legosdn.specs.declared.stop.Refusal.{Refusal}
-use Rattle.legosdn.specs.declared.stop.Refusal.TheVariants.{Policy}
+use Rattle.legosdn.specs.declared.stop.Refusal.TheVariants.{PolicyLater}
 use Rattle.legosdn.specs.declared.stop.Stop.{Stop}
-use Rattle.legosdn.specs.declared.stop.Stop.TheVariants.{Refused}
-use Rattle.legosdn.specs.Input.{most_input, run_policy, program_in}
+use Rattle.legosdn.specs.declared.stop.Stop.TheVariants as stops
+use Rattle.legosdn.specs.Input.{Read, with_read, most_input, is_taken, one_app, app_in, with_words, run_policy}
 use Rattle.legosdn.specs.Stops.{refusal_line, policy_words, stop_of_policy}
-use Rattle.legosdn.specs.Headline.{IsNoPolicy, IsReadCause}
+use Rattle.legosdn.specs.Headline.{IsNoPolicy, IsReadCause, IsPolicyCause}
 use Rattle.legosdn.specs.Live.{Taken}
 
-run_is : (input : List ℕ) → length input ≤ most_input → run_policy input ≡ program_in (policy_of input)
+-- ---- Of a policy
+
+-- one application alone
+pub one_taken : (quota : Option ℕ) (apps : List AppValue) (app : AppValue) → quota ≡ None → apps ≡ app ∷ [] → is_taken app ≡ true → one_app quota apps ≡ Ok app
+one_taken quota apps app none one taken = rw (none, one, taken) refl
+
+-- it is the last of some
+two_refused : (app : AppValue) (rest : List AppValue) (last : AppValue) → one_app None (app ∷ (rest ++ last ∷ [])) ≡ Err (refusal_line PolicyLater)
+two_refused app [] last = refl
+two_refused app (other ∷ rest) last = refl
+
+pub one_refused : (quota : Option ℕ) (rest : List AppValue) (app : AppValue) → (quota ≡ None → rest ≡ [] → is_taken app ≡ false) → one_app quota (rest ++ app ∷ []) ≡ Err (refusal_line PolicyLater)
+one_refused (Some n) rest app later = refl
+one_refused None [] app later = rw (later refl refl) refl
+one_refused None (first ∷ rest) app later = two_refused first rest app
+
+pub none_refused : (quota : Option ℕ) → one_app quota [] ≡ Err (refusal_line PolicyLater)
+none_refused None = refl
+none_refused (Some n) = refl
+
+-- ---- Of a text
+
+fault_cause : (text : List ℕ) (fault : PolicyFault) → Refuses fault (policy_of text) → IsPolicyCause text (stop_of_policy fault)
+unfolding refusal_line policy_words
+fault_cause text Text refuses = ap app_in refuses
+fault_cause text (UnknownKey key) refuses = ap app_in refuses
+fault_cause text (Missing key) refuses = ap app_in refuses
+fault_cause text (Range key) refuses = ap app_in refuses
+fault_cause text (Double name) refuses = ap app_in refuses
+fault_cause text NoMemory refuses = tt
+
+pub fault_causes : {T : Type 0} (text : List ℕ) (fault : PolicyFault) (result : Result T Stop) → IsErrAnd result (λ stop. stop ≡ stop_of_policy fault) → Refuses fault (policy_of text) → IfErr result (IsPolicyCause text)
+fault_causes text fault (Ok x) is refuses = tt
+fault_causes text fault (Err stop) is refuses = rw is (fault_cause text fault refuses)
+
+-- ---- Of an input
+
+-- it is started by a command
+abbrev started : AppValue → Read AppValue
+started app = with_words app app.command
+
+run_is : (input : List ℕ) → length input ≤ most_input → run_policy input ≡ with_read (app_in (policy_of input)) started
 unfolding run_policy
 run_is input within = rw (le-ltb most_input (length input) within) refl
 
@@ -27,47 +68,43 @@ pub record ReadAs (told : Option (List ℕ)) (input text : List ℕ) : Type 0 wh
   pub within : length input ≤ most_input
   pub text_is : text ≡ input
 
-policy_is : (told : Option (List ℕ)) (input text : List ℕ) → ReadAs told input text → run_policy input ≡ program_in (policy_of text)
-policy_is told input text r = run_is input r.within ∙ ap (λ (t : List ℕ). program_in (policy_of t)) (sym r.text_is)
+policy_is : (told : Option (List ℕ)) (input text : List ℕ) → ReadAs told input text → run_policy input ≡ with_read (app_in (policy_of text)) started
+policy_is told input text r = run_is input r.within ∙ ap (λ (t : List ℕ). with_read (app_in (policy_of t)) started) (sym r.text_is)
 
 told_refused : (told : Option (List ℕ)) (input : List ℕ) (refusal : Refusal) → IfSome told (λ left. input ≡ left) → IsNoPolicy refusal input → IfSome told (IsNoPolicy refusal)
 told_refused None input refusal whole e = tt
 told_refused (Some left) input refusal whole e = subst (IsNoPolicy refusal) whole e
 
-fault_refuses : (input text : List ℕ) (fault : PolicyFault) → run_policy input ≡ program_in (policy_of text) → stop_of_policy fault ≡ Refused (Policy fault) → Refuses fault (policy_of text) → IsNoPolicy (Policy fault) input
-unfolding refusal_line policy_words
-fault_refuses input text Text is so refuses = is ∙ ap program_in refuses
-fault_refuses input text (UnknownKey key) is so refuses = is ∙ ap program_in refuses
-fault_refuses input text (Missing key) is so refuses = is ∙ ap program_in refuses
-fault_refuses input text (Range key) is so refuses = is ∙ ap program_in refuses
-fault_refuses input text (Double name) is so refuses = is ∙ ap program_in refuses
-fault_refuses input text NoMemory is so refuses = absurd cc
+-- the text gives no application
+app_cause : (told : Option (List ℕ)) (old new : ℕ) (input text : List ℕ) (stop : Stop) → ReadAs told input text → IsPolicyCause text stop → IsReadCause IsNoPolicy told old new stop
+app_cause told old new input text stops.Usage r cause = absurd cause
+app_cause told old new input text (stops.Refused refusal) r cause = told_refused told input refusal r.whole (policy_is told input text r ∙ ap (λ (x : Read AppValue). with_read x started) cause)
+app_cause told old new input text stops.ReadFault r cause = absurd cause
+app_cause told old new input text stops.WriteFault r cause = absurd cause
+app_cause told old new input text stops.Shut r cause = absurd cause
+app_cause told old new input text stops.NextFault r cause = absurd cause
+app_cause told old new input text (stops.SwitchBroke d) r cause = absurd cause
+app_cause told old new input text (stops.Diverged d) r cause = absurd cause
+app_cause told old new input text (stops.EventsLeft left) r cause = absurd cause
+app_cause told old new input text stops.NoMemory r cause = tt
 
-fault_cause : (told : Option (List ℕ)) (old new : ℕ) (input text : List ℕ) (fault : PolicyFault) → ReadAs told input text → Refuses fault (policy_of text) → IsReadCause IsNoPolicy told old new (stop_of_policy fault)
-fault_cause told old new input text Text r refuses = told_refused told input (Policy Text) r.whole (fault_refuses input text Text (policy_is told input text r) refl refuses)
-fault_cause told old new input text (UnknownKey key) r refuses = told_refused told input (Policy (UnknownKey key)) r.whole (fault_refuses input text (UnknownKey key) (policy_is told input text r) refl refuses)
-fault_cause told old new input text (Missing key) r refuses = told_refused told input (Policy (Missing key)) r.whole (fault_refuses input text (Missing key) (policy_is told input text r) refl refuses)
-fault_cause told old new input text (Range key) r refuses = told_refused told input (Policy (Range key)) r.whole (fault_refuses input text (Range key) (policy_is told input text r) refl refuses)
-fault_cause told old new input text (Double name) r refuses = told_refused told input (Policy (Double name)) r.whole (fault_refuses input text (Double name) (policy_is told input text r) refl refuses)
-fault_cause told old new input text NoMemory r refuses = tt
+pub app_causes : {T : Type 0} (told : Option (List ℕ)) (old new : ℕ) (input text : List ℕ) (stop : Stop) (result : Result T Stop) → IsErrAnd result (λ s. s ≡ stop) → ReadAs told input text → IsPolicyCause text stop → IfErr result (IsReadCause IsNoPolicy told old new)
+app_causes told old new input text stop (Ok x) is r cause = tt
+app_causes told old new input text stop (Err s) is r cause = rw is (app_cause told old new input text stop r cause)
 
--- the text is no policy
-pub fault_causes : {T : Type 0} (told : Option (List ℕ)) (old new : ℕ) (input text : List ℕ) (fault : PolicyFault) (result : Result T Stop) → IsErrAnd result (λ stop. stop ≡ stop_of_policy fault) → ReadAs told input text → Refuses fault (policy_of text)
-    → IfErr result (IsReadCause IsNoPolicy told old new)
-fault_causes told old new input text fault (Ok x) is r refuses = tt
-fault_causes told old new input text fault (Err stop) is r refuses = rw is (fault_cause told old new input text fault r refuses)
+started_is : (told : Option (List ℕ)) (input text : List ℕ) (app : AppValue) (read : Read AppValue) → ReadAs told input text → app_in (policy_of text) ≡ Ok app → started app ≡ read → run_policy input ≡ read
+started_is told input text app read r spelled is = policy_is told input text r ∙ ap (λ (x : Read AppValue). with_read x started) spelled ∙ is
 
--- the policy asks for what is not there yet, or names no program
-pub refused_causes : {T : Type 0} (told : Option (List ℕ)) (old new : ℕ) (input text : List ℕ) (policy : PolicyValue) (refusal : Refusal) (result : Result T Stop) → IsErrAnd result (λ stop. stop ≡ Refused refusal) → ReadAs told input text
-    → policy_of text ≡ Ok policy → program_in (Ok policy) ≡ Err (refusal_line refusal) → IfErr result (IsReadCause IsNoPolicy told old new)
-refused_causes told old new input text policy refusal (Ok x) is r read refuses = tt
-refused_causes told old new input text policy refusal (Err stop) is r read refuses = rw is (told_refused told input refusal r.whole (policy_is told input text r ∙ ap program_in read ∙ refuses))
+-- it has no command
+pub command_causes : {T : Type 0} (told : Option (List ℕ)) (old new : ℕ) (input text : List ℕ) (app : AppValue) (refusal : Refusal) (result : Result T Stop) → IsErrAnd result (λ stop. stop ≡ stops.Refused refusal) → ReadAs told input text
+    → app_in (policy_of text) ≡ Ok app → started app ≡ Err (refusal_line refusal) → IfErr result (IsReadCause IsNoPolicy told old new)
+command_causes told old new input text app refusal (Ok x) is r spelled refused = tt
+command_causes told old new input text app refusal (Err stop) is r spelled refused = rw is (told_refused told input refusal r.whole (started_is told input text app (Err (refusal_line refusal)) r spelled refused))
 
-pub takes : (told left : Option (List ℕ)) (input text : List ℕ) (policy : PolicyValue) (program : List (List ℕ)) → ReadAs told input text → left ≡ ended told → policy_of text ≡ Ok policy → program_in (Ok policy) ≡ Ok program → Taken told left
-takes told left input text policy program r end read taken = record {
+pub takes : (told left : Option (List ℕ)) (input text : List ℕ) (app : AppValue) → ReadAs told input text → left ≡ ended told → app_in (policy_of text) ≡ Ok app → started app ≡ Ok app → Taken app told left
+takes told left input text app r end spelled is = record {
   input = input;
-  program = program;
   whole = r.whole;
   end = end;
-  spelled = policy_is told input text r ∙ ap program_in read ∙ taken;
+  spelled = started_is told input text app (Ok app) r spelled is;
 }

@@ -1,8 +1,10 @@
 -- The run of a session is the reference controller's.
-use Rattle.std.proofs.Common.{◌≡◌, ℕ, ◌≤◌, List, [], ◌∷◌, length, Contains, Option, Some, Result, Ok, Err, IfErr, IfSome, refl, sym, ap, ◌∙◌, subst, arith, inr}
+use Rattle.std.proofs.Common.{◌≡◌, ◌⊎◌, ℕ, ◌≤◌, List, [], ◌∷◌, length, Contains, Option, Some, None, Result, Ok, Err, IfErr, IfSome, refl, sym, ap, ◌∙◌, subst, arith, inl, inr}
 use Rattle.std.specs.Result.{IsErrAnd}
 use Rattle.of_types.specs.declared.journal.WorldStim.{WorldStim}
 use Rattle.lego_io.specs.Count.{NeverFell}
+use Rattle.lego_io.specs.laws.CountLaws.{Rose-after}
+use Rattle.crash_policy.specs.Policies.{AppValue}
 use Rattle.lego_model.specs.SessionLines.{SessionValue}
 use Rattle.lego_model.specs.SessionText.{session_text}
 use Rattle.lego_model.specs.laws.SessionTextLaws.{session_read}
@@ -22,13 +24,13 @@ use Rattle.legosdn.specs.declared.stop.Refusal.{Refusal}
 use Rattle.legosdn.specs.declared.stop.Stop.{Stop}
 use Rattle.legosdn.specs.declared.stop.Stop.TheVariants.{Usage, Refused, ReadFault, WriteFault, Shut, NextFault, SwitchBroke, Diverged, EventsLeft, NoMemory}
 use Rattle.legosdn.specs.Input.{session_of}
-use Rattle.legosdn.specs.Stops.{stop_status, stop_line}
-use Rattle.legosdn.specs.Headline.{Faults, IsNoSession, IsReadCause, IsCause, NoneFailed, IsLate, KeepsLines, Wrote, RunsWhole, RunsPart, NoneFloods, SomeRefused, StopsAs, RunsAs, LeftAs, CutShort}
+use Rattle.legosdn.specs.Stops.{stop_status, stop_line, refusal_line}
+use Rattle.legosdn.specs.Headline.{Faults, IsNoSession, IsReadCause, IsCause, NoneFailed, IsEarly, IsLate, SpellsSession, OfInput, Loaded, KeepsLines, Wrote, RunsWhole, RunsPart, NoneFloods, SomeRefused, StopsAs, RunsAs, StopsBefore, RunsLoaded, LeftAs, CutShort, NotBegun}
 use Rattle.legosdn.specs.Live.{TellsInOrder, ServesWhole, ServesPart, ServesUntil, ServesAs}
 use Rattle.legosdn.proofs.Causes.{no_both}
 use Rattle.legosdn.proofs.CutRuns.{lines_said, writing_said, memory_said}
 use Rattle.legosdn.proofs.Said.{kept_to_lines, ends_as_said, leaves_as_said}
-use Rattle.legosdn.proofs.Statuses.{is_broken, is_diverged}
+use Rattle.legosdn.proofs.Statuses.{is_left, is_broken, is_diverged, is_memory, not_before}
 use Rattle.legosdn.proofs.Stimuli.{told_in_order}
 
 -- a session that was read has so many stimuli at most
@@ -63,19 +65,19 @@ lines_seen : (sim : WorldData) → KeepsLines sim → KeepsScripts (seen_of sim)
 unfolding seen_of given_of
 lines_seen sim lines = lines
 
-runs_whole : (sim : WorldData) (a b : Option (List ℕ)) → KeepsLines sim → ServesWhole (seen_of sim) a b → RunsWhole (seen_of sim) a b
-runs_whole sim a b lines whole = record {
+runs_whole : (rule : AppValue) (sim : WorldData) (a b : Option (List ℕ)) → KeepsLines sim → ServesWhole rule (seen_of sim) a b → RunsWhole rule (seen_of sim) a b
+runs_whole rule sim a b lines whole = record {
   events = whole.events;
   alike = whole.alike;
   stimuli = whole.stimuli;
-  as_said = λ no_call. ends_as_said (seen_of sim) a b whole.events whole.alike whole.stimuli (kept_to_lines (seen_of sim) (without_links (seen_of sim).given.fails) (lines_seen sim lines) no_call whole.alike.in_order whole.alike.at_once);
+  as_said = λ no_call. ends_as_said rule (seen_of sim) a b whole.events whole.alike whole.stimuli (kept_to_lines (seen_of sim) (without_links (seen_of sim).given.fails) (lines_seen sim lines) no_call whole.alike.in_order whole.alike.at_once);
 }
 
-runs_part : (sim : WorldData) (a b : Option (List ℕ)) (left : ℕ) → KeepsLines sim → ServesPart (seen_of sim) a b left → RunsPart (seen_of sim) a b left
-runs_part sim a b left lines part = record {
+runs_part : (rule : AppValue) (sim : WorldData) (a b : Option (List ℕ)) (left : ℕ) → KeepsLines sim → ServesPart rule (seen_of sim) a b left → RunsPart rule (seen_of sim) a b left
+runs_part rule sim a b left lines part = record {
   alike = part.alike;
   stimuli = part.stimuli;
-  as_said = λ no_call. leaves_as_said (seen_of sim) a b left part.alike part.stimuli (kept_to_lines (seen_of sim) (without_links (seen_of sim).given.fails) (lines_seen sim lines) no_call part.alike.in_order part.alike.at_once);
+  as_said = λ no_call. leaves_as_said rule (seen_of sim) a b left part.alike part.stimuli (kept_to_lines (seen_of sim) (without_links (seen_of sim).given.fails) (lines_seen sim lines) no_call part.alike.in_order part.alike.at_once);
 }
 
 some_refused : (sim : WorldData) → (BringMessages (seen_of sim).history → ⊥) → SomeRefused sim
@@ -83,26 +85,56 @@ unfolding seen_of
 some_refused sim none = none
 
 -- how it goes, over what the lines of the session say
-stops_said : (sim : WorldData) (a b : Option (List ℕ)) (stop : Stop) → KeepsLines sim → ServesUntil stop (seen_of sim) a b → StopsAs stop sim a b
-stops_said sim a b Usage lines until = tt
-stops_said sim a b (Refused refusal) lines until = tt
-stops_said sim a b ReadFault lines until = tt
-stops_said sim a b WriteFault lines until = writing_said sim a b lines until
-stops_said sim a b Shut lines until = until
-stops_said sim a b NextFault lines until = lines_said sim a b lines until
-stops_said sim a b (SwitchBroke d) lines until = ((λ none. some_refused sim (until.0 none)), lines_said sim a b lines until.1)
-stops_said sim a b (Diverged d) lines until = (some_refused sim until.0, lines_said sim a b lines until.1)
-stops_said sim a b (EventsLeft left) lines until = runs_part sim a b left lines until
-stops_said sim a b NoMemory lines until = memory_said sim a b (NothingDone [] (seen_of sim) a b) lines until
+stops_said : (rule : AppValue) (sim : WorldData) (a b : Option (List ℕ)) (stop : Stop) → KeepsLines sim → ServesUntil rule stop (seen_of sim) a b → StopsAs rule stop sim a b
+stops_said rule sim a b Usage lines until = tt
+stops_said rule sim a b (Refused refusal) lines until = tt
+stops_said rule sim a b ReadFault lines until = tt
+stops_said rule sim a b WriteFault lines until = writing_said rule sim a b lines until
+stops_said rule sim a b Shut lines until = until
+stops_said rule sim a b NextFault lines until = lines_said rule sim a b lines until
+stops_said rule sim a b (SwitchBroke d) lines until = ((λ none. some_refused sim (until.0 none)), lines_said rule sim a b lines until.1)
+stops_said rule sim a b (Diverged d) lines until = (some_refused sim until.0, lines_said rule sim a b lines until.1)
+stops_said rule sim a b (EventsLeft left) lines until = runs_part rule sim a b left lines until
+stops_said rule sim a b NoMemory lines until = memory_said rule sim a b (NothingDone [] (seen_of sim) a b) lines until
 
-pub runs_said : {T : Type 0} (sim : WorldData) (a b : Option (List ℕ)) (result : Result T Stop) → KeepsLines sim → ServesAs result (seen_of sim) a b → RunsAs result sim a b
-runs_said sim a b (Ok x) lines serves = runs_whole sim a b lines serves
-runs_said sim a b (Err stop) lines serves = stops_said sim a b stop lines serves
+pub runs_said : {T : Type 0} (rule : AppValue) (sim : WorldData) (a b : Option (List ℕ)) (result : Result T Stop) → KeepsLines sim → ServesAs rule result (seen_of sim) a b → RunsAs rule result sim a b
+runs_said rule sim a b (Ok x) lines serves = runs_whole rule sim a b lines serves
+runs_said rule sim a b (Err stop) lines serves = stops_said rule sim a b stop lines serves
+
+-- ---- The run of the application that was loaded
+
+told_spelled : (told : Option (List ℕ)) (app : AppValue) (input : List ℕ) (session : SessionValue) → IfSome told (λ bytes. input ≡ bytes) → session_of input ≡ Ok (app, session) → IfSome told (λ bytes. SpellsSession bytes app)
+told_spelled None app input session whole spelled = tt
+told_spelled (Some bytes) app input session whole spelled = (session, subst (λ (b : List ℕ). session_of b ≡ Ok (app, session)) whole spelled)
+
+-- it is that which the input spells
+pub of_session : (P : AppValue → Type 0) (told left : Option (List ℕ)) (seen : Seen Scripts) (app : AppValue) → Loaded app told left seen → P app → OfInput SpellsSession told P
+of_session P told left seen app loaded holds = record {
+  app = app;
+  spelled = told_spelled told app loaded.input loaded.session loaded.whole loaded.spelled;
+  holds = holds;
+}
+
+-- a run that came to its end was one of such an application,
+pub ran_whole : {T : Type 0} (told left : Option (List ℕ)) (sim : WorldData) (a b : Option (List ℕ)) (x : T) → RunsLoaded (Ok x) told left sim a b → (app : AppValue) × Loaded app told left (seen_of sim) × RunsWhole app (seen_of sim) a b
+ran_whole told left sim a b x (inl ran) = ran
+ran_whole told left sim a b x (inr before) = absurd before
+
+pub whole_of_input : {T : Type 0} (told left : Option (List ℕ)) (sim : WorldData) (a b : Option (List ℕ)) (x : T) → RunsLoaded (Ok x) told left sim a b → OfInput SpellsSession told (λ app. RunsWhole app (seen_of sim) a b)
+whole_of_input told left sim a b x runs = let ran = ran_whole told left sim a b x runs in of_session (λ app. RunsWhole app (seen_of sim) a b) told left (seen_of sim) ran.0 ran.1.0 ran.1.1
+
+-- and so was one that a stop ended that comes once the world runs
+abbrev RanUntil : Stop → Option (List ℕ) → Option (List ℕ) → WorldData → Option (List ℕ) → Option (List ℕ) → Type 0
+RanUntil stop told left sim a b = (app : AppValue) × Loaded app told left (seen_of sim) × StopsAs app stop sim a b
+
+ran_late : {T : Type 0} (told left : Option (List ℕ)) (sim : WorldData) (a b : Option (List ℕ)) (stop : Stop) → IsLate stop → RunsLoaded {T = T} (Err stop) told left sim a b → RanUntil stop told left sim a b
+ran_late told left sim a b stop late (inl ran) = ran
+ran_late told left sim a b stop late (inr before) = not_before _ stop before.0 late
 
 -- how the run went up to a stop
-pub cut_short : (status : ℕ) (sim : WorldData) (stop : Stop) (contents before now_contents : Option (List ℕ)) (faults_old faults faults_new : ℕ) → status ≡ stop_status stop → NeverFell faults_old faults → StopsAs stop sim contents before
-    → Wrote before now_contents faults faults_new (stop_line stop) → CutShort status sim contents now_contents faults_old faults_new
-cut_short status sim stop contents before now_contents faults_old faults faults_new is up runs written = record {
+cut_short : (app : AppValue) (status : ℕ) (sim : WorldData) (stop : Stop) (contents before now_contents : Option (List ℕ)) (faults_old faults faults_new : ℕ) → status ≡ stop_status stop → NeverFell faults_old faults → StopsAs app stop sim contents before
+    → Wrote before now_contents faults faults_new (stop_line stop) → CutShort app status sim contents now_contents faults_old faults_new
+cut_short app status sim stop contents before now_contents faults_old faults faults_new is up runs written = record {
   stop = stop;
   status_is = is;
   before = before;
@@ -112,35 +144,80 @@ cut_short status sim stop contents before now_contents faults_old faults faults_
   written = written;
 }
 
+-- it did not begin: the line is the first that is written
+wrote_first : (stop : Stop) (contents before now_contents : Option (List ℕ)) (faults_old faults faults_new : ℕ) → stop ≡ NoMemory → NeverFell faults_old faults → before ≡ contents → Wrote before now_contents faults faults_new (stop_line stop)
+    → Wrote contents now_contents faults_old faults_new (stop_line NoMemory)
+wrote_first stop contents before now_contents faults_old faults faults_new memory up still written =
+    elim (subst (λ (s : Stop). Wrote contents now_contents faults faults_new (stop_line s)) memory (subst (λ (c : Option (List ℕ)). Wrote c now_contents faults faults_new (stop_line stop)) still written)) [
+      | inl all ↦ inl all
+      | inr part ↦ inr (Rose-after faults_old faults faults_new up part.0, part.1)
+    ]
+
+pub not_begun : {Own : Type 0} (status : ℕ) (seen : Seen Own) (stop : Stop) (contents before now_contents : Option (List ℕ)) (faults_old faults faults_new : ℕ) → status ≡ stop_status stop → stop ≡ NoMemory → NeverFell faults_old faults → seen.history ≡ []
+    → before ≡ contents → Wrote before now_contents faults faults_new (stop_line stop) → NotBegun status seen contents now_contents faults_old faults_new
+not_begun status seen stop contents before now_contents faults_old faults faults_new is memory up none still written = record {
+  status_is = is ∙ ap stop_status memory;
+  nothing = none;
+  written = wrote_first stop contents before now_contents faults_old faults faults_new memory up still written;
+}
+
+-- at such a status it went so far, or did not begin
+pub cut_or_not_begun : {T : Type 0} (told left : Option (List ℕ)) (status : ℕ) (sim : WorldData) (stop : Stop) (contents before now_contents : Option (List ℕ)) (faults_old faults faults_new : ℕ) → status ≡ stop_status stop
+    → Contains (5 ∷ 6 ∷ 8 ∷ 9 ∷ 10 ∷ 12 ∷ []) (stop_status stop) → NeverFell faults_old faults → RunsLoaded {T = T} (Err stop) told left sim contents before → Wrote before now_contents faults faults_new (stop_line stop)
+    → OfInput SpellsSession told (λ app. CutShort app status sim contents now_contents faults_old faults_new) ⊎ NotBegun status (seen_of sim) contents now_contents faults_old faults_new
+cut_or_not_begun told left status sim stop contents before now_contents faults_old faults faults_new is within up (inl ran) written =
+    inl (of_session (λ app. CutShort app status sim contents now_contents faults_old faults_new) told left (seen_of sim) ran.0 ran.1.0
+    (cut_short ran.0 status sim stop contents before now_contents faults_old faults faults_new is up ran.1.1 written))
+cut_or_not_begun told left status sim stop contents before now_contents faults_old faults faults_new is within up (inr before_all) written =
+    inr (not_begun status (seen_of sim) stop contents before now_contents faults_old faults faults_new is (is_memory stop before_all.0 within) up before_all.1.0 before_all.1.1 written)
+
 -- where events are left, the last line tells how many
-pub left_as : (sim : WorldData) (left : ℕ) (stop : Stop) (contents before now_contents : Option (List ℕ)) (faults_old faults faults_new : ℕ) (told : Option (List ℕ)) (old new : Faults Scripts) → stop ≡ EventsLeft left → NeverFell faults_old faults
-    → StopsAs stop sim contents before → IsCause (Unit {0}) IsNoSession told old new stop → Wrote before now_contents faults faults_new (stop_line stop) → LeftAs sim contents now_contents faults_old faults_new
-left_as sim left stop contents before now_contents faults_old faults faults_new told old new is up runs cause written = record {
+left_as : (app : AppValue) (sim : WorldData) (left : ℕ) (stop : Stop) (contents before now_contents : Option (List ℕ)) (faults_old faults faults_new : ℕ) (told : Option (List ℕ)) (old new : Faults Scripts) → stop ≡ EventsLeft left → NeverFell faults_old faults
+    → StopsAs app stop sim contents before → IsCause (Unit {0}) IsNoSession told old new stop → Wrote before now_contents faults faults_new (stop_line stop) → LeftAs app sim contents now_contents faults_old faults_new
+left_as app sim left stop contents before now_contents faults_old faults faults_new told old new is up runs cause written = record {
   left = left;
   some = subst (IsCause (Unit {0}) IsNoSession told old new) is cause;
   before = before;
   faults = faults;
   never_fell = up;
-  run = subst (λ (s : Stop). StopsAs s sim contents before) is runs;
+  run = subst (λ (s : Stop). StopsAs app s sim contents before) is runs;
   written = subst (λ (s : Stop). Wrote before now_contents faults faults_new (stop_line s)) is written;
 }
 
--- where an input is not read, nothing was done
-read_runs : (told : Option (List ℕ)) (k l : ℕ) (sim : WorldData) (contents : Option (List ℕ)) (stop : Stop) → (seen_of sim).history ≡ [] → IsReadCause IsNoSession told k l stop → StopsAs stop sim contents contents
-read_runs told k l sim contents Usage none cause = absurd cause
-read_runs told k l sim contents (Refused refusal) none cause = tt
-read_runs told k l sim contents ReadFault none cause = tt
-read_runs told k l sim contents WriteFault none cause = absurd cause
-read_runs told k l sim contents Shut none cause = absurd cause
-read_runs told k l sim contents NextFault none cause = absurd cause
-read_runs told k l sim contents (SwitchBroke d) none cause = absurd cause
-read_runs told k l sim contents (Diverged d) none cause = absurd cause
-read_runs told k l sim contents (EventsLeft left) none cause = absurd cause
-read_runs told k l sim contents NoMemory none cause = inr (record { history = none; still = refl })
+late_at : (stop other : Stop) → stop ≡ other → IsLate other → IsLate stop
+late_at stop other is late = subst IsLate (sym is) late
 
-pub runs_by_read : {T : Type 0} (told : Option (List ℕ)) (k l : ℕ) (sim : WorldData) (contents : Option (List ℕ)) (stop : Stop) (result : Result T Stop) → IsErrAnd result (λ s. s ≡ stop) → (seen_of sim).history ≡ [] → IsReadCause IsNoSession told k l stop → RunsAs result sim contents contents
-runs_by_read told k l sim contents stop (Ok x) is none cause = absurd is
-runs_by_read told k l sim contents stop (Err s) is none cause = subst (λ (t : Stop). StopsAs t sim contents contents) (sym is) (read_runs told k l sim contents stop none cause)
+pub left_of_input : {T : Type 0} (rest : Option (List ℕ)) (sim : WorldData) (stop : Stop) (contents before now_contents : Option (List ℕ)) (faults_old faults faults_new : ℕ) (told : Option (List ℕ)) (old new : Faults Scripts) → stop_status stop ≡ 10 → NeverFell faults_old faults
+    → RunsLoaded {T = T} (Err stop) told rest sim contents before → IsCause (Unit {0}) IsNoSession told old new stop → Wrote before now_contents faults faults_new (stop_line stop)
+    → OfInput SpellsSession told (λ app. LeftAs app sim contents now_contents faults_old faults_new)
+left_of_input rest sim stop contents before now_contents faults_old faults faults_new told old new ten up runs cause written =
+    let last = is_left stop ten in
+    let ran = ran_late told rest sim contents before stop (late_at stop (EventsLeft last.0) last.1 tt) runs in
+    of_session (λ app. LeftAs app sim contents now_contents faults_old faults_new) told rest (seen_of sim) ran.0 ran.1.0
+    (left_as ran.0 sim last.0 stop contents before now_contents faults_old faults faults_new told old new last.1 up ran.1.1 cause written)
+
+-- where an input is not read, nothing was done
+pub read_before : (IsRefused : Refusal → List ℕ → Type 0) (told : Option (List ℕ)) (k l : ℕ) (stop : Stop) → IsReadCause IsRefused told k l stop → IsEarly stop ⊎ (stop ≡ NoMemory)
+read_before IsRefused told k l Usage cause = absurd cause
+read_before IsRefused told k l (Refused refusal) cause = inl tt
+read_before IsRefused told k l ReadFault cause = inl tt
+read_before IsRefused told k l WriteFault cause = absurd cause
+read_before IsRefused told k l Shut cause = absurd cause
+read_before IsRefused told k l NextFault cause = absurd cause
+read_before IsRefused told k l (SwitchBroke d) cause = absurd cause
+read_before IsRefused told k l (Diverged d) cause = absurd cause
+read_before IsRefused told k l (EventsLeft left) cause = absurd cause
+read_before IsRefused told k l NoMemory cause = inr refl
+
+pub stops_by_read : {Own T : Type 0} (IsRefused : Refusal → List ℕ → Type 0) (told : Option (List ℕ)) (k l : ℕ) (seen : Seen Own) (contents : Option (List ℕ)) (stop : Stop) (result : Result T Stop) → IsErrAnd result (λ s. s ≡ stop) → seen.history ≡ []
+    → IsReadCause IsRefused told k l stop → StopsBefore result seen contents contents
+stops_by_read IsRefused told k l seen contents stop (Ok x) is none cause = absurd is
+stops_by_read IsRefused told k l seen contents stop (Err s) is none cause =
+    subst (λ (t : Stop). (IsEarly t ⊎ (t ≡ NoMemory)) × (seen.history ≡ []) × (contents ≡ contents)) (sym is) (read_before IsRefused told k l stop cause, none, refl)
+
+pub runs_by_read : {T : Type 0} (told left : Option (List ℕ)) (k l : ℕ) (sim : WorldData) (contents : Option (List ℕ)) (stop : Stop) (result : Result T Stop) → IsErrAnd result (λ s. s ≡ stop) → (seen_of sim).history ≡ [] → IsReadCause IsNoSession told k l stop
+    → RunsLoaded result told left sim contents contents
+runs_by_read told left k l sim contents stop result is none cause = inr (stops_by_read IsNoSession told k l (seen_of sim) contents stop result is none cause)
 
 -- and comes before anything runs
 read_not_late : (P : Type 0) (IsRefused : Refusal → List ℕ → Type 0) (told : Option (List ℕ)) (k l : ℕ) (stop : Stop) → IsReadCause IsRefused told k l stop → IsLate stop → P
@@ -163,11 +240,17 @@ pub lines_by_read : {T : Type 0} (P : Type 0) (told : Option (List ℕ)) (k l : 
 lines_by_read P told k l stop result is cause = by_read P IsNoSession told k l stop result is cause
 
 -- what a stop of a switch says of the run
-pub broke_as : (sim : WorldData) (stop : Stop) (a b : Option (List ℕ)) → StopsAs stop sim a b → NoneFloods (seen_of sim) → stop_status stop ≡ 8 → SomeRefused sim
-broke_as sim stop a b runs none eight = let is = is_broken stop eight in (subst (λ (s : Stop). StopsAs s sim a b) is.1 runs).0 none
+pub broke_as : {T : Type 0} (told left : Option (List ℕ)) (sim : WorldData) (stop : Stop) (a b : Option (List ℕ)) → RunsLoaded {T = T} (Err stop) told left sim a b → NoneFloods (seen_of sim) → stop_status stop ≡ 8 → SomeRefused sim
+broke_as told left sim stop a b runs none eight =
+    let is = is_broken stop eight in
+    let ran = ran_late told left sim a b stop (late_at stop (SwitchBroke is.0) is.1 tt) runs in
+    (subst (λ (s : Stop). StopsAs ran.0 s sim a b) is.1 ran.1.1).0 none
 
-pub diverged_as : (sim : WorldData) (stop : Stop) (a b : Option (List ℕ)) → StopsAs stop sim a b → stop_status stop ≡ 9 → SomeRefused sim
-diverged_as sim stop a b runs nine = let is = is_diverged stop nine in (subst (λ (s : Stop). StopsAs s sim a b) is.1 runs).0
+pub diverged_as : {T : Type 0} (told left : Option (List ℕ)) (sim : WorldData) (stop : Stop) (a b : Option (List ℕ)) → RunsLoaded {T = T} (Err stop) told left sim a b → stop_status stop ≡ 9 → SomeRefused sim
+diverged_as told left sim stop a b runs nine =
+    let is = is_diverged stop nine in
+    let ran = ran_late told left sim a b stop (late_at stop (Diverged is.0) is.1 tt) runs in
+    (subst (λ (s : Stop). StopsAs ran.0 s sim a b) is.1 ran.1.1).0
 
 -- ---- A good input is answered
 
@@ -185,8 +268,8 @@ completes Tells IsRefused told old new (EventsLeft left) cause good broke diverg
 completes Tells IsRefused told old new NoMemory cause good broke diverged none = (2, omega arith, refl)
 
 -- an input that spells a session is not refused
-pub good_session : (told : Option (List ℕ)) (input : List ℕ) (session : SessionValue) → told ≡ Some input → session_of input ≡ Ok session → (refusal : Refusal) → IfSome told (IsNoSession refusal) → ⊥
-good_session told input session whole spelled refusal cause = no_both session refusal (sym spelled ∙ subst (λ (t : Option (List ℕ)). IfSome t (IsNoSession refusal)) whole cause)
+pub good_session : (told : Option (List ℕ)) (input : List ℕ) (app : AppValue) (session : SessionValue) → told ≡ Some input → session_of input ≡ Ok (app, session) → (refusal : Refusal) → IfSome told (IsNoSession refusal) → ⊥
+good_session told input app session whole spelled refusal cause = no_both (app, session) (refusal_line refusal) (sym spelled ∙ subst (λ (t : Option (List ℕ)). IfSome t (IsNoSession refusal)) whole cause)
 
 -- nothing was counted in a new world
 pub new_strays : (w : WorldData) → IsNew w → (seen_of w).counts.strays ≡ 0

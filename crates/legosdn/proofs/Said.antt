@@ -3,6 +3,7 @@ use Rattle.std.proofs.Common.{◌≡◌, ℕ, ◌+◌, ◌≤◌, List, [], ◌�
 use Rattle.std.specs.Io.KnownBytes.{append_known}
 use Rattle.std.specs.List.{AllByRecursion}
 use Rattle.of_types.specs.declared.journal.WorldStim.{WorldStim}
+use Rattle.crash_policy.specs.Policies.{AppValue}
 use Rattle.outside.specs.declared.call.FailCall.{FailCall}
 use Rattle.outside.specs.declared.step.WorldStep.{WorldStep}
 use Rattle.outside.specs.declared.step.WorldStep.TheVariants.{Acted, TookInto, From, Joined, Left, Moment, Idle, End, Opened, NotOpened, NextFailed, SendLost, RecvLost, SendFailed, RecvFailed}
@@ -22,8 +23,7 @@ use Rattle.lego_model.specs.Application.{index, names}
 use Rattle.lego_model.specs.ReferenceRun.{fresh, AreSaid}
 use Rattle.lego_model.specs.WholeRun.{EndsAs, EndsAlike, LeavesAs, LeavesAlike}
 use Rattle.session_text.specs.Loading.{fail_of, given_by}
-use Rattle.legosdn.specs.declared.stop.Refusal.{Refusal}
-use Rattle.legosdn.specs.Input.{session_of}
+use Rattle.legosdn.specs.Input.{Read, session_of}
 use Rattle.legosdn.specs.Said.{all_allowed, reference_over, reference_of_session, WithEnough}
 use Rattle.legosdn.specs.Headline.{Loaded, RunsWhole}
 
@@ -72,21 +72,21 @@ kept_to_lines seen fails keeps none orderly at_once = record {
 
 -- ---- The whole run, and one that leaves events
 
-pub ends_as_said : (seen : Seen Scripts) (contents now_contents : Option (List ℕ)) (events : ℕ) → (alike : EndsAlike all_allowed seen contents now_contents events) → stimuli_in seen ≡ seen.given.stimuli → KeptToLines seen
-    → WithEnough (λ more. EndsAs seen contents now_contents events (reference_over more alike.losses seen.given))
-ends_as_said seen contents now_contents events alike stimuli k = record {
+pub ends_as_said : (rule : AppValue) (seen : Seen Scripts) (contents now_contents : Option (List ℕ)) (events : ℕ) → (alike : EndsAlike rule all_allowed seen contents now_contents events) → stimuli_in seen ≡ seen.given.stimuli → KeptToLines seen
+    → WithEnough (λ more. EndsAs rule seen contents now_contents events (reference_over rule more alike.losses seen.given))
+ends_as_said rule seen contents now_contents events alike stimuli k = record {
   enough = told_in seen;
-  holds = λ more few. subst (λ (xs : List WorldStim). EndsAs seen contents now_contents events
-      (reference all_allowed seen.given.declared (fresh (starts_said more (starts_of index seen.given.own)) (replies_said more (replies_of index seen.given.own)) ∷ []) alike.losses xs)) stimuli
+  holds = λ more few. subst (λ (xs : List WorldStim). EndsAs rule seen contents now_contents events
+      (reference all_allowed seen.given.declared (fresh rule (starts_said more (starts_of index seen.given.own)) (replies_said more (replies_of index seen.given.own)) ∷ []) alike.losses xs)) stimuli
       (alike.as_said _ _ (are_said seen more k few));
 }
 
-pub leaves_as_said : (seen : Seen Scripts) (contents now_contents : Option (List ℕ)) (left : ℕ) → (alike : LeavesAlike all_allowed seen contents now_contents left) → stimuli_in seen ≡ seen.given.stimuli → KeptToLines seen
-    → WithEnough (λ more. LeavesAs seen contents now_contents left (reference_over more alike.losses seen.given))
-leaves_as_said seen contents now_contents left alike stimuli k = record {
+pub leaves_as_said : (rule : AppValue) (seen : Seen Scripts) (contents now_contents : Option (List ℕ)) (left : ℕ) → (alike : LeavesAlike rule all_allowed seen contents now_contents left) → stimuli_in seen ≡ seen.given.stimuli → KeptToLines seen
+    → WithEnough (λ more. LeavesAs rule seen contents now_contents left (reference_over rule more alike.losses seen.given))
+leaves_as_said rule seen contents now_contents left alike stimuli k = record {
   enough = told_in seen;
-  holds = λ more few. subst (λ (xs : List WorldStim). LeavesAs seen contents now_contents left
-      (reference all_allowed seen.given.declared (fresh (starts_said more (starts_of index seen.given.own)) (replies_said more (replies_of index seen.given.own)) ∷ []) alike.losses xs)) stimuli
+  holds = λ more few. subst (λ (xs : List WorldStim). LeavesAs rule seen contents now_contents left
+      (reference all_allowed seen.given.declared (fresh rule (starts_said more (starts_of index seen.given.own)) (replies_said more (replies_of index seen.given.own)) ∷ []) alike.losses xs)) stimuli
       (alike.as_said _ _ (are_said seen more k few));
 }
 
@@ -101,22 +101,36 @@ none_of_the_application : (session : SessionValue) → without_links (given_by s
 unfolding given_by
 none_of_the_application session = fails_of_links session.faults
 
-same_session : (a b : SessionValue) (r : Result SessionValue Refusal) → r ≡ Ok a → r ≡ Ok b → a ≡ b
-same_session a b r one other = cc
+same_spelled : (a b : AppValue × SessionValue) (r : Read (AppValue × SessionValue)) → r ≡ Ok a → r ≡ Ok b → a ≡ b
+same_spelled a b r one other = cc
 
--- the world was given the session that the input spells
-pub given_session : (told left : Option (List ℕ)) (seen : Seen Scripts) (input : List ℕ) (session : SessionValue) → Loaded told left seen → told ≡ Some input → session_of input ≡ Ok session → seen.given ≡ given_by session
-given_session told left seen input session loaded whole spelled =
+-- the application and the session that were loaded are those that the input spells
+loaded_is : (rule app : AppValue) (told left : Option (List ℕ)) (seen : Seen Scripts) (input : List ℕ) (session : SessionValue) → (loaded : Loaded rule told left seen) → told ≡ Some input → session_of input ≡ Ok (app, session)
+    → (rule, loaded.session) ≡ (app, session)
+loaded_is rule app told left seen input session loaded whole spelled =
     let same : loaded.input ≡ input = subst (λ (t : Option (List ℕ)). IfSome t (λ bytes. loaded.input ≡ bytes)) whole loaded.whole in
-    loaded.given ∙ ap given_by (same_session loaded.session session (session_of input) (ap session_of (sym same) ∙ loaded.spelled) spelled)
+    same_spelled (rule, loaded.session) (app, session) (session_of input) (ap session_of (sym same) ∙ loaded.spelled) spelled
+
+pub app_is : (rule app : AppValue) (told left : Option (List ℕ)) (seen : Seen Scripts) (input : List ℕ) (session : SessionValue) → Loaded rule told left seen → told ≡ Some input → session_of input ≡ Ok (app, session) → rule ≡ app
+app_is rule app told left seen input session loaded whole spelled = ap (λ (p : AppValue × SessionValue). p.0) (loaded_is rule app told left seen input session loaded whole spelled)
+
+pub given_session : (rule app : AppValue) (told left : Option (List ℕ)) (seen : Seen Scripts) (input : List ℕ) (session : SessionValue) → Loaded rule told left seen → told ≡ Some input → session_of input ≡ Ok (app, session) → seen.given ≡ given_by session
+given_session rule app told left seen input session loaded whole spelled =
+    loaded.given ∙ ap (λ (p : AppValue × SessionValue). given_by p.1) (loaded_is rule app told left seen input session loaded whole spelled)
 
 -- the whole report is that of the reference controller of the session
-pub reports : (told left : Option (List ℕ)) (seen : Seen Scripts) (contents now_contents : Option (List ℕ)) (input : List ℕ) (session : SessionValue) → Loaded told left seen → (runs : RunsWhole seen contents now_contents) → told ≡ Some input → session_of input ≡ Ok session
-    → WithEnough (λ more. now_contents ≡ append_known contents (run_report names (reference_of_session more runs.alike.losses session)))
-reports told left seen contents now_contents input session loaded runs whole spelled =
-    let given = given_session told left seen input session loaded whole spelled in
+session_report : (app : AppValue) (seen : Seen Scripts) (contents now_contents : Option (List ℕ)) (session : SessionValue) → seen.given ≡ given_by session → (runs : RunsWhole app seen contents now_contents)
+    → WithEnough (λ more. now_contents ≡ append_known contents (run_report (names app) (reference_of_session app more runs.alike.losses session)))
+session_report app seen contents now_contents session given runs =
     let said = runs.as_said (ap (λ (g : Given Scripts). without_links g.fails) given ∙ none_of_the_application session) in
     record {
       enough = said.enough;
-      holds = λ more few. subst (λ (g : Given Scripts). now_contents ≡ append_known contents (run_report names (reference_over more runs.alike.losses g))) given (said.holds more few).report;
+      holds = λ more few. subst (λ (g : Given Scripts). now_contents ≡ append_known contents (run_report (names app) (reference_over app more runs.alike.losses g))) given (said.holds more few).report;
     }
+
+pub reports : (app : AppValue) (told left : Option (List ℕ)) (seen : Seen Scripts) (contents now_contents : Option (List ℕ)) (input : List ℕ) (session : SessionValue)
+    → (rule : AppValue) × Loaded rule told left seen × RunsWhole rule seen contents now_contents → told ≡ Some input → session_of input ≡ Ok (app, session)
+    → (runs : RunsWhole app seen contents now_contents) × WithEnough (λ more. now_contents ≡ append_known contents (run_report (names app) (reference_of_session app more runs.alike.losses session)))
+reports app told left seen contents now_contents input session ran whole spelled =
+    let runs = subst (λ (rule : AppValue). RunsWhole rule seen contents now_contents) (app_is ran.0 app told left seen input session ran.1.0 whole spelled) ran.1.1 in
+    (runs, session_report app seen contents now_contents session (given_session ran.0 app told left seen input session ran.1.0 whole spelled) runs)

@@ -4,6 +4,8 @@ use Rattle.std.specs.Result.{IsErrAnd}
 use Rattle.command_words.specs.declared.command.Command.{Command}
 use Rattle.command_words.specs.declared.command.Command.TheVariants.{Replay, Run}
 use Rattle.command_words.specs.Commands.{command_in}
+use Rattle.lego_io.specs.Count.{NeverFell}
+use Rattle.crash_policy.specs.Policies.{AppValue}
 use Rattle.outside.specs.Seen.{Seen}
 use Rattle.outside.specs.InOrder.{BringMessages}
 use Rattle.sim_world.specs.World.{WorldData, seen_of}
@@ -11,14 +13,14 @@ use Rattle.legosdn.specs.declared.stop.Refusal.{Refusal}
 use Rattle.legosdn.specs.declared.stop.Stop.{Stop}
 use Rattle.legosdn.specs.declared.stop.Stop.TheVariants.{Usage, Refused, ReadFault, WriteFault, Shut, NextFault, SwitchBroke, Diverged, EventsLeft, NoMemory}
 use Rattle.legosdn.specs.Input.{run_policy}
-use Rattle.legosdn.specs.Stops.{stop_status, refusal_line}
-use Rattle.legosdn.specs.Headline.{NoneFloods, faults_of, IsReplay, IsRun, IsNoSession, IsNoPolicy, IsReadCause, IsRunCause, IsEarly, IsLate, KeepsLines, Replays}
-use Rattle.legosdn.specs.Live.{Taken, TellsInOrder, NoneStray, ServesUntil, ServesAs, TakenAs, Serves}
-use Rattle.legosdn.proofs.Causes.{ran_causes, unread_causes}
+use Rattle.legosdn.specs.Stops.{stop_status, stop_line, refusal_line}
+use Rattle.legosdn.specs.Headline.{NoneFloods, faults_of, IsReplay, IsRun, IsNoSession, IsNoPolicy, IsReadCause, IsRunCause, IsEarly, IsLate, SpellsPolicy, OfInput, KeepsLines, Wrote, NotBegun, Replays}
+use Rattle.legosdn.specs.Live.{Taken, IsTaken, TellsInOrder, NoneStray, ServesWhole, ServesUntil, ServesAs, ServesCut, TakenAs, ServesTaken, Serves}
+use Rattle.legosdn.proofs.Causes.{ran_causes, unread_causes, no_both}
 use Rattle.legosdn.proofs.Loads.{unread_as}
 use Rattle.legosdn.proofs.Places.{idle_in_place}
-use Rattle.legosdn.proofs.Runs.{by_read, runs_by_read, lines_by_read}
-use Rattle.legosdn.proofs.Statuses.{is_broken, is_diverged, not_late}
+use Rattle.legosdn.proofs.Runs.{by_read, stops_by_read, runs_by_read, lines_by_read, not_begun}
+use Rattle.legosdn.proofs.Statuses.{is_broken, is_diverged, is_memory, not_late, not_before}
 
 -- ---- By the command
 
@@ -32,29 +34,13 @@ by_command P words replays runs none = command_is P words (command_in words) ref
 
 -- ---- Nothing ran
 
-err_is : {T : Type 0} (P : Result T Stop → Type 0) (stop : Stop) (result : Result T Stop) → IsErrAnd result (λ s. s ≡ stop) → P (Err stop) → P result
-err_is P stop (Ok x) is so = absurd is
-err_is P stop (Err s) is so = subst (λ (t : Stop). P (Err t)) (sym is) so
-
-taken_by_read : {T : Type 0} (told left : Option (List ℕ)) (result : Result T Stop) → IsErrAnd result (λ s. Unit {0}) → IfErr result (λ s. IsLate s → Taken told left) → TakenAs result told left
+taken_by_read : {T : Type 0} (told left : Option (List ℕ)) (result : Result T Stop) → IsErrAnd result (λ s. Unit {0}) → IfErr result (λ s. IsLate s → IsTaken told left) → TakenAs result told left
 taken_by_read told left (Ok x) is so = absurd is
 taken_by_read told left (Err s) is so = so
 
 some_err : {T : Type 0} (stop : Stop) (result : Result T Stop) → IsErrAnd result (λ s. s ≡ stop) → IsErrAnd result (λ s. Unit {0})
 some_err stop (Ok x) is = absurd is
 some_err stop (Err s) is = tt
-
-serves_none : {Own : Type 0} (told : Option (List ℕ)) (i j : ℕ) (seen : Seen Own) (contents : Option (List ℕ)) (stop : Stop) → IsReadCause IsNoPolicy told i j stop → seen.history ≡ [] → ServesUntil stop seen contents contents
-serves_none told i j seen contents Usage cause none = absurd cause
-serves_none told i j seen contents (Refused refusal) cause none = tt
-serves_none told i j seen contents ReadFault cause none = tt
-serves_none told i j seen contents WriteFault cause none = absurd cause
-serves_none told i j seen contents Shut cause none = absurd cause
-serves_none told i j seen contents NextFault cause none = absurd cause
-serves_none told i j seen contents (SwitchBroke d) cause none = absurd cause
-serves_none told i j seen contents (Diverged d) cause none = absurd cause
-serves_none told i j seen contents (EventsLeft left) cause none = absurd cause
-serves_none told i j seen contents NoMemory cause none = inr (record { history = none; still = refl })
 
 stays_early : {T : Type 0} (Stays : Type 0) (result : Result T Stop) → Stays → IfErr result (λ stop. IsEarly stop → Stays)
 stays_early Stays (Ok x) stays = tt
@@ -67,9 +53,9 @@ ok_none P stop (Err s) is = tt
 pub serves_unread : {Own T : Type 0} (Tells : Type 0) (rounds : ℕ) (told left : Option (List ℕ)) (i j k : ℕ) (seen : Seen Own) (contents : Option (List ℕ)) (Stays : Type 0) (stop : Stop) (result : Result T Stop) → IsErrAnd result (λ s. s ≡ stop)
     → IsReadCause IsNoPolicy told i j stop → Stays → Serves Tells rounds result told left (faults_of i k seen) (faults_of j k seen) contents contents Stays
 serves_unread Tells rounds told left i j k seen contents Stays stop result is cause stays = record {
-  taken = taken_by_read told left result (some_err stop result is) (by_read (Taken told left) IsNoPolicy told i j stop result is cause);
+  taken = taken_by_read told left result (some_err stop result is) (by_read (IsTaken told left) IsNoPolicy told i j stop result is cause);
   no_other = inr stays;
-  runs = λ tells. err_is (λ r. ServesAs r seen contents contents) stop result is (serves_none told i j seen contents stop cause tells.untouched);
+  runs = λ tells. inr (stops_by_read IsNoPolicy told i j seen contents stop result is tells.untouched cause);
   strays = λ tells. idle_in_place seen tells.untouched;
   why = unread_causes Tells IsNoPolicy told i j k k seen seen stop result is cause;
   early = stays_early Stays result stays;
@@ -79,7 +65,7 @@ pub replays_unread : {T : Type 0} (told left : Option (List ℕ)) (i j k : ℕ) 
     → IsReadCause IsNoSession told i j stop → Stays → Replays result told left (faults_of i k (seen_of sim)) (faults_of j k (seen_of sim)) sim contents contents Stays
 replays_unread told left i j k sim contents Stays stop result is none cause stays = record {
   loaded = unread_as told left (seen_of sim) i j stop result is none cause;
-  runs = runs_by_read told i j sim contents stop result is none cause;
+  runs = runs_by_read told left i j sim contents stop result is none cause;
   lines = ok_none (KeepsLines sim) stop result is;
   late_lines = lines_by_read (KeepsLines sim) told i j stop result is cause;
   why = unread_causes (Unit {0}) IsNoSession told i j k k (seen_of sim) (seen_of sim) stop result is cause;
@@ -88,7 +74,7 @@ replays_unread told left i j k sim contents Stays stop result is none cause stay
 
 -- ---- The policy was taken, and the world ran
 
-taken_as : {T : Type 0} (told left : Option (List ℕ)) (result : Result T Stop) → Taken told left → TakenAs result told left
+taken_as : {T : Type 0} (told left : Option (List ℕ)) (result : Result T Stop) → IsTaken told left → TakenAs result told left
 taken_as told left (Ok x) taken = taken
 taken_as told left (Err stop) taken = λ late. taken
 
@@ -108,46 +94,87 @@ none_early : {Own T : Type 0} (Stays Tells : Type 0) (k l : ℕ) (old new : Seen
 none_early Stays Tells k l old new (Ok x) cause = tt
 none_early Stays Tells k l old new (Err stop) cause = not_early Stays Tells k l old new stop cause
 
-pub serves_taken : {Own T : Type 0} (Tells : Type 0) (rounds : ℕ) (told left : Option (List ℕ)) (i j k l : ℕ) (old new : Seen Own) (a b : Option (List ℕ)) (Stays : Type 0) (result : Result T Stop) → Taken told left
-    → (TellsInOrder Tells rounds old new → ServesAs result new a b) → (TellsInOrder Tells rounds old new → NoneStray new) → IfErr result (IsRunCause Tells k l old new)
+pub serves_taken : {Own T : Type 0} (Tells : Type 0) (rounds : ℕ) (told left : Option (List ℕ)) (i j k l : ℕ) (old new : Seen Own) (a b : Option (List ℕ)) (Stays : Type 0) (result : Result T Stop) (app : AppValue) → Taken app told left
+    → (TellsInOrder Tells rounds old new → ServesAs app result new a b) → (TellsInOrder Tells rounds old new → NoneStray new) → IfErr result (IsRunCause Tells k l old new)
     → Serves Tells rounds result told left (faults_of i k old) (faults_of j l new) a b Stays
-serves_taken Tells rounds told left i j k l old new a b Stays result taken runs strays why = record {
-  taken = taken_as told left result taken;
-  no_other = inl taken;
-  runs = runs;
+serves_taken Tells rounds told left i j k l old new a b Stays result app taken runs strays why = record {
+  taken = taken_as told left result (app, taken);
+  no_other = inl (app, taken);
+  runs = λ tells. inl (app, taken, runs tells);
   strays = strays;
   why = ran_causes Tells IsNoPolicy told i j k l old new result why;
   early = none_early Stays Tells k l old new result why;
 }
 
+-- ---- The run of the application that was taken
+
+told_spelled : (told : Option (List ℕ)) (app : AppValue) (input : List ℕ) → IfSome told (λ bytes. input ≡ bytes) → run_policy input ≡ Ok app → IfSome told (λ bytes. SpellsPolicy bytes app)
+told_spelled None app input whole spelled = tt
+told_spelled (Some bytes) app input whole spelled = subst (λ (b : List ℕ). run_policy b ≡ Ok app) whole spelled
+
+-- it is that which the input spells
+of_policy : (P : AppValue → Type 0) (told left : Option (List ℕ)) (app : AppValue) → Taken app told left → P app → OfInput SpellsPolicy told P
+of_policy P told left app taken holds = record { app = app; spelled = told_spelled told app taken.input taken.whole taken.spelled; holds = holds }
+
+served_whole : {Own T : Type 0} (told left : Option (List ℕ)) (seen : Seen Own) (a b : Option (List ℕ)) (x : T) → ServesTaken (Ok x) told left seen a b → (app : AppValue) × Taken app told left × ServesWhole app seen a b
+served_whole told left seen a b x (inl served) = served
+served_whole told left seen a b x (inr before) = absurd before
+
+pub served_of_policy : {Own T : Type 0} (told left : Option (List ℕ)) (seen : Seen Own) (a b : Option (List ℕ)) (x : T) → ServesTaken (Ok x) told left seen a b → OfInput SpellsPolicy told (λ app. ServesWhole app seen a b)
+served_of_policy told left seen a b x serves = let served = served_whole told left seen a b x serves in of_policy (λ app. ServesWhole app seen a b) told left served.0 served.1.0 served.1.1
+
+served_late : {Own T : Type 0} (told left : Option (List ℕ)) (seen : Seen Own) (a b : Option (List ℕ)) (stop : Stop) → IsLate stop → ServesTaken {T = T} (Err stop) told left seen a b → (app : AppValue) × Taken app told left × ServesUntil app stop seen a b
+served_late told left seen a b stop late (inl served) = served
+served_late told left seen a b stop late (inr before) = not_before _ stop before.0 late
+
+-- at such a status it went so far, or did not begin
+pub served_or_not_begun : {Own T : Type 0} (told left : Option (List ℕ)) (status : ℕ) (seen : Seen Own) (stop : Stop) (contents before now_contents : Option (List ℕ)) (faults_old faults faults_new : ℕ) → status ≡ stop_status stop
+    → Contains (5 ∷ 6 ∷ 8 ∷ 9 ∷ 10 ∷ 12 ∷ []) (stop_status stop) → NeverFell faults_old faults → ServesTaken {T = T} (Err stop) told left seen contents before → Wrote before now_contents faults faults_new (stop_line stop)
+    → OfInput SpellsPolicy told (λ app. ServesCut app status seen contents now_contents faults_old faults_new) ⊎ NotBegun status seen contents now_contents faults_old faults_new
+served_or_not_begun told left status seen stop contents before now_contents faults_old faults faults_new is within up (inl served) written =
+    inl (of_policy (λ app. ServesCut app status seen contents now_contents faults_old faults_new) told left served.0 served.1.0 (record {
+      stop = stop;
+      status_is = is;
+      before = before;
+      faults = faults;
+      never_fell = up;
+      run = served.1.1;
+      written = written;
+    }))
+served_or_not_begun told left status seen stop contents before now_contents faults_old faults faults_new is within up (inr before_all) written =
+    inr (not_begun status seen stop contents before now_contents faults_old faults faults_new is (is_memory stop before_all.0 within) up before_all.1.0 before_all.1.1 written)
+
 -- ---- What follows
 
-pub broke_live : {Own : Type 0} (seen : Seen Own) (a b : Option (List ℕ)) (stop : Stop) → ServesUntil stop seen a b → NoneFloods seen → BringMessages seen.history → stop_status stop ≡ 8 → ⊥
-broke_live seen a b stop runs none messages eight = let is = is_broken stop eight in (subst (λ (s : Stop). ServesUntil s seen a b) is.1 runs).0 none messages
+pub broke_live : {Own T : Type 0} (told left : Option (List ℕ)) (seen : Seen Own) (a b : Option (List ℕ)) (stop : Stop) → ServesTaken {T = T} (Err stop) told left seen a b → NoneFloods seen → BringMessages seen.history → stop_status stop ≡ 8 → ⊥
+broke_live told left seen a b stop serves none messages eight =
+    let is = is_broken stop eight in
+    let served = served_late told left seen a b stop (subst IsLate (sym is.1) tt) serves in
+    (subst (λ (s : Stop). ServesUntil served.0 s seen a b) is.1 served.1.1).0 none messages
 
-pub diverged_live : {Own : Type 0} (seen : Seen Own) (a b : Option (List ℕ)) (stop : Stop) → ServesUntil stop seen a b → BringMessages seen.history → stop_status stop ≡ 9 → ⊥
-diverged_live seen a b stop runs messages nine = let is = is_diverged stop nine in (subst (λ (s : Stop). ServesUntil s seen a b) is.1 runs).0 messages
-
-no_both : (program : List (List ℕ)) (line : List ℕ) → Ok program ≡ Err line → ⊥
-no_both program line e = absurd cc
+pub diverged_live : {Own T : Type 0} (told left : Option (List ℕ)) (seen : Seen Own) (a b : Option (List ℕ)) (stop : Stop) → ServesTaken {T = T} (Err stop) told left seen a b → BringMessages seen.history → stop_status stop ≡ 9 → ⊥
+diverged_live told left seen a b stop serves messages nine =
+    let is = is_diverged stop nine in
+    let served = served_late told left seen a b stop (subst IsLate (sym is.1) tt) serves in
+    (subst (λ (s : Stop). ServesUntil served.0 s seen a b) is.1 served.1.1).0 messages
 
 -- a policy that is taken is not refused
-pub good_policy : (told : Option (List ℕ)) (input : List ℕ) (program : List (List ℕ)) → told ≡ Some input → run_policy input ≡ Ok program → (refusal : Refusal) → IfSome told (IsNoPolicy refusal) → ⊥
-good_policy told input program whole spelled refusal cause = no_both program (refusal_line refusal) (sym spelled ∙ subst (λ (t : Option (List ℕ)). IfSome t (IsNoPolicy refusal)) whole cause)
+pub good_policy : (told : Option (List ℕ)) (input : List ℕ) (app : AppValue) → told ≡ Some input → run_policy input ≡ Ok app → (refusal : Refusal) → IfSome told (IsNoPolicy refusal) → ⊥
+good_policy told input app whole spelled refusal cause = no_both app (refusal_line refusal) (sym spelled ∙ subst (λ (t : Option (List ℕ)). IfSome t (IsNoPolicy refusal)) whole cause)
 
-refused_or_taken : (bytes : List ℕ) (left : Option (List ℕ)) (line : List ℕ) → Taken (Some bytes) left → run_policy bytes ≡ Err line → ⊥
-refused_or_taken bytes left line taken e = no_both taken.program line (sym taken.spelled ∙ ap run_policy taken.whole ∙ e)
+refused_or_taken : (bytes : List ℕ) (left : Option (List ℕ)) (line : List ℕ) → IsTaken (Some bytes) left → run_policy bytes ≡ Err line → ⊥
+refused_or_taken bytes left line taken e = no_both taken.0 line (sym taken.1.spelled ∙ ap run_policy taken.1.whole ∙ e)
 
 -- one that is taken is none
-pub none_refused_policy : (told left : Option (List ℕ)) (P : Type 0) (line : List ℕ) → Taken told left → IfSome told (λ input. run_policy input ≡ Err line → P)
+pub none_refused_policy : (told left : Option (List ℕ)) (P : Type 0) (line : List ℕ) → IsTaken told left → IfSome told (λ input. run_policy input ≡ Err line → P)
 none_refused_policy None left P line taken = tt
 none_refused_policy (Some bytes) left P line taken = λ e. absurd (refused_or_taken bytes left line taken e)
 
-stays_refused : (bytes : List ℕ) (left : Option (List ℕ)) (line : List ℕ) (World Sink : Type 0) → run_policy bytes ≡ Err line → Taken (Some bytes) left ⊎ (World × Sink) → World
+stays_refused : (bytes : List ℕ) (left : Option (List ℕ)) (line : List ℕ) (World Sink : Type 0) → run_policy bytes ≡ Err line → IsTaken (Some bytes) left ⊎ (World × Sink) → World
 stays_refused bytes left line World Sink e (inl taken) = absurd (refused_or_taken bytes left line taken e)
 stays_refused bytes left line World Sink e (inr stays) = stays.0
 
-pub refuses_policy : (told left : Option (List ℕ)) (stop : Stop) (line : List ℕ) (World Sink : Type 0) → (IsLate stop → Taken told left) → Taken told left ⊎ (World × Sink)
+pub refuses_policy : (told left : Option (List ℕ)) (stop : Stop) (line : List ℕ) (World Sink : Type 0) → (IsLate stop → IsTaken told left) → IsTaken told left ⊎ (World × Sink)
     → IfSome told (λ input. run_policy input ≡ Err line → Contains (2 ∷ 3 ∷ 4 ∷ 12 ∷ []) (stop_status stop) × World)
 refuses_policy None left stop line World Sink late other = tt
 refuses_policy (Some bytes) left stop line World Sink late other = λ e. (not_late stop (λ so. refused_or_taken bytes left line (late so) e), stays_refused bytes left line World Sink e other)

@@ -1,5 +1,5 @@
 -- Which stop a status is that of.
-use Rattle.std.proofs.Common.{◌≡◌, ℕ, [], ◌∷◌, Contains, refl, subst, arith}
+use Rattle.std.proofs.Common.{◌≡◌, ◌⊎◌, ℕ, [], ◌∷◌, Contains, refl, subst, arith, inl, inr}
 use Rattle.legosdn.specs.declared.stop.Refusal.{Refusal}
 use Rattle.legosdn.specs.declared.stop.Stop.{Stop}
 use Rattle.legosdn.specs.declared.stop.Stop.TheVariants.{Usage, Refused, ReadFault, WriteFault, Shut, NextFault, SwitchBroke, Diverged, EventsLeft, NoMemory}
@@ -150,3 +150,54 @@ not_written stop is within = five (subst (λ (s : Stop). Contains {X = ℕ} (2 �
   where
     five : Contains {X = ℕ} (2 ∷ 12 ∷ []) 5 → ⊥
     five e = grind arith
+
+-- ---- A stop that comes before anything runs, or for want of memory
+
+-- it does not come once the world runs
+late_memory : (stop : Stop) → stop ≡ NoMemory → IsLate stop → ⊥
+late_memory stop is late = subst IsLate is late
+
+early_or_late : (stop : Stop) → IsEarly stop → IsLate stop → ⊥
+early_or_late Usage early late = late
+early_or_late (Refused refusal) early late = late
+early_or_late ReadFault early late = late
+early_or_late WriteFault early late = early
+early_or_late Shut early late = early
+early_or_late NextFault early late = early
+early_or_late (SwitchBroke d) early late = early
+early_or_late (Diverged d) early late = early
+early_or_late (EventsLeft left) early late = early
+early_or_late NoMemory early late = early
+
+pub not_before : (P : Type 0) (stop : Stop) → IsEarly stop ⊎ (stop ≡ NoMemory) → IsLate stop → P
+not_before P stop (inl early) late = absurd (early_or_late stop early late)
+not_before P stop (inr memory) late = absurd (late_memory stop memory late)
+
+-- and not at such a status
+early_status : (stop : Stop) → IsEarly stop → Contains (5 ∷ 6 ∷ 8 ∷ 9 ∷ 10 ∷ 12 ∷ []) (stop_status stop) → ⊥
+early_status Usage early within = grind arith
+early_status (Refused refusal) early within = grind arith
+early_status ReadFault early within = grind arith
+early_status WriteFault early within = early
+early_status Shut early within = early
+early_status NextFault early within = early
+early_status (SwitchBroke d) early within = early
+early_status (Diverged d) early within = early
+early_status (EventsLeft left) early within = early
+early_status NoMemory early within = early
+
+pub is_memory : (stop : Stop) → IsEarly stop ⊎ (stop ≡ NoMemory) → Contains (5 ∷ 6 ∷ 8 ∷ 9 ∷ 10 ∷ 12 ∷ []) (stop_status stop) → stop ≡ NoMemory
+is_memory stop (inl early) within = absurd (early_status stop early within)
+is_memory stop (inr memory) within = memory
+
+pub fault_or_left : (stop : Stop) → Contains (5 ∷ 6 ∷ 8 ∷ 9 ∷ 12 ∷ []) (stop_status stop) → Contains (5 ∷ 6 ∷ 8 ∷ 9 ∷ 10 ∷ 12 ∷ []) (stop_status stop)
+fault_or_left Usage within = absurd (grind arith)
+fault_or_left (Refused refusal) within = absurd (grind arith)
+fault_or_left ReadFault within = absurd (grind arith)
+fault_or_left WriteFault within = (0, omega arith, refl)
+fault_or_left Shut within = (1, omega arith, refl)
+fault_or_left NextFault within = (1, omega arith, refl)
+fault_or_left (SwitchBroke d) within = (2, omega arith, refl)
+fault_or_left (Diverged d) within = (3, omega arith, refl)
+fault_or_left (EventsLeft left) within = (4, omega arith, refl)
+fault_or_left NoMemory within = (5, omega arith, refl)

@@ -2,12 +2,14 @@
 
 use crate::steady::steady;
 use crate::trouble::Trouble;
+use crash_policy::{AppRule, DEFAULT_BUDGET, Policy};
 use event_dispatch::{Served, serve};
 use lego_io::MemSink;
 use live_stage::{Bounded, Bounds, Player, SteadyClock, free_port, own_words};
 use live_world::LiveWorld;
 use of_types::limits::MOST_ROUNDS;
 use outside::AllowAll;
+use std::alloc::{AllocError, Global};
 use std::net::Net;
 use std::process::{Processes, SystemProcess};
 use std::rt::{Clock, Env};
@@ -64,6 +66,18 @@ struct Outcome {
     sink: MemSink,
 }
 
+/// An application `app` that these words start, and of which a policy says nothing else.
+fn usual_app(alloc: Global, command: Vec<String>) -> Result<AppRule, AllocError> {
+    Ok(AppRule {
+        name: String::from_str(alloc, "app")?,
+        command,
+        policy: Policy::Absolute,
+        rules: [Policy::Absolute; 6],
+        events: [true; 6],
+        budget: DEFAULT_BUDGET,
+    })
+}
+
 /// Runs the engine at a port, with a new switch child and the application.
 fn run_at<R: Net + Processes<Started = SystemProcess> + Env + Clock + AllocGlobal + Clone + Drop>(
     rt: &R,
@@ -78,12 +92,12 @@ fn run_at<R: Net + Processes<Started = SystemProcess> + Env + Clock + AllocGloba
     };
     let mut world = Bounded::new(live, SteadyClock::new(rt.clone()?)?, bounds);
     let mut sink = MemSink::new(alloc, ROOM, &[])?;
-    let words = own_words(alloc, scene.app)?;
+    let app = usual_app(alloc, own_words(alloc, scene.app)?)?;
     let word = format!(in alloc; "{port}")?;
     let _switch = Player::start(rt, alloc, &[scene.switch, word.as_str()])?;
     let served = serve(
         alloc,
-        words,
+        &app,
         &mut world,
         &AllowAll,
         &mut sink,

@@ -1,5 +1,6 @@
 //! How a run ends, and what it wrote: worked out by hand.
 
+use crate::tests::usual_app;
 use event_dispatch::{Served, serve};
 use lego_io::MemSink;
 use of_types::limits::MOST_ROUNDS;
@@ -42,8 +43,8 @@ fn run(
         sim.fail_call(kind, 0, number)?;
     }
     let mut sink = MemSink::new(alloc, 4096, failing_writes)?;
-    let none = Vec::new(alloc);
-    let served = serve(alloc, none, &mut sim, &AllowAll, &mut sink, 0, MOST_ROUNDS);
+    let app = usual_app(alloc)?;
+    let served = serve(alloc, &app, &mut sim, &AllowAll, &mut sink, 0, MOST_ROUNDS);
     Ok((ending_of(&served), sink))
 }
 

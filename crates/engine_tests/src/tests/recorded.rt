@@ -3,6 +3,7 @@
 
 ghost use Rattle.std.specs.Prelude.{◌≡◌, length, IfOk};
 
+use crate::tests::usual_app;
 use event_dispatch::{Served, serve};
 use lego_io::MemSink;
 use of_types::Dpid;
@@ -39,10 +40,10 @@ fn run_traced<W: World + Drop>(
 ) -> Result<(Served, W, MemSink), AllocError> {
     let mut traced = Traced::new(alloc, world, MemSink::new(alloc, 65_536, &[])?);
     let mut report = MemSink::new(alloc, 65_536, &[])?;
-    let none = Vec::new(alloc);
+    let app = usual_app(alloc)?;
     let served = serve(
         alloc,
-        none,
+        &app,
         &mut traced,
         &AllowAll,
         &mut report,

@@ -1,3 +1,5 @@
+use Rattle.std.proofs.Common.{inl}
+use Rattle.crash_policy.specs.Policies.{app_value}
 use Rattle.sim_world.specs.World.{seen_of}
 use Rattle.legosdn.proofs.Causes.{are_new, run_causes}
 use Rattle.legosdn.specs.Headline.{KeepsLines}
@@ -14,7 +16,7 @@ returns-clause-why g c =
 
 pub returns-in_err-load-clause-runs : goal.returns-in_err-load-clause-runs
 returns-in_err-load-clause-runs g c =
-    runs_by_read (g.S.Source.remaining c.args.source.now) (g.S.Source.faults c.args.source.now) (g.S.Source.faults c.load.new.source) c.load.new.sim (g.K.Sink.contents c.args.sink.now) c.in_err-load.field-0.0 c.from_residual.result
+    runs_by_read (g.S.Source.remaining c.args.source.now) (g.S.Source.remaining c.load.new.source) (g.S.Source.faults c.args.source.now) (g.S.Source.faults c.load.new.source) c.load.new.sim (g.K.Sink.contents c.args.sink.now) c.in_err-load.field-0.0 c.from_residual.result
     c.from_residual.ensures.1 (untouched c.load.new.sim c.load.ensures.new) c.in_err-load.ensures.why
 
 pub returns-in_err-load-clause-late_lines : goal.returns-in_err-load-clause-late_lines
@@ -22,7 +24,11 @@ returns-in_err-load-clause-late_lines g c =
     lines_by_read (KeepsLines c.load.new.sim) (g.S.Source.remaining c.args.source.now) (g.S.Source.faults c.args.source.now) (g.S.Source.faults c.load.new.source) c.in_err-load.field-0.0 c.from_residual.result c.from_residual.ensures.1 c.in_err-load.ensures.why
 
 pub returns-clause-runs : goal.returns-clause-runs
-returns-clause-runs g c = c.simulate.ensures.runs (untouched c.load.new.sim c.in_ok-load.ensures.new) c.in_ok-load.ensures.few
+returns-clause-runs g c = inl (
+  app_value c.in_ok-load.app,
+  loaded_on (seen_of c.load.new.sim) (seen_of c.simulate.new.sim) c.simulate.ensures.continues c.in_ok-load.ensures.loaded,
+  c.simulate.ensures.runs (untouched c.load.new.sim c.in_ok-load.ensures.new) c.in_ok-load.ensures.few,
+)
 
 pub returns-in_err-load-clause-strays : goal.returns-in_err-load-clause-strays
 returns-in_err-load-clause-strays g c = λ shorts. new_strays c.load.new.sim c.load.ensures.new
@@ -38,7 +44,7 @@ returns-in_err-load-clause-loaded g c =
 pub returns-clause-loaded : goal.returns-clause-loaded
 returns-clause-loaded g c =
     loaded_as (g.S.Source.remaining c.args.source.now) (g.S.Source.remaining c.load.new.source) (seen_of c.simulate.new.sim) (seen_of c.load.new.sim) (g.K.Sink.faults c.args.sink.now) (g.K.Sink.faults c.simulate.new.sink) c.simulate.result
-    c.simulate.ensures.why (loaded_on (seen_of c.load.new.sim) (seen_of c.simulate.new.sim) c.simulate.ensures.continues c.in_ok-load.ensures.loaded)
+    c.simulate.ensures.why (app_value c.in_ok-load.app, loaded_on (seen_of c.load.new.sim) (seen_of c.simulate.new.sim) c.simulate.ensures.continues c.in_ok-load.ensures.loaded)
 
 pub returns-in_err-load-clause-ended : goal.returns-in_err-load-clause-ended
 returns-in_err-load-clause-ended g c = none_runs c.load.new.sim c.load.ensures.new
