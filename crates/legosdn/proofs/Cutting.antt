@@ -25,10 +25,8 @@ long_is_none line long = elim (cases_Bool (bytes_eq line (codes "---"))) [ inl s
 
 -- ---- A line that LF ends, and what stands behind it
 
-pub record FirstLine (text rest : List ℕ) : Type 0 where
-  pub line : List ℕ
-  pub whole : text ≡ line ++ 10 ∷ rest
-  pub cut : cut_at_lf text ≡ line ∷ cut_at_lf rest
+abbrev pub FirstLine : List ℕ → List ℕ → Type 0
+FirstLine text rest = (line : List ℕ) × (text ≡ line ++ 10 ∷ rest) × (cut_at_lf text ≡ line ∷ cut_at_lf rest)
 
 is_other : (text : List ℕ) (k d : ℕ) → k < length text → is_lf (get_or text k 0) ≡ false → get_or text k d ≢ 10
 is_other text k d lt other e = eqb-false (get_or text k 0) 10 other (sym (get_or_default_zero text k d lt) ∙ e)
@@ -46,12 +44,11 @@ pub first_line : (text : List ℕ) (end : ℕ) → position is_lf text ≡ Some 
 first_line text end found =
     let at = position-Some is_lf text end 0 found in
     let whole = cut_there text end at.0 at.1 in
-    let rest = sym (take_rest text (end + 1)) in
-    record {
-      line = take end text;
-      whole = whole ∙ ap (λ (bytes : List ℕ). take end text ++ 10 ∷ bytes) rest;
-      cut = ap cut_at_lf whole ∙ cut_at_lf-line (take end text) (drop (end + 1) text) (no_lf_before text end (omega (arith, at.0)) at.2) ∙ ap (λ (bytes : List ℕ). take end text ∷ cut_at_lf bytes) rest;
-    }
+    let rest = sym (take_rest text (end + 1)) in (
+      take end text,
+      whole ∙ ap (λ (bytes : List ℕ). take end text ++ 10 ∷ bytes) rest,
+      ap cut_at_lf whole ∙ cut_at_lf-line (take end text) (drop (end + 1) text) (no_lf_before text end (omega (arith, at.0)) at.2) ∙ ap (λ (bytes : List ℕ). take end text ∷ cut_at_lf bytes) rest,
+    )
 
 -- ---- How far the search for the separator has come
 
@@ -84,20 +81,33 @@ line_before line cuts other = rw other refl
 
 line_passed : (input rest behind : List ℕ) → Passed input rest → FirstLine rest behind → Tells false rest → Passed input behind
 unfolding lines_of
-line_passed input rest behind p first tells =
-    let other = sym (tells (without_cr first.line) (lines_of behind) (ap (map without_cr) first.cut)) in
-    let joined = λ (bytes : List ℕ). append_assoc p.front (first.line ++ 10 ∷ []) bytes ∙ ap (λ (xs : List ℕ). p.front ++ xs) (append_assoc first.line (10 ∷ []) bytes) in
+line_passed input rest behind p (line, whole, cut) tells =
+    let other = sym (tells (without_cr line) (lines_of behind) (ap (map without_cr) cut)) in
+    let joined = λ (bytes : List ℕ). append_assoc p.front (line ++ 10 ∷ []) bytes ∙ ap (λ (xs : List ℕ). p.front ++ xs) (append_assoc line (10 ∷ []) bytes) in
     record {
-      front = p.front ++ (first.line ++ 10 ∷ []);
-      whole = p.whole ∙ ap (λ (xs : List ℕ). p.front ++ xs) first.whole ∙ sym (joined behind);
-      before = p.before ∙ ap (λ (cuts : List (List ℕ)). p.front ++ before_separator cuts) first.cut ∙ ap (λ (xs : List ℕ). p.front ++ xs) (line_before first.line (cut_at_lf behind) other)
-          ∙ sym (joined (before_separator (cut_at_lf behind)));
+      front = p.front ++ (line ++ 10 ∷ []);
+      whole = p.whole ∙ ap (λ (xs : List ℕ). p.front ++ xs) whole ∙ sym (joined behind);
+      before = p.before ∙ ap (λ (cuts : List (List ℕ)). p.front ++ before_separator cuts) cut ∙ ap (λ (xs : List ℕ). p.front ++ xs) (line_before line (cut_at_lf behind) other) ∙ sym (joined (before_separator (cut_at_lf behind)));
     }
 
-pub goes_on : (input rest behind : List ℕ) → 0 < length rest → (rest ≡ []) ⊎ Passed input rest → (behind ≡ []) ⊎ FirstLine rest behind → Tells false rest → (behind ≡ []) ⊎ Passed input behind
-goes_on input rest behind some (inl none) found tells = absurd (let few : length rest ≡ 0 = ap length none in omega (arith, some, few))
-goes_on input rest behind some (inr p) (inl none) tells = inl none
-goes_on input rest behind some (inr p) (inr first) tells = inr (line_passed input rest behind p first tells)
+passes_on : (input rest behind : List ℕ) → 0 < length rest → (rest ≡ []) ⊎ Passed input rest → (behind ≡ []) ⊎ FirstLine rest behind → Tells false rest → (behind ≡ []) ⊎ Passed input behind
+passes_on input rest behind some (inl none) found tells = absurd (let few : length rest ≡ 0 = ap length none in omega (arith, some, few))
+passes_on input rest behind some (inr p) (inl none) tells = inl none
+passes_on input rest behind some (inr p) (inr first) tells = inr (line_passed input rest behind p first tells)
+
+line_left : (number : ℕ) (line : List ℕ) (lines : List (List ℕ)) → is_separator line ≡ false → behind_separator number (line ∷ lines) ≡ behind_separator (number + 1) lines
+line_left number line lines other = rw other refl
+
+-- past a line that is none
+pub goes_on : (input rest behind : List ℕ) (number : ℕ) → Reached input rest number → 0 < length rest → length behind < length rest → (behind ≡ []) ⊎ FirstLine rest behind → (line : List ℕ) × (lines_of rest ≡ line ∷ lines_of behind) → Tells false rest
+    → Reached input behind (number + 1)
+goes_on input rest behind number reached some shorter found first tells = record {
+  left = reached.left ∙ ap (behind_separator number) first.1 ∙ line_left number first.0 (lines_of behind) (sym (tells first.0 (lines_of behind) first.1));
+  counted = omega (arith, reached.counted);
+  within = omega (arith, reached.within, shorter);
+  first = λ one. absurd (let counted = reached.counted in omega (arith, counted, one));
+  passed = passes_on input rest behind some reached.passed found tells;
+}
 
 -- ---- What stands before it
 

@@ -15,13 +15,13 @@ use Rattle.session_text.specs.declared.text_fault.SessionError.{SessionError}
 use Rattle.session_text.specs.declared.text_fault.SessionError.TheVariants as text
 use Rattle.session_text.specs.Loading.{given_by, LoadFails}
 use Rattle.legosdn.specs.declared.stop.Refusal.{Refusal}
-use Rattle.legosdn.specs.declared.stop.Refusal.TheVariants.{Separator, Session}
+use Rattle.legosdn.specs.declared.stop.Refusal.TheVariants.{Session}
 use Rattle.legosdn.specs.declared.stop.Stop.{Stop}
 use Rattle.legosdn.specs.declared.stop.Stop.TheVariants.{Usage, Refused, ReadFault, WriteFault, Shut, NextFault, SwitchBroke, Diverged, EventsLeft, NoMemory}
 use Rattle.lego_model.specs.Application.{names as app_names}
 use Rattle.legosdn.specs.Input.{Read, with_read, app_in, or_refused, session_lines, session_behind, session_of}
-use Rattle.legosdn.specs.Stops.{refusal_line, stop_of_session}
-use Rattle.legosdn.specs.Headline.{IsNoSession, IsReadCause, IsPolicyCause, IsRunCause, IsLate, Loaded, IsLoaded, LoadedAt, LoadedAs, RunsNoOther}
+use Rattle.legosdn.specs.Stops.{stop_of_session}
+use Rattle.legosdn.specs.Headline.{IsNoSession, IsReadCause, IsRunCause, IsLate, Loaded, IsLoaded, LoadedAt, LoadedAs, RunsNoOther}
 
 session_text-lines : (app : AppValue) (names : List (List ℕ)) (n : ℕ) (bytes : List ℕ) → names ≡ app_names app → session_text names n bytes ≡ session_lines app n (lines_of bytes)
 unfolding session_text session_lines
@@ -61,36 +61,6 @@ loads told left seen app input n bytes names behind end read = record {
 told_refused : (told : Option (List ℕ)) (input : List ℕ) (refusal : Refusal) → IfSome told (λ left. input ≡ left) → IsNoSession refusal input → IfSome told (IsNoSession refusal)
 told_refused None input refusal whole e = tt
 told_refused (Some left) input refusal whole e = subst (IsNoSession refusal) whole e
-
--- there is no separator
-pub separator_causes : {T : Type 0} (told : Option (List ℕ)) (old new : ℕ) (input policy : List ℕ) (behind : Option (ℕ × List (List ℕ))) (refusal : Refusal) (result : Result T Stop) → IsErrAnd result (λ stop. stop ≡ Refused refusal)
-    → IfSome told (λ left. input ≡ left) → session_of input ≡ session_behind policy behind → refusal ≡ Separator → behind ≡ None → IfErr result (IsReadCause IsNoSession told old new)
-separator_causes told old new input policy behind refusal (Ok x) is whole spelled separator none = tt
-separator_causes told old new input policy behind refusal (Err stop) is whole spelled separator none =
-    rw is (told_refused told input refusal whole (spelled ∙ ap (session_behind policy) none ∙ ap refusal_line (sym separator)))
-
--- the policy gives no application
-policy_cause : (told : Option (List ℕ)) (old new : ℕ) (input policy text : List ℕ) (behind : Option (ℕ × List (List ℕ))) (n : ℕ) (lines : List (List ℕ)) (stop : Stop) → IfSome told (λ left. input ≡ left) → CutInto input policy text behind
-    → behind ≡ Some (n, lines) → IsPolicyCause text stop → IsReadCause IsNoSession told old new stop
-policy_cause told old new input policy text behind n lines Usage whole c found cause = absurd cause
-policy_cause told old new input policy text behind n lines (Refused refusal) whole c found cause =
-    told_refused told input refusal whole
-    (c.spelled ∙ ap (session_behind policy) found
-    ∙ ap (λ (bytes : List ℕ). with_read (app_in (policy_of bytes)) (λ x. or_refused x (session_lines x n lines))) (sym c.policy_is)
-    ∙ ap (λ (r : Read AppValue). with_read r (λ x. or_refused x (session_lines x n lines))) cause)
-policy_cause told old new input policy text behind n lines ReadFault whole c found cause = absurd cause
-policy_cause told old new input policy text behind n lines WriteFault whole c found cause = absurd cause
-policy_cause told old new input policy text behind n lines Shut whole c found cause = absurd cause
-policy_cause told old new input policy text behind n lines NextFault whole c found cause = absurd cause
-policy_cause told old new input policy text behind n lines (SwitchBroke d) whole c found cause = absurd cause
-policy_cause told old new input policy text behind n lines (Diverged d) whole c found cause = absurd cause
-policy_cause told old new input policy text behind n lines (EventsLeft left) whole c found cause = absurd cause
-policy_cause told old new input policy text behind n lines NoMemory whole c found cause = tt
-
-pub policy_causes : {T : Type 0} (told : Option (List ℕ)) (old new : ℕ) (input policy text : List ℕ) (behind : Option (ℕ × List (List ℕ))) (n : ℕ) (lines : List (List ℕ)) (stop : Stop) (result : Result T Stop) → IsErrAnd result (λ s. s ≡ stop)
-    → IfSome told (λ left. input ≡ left) → CutInto input policy text behind → behind ≡ Some (n, lines) → IsPolicyCause text stop → IfErr result (IsReadCause IsNoSession told old new)
-policy_causes told old new input policy text behind n lines stop (Ok x) is whole c found cause = tt
-policy_causes told old new input policy text behind n lines stop (Err s) is whole c found cause = rw is (policy_cause told old new input policy text behind n lines stop whole c found cause)
 
 -- the text behind is no session of it
 session_cause : (told : Option (List ℕ)) (old new : ℕ) (app : AppValue) (input : List ℕ) (n : ℕ) (bytes : List ℕ) (names : List (List ℕ)) (w v : WorldData) (error : SessionError) → Behind told app input n bytes names

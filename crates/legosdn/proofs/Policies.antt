@@ -17,26 +17,6 @@ use Rattle.legosdn.specs.Stops.{refusal_line, policy_words, stop_of_policy}
 use Rattle.legosdn.specs.Headline.{IsNoPolicy, IsReadCause, IsPolicyCause}
 use Rattle.legosdn.specs.Live.{Taken}
 
--- ---- Of a policy
-
--- one application alone
-pub one_taken : (quota : Option ℕ) (apps : List AppValue) (app : AppValue) → quota ≡ None → apps ≡ app ∷ [] → is_taken app ≡ true → one_app quota apps ≡ Ok app
-one_taken quota apps app none one taken = rw (none, one, taken) refl
-
--- it is the last of some
-two_refused : (app : AppValue) (rest : List AppValue) (last : AppValue) → one_app None (app ∷ (rest ++ last ∷ [])) ≡ Err (refusal_line PolicyLater)
-two_refused app [] last = refl
-two_refused app (other ∷ rest) last = refl
-
-pub one_refused : (quota : Option ℕ) (rest : List AppValue) (app : AppValue) → (quota ≡ None → rest ≡ [] → is_taken app ≡ false) → one_app quota (rest ++ app ∷ []) ≡ Err (refusal_line PolicyLater)
-one_refused (Some n) rest app later = refl
-one_refused None [] app later = rw (later refl refl) refl
-one_refused None (first ∷ rest) app later = two_refused first rest app
-
-pub none_refused : (quota : Option ℕ) → one_app quota [] ≡ Err (refusal_line PolicyLater)
-none_refused None = refl
-none_refused (Some n) = refl
-
 -- ---- Of a text
 
 fault_cause : (text : List ℕ) (fault : PolicyFault) → Refuses fault (policy_of text) → IsPolicyCause text (stop_of_policy fault)

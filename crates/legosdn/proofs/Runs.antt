@@ -116,18 +116,18 @@ of_session P told left seen app loaded holds = record {
 }
 
 -- a run that came to its end was one of such an application,
-pub ran_whole : {T : Type 0} (told left : Option (List ℕ)) (sim : WorldData) (a b : Option (List ℕ)) (x : T) → RunsLoaded (Ok x) told left sim a b → (app : AppValue) × Loaded app told left (seen_of sim) × RunsWhole app (seen_of sim) a b
-ran_whole told left sim a b x (inl ran) = ran
-ran_whole told left sim a b x (inr before) = absurd before
+pub ran_whole : (told left : Option (List ℕ)) (sim : WorldData) (a b : Option (List ℕ)) → RunsLoaded {T = Unit {0}} (Ok tt) told left sim a b → (app : AppValue) × Loaded app told left (seen_of sim) × RunsWhole app (seen_of sim) a b
+ran_whole told left sim a b (inl ran) = ran
+ran_whole told left sim a b (inr before) = absurd before
 
-pub whole_of_input : {T : Type 0} (told left : Option (List ℕ)) (sim : WorldData) (a b : Option (List ℕ)) (x : T) → RunsLoaded (Ok x) told left sim a b → OfInput SpellsSession told (λ app. RunsWhole app (seen_of sim) a b)
-whole_of_input told left sim a b x runs = let ran = ran_whole told left sim a b x runs in of_session (λ app. RunsWhole app (seen_of sim) a b) told left (seen_of sim) ran.0 ran.1.0 ran.1.1
+pub whole_of_input : (told left : Option (List ℕ)) (sim : WorldData) (a b : Option (List ℕ)) → RunsLoaded {T = Unit {0}} (Ok tt) told left sim a b → OfInput SpellsSession told (λ app. RunsWhole app (seen_of sim) a b)
+whole_of_input told left sim a b runs = let ran = ran_whole told left sim a b runs in of_session (λ app. RunsWhole app (seen_of sim) a b) told left (seen_of sim) ran.0 ran.1 ran.2
 
 -- and so was one that a stop ended that comes once the world runs
 abbrev RanUntil : Stop → Option (List ℕ) → Option (List ℕ) → WorldData → Option (List ℕ) → Option (List ℕ) → Type 0
 RanUntil stop told left sim a b = (app : AppValue) × Loaded app told left (seen_of sim) × StopsAs app stop sim a b
 
-ran_late : {T : Type 0} (told left : Option (List ℕ)) (sim : WorldData) (a b : Option (List ℕ)) (stop : Stop) → IsLate stop → RunsLoaded {T = T} (Err stop) told left sim a b → RanUntil stop told left sim a b
+ran_late : (told left : Option (List ℕ)) (sim : WorldData) (a b : Option (List ℕ)) (stop : Stop) → IsLate stop → RunsLoaded {T = Unit {0}} (Err stop) told left sim a b → RanUntil stop told left sim a b
 ran_late told left sim a b stop late (inl ran) = ran
 ran_late told left sim a b stop late (inr before) = not_before _ stop before.0 late
 
@@ -162,14 +162,14 @@ not_begun status seen stop contents before now_contents faults_old faults faults
 }
 
 -- at such a status it went so far, or did not begin
-pub cut_or_not_begun : {T : Type 0} (told left : Option (List ℕ)) (status : ℕ) (sim : WorldData) (stop : Stop) (contents before now_contents : Option (List ℕ)) (faults_old faults faults_new : ℕ) → status ≡ stop_status stop
-    → Contains (5 ∷ 6 ∷ 8 ∷ 9 ∷ 10 ∷ 12 ∷ []) (stop_status stop) → NeverFell faults_old faults → RunsLoaded {T = T} (Err stop) told left sim contents before → Wrote before now_contents faults faults_new (stop_line stop)
+pub cut_or_not_begun : (told left : Option (List ℕ)) (status : ℕ) (sim : WorldData) (stop : Stop) (contents before now_contents : Option (List ℕ)) (faults_old faults faults_new : ℕ) → status ≡ stop_status stop
+    → Contains (5 ∷ 6 ∷ 8 ∷ 9 ∷ 10 ∷ 12 ∷ []) (stop_status stop) → NeverFell faults_old faults → RunsLoaded {T = Unit {0}} (Err stop) told left sim contents before → Wrote before now_contents faults faults_new (stop_line stop)
     → OfInput SpellsSession told (λ app. CutShort app status sim contents now_contents faults_old faults_new) ⊎ NotBegun status (seen_of sim) contents now_contents faults_old faults_new
 cut_or_not_begun told left status sim stop contents before now_contents faults_old faults faults_new is within up (inl ran) written =
-    inl (of_session (λ app. CutShort app status sim contents now_contents faults_old faults_new) told left (seen_of sim) ran.0 ran.1.0
-    (cut_short ran.0 status sim stop contents before now_contents faults_old faults faults_new is up ran.1.1 written))
+    inl (of_session (λ app. CutShort app status sim contents now_contents faults_old faults_new) told left (seen_of sim) ran.0 ran.1
+    (cut_short ran.0 status sim stop contents before now_contents faults_old faults faults_new is up ran.2 written))
 cut_or_not_begun told left status sim stop contents before now_contents faults_old faults faults_new is within up (inr before_all) written =
-    inr (not_begun status (seen_of sim) stop contents before now_contents faults_old faults faults_new is (is_memory stop before_all.0 within) up before_all.1.0 before_all.1.1 written)
+    inr (not_begun status (seen_of sim) stop contents before now_contents faults_old faults faults_new is (is_memory stop before_all.0 within) up before_all.1 before_all.2 written)
 
 -- where events are left, the last line tells how many
 left_as : (app : AppValue) (sim : WorldData) (left : ℕ) (stop : Stop) (contents before now_contents : Option (List ℕ)) (faults_old faults faults_new : ℕ) (told : Option (List ℕ)) (old new : Faults Scripts) → stop ≡ EventsLeft left → NeverFell faults_old faults
@@ -187,14 +187,14 @@ left_as app sim left stop contents before now_contents faults_old faults faults_
 late_at : (stop other : Stop) → stop ≡ other → IsLate other → IsLate stop
 late_at stop other is late = subst IsLate (sym is) late
 
-pub left_of_input : {T : Type 0} (rest : Option (List ℕ)) (sim : WorldData) (stop : Stop) (contents before now_contents : Option (List ℕ)) (faults_old faults faults_new : ℕ) (told : Option (List ℕ)) (old new : Faults Scripts) → stop_status stop ≡ 10 → NeverFell faults_old faults
-    → RunsLoaded {T = T} (Err stop) told rest sim contents before → IsCause (Unit {0}) IsNoSession told old new stop → Wrote before now_contents faults faults_new (stop_line stop)
+pub left_of_input : (rest : Option (List ℕ)) (sim : WorldData) (stop : Stop) (contents before now_contents : Option (List ℕ)) (faults_old faults faults_new : ℕ) (told : Option (List ℕ)) (old new : Faults Scripts) → stop_status stop ≡ 10 → NeverFell faults_old faults
+    → RunsLoaded {T = Unit {0}} (Err stop) told rest sim contents before → IsCause (Unit {0}) IsNoSession told old new stop → Wrote before now_contents faults faults_new (stop_line stop)
     → OfInput SpellsSession told (λ app. LeftAs app sim contents now_contents faults_old faults_new)
 left_of_input rest sim stop contents before now_contents faults_old faults faults_new told old new ten up runs cause written =
     let last = is_left stop ten in
     let ran = ran_late told rest sim contents before stop (late_at stop (EventsLeft last.0) last.1 tt) runs in
-    of_session (λ app. LeftAs app sim contents now_contents faults_old faults_new) told rest (seen_of sim) ran.0 ran.1.0
-    (left_as ran.0 sim last.0 stop contents before now_contents faults_old faults faults_new told old new last.1 up ran.1.1 cause written)
+    of_session (λ app. LeftAs app sim contents now_contents faults_old faults_new) told rest (seen_of sim) ran.0 ran.1
+    (left_as ran.0 sim last.0 stop contents before now_contents faults_old faults faults_new told old new last.1 up ran.2 cause written)
 
 -- where an input is not read, nothing was done
 pub read_before : (IsRefused : Refusal → List ℕ → Type 0) (told : Option (List ℕ)) (k l : ℕ) (stop : Stop) → IsReadCause IsRefused told k l stop → IsEarly stop ⊎ (stop ≡ NoMemory)
@@ -240,17 +240,17 @@ pub lines_by_read : {T : Type 0} (P : Type 0) (told : Option (List ℕ)) (k l : 
 lines_by_read P told k l stop result is cause = by_read P IsNoSession told k l stop result is cause
 
 -- what a stop of a switch says of the run
-pub broke_as : {T : Type 0} (told left : Option (List ℕ)) (sim : WorldData) (stop : Stop) (a b : Option (List ℕ)) → RunsLoaded {T = T} (Err stop) told left sim a b → NoneFloods (seen_of sim) → stop_status stop ≡ 8 → SomeRefused sim
+pub broke_as : (told left : Option (List ℕ)) (sim : WorldData) (stop : Stop) (a b : Option (List ℕ)) → RunsLoaded {T = Unit {0}} (Err stop) told left sim a b → NoneFloods (seen_of sim) → stop_status stop ≡ 8 → SomeRefused sim
 broke_as told left sim stop a b runs none eight =
     let is = is_broken stop eight in
     let ran = ran_late told left sim a b stop (late_at stop (SwitchBroke is.0) is.1 tt) runs in
-    (subst (λ (s : Stop). StopsAs ran.0 s sim a b) is.1 ran.1.1).0 none
+    (subst (λ (s : Stop). StopsAs ran.0 s sim a b) is.1 ran.2).0 none
 
-pub diverged_as : {T : Type 0} (told left : Option (List ℕ)) (sim : WorldData) (stop : Stop) (a b : Option (List ℕ)) → RunsLoaded {T = T} (Err stop) told left sim a b → stop_status stop ≡ 9 → SomeRefused sim
+pub diverged_as : (told left : Option (List ℕ)) (sim : WorldData) (stop : Stop) (a b : Option (List ℕ)) → RunsLoaded {T = Unit {0}} (Err stop) told left sim a b → stop_status stop ≡ 9 → SomeRefused sim
 diverged_as told left sim stop a b runs nine =
     let is = is_diverged stop nine in
     let ran = ran_late told left sim a b stop (late_at stop (Diverged is.0) is.1 tt) runs in
-    (subst (λ (s : Stop). StopsAs ran.0 s sim a b) is.1 ran.1.1).0
+    (subst (λ (s : Stop). StopsAs ran.0 s sim a b) is.1 ran.2).0
 
 -- ---- A good input is answered
 

@@ -106,7 +106,7 @@ same_spelled a b r one other = cc
 
 -- the application and the session that were loaded are those that the input spells
 loaded_is : (rule app : AppValue) (told left : Option (List ℕ)) (seen : Seen Scripts) (input : List ℕ) (session : SessionValue) → (loaded : Loaded rule told left seen) → told ≡ Some input → session_of input ≡ Ok (app, session)
-    → (rule, loaded.session) ≡ (app, session)
+    → ◌≡◌ {A = AppValue × SessionValue} (rule, loaded.session) (app, session)
 loaded_is rule app told left seen input session loaded whole spelled =
     let same : loaded.input ≡ input = subst (λ (t : Option (List ℕ)). IfSome t (λ bytes. loaded.input ≡ bytes)) whole loaded.whole in
     same_spelled (rule, loaded.session) (app, session) (session_of input) (ap session_of (sym same) ∙ loaded.spelled) spelled
@@ -132,5 +132,5 @@ pub reports : (app : AppValue) (told left : Option (List ℕ)) (seen : Seen Scri
     → (rule : AppValue) × Loaded rule told left seen × RunsWhole rule seen contents now_contents → told ≡ Some input → session_of input ≡ Ok (app, session)
     → (runs : RunsWhole app seen contents now_contents) × WithEnough (λ more. now_contents ≡ append_known contents (run_report (names app) (reference_of_session app more runs.alike.losses session)))
 reports app told left seen contents now_contents input session ran whole spelled =
-    let runs = subst (λ (rule : AppValue). RunsWhole rule seen contents now_contents) (app_is ran.0 app told left seen input session ran.1.0 whole spelled) ran.1.1 in
-    (runs, session_report app seen contents now_contents session (given_session ran.0 app told left seen input session ran.1.0 whole spelled) runs)
+    let runs = subst (λ (rule : AppValue). RunsWhole rule seen contents now_contents) (app_is ran.0 app told left seen input session ran.1 whole spelled) ran.2 in
+    (runs, session_report app seen contents now_contents session (given_session ran.0 app told left seen input session ran.1 whole spelled) runs)

@@ -116,47 +116,47 @@ told_spelled (Some bytes) app input whole spelled = subst (λ (b : List ℕ). ru
 of_policy : (P : AppValue → Type 0) (told left : Option (List ℕ)) (app : AppValue) → Taken app told left → P app → OfInput SpellsPolicy told P
 of_policy P told left app taken holds = record { app = app; spelled = told_spelled told app taken.input taken.whole taken.spelled; holds = holds }
 
-served_whole : {Own T : Type 0} (told left : Option (List ℕ)) (seen : Seen Own) (a b : Option (List ℕ)) (x : T) → ServesTaken (Ok x) told left seen a b → (app : AppValue) × Taken app told left × ServesWhole app seen a b
-served_whole told left seen a b x (inl served) = served
-served_whole told left seen a b x (inr before) = absurd before
+served_whole : {Own : Type 0} (told left : Option (List ℕ)) (seen : Seen Own) (a b : Option (List ℕ)) → ServesTaken {T = Unit {0}} (Ok tt) told left seen a b → (app : AppValue) × Taken app told left × ServesWhole app seen a b
+served_whole told left seen a b (inl served) = served
+served_whole told left seen a b (inr before) = absurd before
 
-pub served_of_policy : {Own T : Type 0} (told left : Option (List ℕ)) (seen : Seen Own) (a b : Option (List ℕ)) (x : T) → ServesTaken (Ok x) told left seen a b → OfInput SpellsPolicy told (λ app. ServesWhole app seen a b)
-served_of_policy told left seen a b x serves = let served = served_whole told left seen a b x serves in of_policy (λ app. ServesWhole app seen a b) told left served.0 served.1.0 served.1.1
+pub served_of_policy : {Own : Type 0} (told left : Option (List ℕ)) (seen : Seen Own) (a b : Option (List ℕ)) → ServesTaken {T = Unit {0}} (Ok tt) told left seen a b → OfInput SpellsPolicy told (λ app. ServesWhole app seen a b)
+served_of_policy told left seen a b serves = let served = served_whole told left seen a b serves in of_policy (λ app. ServesWhole app seen a b) told left served.0 served.1 served.2
 
-served_late : {Own T : Type 0} (told left : Option (List ℕ)) (seen : Seen Own) (a b : Option (List ℕ)) (stop : Stop) → IsLate stop → ServesTaken {T = T} (Err stop) told left seen a b → (app : AppValue) × Taken app told left × ServesUntil app stop seen a b
+served_late : {Own : Type 0} (told left : Option (List ℕ)) (seen : Seen Own) (a b : Option (List ℕ)) (stop : Stop) → IsLate stop → ServesTaken {T = Unit {0}} (Err stop) told left seen a b → (app : AppValue) × Taken app told left × ServesUntil app stop seen a b
 served_late told left seen a b stop late (inl served) = served
 served_late told left seen a b stop late (inr before) = not_before _ stop before.0 late
 
 -- at such a status it went so far, or did not begin
-pub served_or_not_begun : {Own T : Type 0} (told left : Option (List ℕ)) (status : ℕ) (seen : Seen Own) (stop : Stop) (contents before now_contents : Option (List ℕ)) (faults_old faults faults_new : ℕ) → status ≡ stop_status stop
-    → Contains (5 ∷ 6 ∷ 8 ∷ 9 ∷ 10 ∷ 12 ∷ []) (stop_status stop) → NeverFell faults_old faults → ServesTaken {T = T} (Err stop) told left seen contents before → Wrote before now_contents faults faults_new (stop_line stop)
+pub served_or_not_begun : {Own : Type 0} (told left : Option (List ℕ)) (status : ℕ) (seen : Seen Own) (stop : Stop) (contents before now_contents : Option (List ℕ)) (faults_old faults faults_new : ℕ) → status ≡ stop_status stop
+    → Contains (5 ∷ 6 ∷ 8 ∷ 9 ∷ 10 ∷ 12 ∷ []) (stop_status stop) → NeverFell faults_old faults → ServesTaken {T = Unit {0}} (Err stop) told left seen contents before → Wrote before now_contents faults faults_new (stop_line stop)
     → OfInput SpellsPolicy told (λ app. ServesCut app status seen contents now_contents faults_old faults_new) ⊎ NotBegun status seen contents now_contents faults_old faults_new
 served_or_not_begun told left status seen stop contents before now_contents faults_old faults faults_new is within up (inl served) written =
-    inl (of_policy (λ app. ServesCut app status seen contents now_contents faults_old faults_new) told left served.0 served.1.0 (record {
+    inl (of_policy (λ app. ServesCut app status seen contents now_contents faults_old faults_new) told left served.0 served.1 (record {
       stop = stop;
       status_is = is;
       before = before;
       faults = faults;
       never_fell = up;
-      run = served.1.1;
+      run = served.2;
       written = written;
     }))
 served_or_not_begun told left status seen stop contents before now_contents faults_old faults faults_new is within up (inr before_all) written =
-    inr (not_begun status seen stop contents before now_contents faults_old faults faults_new is (is_memory stop before_all.0 within) up before_all.1.0 before_all.1.1 written)
+    inr (not_begun status seen stop contents before now_contents faults_old faults faults_new is (is_memory stop before_all.0 within) up before_all.1 before_all.2 written)
 
 -- ---- What follows
 
-pub broke_live : {Own T : Type 0} (told left : Option (List ℕ)) (seen : Seen Own) (a b : Option (List ℕ)) (stop : Stop) → ServesTaken {T = T} (Err stop) told left seen a b → NoneFloods seen → BringMessages seen.history → stop_status stop ≡ 8 → ⊥
+pub broke_live : {Own : Type 0} (told left : Option (List ℕ)) (seen : Seen Own) (a b : Option (List ℕ)) (stop : Stop) → ServesTaken {T = Unit {0}} (Err stop) told left seen a b → NoneFloods seen → BringMessages seen.history → stop_status stop ≡ 8 → ⊥
 broke_live told left seen a b stop serves none messages eight =
     let is = is_broken stop eight in
     let served = served_late told left seen a b stop (subst IsLate (sym is.1) tt) serves in
-    (subst (λ (s : Stop). ServesUntil served.0 s seen a b) is.1 served.1.1).0 none messages
+    (subst (λ (s : Stop). ServesUntil served.0 s seen a b) is.1 served.2).0 none messages
 
-pub diverged_live : {Own T : Type 0} (told left : Option (List ℕ)) (seen : Seen Own) (a b : Option (List ℕ)) (stop : Stop) → ServesTaken {T = T} (Err stop) told left seen a b → BringMessages seen.history → stop_status stop ≡ 9 → ⊥
+pub diverged_live : {Own : Type 0} (told left : Option (List ℕ)) (seen : Seen Own) (a b : Option (List ℕ)) (stop : Stop) → ServesTaken {T = Unit {0}} (Err stop) told left seen a b → BringMessages seen.history → stop_status stop ≡ 9 → ⊥
 diverged_live told left seen a b stop serves messages nine =
     let is = is_diverged stop nine in
     let served = served_late told left seen a b stop (subst IsLate (sym is.1) tt) serves in
-    (subst (λ (s : Stop). ServesUntil served.0 s seen a b) is.1 served.1.1).0 messages
+    (subst (λ (s : Stop). ServesUntil served.0 s seen a b) is.1 served.2).0 messages
 
 -- a policy that is taken is not refused
 pub good_policy : (told : Option (List ℕ)) (input : List ℕ) (app : AppValue) → told ≡ Some input → run_policy input ≡ Ok app → (refusal : Refusal) → IfSome told (IsNoPolicy refusal) → ⊥

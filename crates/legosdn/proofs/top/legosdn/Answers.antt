@@ -35,7 +35,7 @@ returns-in-Err-clause-input_loaded g c = λ is within.
     (is_late c.in-Err.stop (subst (λ (status : ℕ). Contains (0 ∷ 5 ∷ 6 ∷ 8 ∷ 9 ∷ 10 ∷ []) status) c.halt.ensures.status within)) (c.in-Err.ensures.replays is).loaded
 
 pub returns-in-Ok-clause-whole_run : goal.returns-in-Ok-clause-whole_run
-returns-in-Ok-clause-whole_run g c = λ is zero. whole_of_input (g.S.Source.remaining c.args.source.now) (g.S.Source.remaining c.run.new.source) c.run.new.sim (g.K.Sink.contents c.args.sink.now) (g.K.Sink.contents c.run.new.sink) _ (c.in-Ok.ensures.replays is).runs
+returns-in-Ok-clause-whole_run g c = λ is zero. whole_of_input (g.S.Source.remaining c.args.source.now) (g.S.Source.remaining c.run.new.source) c.run.new.sim (g.K.Sink.contents c.args.sink.now) (g.K.Sink.contents c.run.new.sink) (c.in-Ok.ensures.replays is).runs
 
 pub returns-in-Err-clause-whole_run : goal.returns-in-Err-clause-whole_run
 returns-in-Err-clause-whole_run g c = λ is zero. absurd (not_zero c.in-Err.stop (sym c.halt.ensures.status ∙ zero))
@@ -43,9 +43,7 @@ returns-in-Err-clause-whole_run g c = λ is zero. absurd (not_zero c.in-Err.stop
 pub returns-in-Ok-clause-whole_report : goal.returns-in-Ok-clause-whole_report
 returns-in-Ok-clause-whole_report g c = λ is input app session whole spelled zero.
     reports app (g.S.Source.remaining c.args.source.now) (g.S.Source.remaining c.run.new.source) (seen_of c.run.new.sim) (g.K.Sink.contents c.args.sink.now) (g.K.Sink.contents c.run.new.sink) input session
-    (ran_whole (g.S.Source.remaining c.args.source.now) (g.S.Source.remaining c.run.new.source) c.run.new.sim (g.K.Sink.contents c.args.sink.now) (g.K.Sink.contents c.run.new.sink) _ (c.in-Ok.ensures.replays is).runs) whole spelled
-
-)
+    (ran_whole (g.S.Source.remaining c.args.source.now) (g.S.Source.remaining c.run.new.source) c.run.new.sim (g.K.Sink.contents c.args.sink.now) (g.K.Sink.contents c.run.new.sink) (c.in-Ok.ensures.replays is).runs) whole spelled
 
 pub returns-in-Err-clause-whole_report : goal.returns-in-Err-clause-whole_report
 returns-in-Err-clause-whole_report g c = λ is input app session whole spelled zero. absurd (not_zero c.in-Err.stop (sym c.halt.ensures.status ∙ zero))
@@ -106,7 +104,7 @@ returns-in-Err-clause-status_has_cause g c = λ is. inr (record {
 })
 
 pub returns-in-Ok-clause-live_whole_run : goal.returns-in-Ok-clause-live_whole_run
-returns-in-Ok-clause-live_whole_run g c = λ port rounds is tells zero. served_of_policy (g.S.Source.remaining c.args.source.now) (g.S.Source.remaining c.run.new.source) (g.W.World.seen c.run.new.live) (g.K.Sink.contents c.args.sink.now) (g.K.Sink.contents c.run.new.sink) _ ((c.in-Ok.ensures.serves port rounds is).runs tells)
+returns-in-Ok-clause-live_whole_run g c = λ port rounds is tells zero. served_of_policy (g.S.Source.remaining c.args.source.now) (g.S.Source.remaining c.run.new.source) (g.W.World.seen c.run.new.live) (g.K.Sink.contents c.args.sink.now) (g.K.Sink.contents c.run.new.sink) ((c.in-Ok.ensures.serves port rounds is).runs tells)
 
 pub returns-in-Err-clause-live_whole_run : goal.returns-in-Err-clause-live_whole_run
 returns-in-Err-clause-live_whole_run g c = λ port rounds is tells zero. absurd (not_zero c.in-Err.stop (sym c.halt.ensures.status ∙ zero))
@@ -118,8 +116,6 @@ pub returns-in-Err-clause-live_run_until_stop : goal.returns-in-Err-clause-live_
 returns-in-Err-clause-live_run_until_stop g c = λ port rounds is tells within.
     served_or_not_begun (g.S.Source.remaining c.args.source.now) (g.S.Source.remaining c.run.new.source) c.halt.result (g.W.World.seen c.run.new.live) c.in-Err.stop (g.K.Sink.contents c.args.sink.now) (g.K.Sink.contents c.run.new.sink) (g.K.Sink.contents c.halt.new.sink) (g.K.Sink.faults c.args.sink.now) (g.K.Sink.faults c.run.new.sink) (g.K.Sink.faults c.halt.new.sink)
     c.halt.ensures.status (subst (λ (status : ℕ). Contains (5 ∷ 6 ∷ 8 ∷ 9 ∷ 10 ∷ 12 ∷ []) status) c.halt.ensures.status within) c.run.ensures.never_fell ((c.in-Err.ensures.serves port rounds is).runs tells) c.halt.ensures.line
-
-}
 
 pub returns-in-Ok-clause-live_no_stray_call : goal.returns-in-Ok-clause-live_no_stray_call
 returns-in-Ok-clause-live_no_stray_call g c = λ port rounds is tells. (c.in-Ok.ensures.serves port rounds is).strays tells
