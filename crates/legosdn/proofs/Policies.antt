@@ -1,5 +1,5 @@
 -- What is read of a policy, and why it is not taken.
-use Rattle.std.proofs.Common.{◌≡◌, ◌≤◌, ℕ, true, false, List, [], ◌∷◌, ◌++◌, Option, Some, None, Result, Ok, Err, IfSome, IfErr, length, refl, sym, ap, subst, ◌∙◌}
+use Rattle.std.proofs.Common.{◌≡◌, ◌≤◌, ℕ, List, [], Option, Some, None, Result, Ok, Err, IfSome, IfErr, length, refl, sym, ap, subst, ◌∙◌}
 use Rattle.std.specs.Result.{IsErrAnd}
 use Rattle.std.proofs.lemmas.Bool.{le-ltb}
 use Rattle.lego_io.specs.Source.{ended}
@@ -9,10 +9,9 @@ use Rattle.crash_policy.specs.Policies.{AppValue}
 use Rattle.crash_policy.specs.Faults.{Refuses}
 use Rattle.crash_policy.specs.Order.{policy_of}
 use Rattle.legosdn.specs.declared.stop.Refusal.{Refusal}
-use Rattle.legosdn.specs.declared.stop.Refusal.TheVariants.{PolicyLater}
 use Rattle.legosdn.specs.declared.stop.Stop.{Stop}
 use Rattle.legosdn.specs.declared.stop.Stop.TheVariants as stops
-use Rattle.legosdn.specs.Input.{Read, with_read, most_input, is_taken, one_app, app_in, with_words, run_policy}
+use Rattle.legosdn.specs.Input.{Read, with_read, most_input, app_in, with_words, run_policy}
 use Rattle.legosdn.specs.Stops.{refusal_line, policy_words, stop_of_policy}
 use Rattle.legosdn.specs.Headline.{IsNoPolicy, IsReadCause, IsPolicyCause}
 use Rattle.legosdn.specs.Live.{Taken}

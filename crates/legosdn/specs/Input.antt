@@ -1,5 +1,5 @@
 -- What an input spells: to `replay` a policy, a line `---`, and a session; to `run` a policy alone. These text forms are our own.
-use Rattle.std.specs.Prelude.{◌==◌, ℕ, ◌+◌, ◌&&◌, Bool, true, false, List, [], ◌∷◌, ◌++◌, length, Option, Some, None, Result, Ok, Err, nat_lt, if◌then◌else◌, codes}
+use Rattle.std.specs.Prelude.{ℕ, ◌+◌, ◌&&◌, Bool, true, false, List, [], ◌∷◌, ◌++◌, length, Option, Some, None, Result, Ok, Err, nat_lt, if◌then◌else◌, codes}
 use Rattle.std.specs.List.{list_all}
 use Rattle.crash_policy.specs.declared.policy_file.Policy.{Policy}
 use Rattle.crash_policy.specs.declared.policy_file.Policy.TheVariants.{Absolute, Equivalence, None as NoRestart}
@@ -12,7 +12,6 @@ use Rattle.lego_model.specs.Words.{is_word}
 use Rattle.lego_model.specs.SessionLines.{SessionValue}
 use Rattle.lego_model.specs.SessionText.{at_first, lines_from, ◌>>=◌}
 use Rattle.lego_model.specs.Application.{names}
-use Rattle.legosdn.specs.declared.stop.Refusal.{Refusal}
 use Rattle.legosdn.specs.declared.stop.Refusal.TheVariants.{Size, Separator, PolicyLater, NoCommand, Session}
 use Rattle.legosdn.specs.Stops.{fault_words, policy_line, refusal_line}
 

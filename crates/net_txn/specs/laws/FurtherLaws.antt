@@ -162,10 +162,6 @@ room_then f (Some fault) h a b c first second =
     some_not : Some fault ≡ None → ⊥
     some_not is = cc
 
-pub faultless : {Own : Type 0} {Tells : Type 0} {views : List TableView} {base now : Seen Own} {kept kept1 : List (ℕ × List ℕ)} {ps qs : PortLists} {x y : ℕ} {switches : List ℕ} {reverted : List Logged} (fault : Option TxnFault) → Further Tells views base now kept kept1 ps qs x y switches reverted (first_fault_of fault None) → Further Tells views base now kept kept1 ps qs x y switches reverted fault
-faultless {Tells = Tells} {views = views} {base = base} {now = now} {kept = kept} {kept1 = kept1} {ps = ps} {qs = qs} {x = x} {y = y} {switches = switches} {reverted = reverted} fault u =
-    subst (λ (o : Option TxnFault). Further Tells views base now kept kept1 ps qs x y switches reverted o) (first_or_none fault) u
-
 -- the same, where its parts are the same
 pub Further-alike : {Own : Type 0} {Tells : Type 0} {views now_views : List TableView} {base now : Seen Own} {kept kept1 : List (ℕ × List ℕ)} {ps qs now_ps : PortLists} {x y : ℕ} {switches : List ℕ} {reverted later : List Logged} {fault now_fault : Option TxnFault}
     → views ≡ now_views → qs ≡ now_ps → reverted ≡ later → fault ≡ now_fault → Further Tells views base now kept kept1 ps qs x y switches reverted fault → Further Tells now_views base now kept kept1 ps now_ps x y switches later now_fault
