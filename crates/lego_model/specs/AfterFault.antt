@@ -1,9 +1,10 @@
 -- What a fault leaves of the tables of switches, behind the last quiescent point: the turn in flight is undone, switch by switch. All of
 -- this is our own but for the messages of OpenFlow 1.0.0.
-use Rattle.std.specs.Prelude.{◌≡◌, ◌⊎◌, ℕ, Bool, true, false, List, [], ◌∷◌, ◌++◌, fold, ◌==◌, Option, Some, None, IsErr, if◌then◌else◌}
+use Rattle.std.specs.Prelude.{◌≡◌, ◌⊎◌, ℕ, Bool, true, false, List, [], ◌∷◌, ◌++◌, fold, ◌==◌, Option, Some, None, IsErr, slice_get, if◌then◌else◌}
 use Rattle.std.specs.List.{AllByRecursion, list_any}
 use Rattle.std.specs.Option.{option_map}
 use Rattle.lego_io.specs.Count.{Rose}
+use Rattle.crash_policy.specs.Policies.{AppValue}
 use Rattle.of_types.specs.Fields.{number_at}
 use Rattle.of_types.specs.declared.journal.Act.{Act}
 use Rattle.of_types.specs.declared.journal.Act.TheVariants.{Got, Gave}
@@ -20,7 +21,6 @@ use Rattle.outside.specs.Seen.{Seen, Longer, journal}
 use Rattle.outside.specs.State.{state, switch_of}
 use Rattle.lego_model.specs.declared.fault.TxnFault.{TxnFault}
 use Rattle.lego_model.specs.declared.fault.TxnFault.TheVariants.{SwitchBroke, Diverged, Flooded, NoMemory}
-use Rattle.lego_model.specs.Application.{index}
 use Rattle.lego_model.specs.AtOnce.{Passes, AtOnce}
 use Rattle.lego_model.specs.BarrierWaits.{flood}
 use Rattle.lego_model.specs.History.{own_acts}
@@ -111,14 +111,14 @@ abbrev pub IsCompleted : Outcome → Type 0
 IsCompleted (Completed stop checkpoint unread) = Unit {0}
 IsCompleted (Failed cause) = ⊥
 
--- The application had a whole turn: an event, and then acts by which it completed, with its messages answered somehow, behind what it had
+-- An application had a whole turn: an event, and then acts by which it completed, with its messages answered somehow, behind what it had
 -- given before and that was unread. It may take so many frames for a turn.
-pub record TurnDone {Own : Type 0} (budget : ℕ) (old new : Seen Own) : Type 0 where
+pub record TurnDone {Own : Type 0} (app budget : ℕ) (old new : Seen Own) : Type 0 where
   pub event : List ℕ
   pub event_is : is_event event ≡ true
   pub acts : List Act
-  pub history : own_acts new ≡ own_acts old ++ Gave index event ∷ acts
-  pub before : AtOnce index (journal old.history)
+  pub history : own_acts app new ≡ own_acts app old ++ Gave app event ∷ acts
+  pub before : AtOnce app (journal old.history)
   pub rest : List ℕ
   pub passes : Passes before.last.unread rest
   pub judged : Bool
@@ -130,10 +130,10 @@ abbrev pub SwitchesStay : {Own : Type 0} → Seen Own → Seen Own → Type 0
 SwitchesStay old new = (d : ℕ) → switch_of d (state new) ≡ switch_of d (state old)
 
 -- It had a whole turn since then, behind which no switch moved, so that its changes stay.
-pub record TurnKept {Own : Type 0} (budget : ℕ) (old new : Seen Own) : Type 0 where
+pub record TurnKept {Own : Type 0} (app budget : ℕ) (old new : Seen Own) : Type 0 where
   pub mid : Seen Own
   pub given : new.given ≡ mid.given
-  pub done : TurnDone budget old mid
+  pub done : TurnDone app budget old mid
   pub later : Longer mid.history new.history
   pub stay : SwitchesStay mid new
 
@@ -145,10 +145,10 @@ after_packets d packets s = fold (λ t held. if held.0 == d then after_message (
 
 -- It had a whole turn since then, whose release was begun. Each switch moved by the packets that were sent to it behind that, and by nothing
 -- else, so that its changes stay, or it was lost.
-pub record TurnReleasing {Own : Type 0} (budget : ℕ) (old new : Seen Own) : Type 0 where
+pub record TurnReleasing {Own : Type 0} (app budget : ℕ) (old new : Seen Own) : Type 0 where
   pub mid : Seen Own
   pub given : new.given ≡ mid.given
-  pub done : TurnDone budget old mid
+  pub done : TurnDone app budget old mid
   pub first : WorldStep
   pub steps : List WorldStep
   pub history : new.history ≡ mid.history ++ first ∷ steps
@@ -156,7 +156,19 @@ pub record TurnReleasing {Own : Type 0} (budget : ℕ) (old new : Seen Own) : Ty
 
 -- ---- What is left
 
--- No event was given since then; or its turn was undone on each switch that did not fail in the undo and was not lost; or, where memory may
--- have been wanting behind it, the turn was whole, and its changes stay; or its packets were being released.
-abbrev pub TablesLeft : {Own : Type 0} → ℕ → Type 0 → Seen Own → Seen Own → Type 0
-TablesLeft budget Short old new = NoEventSince old new ⊎ UndoneButFailed (Unit {0}) old new ⊎ (Short × TurnKept budget old new) ⊎ TurnReleasing budget old new
+-- Where an application has a turn of so many frames at most: no event was given since then; or its turn was undone on each switch that did
+-- not fail in the undo and was not lost; or, where memory may have been wanting behind it, the turn was whole, and its changes stay; or its
+-- packets were being released.
+abbrev pub TablesLeft : {Own : Type 0} → ℕ → ℕ → Type 0 → Seen Own → Seen Own → Type 0
+TablesLeft app budget Short old new = NoEventSince old new ⊎ UndoneButFailed (Unit {0}) old new ⊎ (Short × TurnKept app budget old new) ⊎ TurnReleasing app budget old new
+
+-- so it is with one of these applications
+pub record TurnBehind {Own : Type 0} (rules : List AppValue) (Short : Type 0) (old new : Seen Own) : Type 0 where
+  pub app : ℕ
+  pub rule : AppValue
+  pub rule_is : slice_get rules app ≡ Some rule
+  pub tables : TablesLeft app rule.budget Short old new
+
+-- No event was given since then, or one of the applications had a turn, or was in one.
+abbrev pub TablesBehind : {Own : Type 0} → List AppValue → Type 0 → Seen Own → Seen Own → Type 0
+TablesBehind rules Short old new = NoEventSince old new ⊎ TurnBehind rules Short old new

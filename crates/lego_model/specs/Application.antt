@@ -1,11 +1,7 @@
--- The one application of a run. All of this is our own choice.
-use Rattle.std.specs.Prelude.{ℕ, List, [], ◌∷◌}
+-- The applications of a run, by their places in its policy, from 0 on. All of this is our own choice.
+use Rattle.std.specs.Prelude.{ℕ, List, map}
 use Rattle.crash_policy.specs.Policies.{AppValue}
 
--- its index, by which a journal knows it
-abbrev pub index : ℕ
-index = 0
-
--- the names by which a report knows the applications: there is one
-abbrev pub names : AppValue → List (List ℕ)
-names rule = rule.name ∷ []
+-- the names by which a report knows them
+abbrev pub names : List AppValue → List (List ℕ)
+names rules = map (λ rule. rule.name) rules

@@ -1,4 +1,4 @@
--- What the history of a world tells of a run: the calls for the application, what it did, what it was given, the stimuli, what
+-- What the history of a world tells of a run: the calls for an application, what it did, what it was given, the stimuli, what
 -- was released, which switches were lost, and how the switches stood at each quiescent point. All of this is our own.
 use Rattle.std.specs.Prelude.{ℕ, List, map, filter, None}
 use Rattle.std.specs.List.{flat_map}
@@ -7,14 +7,13 @@ use Rattle.of_types.specs.declared.journal.WorldStim.{WorldStim}
 use Rattle.outside.specs.Seen.{Seen, journal}
 use Rattle.outside.specs.State.{Mark, mark_of, state}
 use Rattle.lego_model.specs.Journal.{is_of, inputs, stimuli, released, losses, Reply, Start, Attempt, in_attempts, in_turns, start_of, reply_of}
-use Rattle.lego_model.specs.Application.{index}
 use Rattle.lego_model.specs.Packets.{Held}
 
--- ---- The application
+-- ---- An application, by its index
 
 -- the calls for it
-abbrev pub own_acts : {Own : Type 0} → Seen Own → List Act
-own_acts seen = filter (is_of index) (journal seen.history)
+abbrev pub own_acts : {Own : Type 0} → ℕ → Seen Own → List Act
+own_acts app seen = filter (is_of app) (journal seen.history)
 
 -- how its starts ended, of these calls
 abbrev pub starts_in : List Act → List Start
@@ -28,8 +27,8 @@ abbrev pub replies_in : List Act → List Reply
 replies_in acts = flat_map replies_at (filter (λ a. a.stands) (in_attempts acts).1)
 
 -- the frames that it was given
-abbrev pub given_in : {Own : Type 0} → Seen Own → List (List ℕ)
-given_in seen = inputs index (journal seen.history)
+abbrev pub given_in : {Own : Type 0} → ℕ → Seen Own → List (List ℕ)
+given_in app seen = inputs app (journal seen.history)
 
 -- ---- The world
 

@@ -64,6 +64,6 @@ pub fn faults_are_undone<W: World>()
 pub fn releases_leave<W: World>()
     ensures { (accepts : List TableView → Bool) (app budget : ℕ) (rest frame : List ℕ) (old mid new : Seen W.Own) (net mid_net now_net : NetState) (end : TurnEnd) (unread : List ℕ)
         (queue now_queue : List Event) (fault : TxnFault) → W.Tells → Conforming old → InOrder new → Ready old net → Turns W.Tells accepts app budget rest frame old mid net mid_net end unread
-        → TurnDone budget old mid → Commits W.Tells (length net.log) mid new mid_net now_net queue now_queue (Err fault)
-        → UndoneButFailed W.Tells old new ⊎ ((fault ≡ NoMemory) × TurnKept budget old new) ⊎ TurnReleasing budget old new }
+        → TurnDone app budget old mid → Commits W.Tells (length net.log) mid new mid_net now_net queue now_queue (Err fault)
+        → UndoneButFailed W.Tells old new ⊎ ((fault ≡ NoMemory) × TurnKept app budget old new) ⊎ TurnReleasing app budget old new }
 {}

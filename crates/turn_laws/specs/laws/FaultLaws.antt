@@ -106,9 +106,9 @@ turn-joined Tells accepts app budget rest frame old mid net mid_net end unread t
     let g = chain-goes Tells app (Talk (give_act t.given app frame) ∷ t.trace) old mid net mid_net told keeps order ready t.chain in
     ready-joined mid mid_net g.goes.ready
 
-module _ {Own : Type 0} (budget : ℕ) (old mid new : Seen Own) where
-  moved-left : (packets : List Held) (steps : List WorldStep) → new.given ≡ mid.given → TurnDone budget old mid → new.history ≡ mid.history ++ steps → released (journal steps) ≡ packets
-      → ((d : ℕ) → (switch_of d (state new) ≡ option_map (after_packets d packets) (switch_of d (state mid))) ⊎ WasLost d mid new) → ((new.history ≡ mid.history) × TurnKept budget old new) ⊎ TurnReleasing budget old new
+module _ {Own : Type 0} (app budget : ℕ) (old mid new : Seen Own) where
+  moved-left : (packets : List Held) (steps : List WorldStep) → new.given ≡ mid.given → TurnDone app budget old mid → new.history ≡ mid.history ++ steps → released (journal steps) ≡ packets
+      → ((d : ℕ) → (switch_of d (state new) ≡ option_map (after_packets d packets) (switch_of d (state mid))) ⊎ WasLost d mid new) → ((new.history ≡ mid.history) × TurnKept app budget old new) ⊎ TurnReleasing app budget old new
   moved-left packets [] given done history so moved =
       inl (history ∙ append-nil mid.history, record { mid = mid; given = given; done = done; later = ([], history); stay = λ d. ap (λ (s : State). switch_of d s) (state-append mid new [] given history) })
   moved-left packets (first ∷ steps) given done history so moved =
@@ -126,8 +126,8 @@ module _ {Own : Type 0} (budget : ℕ) (old mid new : Seen Own) where
       })
 
 -- A whole turn whose packets were being released: nothing was done since, or the release was begun.
-pub moves-left : {Own : Type 0} (budget : ℕ) (old mid new : Seen Own) (packets : List Held) → new.given ≡ mid.given → TurnDone budget old mid → MovesOrLoses packets mid new → ((new.history ≡ mid.history) × TurnKept budget old new) ⊎ TurnReleasing budget old new
-moves-left budget old mid new packets given done moves = moved-left budget old mid new packets moves.steps given done moves.history moves.released_is moves.moved
+pub moves-left : {Own : Type 0} (app budget : ℕ) (old mid new : Seen Own) (packets : List Held) → new.given ≡ mid.given → TurnDone app budget old mid → MovesOrLoses packets mid new → ((new.history ≡ mid.history) × TurnKept app budget old new) ⊎ TurnReleasing app budget old new
+moves-left app budget old mid new packets given done moves = moved-left app budget old mid new packets moves.steps given done moves.history moves.released_is moves.moved
 
 nothing-behind : {X : Type 0} (xs ys : List X) → xs ++ ys ≡ [] → ys ≡ []
 nothing-behind [] ys none = none
@@ -141,23 +141,23 @@ still-there a b c first second before behind same =
     let none = nothing-behind first second (append_cancel_left a.history (first ++ second) [] both) in
     behind ∙ ap (λ (steps : List WorldStep). b.history ++ steps) none ∙ append-nil b.history
 
-stop-left : {Own : Type 0} (Tells : Type 0) (budget start : ℕ) (old mid new : Seen Own) (mid_net : NetState) (queue : List Event) (fault : TxnFault) → Tells → AreJoined mid_net.views (state mid) → new.given ≡ mid.given → TurnDone budget old mid
-    → StopsRelease Tells start mid new mid_net queue fault → ((fault ≡ NoMemory) × TurnKept budget old new) ⊎ TurnReleasing budget old new
-stop-left Tells budget start old mid new mid_net queue fault told joined given done stops =
+stop-left : {Own : Type 0} (Tells : Type 0) (app budget start : ℕ) (old mid new : Seen Own) (mid_net : NetState) (queue : List Event) (fault : TxnFault) → Tells → AreJoined mid_net.views (state mid) → new.given ≡ mid.given → TurnDone app budget old mid
+    → StopsRelease Tells start mid new mid_net queue fault → ((fault ≡ NoMemory) × TurnKept app budget old new) ⊎ TurnReleasing app budget old new
+stop-left Tells app budget start old mid new mid_net queue fault told joined given done stops =
     let front = release-moves Tells stops.front stops.sent mid stops.mid (committed start mid_net) stops.mid_net queue stops.mid_queue told joined stops.before in
     let broken = stops.breaks.moves told in
-    elim (moves-left budget old mid new _ given done (moves-then mid stops.mid new _ _ front (moves-or _ stops.mid new broken))) [
+    elim (moves-left app budget old mid new _ given done (moves-then mid stops.mid new _ _ front (moves-or _ stops.mid new broken))) [
       | inl kept ↦ inl (stops.breaks.begun told (still-there mid stops.mid new front.steps broken.steps front.history broken.history kept.0), kept.1)
       | inr releasing ↦ inr releasing
     ]
 
 -- A whole turn whose commit ended in a fault.
 pub commit-left : {Own : Type 0} (Tells : Type 0) (accepts : List TableView → Bool) (app budget : ℕ) (rest frame : List ℕ) (old mid new : Seen Own) (net mid_net now_net : NetState) (end : TurnEnd) (unread : List ℕ) (queue now_queue : List Event) (fault : TxnFault) → Tells
-    → Conforming old → InOrder new → Ready old net → Turns Tells accepts app budget rest frame old mid net mid_net end unread → TurnDone budget old mid → Commits Tells (length net.log) mid new mid_net now_net queue now_queue (Err fault)
-    → UndoneButFailed Tells old new ⊎ ((fault ≡ NoMemory) × TurnKept budget old new) ⊎ TurnReleasing budget old new
+    → Conforming old → InOrder new → Ready old net → Turns Tells accepts app budget rest frame old mid net mid_net end unread → TurnDone app budget old mid → Commits Tells (length net.log) mid new mid_net now_net queue now_queue (Err fault)
+    → UndoneButFailed Tells old new ⊎ ((fault ≡ NoMemory) × TurnKept app budget old new) ⊎ TurnReleasing app budget old new
 commit-left Tells accepts app budget rest frame old mid new net mid_net now_net end unread queue now_queue fault told keeps order ready t done commits = elim commits.ended [
   | inl u ↦ inl (turn-undone Tells accepts app budget rest frame old mid new net mid_net now_net end unread u.result told keeps order ready t u.undoes)
   | inr stops ↦
       (let joined = turn-joined Tells accepts app budget rest frame old mid net mid_net end unread told keeps (InOrder-before told commits.continues order) ready t in
-      inr (stop-left Tells budget (length net.log) old mid new mid_net queue fault told joined commits.continues.given done stops))
+      inr (stop-left Tells app budget (length net.log) old mid new mid_net queue fault told joined commits.continues.given done stops))
 ]
