@@ -12,7 +12,6 @@ use Rattle.batch_laws.specs.Calm.{Calm}
 use Rattle.lego_model.specs.History.{starts_in, replies_in, own_acts, given_in, stimuli_in, released_of, lost_of}
 use Rattle.lego_model.specs.AtOnce.{AtOnce}
 use Rattle.run_laws.specs.Engine.{Engine}
-use Rattle.lego_model.specs.Application.{index}
 use Rattle.run_laws.specs.Readings.{JudgesAlike}
 use Rattle.run_laws.specs.Moves.{AtRest, Moved}
 use Rattle.run_laws.specs.LastReport.{last_text, switch_left}
@@ -36,32 +35,36 @@ pub record ShownWhole {Own : Type 0} (Tells : Type 0) (accepts : List TableView 
 
 -- ---- The last part
 
--- what it leaves as it was, but for these switches, which are lost
-pub record Leaves {Own : Type 0} (lost : List ℕ) (last new : Seen Own) : Type 0 where
+-- no more starts and replies of an application are told, and no frames that it was given
+pub record TellsNoMore {Own : Type 0} (app : ℕ) (old new : Seen Own) : Type 0 where
+  pub starts : starts_in (own_acts app new) ≡ starts_in (own_acts app old)
+  pub replies : replies_in (own_acts app new) ≡ replies_in (own_acts app old)
+  pub inputs : given_in app new ≡ given_in app old
+
+-- what it leaves as it was, but for these switches, which are lost; there are so many applications
+pub record Leaves {Own : Type 0} (number : ℕ) (lost : List ℕ) (last new : Seen Own) : Type 0 where
   pub given : new.given ≡ last.given
-  pub starts : starts_in (own_acts new) ≡ starts_in (own_acts last)
-  pub replies : replies_in (own_acts new) ≡ replies_in (own_acts last)
-  pub inputs : given_in new ≡ given_in last
+  pub told : (app : ℕ) → TellsNoMore app last new
   pub stimuli : stimuli_in new ≡ stimuli_in last
   pub released : released_of new ≡ released_of last
   pub lost_is : lost_of new ≡ lost_of last ++ lost
   pub marks : (state new).marks ≡ (state last).marks
   pub switches : (d : ℕ) → switch_of d (state new) ≡ switch_left lost (state last) d
-  pub at_once : AtOnce index (journal last.history) → AtOnce index (journal new.history)
-  pub orderly : OrderlySince index last new
+  pub at_once : (app : ℕ) → AtOnce app (journal last.history) → AtOnce app (journal new.history)
+  pub orderly : OrderlySince number last new
 
 -- the last lines were written
 pub record Finished {Own : Type 0} (held now_contents : Option (List ℕ)) (last new : Seen Own) (e : Engine) : Type 0 where
   pub lost : List ℕ
   pub written : now_contents ≡ append_known held (last_text lost last e)
-  pub leaves : Leaves lost last new
+  pub leaves : Leaves (length e.apps) lost last new
 
 pub record ShownFinish {Own : Type 0} (Tells : Type 0) (held now_contents : Option (List ℕ)) (last new : Seen Own) (e : Engine) : Type 0 where
   pub shown : Tells → Conforming new → Calm last e.net → Finished held now_contents last new e
 
 -- nothing was written, and nothing else changed
-pub record ShownLeaves {Own : Type 0} (Tells : Type 0) (last new : Seen Own) : Type 0 where
-  pub shown : Tells → Conforming new → Leaves [] last new
+pub record ShownLeaves {Own : Type 0} (Tells : Type 0) (number : ℕ) (last new : Seen Own) : Type 0 where
+  pub shown : Tells → Conforming new → Leaves number [] last new
 
 -- ---- The whole
 
@@ -83,4 +86,4 @@ pub record RanFull {Own : Type 0} (Tells : Type 0) (accepts : List TableView →
   pub whole_is : ShownWhole Tells accepts most text old last e now_engine
   pub left_is : left ≡ length now_engine.queue
   pub contents_is : now_contents ≡ append_known held text
-  pub leaves : ShownLeaves Tells last new
+  pub leaves : ShownLeaves Tells (length now_engine.apps) last new

@@ -4,7 +4,7 @@ use Rattle.flow_table.specs.Switch.{Declared}
 use Rattle.app_frames.specs.declared.cause.Tried.{Tried}
 use Rattle.crash_policy.specs.declared.policy_file.Policy.{Policy}
 use Rattle.lego_model.specs.Journal.{Reply, Start}
-use Rattle.lego_model.specs.Application.{names}
+use Rattle.lego_model.specs.RunReport.{name_of}
 use Rattle.lego_model.specs.Controller.{Started, after_failure, gone_line, Ended, out_lines, lost_lines, leavers, restart_lines, Release, turn}
 use Rattle.lego_model.specs.Losses.{TurnLosses}
 use Rattle.lego_model.specs.Scripted.{AreStartFronts, IsFront}
@@ -14,7 +14,7 @@ use Rattle.switch_laws.specs.Shown.{shown_places}
 use Rattle.batch_laws.specs.Calm.{Calm}
 use Rattle.journal_laws.specs.Readings.{LastStands}
 use Rattle.lego_model.specs.History.{starts_in, replies_in, own_acts, given_in, stimuli_in, released_of, lost_of}
-use Rattle.run_laws.specs.Engine.{Engine, app_at}
+use Rattle.run_laws.specs.Engine.{Focus, app_at}
 use Rattle.run_laws.specs.LinkSteps.{TriesKeep}
 use Rattle.run_laws.specs.LastReport.{lines_text}
 use Rattle.app_frames.specs.declared.frame.Event.{Event}
@@ -27,7 +27,7 @@ Joins waiting now_waiting = (more : List Event) × (now_waiting ≡ waiting ++ m
 
 -- It was started, in attempts that the reference controller makes too, or it is gone there too, as this policy has it: its application comes
 -- to the same by these starts, and prints the same. No switch moved, and a calm run stays calm.
-pub record StartsAlike {Own : Type 0} (Tells : Type 0) (policy : Policy) (text : List ℕ) (old new : Seen Own) (e now_e : Engine) : Type 0 where
+pub record StartsAlike {Own : Type 0} (Tells : Type 0) (policy : Policy) (text : List ℕ) (old new : Seen Own) (e now_e : Focus) : Type 0 where
   pub starts : List Start
   pub tries : List Tried
   pub continues : Continues Tells old new
@@ -35,30 +35,31 @@ pub record StartsAlike {Own : Type 0} (Tells : Type 0) (policy : Policy) (text :
   pub net : now_e.net ≡ e.net
   pub queue : now_e.queue ≡ e.queue
   pub events : now_e.events ≡ e.events
+  pub index : now_e.index ≡ e.index
   pub rule : now_e.rule ≡ e.rule
   pub calm : Calm old e.net → Calm new now_e.net
   pub places : (declared : List Declared) → shown_places declared now_e.net.views (state new) ≡ shown_places declared e.net.views (state old)
   pub app : (said_starts : List Start) (said_replies : List Reply) → AreStartFronts starts said_starts
-      → after_failure policy (app_at e (given_in old) said_starts said_replies) ≡ (app_at now_e (given_in new) (drop (length starts) said_starts) said_replies, tries)
-  pub text_is : text ≡ lines_text (names e.rule) (map (Started 0) tries ++ gone_line 0 now_e.alive)
-  pub read_starts : starts_in (own_acts new) ≡ starts_in (own_acts old) ++ starts
-  pub read_replies : replies_in (own_acts new) ≡ replies_in (own_acts old)
+      → after_failure policy (app_at e (given_in e.index old) said_starts said_replies) ≡ (app_at now_e (given_in e.index new) (drop (length starts) said_starts) said_replies, tries)
+  pub text_is : (names : List (List ℕ)) → name_of e.index names ≡ e.rule.name → text ≡ lines_text names (map (Started e.index) tries ++ gone_line e.index now_e.alive)
+  pub read_starts : starts_in (own_acts e.index new) ≡ starts_in (own_acts e.index old) ++ starts
+  pub read_replies : replies_in (own_acts e.index new) ≡ replies_in (own_acts e.index old)
   pub read_stimuli : stimuli_in new ≡ stimuli_in old
   pub released : released_of new ≡ released_of old
   pub lost : lost_of new ≡ lost_of old
-  pub life : now_e.alive ≡ true → LastStands (own_acts new)
+  pub life : now_e.alive ≡ true → LastStands (own_acts e.index new)
 
 -- what the journal has of the application by it: a reply, and the starts behind a failed turn
-pub record TurnTells {Own : Type 0} (old new : Seen Own) (now_e : Engine) (starts : List Start) (reply : Reply) : Type 0 where
+pub record TurnTells {Own : Type 0} (old new : Seen Own) (e now_e : Focus) (starts : List Start) (reply : Reply) : Type 0 where
   pub given : new.given ≡ old.given
-  pub read_starts : starts_in (own_acts new) ≡ starts_in (own_acts old) ++ starts
-  pub read_replies : replies_in (own_acts new) ≡ replies_in (own_acts old) ++ reply ∷ []
+  pub read_starts : starts_in (own_acts e.index new) ≡ starts_in (own_acts e.index old) ++ starts
+  pub read_replies : replies_in (own_acts e.index new) ≡ replies_in (own_acts e.index old) ++ reply ∷ []
   pub read_stimuli : stimuli_in new ≡ stimuli_in old
-  pub life : now_e.alive ≡ true → LastStands (own_acts new)
+  pub life : now_e.alive ≡ true → LastStands (own_acts e.index new)
 
 -- The reference controller's turn leaves the same, where its application has a reply and starts before it of which these are the fronts, and it
 -- loses these switches: the same packets are released, and the same events stand behind those that wait.
-pub record TurnAlike {Own : Type 0} (allows : List Place → Bool) (event : Event) (text : List ℕ) (old new : Seen Own) (e now_e : Engine) (starts : List Start) (reply : Reply) (losses : TurnLosses) : Type 0 where
+pub record TurnAlike {Own : Type 0} (allows : List Place → Bool) (event : Event) (text : List ℕ) (old new : Seen Own) (e now_e : Focus) (starts : List Start) (reply : Reply) (losses : TurnLosses) : Type 0 where
   pub outcome : Outcome
   pub tries : List Tried
   pub given : Bool
@@ -71,22 +72,24 @@ pub record TurnAlike {Own : Type 0} (allows : List Place → Bool) (event : Even
   pub released : released_of new ≡ released_of old ++ release.packets
   pub lost : lost_of new ≡ lost_of old ++ leavers left
   pub events : now_e.events ≡ e.events
+  pub index : now_e.index ≡ e.index
   pub rule : now_e.rule ≡ e.rule
   pub marks : (state new).marks ≡ (if given then marks_at_event (Some e.events) (state old) else (state old).marks)
   pub turned : (said_starts : List Start) (said : Reply) (later_replies : List Reply) → AreStartFronts starts said_starts → IsFront reply said
-      → turn allows e.events e.net.moment event losses (shown_places old.given.declared e.net.views (state old)) (app_at e (given_in old) said_starts (said ∷ later_replies))
+      → turn allows e.events e.net.moment event losses (shown_places old.given.declared e.net.views (state old)) (app_at e (given_in e.index old) said_starts (said ∷ later_replies))
       ≡ record {
         release = release;
         left = left;
-        app = (app_at now_e (given_in new) (drop (length starts) said_starts) later_replies, tries);
+        app = (app_at now_e (given_in e.index new) (drop (length starts) said_starts) later_replies, tries);
         outcome = outcome;
         given = given;
       }
-  pub text_is : (later_starts : List Start) (later_replies : List Reply) → text ≡ lines_text (names e.rule) (Ended 0 outcome ∷ out_lines release.packets ++ lost_lines (leavers left) ++ restart_lines 0 outcome (app_at now_e (given_in new) later_starts later_replies, tries))
+  pub text_is : (names : List (List ℕ)) → name_of e.index names ≡ e.rule.name → (later_starts : List Start) (later_replies : List Reply)
+      → text ≡ lines_text names (Ended e.index outcome ∷ out_lines release.packets ++ lost_lines (leavers left) ++ restart_lines e.index outcome (app_at now_e (given_in e.index new) later_starts later_replies, tries))
 
-pub record TurnMoves {Own : Type 0} (allows : List Place → Bool) (event : Event) (text : List ℕ) (old new : Seen Own) (e now_e : Engine) : Type 0 where
+pub record TurnMoves {Own : Type 0} (allows : List Place → Bool) (event : Event) (text : List ℕ) (old new : Seen Own) (e now_e : Focus) : Type 0 where
   pub starts : List Start
   pub reply : Reply
-  pub tells : TurnTells old new now_e starts reply
+  pub tells : TurnTells old new e now_e starts reply
   pub losses : TurnLosses
   pub alike : TurnAlike allows event text old new e now_e starts reply losses

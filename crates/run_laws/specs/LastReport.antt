@@ -13,8 +13,7 @@ use Rattle.lego_model.specs.AtOnce.{AtOnce}
 use Rattle.flow_table.specs.View.{TableView}
 use Rattle.switch_laws.specs.Orderly.{OrderlySince}
 use Rattle.switch_laws.specs.Shown.{shown_switch, shown_places}
-use Rattle.run_laws.specs.Engine.{Engine}
-use Rattle.lego_model.specs.Application.{index}
+use Rattle.run_laws.specs.Engine.{Application, Engine}
 use Rattle.lego_model.specs.History.{own_acts, given_in, stimuli_in, released_of, lost_of}
 use Rattle.flow_table.specs.Switch.{SwitchState}
 use Rattle.lego_model.specs.Answers.{rows_of_table, rows_of_view}
@@ -50,8 +49,13 @@ switch_left lost s d = if is_among d lost then None else switch_of d s
 
 -- ---- The end
 
+-- the lines of applications
+abbrev pub app_lines : List Application → List ℕ
+app_lines [] = []
+app_lines (a ∷ more) = app_line a.rule.name a.alive a.done a.failed ++ app_lines more
+
 abbrev pub engine_end : Engine → List ℕ
-engine_end e = app_line e.rule.name e.alive e.done e.failed ++ end_line e.net.moment e.events
+engine_end e = app_lines e.apps ++ end_line e.net.moment e.events
 
 -- of a switch that is lost when it is asked for its rows, that alone
 abbrev pub place_lines : List ℕ → Place → List ℕ
@@ -69,14 +73,14 @@ last_lines names r = flat_map (place_lines r.losses.last) r.places ++ apps_text 
 
 pub record OnlyAsked {Own : Type 0} (lost : List ℕ) (old new : Seen Own) : Type 0 where
   pub given : new.given ≡ old.given
-  pub acts : own_acts new ≡ own_acts old
-  pub inputs : given_in new ≡ given_in old
+  pub acts : (app : ℕ) → own_acts app new ≡ own_acts app old
+  pub inputs : (app : ℕ) → given_in app new ≡ given_in app old
   pub stimuli : stimuli_in new ≡ stimuli_in old
   pub released : released_of new ≡ released_of old
   pub lost_is : lost_of new ≡ lost_of old ++ lost
   pub marks : (state new).marks ≡ (state old).marks
-  pub at_once : AtOnce index (journal old.history) → AtOnce index (journal new.history)
-  pub orderly : OrderlySince index old new
+  pub at_once : (app : ℕ) → AtOnce app (journal old.history) → AtOnce app (journal new.history)
+  pub orderly : (number : ℕ) → OrderlySince number old new
 
 -- a switch that has a view is joined, and its table has these rows
 pub record JoinedWith (vs : List ViewRow) (o : Option SwitchState) : Type 0 where

@@ -49,9 +49,9 @@ pub record Rests (s t : State) : Type 0 where
   pub moment : t.moment ≡ s.moment
 
 -- the journal tells the same of the application
-pub record TellsSame {Own : Type 0} (old new : Seen Own) : Type 0 where
-  pub acts : own_acts new ≡ own_acts old
-  pub given : given_in new ≡ given_in old
+pub record TellsSame {Own : Type 0} (app : ℕ) (old new : Seen Own) : Type 0 where
+  pub acts : own_acts app new ≡ own_acts app old
+  pub given : given_in app new ≡ given_in app old
   pub stims : stimuli_in new ≡ stimuli_in old
 
 -- what no attempt to start and no end changes
@@ -61,9 +61,15 @@ pub record TriesKeep (s t : State) : Type 0 where
   pub marks : t.marks ≡ s.marks
 
 -- what the application was given more, and that no stimulus came
-pub record TellsGiven {Own : Type 0} (old new : Seen Own) (frames : List (List ℕ)) : Type 0 where
-  pub given : given_in new ≡ given_in old ++ frames
+pub record TellsGiven {Own : Type 0} (app : ℕ) (old new : Seen Own) (frames : List (List ℕ)) : Type 0 where
+  pub given : given_in app new ≡ given_in app old ++ frames
   pub stims : stimuli_in new ≡ stimuli_in old
+
+-- the history went on with no act of the application
+pub record Silent {Own : Type 0} (app : ℕ) (old new : Seen Own) : Type 0 where
+  pub steps : List WorldStep
+  pub history : new.history ≡ old.history ++ steps
+  pub none : filter (is_of app) (journal steps) ≡ []
 
 -- no packet was released, and no switch lost
 pub record TellsNoLoss {Own : Type 0} (old new : Seen Own) : Type 0 where

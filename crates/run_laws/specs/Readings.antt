@@ -18,30 +18,29 @@ use Rattle.app_visor.specs.Attempts.{OneTry, starts_of, Restarts}
 use Rattle.switch_laws.specs.Shown.{shown_places}
 use Rattle.journal_laws.specs.Readings.{LastStands}
 use Rattle.lego_model.specs.History.{starts_in, replies_in, own_acts}
-use Rattle.lego_model.specs.Application.{index}
 
 -- a turn: one reply more, which tells enough of it, and the last attempt stands still
-pub record TurnRead {Own : Type 0} (budget : ℕ) (rest : List ℕ) (old mid : Seen Own) (given : Bool) (trace : List (Beat Own)) : Type 0 where
-  pub starts : starts_in (own_acts mid) ≡ starts_in (own_acts old)
-  pub replies : replies_in (own_acts mid) ≡ replies_in (own_acts old) ++ reply_by given trace ∷ []
+pub record TurnRead {Own : Type 0} (app budget : ℕ) (rest : List ℕ) (old mid : Seen Own) (given : Bool) (trace : List (Beat Own)) : Type 0 where
+  pub starts : starts_in (own_acts app mid) ≡ starts_in (own_acts app old)
+  pub replies : replies_in (own_acts app mid) ≡ replies_in (own_acts app old) ++ reply_by given trace ∷ []
   pub heard : is_heard budget rest (reply_by given trace) ≡ true
-  pub life : LastStands (own_acts mid)
+  pub life : LastStands (own_acts app mid)
 
 -- attempts: a start more for each, which tells enough of it, and of which the last stands where one was ready; and each act of an attempt
 -- is of the application
-pub record TriesRead {Own : Type 0} (old new : Seen Own) (all : List (OneTry Own)) (found : Option (List ℕ)) : Type 0 where
-  pub starts : starts_in (own_acts new) ≡ starts_in (own_acts old) ++ starts_of all
-  pub replies : replies_in (own_acts new) ≡ replies_in (own_acts old)
+pub record TriesRead {Own : Type 0} (app : ℕ) (old new : Seen Own) (all : List (OneTry Own)) (found : Option (List ℕ)) : Type 0 where
+  pub starts : starts_in (own_acts app new) ≡ starts_in (own_acts app old) ++ starts_of all
+  pub replies : replies_in (own_acts app new) ≡ replies_in (own_acts app old)
   pub heard : AllByRecursion (λ t. is_start_heard (start_of t.attempt) ≡ true) all
-  pub life : is_some found ≡ true → LastStands (own_acts new)
-  pub own : AllByRecursion (λ t. AllByRecursion (λ act. is_of index act ≡ true) t.attempt.acts) all
+  pub life : is_some found ≡ true → LastStands (own_acts app new)
+  pub own : AllByRecursion (λ t. AllByRecursion (λ act. is_of app act ≡ true) t.attempt.acts) all
 
--- so is every turn and every restart read
-pub record AreRead (Own : Type 0) (Tells : Type 0) (accepts : List TableView → Bool) : Type 0 where
+-- so is every turn and every restart of an application read
+pub record AreRead (Own : Type 0) (app : ℕ) (Tells : Type 0) (accepts : List TableView → Bool) : Type 0 where
   pub turn : (budget number moment : ℕ) (event : Event) (rest : List ℕ) (old mid : Seen Own) (net mid_net : NetState) (end : TurnEnd) (unread : List ℕ) → Tells
-      → (t : Turns Tells accepts index budget rest (event_frame number moment event) old mid net mid_net end unread) → LastStands (own_acts old)
-      → TurnRead budget rest old mid t.given t.trace
-  pub tries : (kept : List ℕ) (old new : Seen Own) (found : Option (List ℕ)) (tries : List Tried) → Tells → (s : Restarts Tells index kept old new found tries) → TriesRead old new s.all found
+      → (t : Turns Tells accepts app budget rest (event_frame number moment event) old mid net mid_net end unread) → LastStands (own_acts app old)
+      → TurnRead app budget rest old mid t.given t.trace
+  pub tries : (kept : List ℕ) (old new : Seen Own) (found : Option (List ℕ)) (tries : List Tried) → Tells → (s : Restarts Tells app kept old new found tries) → TriesRead app old new s.all found
 
 -- the judge of the engine says what that of the reference controller says of the switches that it shows
 pub record JudgesAlike (Own : Type 0) (allows : List Place → Bool) (accepts : List TableView → Bool) : Type 0 where

@@ -12,21 +12,17 @@ use Rattle.lego_model.specs.Losses.{TurnLosses, turn_fewer}
 abbrev pub numbered : Event → Run → Run
 numbered event r = record r { events = r.events + 1; lines = r.lines ++ Dispatched (r.events + 1) event ∷ [] }
 
--- the run behind a turn of the application
-abbrev pub after_turn : Turned → Run → Run
-after_turn t r = record r {
+-- the run behind a turn of the application with an index
+abbrev pub after_turn : ℕ → Turned → Run → Run
+after_turn i t r = record r {
   places = t.release.places;
   queue = r.queue ++ (t.release.events ++ t.left);
-  apps = t.app.0 ∷ [];
-  lines = r.lines ++ Ended 0 t.outcome ∷ out_lines t.release.packets ++ lost_lines (leavers t.left) ++ restart_lines 0 t.outcome t.app;
+  lines = r.lines ++ Ended i t.outcome ∷ out_lines t.release.packets ++ lost_lines (leavers t.left) ++ restart_lines i t.outcome t.app;
   released = r.released ++ t.release.packets;
   lost = r.lost ++ leavers t.left;
   losses = turn_fewer r.losses;
   marks = marked t.given r.events r.places r.marks;
 }
-
-abbrev pub without_turn : App → Run → Run
-without_turn a r = record r { apps = a ∷ [] }
 
 -- the application with its reply used up and what it was given in its turn
 abbrev pub after_given : App → Reply → List (List ℕ) → App

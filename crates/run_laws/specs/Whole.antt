@@ -2,14 +2,13 @@
 use Rattle.std.specs.Prelude.{◌≡◌, ℕ, Bool, List, []}
 use Rattle.of_types.specs.declared.journal.WorldStim.{WorldStim}
 use Rattle.crash_policy.specs.Policies.{AppValue}
-use Rattle.lego_model.specs.Journal.{Reply, Start}
 use Rattle.lego_model.specs.Places.{Place}
 use Rattle.lego_model.specs.Application.{names}
 use Rattle.lego_model.specs.Controller.{Run, settle}
 use Rattle.lego_model.specs.Losses.{Losses}
 use Rattle.outside.specs.Seen.{Seen}
-use Rattle.run_laws.specs.Engine.{Engine, Stands}
-use Rattle.lego_model.specs.ReferenceRun.{text_of, rounds, all_started, reference_said, AreSaid}
+use Rattle.run_laws.specs.Engine.{Engine, Stands, rules_of}
+use Rattle.lego_model.specs.ReferenceRun.{Said, text_of, rounds, all_started, reference_said, AreSaid}
 
 -- the whole run of the reference controller
 abbrev pub whole : (List Place → Bool) → List WorldStim → Run → Run
@@ -19,16 +18,15 @@ whole allows xs r = settle allows (rounds allows xs (all_started r))
 abbrev pub at_last : List ℕ → Losses
 at_last lost = record { batches = []; turns = []; last = lost }
 
--- engine and reference controller stand alike at the end, with more starts and replies before its application, and its report so far is
+-- engine and reference controller stand alike at the end, with more starts and replies before its applications, and its report so far is
 -- what was noted
-pub record RanAs {Own : Type 0} (rule : AppValue) (later : Losses) (text : List ℕ) (last : Seen Own) (e : Engine) (r : Run) : Type 0 where
-  pub starts : List Start
-  pub replies : List Reply
-  pub rule_is : e.rule ≡ rule
-  pub stands : Stands last e starts replies later r
-  pub text_is : text_of (names rule) r ≡ text
+pub record RanAs {Own : Type 0} (rules : List AppValue) (later : Losses) (text : List ℕ) (last : Seen Own) (e : Engine) (r : Run) : Type 0 where
+  pub said : ℕ → Said
+  pub rules_is : rules_of e ≡ rules
+  pub stands : Stands last e said later r
+  pub text_is : text_of (names rules) r ≡ text
 
--- so it is over what is said of the application, where switches are lost at some places, and some are to be lost at the end
-pub record Ran {Own : Type 0} (rule : AppValue) (allows : List Place → Bool) (lost : List ℕ) (text : List ℕ) (last : Seen Own) (e : Engine) : Type 0 where
+-- so it is over what is said of the applications, where switches are lost at some places, and some are to be lost at the end
+pub record Ran {Own : Type 0} (rules : List AppValue) (allows : List Place → Bool) (lost : List ℕ) (text : List ℕ) (last : Seen Own) (e : Engine) : Type 0 where
   pub losses : Losses
-  pub as_said : (starts : List Start) (replies : List Reply) → AreSaid last starts replies → RanAs rule (at_last lost) text last e (reference_said rule allows losses last starts replies)
+  pub as_said : (said : ℕ → Said) → AreSaid last said → RanAs rules (at_last lost) text last e (reference_said rules allows losses last said)
