@@ -26,7 +26,7 @@ use Rattle.batch_laws.specs.Knowledge.{lost_text}
 use Rattle.run_laws.specs.Engine.{Engine}
 use Rattle.lego_model.specs.History.{stimuli_in}
 use Rattle.run_laws.specs.Readings.{JudgesAlike}
-use Rattle.run_laws.specs.Facts.{turn_word, out_text, all_told, StartsAgain, GoesAway, Follows, TakesTurn, is_taking, says_stop, Between, IsOffered, Offers, Dispatches}
+use Rattle.run_laws.specs.Facts.{turn_word, out_text, all_told, StartsAgain, GoesAway, Follows, TakesTurn, is_taking, says_stop, Between, IsOffered, Offers, Dispatches, StartsFrom}
 use Rattle.run_laws.specs.Moves.{AtRest, Shown, ShownIdle, ShownOver, ShownRounds, ShownToEnd}
 use Rattle.lego_model.specs.ReferenceRun.{dispatch_next, times}
 use Rattle.run_laws.specs.First.{engine_at_first}
@@ -42,7 +42,7 @@ use Rattle.event_dispatch.specs.declared.run.Managed.{Managed}
 use Rattle.event_dispatch.specs.declared.run.Run.{Run}
 use Rattle.event_dispatch.specs.declared.served.Served.{Served}
 use Rattle.event_dispatch.specs.declared.served.Served.TheVariants as served
-use Rattle.event_dispatch.specs.Shows.{application_of, focus_of, engine_of, name_of}
+use Rattle.event_dispatch.specs.Shows.{application_of, focus_of, engine_of, name_of, Stays}
 use Rattle.lego_model.specs.CutRun.{NothingDone}
 
 -- text was noted behind what waits to be written
@@ -200,6 +200,13 @@ pub record GoesToEnd {Own : Type 0} (Tells : Type 0) (accepts : List TableView �
   pub writes : Writes text contents now_contents now_r.core
 
 -- ---- The start, and the end
+
+-- all applications were started, and how their attempts ended was noted
+pub record AllStarted {Own : Type 0} (Tells : Type 0) (old new : Seen Own) (c now_c : Core) (apps now_apps : List Managed) : Type 0 where
+  pub text : List ℕ
+  pub started : StartsFrom Tells 0 (map (application_of c.store) apps) text old new c.net c.queue c.events (map (application_of now_c.store) now_apps)
+  pub stays : Stays c now_c
+  pub notes : Notes text c now_c
 
 pub record Begins {Own : Type 0} (Tells : Type 0) (contents now_contents : Option (List ℕ)) (old new : Seen Own) (r now_r : Run) : Type 0 where
   pub text : List ℕ
