@@ -177,6 +177,9 @@ goes_begun Tells item buf old mid new call later links goes = record {
   anew = λ told order none at. links-begun later (links told) ∙ next_anew call told (InOrder-before told later order) goes at;
 }
 
+pub next_number : {Own : Type 0} {Tells : Type 0} {old new : Seen Own} (n m : ℕ) → m ≡ n → NextPoint Tells m old new → NextPoint Tells n old new
+next_number {Tells = Tells} {old = old} {new = new} n m same next = subst (λ (k : ℕ). NextPoint Tells k old new) same next
+
 -- ---- A batch
 
 -- behind what was done so far

@@ -316,8 +316,8 @@ says_then lost more first rest old mid new a b c one two = record {
 }
 
 -- and what it leaves
-pub says_leaves : {Own : Type 0} {lost text : List ℕ} {old new : Seen Own} {r now_r : Run} (number : ℕ) → LastSays lost text old new r now_r → Leaves number lost old new
-says_leaves {lost = lost} {old = old} {new = new} number says = asked-leaves number lost old new says.asked says.switches
+pub says_leaves : {Own : Type 0} {lost text : List ℕ} {number : ℕ} {old new : Seen Own} {r now_r : Run} → LastSays lost text old new r now_r → Leaves number lost old new
+says_leaves {lost = lost} {number = number} {old = old} {new = new} says = asked-leaves number lost old new says.asked says.switches
 
 flat_map-last : (f : ℕ → List ℕ) (xs : List ℕ) (x : ℕ) → flat_map f (xs ++ x ∷ []) ≡ flat_map f xs ++ f x
 flat_map-last f [] x = nothing_more (f x)

@@ -1,9 +1,8 @@
 use Rattle.std.proofs.Common.{ap, ◌∙◌}
 use Rattle.std.proofs.lemmas.Result.{on_ok_weaker}
-use Rattle.run_laws.specs.Engine.{Engine}
+use Rattle.net_txn.specs.Net.{NetState}
 use Rattle.event_dispatch.specs.laws.SteadyLaws.{places_none, reads_none}
 use Rattle.app_visor.specs.laws.OwnLaws.{own_none}
-use Rattle.lego_model.specs.Application.{index}
 use Rattle.event_dispatch.proofs.core.Core.close.Goals as goal
 
 pub returns-in_err-note_turn-in-Failed-clause-places : goal.returns-in_err-note_turn-in-Failed-clause-places
@@ -21,11 +20,11 @@ returns-in_ok-note_done-in-Done-clause-places g c = places_none g.W.World.Tells 
 pub returns-in_ok-note_done-in-Done-clause-reads : goal.returns-in_ok-note_done-in-Done-clause-reads
 returns-in_ok-note_done-in-Done-clause-reads g c =
     on_ok_weaker c.tell_lost.result
-    (λ tells. reads_none g.W.World.Tells (g.W.World.seen c.args.world.now) c.args.self.now.net c.tell_lost.new.self.net (ap (λ (e : Engine). e.net.views) tells.engine ∙ ap (λ (e : Engine). e.net.views) c.in_ok-note_done-in-Done.ensures.adds.engine))
+    (λ tells. reads_none g.W.World.Tells (g.W.World.seen c.args.world.now) c.args.self.now.net c.tell_lost.new.self.net (ap (λ (n : NetState). n.views) tells.net ∙ ap (λ (n : NetState). n.views) c.in_ok-note_done-in-Done.ensures.adds.stays.net))
     c.tell_lost.ensures.tells
 
 pub returns-in_err-note_turn-in-Failed-clause-own : goal.returns-in_err-note_turn-in-Failed-clause-own
-returns-in_err-note_turn-in-Failed-clause-own g c = λ told. own_none index (g.W.World.seen c.args.world.now)
+returns-in_err-note_turn-in-Failed-clause-own g c = λ told. own_none c.args.app.now.state.index (g.W.World.seen c.args.world.now)
 
 pub returns-in_ok-note_done-in-Done-clause-own : goal.returns-in_ok-note_done-in-Done-clause-own
-returns-in_ok-note_done-in-Done-clause-own g c = λ told. own_none index (g.W.World.seen c.args.world.now)
+returns-in_ok-note_done-in-Done-clause-own g c = λ told. own_none c.args.app.now.state.index (g.W.World.seen c.args.world.now)

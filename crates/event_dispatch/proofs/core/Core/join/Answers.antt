@@ -7,7 +7,7 @@ use Rattle.event_dispatch.specs.laws.FaultLaws.{join_why}
 use Rattle.std.specs.Prelude.{ℕ, Vec}
 use Rattle.std.specs.Global.{Global}
 use Rattle.std.proofs.Common.{refl, sym, ap, subst}
-use Rattle.event_dispatch.specs.declared.run.Run.{Run}
+use Rattle.event_dispatch.specs.declared.core.Core.{Core}
 use Rattle.event_dispatch.specs.Batch.{TakesJoin}
 use Rattle.event_dispatch.specs.laws.JoinLaws.{joins_taken, lost_taken, other_taken}
 use Rattle.outside.specs.Seen.{Seen}
@@ -71,16 +71,16 @@ pub returns-clause-joins : goal.returns-clause-joins
 returns-clause-joins g c =
     elim c.match-message.branch [
       | in-FeaturesReply+in_ok-joined+then-branch+in_ok-announce w ↦
-          subst (λ (r : Run). TakesJoin g.W.World.Tells c.args.dpid c.args.message.now (g.W.World.seen c.args.world.now) (g.W.World.seen c.match-message.world) c.args.self.now r) (sym w.self-is)
+          subst (λ (r : Core). TakesJoin g.W.World.Tells c.args.dpid c.args.message.now (g.W.World.seen c.args.world.now) (g.W.World.seen c.match-message.world) c.args.self.now r) (sym w.self-is)
           (subst (λ (s : Seen _). TakesJoin g.W.World.Tells c.args.dpid c.args.message.now (g.W.World.seen c.args.world.now) s c.args.self.now w.announce.new.self) (sym (ap g.W.World.seen w.world-is))
           (joins_taken c.args.dpid c.args.message.now w.in-FeaturesReply.features w.in_ok-joined.field-0 (g.W.World.seen c.args.world.now) (g.W.World.seen w.joined.new.world) c.args.self.now w.joined.new.self w.announce.new.self w.in-FeaturesReply.is w.if-branch.true w.in_ok-joined.ensures.joins w.in_ok-joined.ensures.in_step
           (record { log = w.in_ok-joined.ensures.log; moment = w.in_ok-joined.ensures.moment; room = w.in_ok-joined.ensures.room; held = w.in_ok-joined.ensures.held; left = w.in_ok-joined.ensures.left }) w.announce.ensures.net w.in_ok-announce.ensures.queue (ap (λ (v : Vec ℕ Global). v.items) w.announce.ensures.lines)))
       | in-FeaturesReply+in_ok-joined+else-branch+in_ok-note_loss w ↦
-          subst (λ (r : Run). TakesJoin g.W.World.Tells c.args.dpid c.args.message.now (g.W.World.seen c.args.world.now) (g.W.World.seen c.match-message.world) c.args.self.now r) (sym w.self-is)
+          subst (λ (r : Core). TakesJoin g.W.World.Tells c.args.dpid c.args.message.now (g.W.World.seen c.args.world.now) (g.W.World.seen c.match-message.world) c.args.self.now r) (sym w.self-is)
           (subst (λ (s : Seen _). TakesJoin g.W.World.Tells c.args.dpid c.args.message.now (g.W.World.seen c.args.world.now) s c.args.self.now w.note_loss.new.self) (sym (ap g.W.World.seen w.world-is))
           (lost_taken c.args.dpid c.args.message.now w.in-FeaturesReply.features.ports w.in_ok-joined.field-0 (g.W.World.seen c.args.world.now) (g.W.World.seen w.joined.new.world) c.args.self.now (record c.args.self.now { net = w.joined.new.self }) w.note_loss.new.self w.if-branch.false w.in_ok-joined.ensures.joins refl refl w.in_ok-note_loss.ensures.adds))
       | in_default w ↦
-          subst (λ (r : Run). TakesJoin g.W.World.Tells c.args.dpid c.args.message.now (g.W.World.seen c.args.world.now) (g.W.World.seen c.match-message.world) c.args.self.now r) (sym w.self-is)
+          subst (λ (r : Core). TakesJoin g.W.World.Tells c.args.dpid c.args.message.now (g.W.World.seen c.args.world.now) (g.W.World.seen c.match-message.world) c.args.self.now r) (sym w.self-is)
           (subst (λ (s : Seen _). TakesJoin g.W.World.Tells c.args.dpid c.args.message.now (g.W.World.seen c.args.world.now) s c.args.self.now c.args.self.now) (sym (ap g.W.World.seen w.world-is))
           (other_taken c.args.dpid c.args.message.now (g.W.World.seen c.args.world.now) c.args.self.now w.in_default.not-FeaturesReply))
     ]

@@ -1,5 +1,4 @@
-use Rattle.std.proofs.Common.{◌≡◌, ◌∷◌, suc, List, drop, subst, ap, ◌∙◌}
-use Rattle.run_laws.specs.Engine.{Engine}
+use Rattle.std.proofs.Common.{◌≡◌, ◌∷◌, suc, List, drop, subst, ◌∙◌}
 use Rattle.of_stats.specs.declared.flow_row.FlowRow.{FlowRow}
 use Rattle.event_dispatch.specs.laws.WhyLaws.{waits_then}
 use Rattle.event_dispatch.specs.laws.LastLaws.{drop_first, flows_next, views_kept}
@@ -9,7 +8,7 @@ use Rattle.event_dispatch.proofs.core.Core.note_flows.Goals as goal
 pub loop-row-preserved : goal.loop-row-preserved
 loop-row-preserved c = record {
   waits = waits_then c.args.self.now c.loop-row.self c.note_flow.new.self c.loop-row.invariant.waits c.in_ok-note_flow.ensures.waits;
-  net = ap (λ (e : Engine). e.net) c.in_ok-note_flow.ensures.adds.engine ∙ c.loop-row.invariant.net;
+  net = c.in_ok-note_flow.ensures.adds.stays.net ∙ c.loop-row.invariant.net;
   said = λ vs is same.
       let so = c.loop-row.invariant.said vs is same in
       let first = drop_first c.loop-row.row-index c.as_slice-row-items.result.now c.row-item.result c.loop-row-test.true c.row-item.is in

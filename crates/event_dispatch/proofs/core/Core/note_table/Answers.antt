@@ -6,7 +6,6 @@ use Rattle.event_dispatch.specs.laws.CutLaws.{if_err}
 use Rattle.event_dispatch.specs.Plain.{PlainTable}
 use Rattle.event_dispatch.specs.ReportEnd.{AsksAs}
 use Rattle.net_txn.specs.Net.{NetState}
-use Rattle.run_laws.specs.Engine.{Engine}
 use Rattle.event_dispatch.specs.laws.SteadyLaws.{places_none, reads_none, quietly_none}
 use Rattle.event_dispatch.specs.laws.DispatchStrayLaws.{reads_over}
 use Rattle.event_dispatch.proofs.core.Core.note_table.Goals as goal
@@ -49,4 +48,4 @@ pub returns-in_ok-note_rows-in-Some-clause-reads : goal.returns-in_ok-note_rows-
 returns-in_ok-note_rows-in-Some-clause-reads g c = reads_over c.args.self.now.net c.args.self.now.net c.ask_rows.new.self.net c.note_rows.new.self.net refl (ap (λ (n : NetState). n.views) c.in_ok-note_rows-in-Some.ensures.net) c.in_ok-rows.ensures.reads
 
 pub returns-in_ok-note_loss-in-None-clause-reads : goal.returns-in_ok-note_loss-in-None-clause-reads
-returns-in_ok-note_loss-in-None-clause-reads g c = reads_over c.args.self.now.net c.args.self.now.net c.ask_rows.new.self.net c.note_loss.new.self.net refl (ap (λ (e : Engine). e.net.views) c.in_ok-note_loss-in-None.ensures.adds.engine) c.in_ok-rows.ensures.reads
+returns-in_ok-note_loss-in-None-clause-reads g c = reads_over c.args.self.now.net c.args.self.now.net c.ask_rows.new.self.net c.note_loss.new.self.net refl (ap (λ (n : NetState). n.views) c.in_ok-note_loss-in-None.ensures.adds.stays.net) c.in_ok-rows.ensures.reads

@@ -1,4 +1,5 @@
-use Rattle.std.proofs.Common.{subst, ◌∙◌, Option}
+use Rattle.std.proofs.Common.{List, length, ap, subst, ◌∙◌, Option}
+use Rattle.checkpoint_store.specs.Slots.{Slot}
 use Rattle.event_dispatch.specs.declared.batch.Rest.{Rest}
 use Rattle.event_dispatch.specs.Batch.{NextTaken}
 use Rattle.event_dispatch.specs.laws.WhyLaws.{continues_then, waits_then}
@@ -9,9 +10,8 @@ use Rattle.event_dispatch.specs.Plain.{PlainCalm}
 use Rattle.event_dispatch.specs.Why.{served_by}
 use Rattle.event_dispatch.specs.laws.TalkingLaws.{keeps_then, holds_on_err}
 use Rattle.event_dispatch.specs.Told.{GoesBegun}
-use Rattle.app_visor.specs.laws.CalmLaws.{calls_then}
-use Rattle.event_dispatch.specs.laws.SteadyLaws.{places_then, reads_then}
-use Rattle.event_dispatch.specs.laws.BatchSteadyLaws.{here_goes, here_ends, here_kept}
+use Rattle.event_dispatch.specs.laws.SteadyLaws.{calls_then, places_number, places_then, reads_then}
+use Rattle.event_dispatch.specs.laws.BatchSteadyLaws.{next_number, here_goes, here_ends, here_kept}
 use Rattle.event_dispatch.proofs.core.Core.take_batch.Goals as goal
 
 pub returns-in-Some-clause-batch : goal.returns-in-Some-clause-batch
@@ -30,7 +30,6 @@ returns-clause-batch g c =
 pub loop-item-preserved : goal.loop-item-preserved
 loop-item-preserved g c = record {
   waits = waits_then c.args.self.now c.loop-item.self c.take_next.new.self c.loop-item.invariant.waits c.in_ok-rest.ensures.waits;
-  app = c.in_ok-rest.ensures.app ∙ c.loop-item.invariant.app;
   left = c.in_ok-rest.ensures.waits.left c.loop-item.invariant.left;
   read = c.in_ok-rest.ensures.read c.loop-item.invariant.read;
   goes = batch_goes c.loop-item._item (g.W.World.seen c.args.world.now) (g.W.World.seen c.loop-item.world) (g.W.World.seen c.take_next.new.world) c.args.self.now c.loop-item.self c.take_next.new.self c.loop-item.invariant.goes
@@ -39,9 +38,9 @@ loop-item-preserved g c = record {
   buffer = c.in_ok-rest.ensures.buffer ∙ c.loop-item.invariant.buffer;
   continues = continues_then g.W.World.Tells (g.W.World.seen c.args.world.now) (g.W.World.seen c.loop-item.world) (g.W.World.seen c.take_next.new.world) c.loop-item.invariant.continues c.in_ok-rest.ensures.continues;
   talks = keeps_then g.W.World.Tells (g.W.World.seen c.args.world.now) (g.W.World.seen c.loop-item.world) (g.W.World.seen c.take_next.new.world) c.loop-item.invariant.talks c.in_ok-rest.ensures.talks;
-  places = places_then (g.W.World.seen c.args.world.now) (g.W.World.seen c.loop-item.world) (g.W.World.seen c.take_next.new.world) c.args.self.now.net c.loop-item.self.net c.loop-item.invariant.continues c.in_ok-rest.ensures.continues c.loop-item.invariant.places c.loop-item.invariant.reads c.in_ok-rest.ensures.places;
+  places = places_then (g.W.World.seen c.args.world.now) (g.W.World.seen c.loop-item.world) (g.W.World.seen c.take_next.new.world) c.args.self.now.net c.loop-item.self.net c.loop-item.invariant.continues c.in_ok-rest.ensures.continues c.loop-item.invariant.places c.loop-item.invariant.reads (places_number (length c.args.self.now.store) (length c.loop-item.self.store) (ap (λ (slots : List Slot). length slots) c.loop-item.invariant.waits.store) c.in_ok-rest.ensures.places);
   reads = reads_then (g.W.World.seen c.args.world.now) (g.W.World.seen c.loop-item.world) (g.W.World.seen c.take_next.new.world) c.args.self.now.net c.loop-item.self.net c.take_next.new.self.net c.loop-item.invariant.continues c.in_ok-rest.ensures.continues c.loop-item.invariant.reads c.in_ok-rest.ensures.reads;
-  here = here_goes (g.W.World.seen c.args.world.now) (g.W.World.seen c.loop-item.world) (g.W.World.seen c.take_next.new.world) c.args.self.now.net c.in_ok-rest.ensures.continues c.loop-item.invariant.here c.in_ok-rest.ensures.no_point
+  here = here_goes (g.W.World.seen c.args.world.now) (g.W.World.seen c.loop-item.world) (g.W.World.seen c.take_next.new.world) c.args.self.now.net c.in_ok-rest.ensures.continues c.loop-item.invariant.here (next_number (length c.args.self.now.store) (length c.loop-item.self.store) (ap (λ (slots : List Slot). length slots) c.loop-item.invariant.waits.store) c.in_ok-rest.ensures.no_point)
       (subst (λ (rest : Option Rest). GoesBegun g.W.World.Tells rest (g.W.World.seen c.loop-item.world) (g.W.World.seen c.take_next.new.world)) c.in_default.is c.in_ok-rest.ensures.begun);
 }
 
@@ -55,24 +54,24 @@ returns-in_err-rest-clause-plain g c =
     (batch_next c.loop-item._item (g.W.World.seen c.args.world.now) (g.W.World.seen c.loop-item.world) (g.W.World.seen c.take_next.new.world) c.args.self.now c.loop-item.self c.in_err-rest.field-0.0 c.loop-item.invariant.goes c.in_err-rest.ensures.continues c.in_err-rest.ensures.plain)
 
 pub returns-in-Some-clause-places : goal.returns-in-Some-clause-places
-returns-in-Some-clause-places g c = places_then (g.W.World.seen c.args.world.now) (g.W.World.seen c.loop-item.world) (g.W.World.seen c.take_next.new.world) c.args.self.now.net c.loop-item.self.net c.loop-item.invariant.continues c.in_ok-rest.ensures.continues c.loop-item.invariant.places c.loop-item.invariant.reads c.in_ok-rest.ensures.places
+returns-in-Some-clause-places g c = places_then (g.W.World.seen c.args.world.now) (g.W.World.seen c.loop-item.world) (g.W.World.seen c.take_next.new.world) c.args.self.now.net c.loop-item.self.net c.loop-item.invariant.continues c.in_ok-rest.ensures.continues c.loop-item.invariant.places c.loop-item.invariant.reads (places_number (length c.args.self.now.store) (length c.loop-item.self.store) (ap (λ (slots : List Slot). length slots) c.loop-item.invariant.waits.store) c.in_ok-rest.ensures.places)
 
 pub returns-in-Some-clause-reads : goal.returns-in-Some-clause-reads
 returns-in-Some-clause-reads g c = reads_then (g.W.World.seen c.args.world.now) (g.W.World.seen c.loop-item.world) (g.W.World.seen c.take_next.new.world) c.args.self.now.net c.loop-item.self.net c.take_next.new.self.net c.loop-item.invariant.continues c.in_ok-rest.ensures.continues c.loop-item.invariant.reads c.in_ok-rest.ensures.reads
 
 pub returns-in_err-rest-clause-places : goal.returns-in_err-rest-clause-places
-returns-in_err-rest-clause-places g c = places_then (g.W.World.seen c.args.world.now) (g.W.World.seen c.loop-item.world) (g.W.World.seen c.take_next.new.world) c.args.self.now.net c.loop-item.self.net c.loop-item.invariant.continues c.in_err-rest.ensures.continues c.loop-item.invariant.places c.loop-item.invariant.reads c.in_err-rest.ensures.places
+returns-in_err-rest-clause-places g c = places_then (g.W.World.seen c.args.world.now) (g.W.World.seen c.loop-item.world) (g.W.World.seen c.take_next.new.world) c.args.self.now.net c.loop-item.self.net c.loop-item.invariant.continues c.in_err-rest.ensures.continues c.loop-item.invariant.places c.loop-item.invariant.reads (places_number (length c.args.self.now.store) (length c.loop-item.self.store) (ap (λ (slots : List Slot). length slots) c.loop-item.invariant.waits.store) c.in_err-rest.ensures.places)
 
 pub returns-in_err-left-clause-here : goal.returns-in_err-left-clause-here
 returns-in_err-left-clause-here g c = holds_on_err c.from_residual.result (λ none. here_kept (g.W.World.seen c.args.world.now) (g.W.World.seen c.take_kept.new.world) c.in_err-left.ensures.links)
 
 pub returns-in_err-rest-clause-here : goal.returns-in_err-rest-clause-here
 returns-in_err-rest-clause-here g c =
-    holds_on_err c.from_residual-in_err-rest.result (λ none. here_ends (g.W.World.seen c.args.world.now) (g.W.World.seen c.loop-item.world) (g.W.World.seen c.take_next.new.world) c.args.self.now.net c.in_err-rest.ensures.continues c.loop-item.invariant.here c.in_err-rest.ensures.no_point none)
+    holds_on_err c.from_residual-in_err-rest.result (λ none. here_ends (g.W.World.seen c.args.world.now) (g.W.World.seen c.loop-item.world) (g.W.World.seen c.take_next.new.world) c.args.self.now.net c.in_err-rest.ensures.continues c.loop-item.invariant.here (next_number (length c.args.self.now.store) (length c.loop-item.self.store) (ap (λ (slots : List Slot). length slots) c.loop-item.invariant.waits.store) c.in_err-rest.ensures.no_point) none)
 
 pub returns-in_err-left-clause-own : goal.returns-in_err-left-clause-own
 returns-in_err-left-clause-own g c = holds_on_err c.from_residual.result (here_kept (g.W.World.seen c.args.world.now) (g.W.World.seen c.take_kept.new.world) c.in_err-left.ensures.links).own
 
 pub returns-in_err-rest-clause-own : goal.returns-in_err-rest-clause-own
 returns-in_err-rest-clause-own g c =
-    holds_on_err c.from_residual-in_err-rest.result (λ told. calls_then (c.loop-item.invariant.here.own told) (c.in_err-rest.ensures.no_point.own told))
+    holds_on_err c.from_residual-in_err-rest.result (λ told. calls_then (c.loop-item.invariant.here.own told) ((next_number (length c.args.self.now.store) (length c.loop-item.self.store) (ap (λ (slots : List Slot). length slots) c.loop-item.invariant.waits.store) c.in_err-rest.ensures.no_point).own told))

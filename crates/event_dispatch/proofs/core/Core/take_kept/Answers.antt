@@ -1,5 +1,6 @@
 use Rattle.event_dispatch.specs.declared.fault.Fault.TheVariants as faults
-use Rattle.std.proofs.Common.{refl, sym, ◌∙◌}
+use Rattle.std.proofs.Common.{List, length, refl, sym, ap, ◌∙◌}
+use Rattle.checkpoint_store.specs.Slots.{Slot}
 use Rattle.outside.specs.laws.SeenLaws.{Continues-refl}
 use Rattle.event_dispatch.specs.laws.BatchLaws.{kept_at_first, kept_one_more, kept_line, kept_ends, kept_all}
 use Rattle.event_dispatch.specs.laws.PlainLaws.{kept_memory, kept_none}
@@ -9,7 +10,7 @@ use Rattle.event_dispatch.specs.Why.{IsReason}
 use Rattle.event_dispatch.specs.laws.ItemLaws.{kept_why}
 use Rattle.event_dispatch.specs.laws.WhyLaws.{continues_then}
 use Rattle.event_dispatch.specs.laws.TalkingLaws.{keeps_none, keeps_then}
-use Rattle.event_dispatch.specs.laws.SteadyLaws.{places_none, reads_none}
+use Rattle.event_dispatch.specs.laws.SteadyLaws.{places_none, reads_none, places_number}
 use Rattle.event_dispatch.specs.laws.BatchSteadyLaws.{links_none, links_then, taken_read, taken_waits, taken_places, taken_reads}
 use Rattle.event_dispatch.proofs.core.Core.take_kept.Goals as goal
 
@@ -37,8 +38,7 @@ returns-in_err-take_message-clause-why g c =
 
 pub loop-taken-init : goal.loop-taken-init
 loop-taken-init g c = record {
-  waits = record { room = refl; events = refl; done = refl; failed = refl; store = refl; left = λ none. none };
-  app = refl;
+  waits = record { room = refl; events = refl; store = refl; left = λ none. none };
   lines = refl;
   left = c.requires.none_left;
   read = c.requires.read;
@@ -56,7 +56,6 @@ loop-taken-preserved g c =
     let before = c.loop-taken.invariant in
     record {
       waits = taken_waits c.args.self.now c.loop-taken.self c.take_message.new.self c.waiting.new.self c.in_ok-dpid.ensures.rest before.waits since.waits;
-      app = since.app ∙ before.app;
       lines = kept_line _ _ _ (g.W.World.seen c.loop-taken.world) (g.W.World.seen c.take_message.new.world) c.loop-taken.self c.take_message.new.self c.waiting.new.self before.read (sym c.in-Some.is ∙ c.in_ok-dpid.ensures.first) c.as_slice.ensures since.takes ∙ before.lines;
       left = since.takes.handles.left;
       read = since.read (taken_read c.loop-taken.self.net c.waiting.new.self c.in_ok-dpid.ensures.rest before.read);
@@ -64,14 +63,14 @@ loop-taken-preserved g c =
       continues = continues_then g.W.World.Tells (g.W.World.seen c.args.world.now) (g.W.World.seen c.loop-taken.world) (g.W.World.seen c.take_message.new.world) before.continues since.continues;
       talks = keeps_then g.W.World.Tells (g.W.World.seen c.args.world.now) (g.W.World.seen c.loop-taken.world) (g.W.World.seen c.take_message.new.world) before.talks since.talks;
       links = links_then g.W.World.Tells (g.W.World.seen c.args.world.now) (g.W.World.seen c.loop-taken.world) (g.W.World.seen c.take_message.new.world) before.links since.links;
-      places = taken_places g.W.World.Tells (g.W.World.seen c.args.world.now) (g.W.World.seen c.loop-taken.world) (g.W.World.seen c.take_message.new.world) c.args.self.now.net c.loop-taken.self.net c.waiting.new.self c.in_ok-dpid.ensures.rest before.continues since.continues before.places before.reads since.places;
+      places = taken_places g.W.World.Tells (g.W.World.seen c.args.world.now) (g.W.World.seen c.loop-taken.world) (g.W.World.seen c.take_message.new.world) c.args.self.now.net c.loop-taken.self.net c.waiting.new.self c.in_ok-dpid.ensures.rest before.continues since.continues before.places before.reads (places_number (length c.args.self.now.store) (length c.loop-taken.self.store) (ap (λ (slots : List Slot). length slots) before.waits.store) since.places);
       reads = taken_reads g.W.World.Tells (g.W.World.seen c.args.world.now) (g.W.World.seen c.loop-taken.world) (g.W.World.seen c.take_message.new.world) c.args.self.now.net c.loop-taken.self.net c.waiting.new.self c.take_message.new.self.net c.in_ok-dpid.ensures.rest before.continues since.continues before.reads since.reads;
     }
 
 pub returns-in_err-take_message-clause-places : goal.returns-in_err-take_message-clause-places
 returns-in_err-take_message-clause-places g c =
     taken_places g.W.World.Tells (g.W.World.seen c.args.world.now) (g.W.World.seen c.loop-taken.world) (g.W.World.seen c.take_message.new.world) c.args.self.now.net c.loop-taken.self.net c.waiting.new.self c.in_ok-dpid.ensures.rest c.loop-taken.invariant.continues c.in_err-take_message.ensures.continues
-    c.loop-taken.invariant.places c.loop-taken.invariant.reads c.in_err-take_message.ensures.places
+    c.loop-taken.invariant.places c.loop-taken.invariant.reads (places_number (length c.args.self.now.store) (length c.loop-taken.self.store) (ap (λ (slots : List Slot). length slots) c.loop-taken.invariant.waits.store) c.in_err-take_message.ensures.places)
 
 pub returns-in_err-take_message-clause-links : goal.returns-in_err-take_message-clause-links
 returns-in_err-take_message-clause-links g c = links_then g.W.World.Tells (g.W.World.seen c.args.world.now) (g.W.World.seen c.loop-taken.world) (g.W.World.seen c.take_message.new.world) c.loop-taken.invariant.links c.take_message.ensures.links

@@ -5,7 +5,7 @@ use Rattle.app_frames.specs.declared.frame.Event.{Event}
 use Rattle.lego_model.specs.declared.fault.TxnFault.{TxnFault}
 use Rattle.net_txn.specs.Arriving.{Arrives}
 use Rattle.batch_laws.specs.laws.HandleLaws.{from_ignored}
-use Rattle.event_dispatch.specs.declared.run.Run.{Run}
+use Rattle.event_dispatch.specs.declared.core.Core.{Core}
 use Rattle.event_dispatch.specs.laws.BatchLaws.{takes_none, message_taken}
 use Rattle.event_dispatch.specs.laws.PlainLaws.{read_memory, read_arrived}
 use Rattle.event_dispatch.specs.laws.CutLaws.{if_err}
@@ -24,15 +24,15 @@ returns-then-not-is_joined-clause-takes g c =
 pub returns-clause-takes : goal.returns-clause-takes
 returns-clause-takes g c =
     let fit : IsBytes c.args.frame.now = search rules in
-    let arrived : Run = record c.args.self.now { net = c.arrived.new.self; queue = c.append.new.queue } in
+    let arrived : Core = record c.args.self.now { net = c.arrived.new.self; queue = c.append.new.queue } in
     message_taken c.args.dpid c.args.frame.now (g.W.World.seen c.args.world.now) (g.W.World.seen c.arrived.new.world) c.args.self.now arrived c.tell_lost.new.self c.in_ok-event.event c.requires.none_left (c.if-not-is_joined.ensures.joined refl) fit
     (subst (λ (r : Result (Option Event) TxnFault). Arrives g.W.World.Tells c.args.dpid c.args.frame.now (g.W.World.seen c.args.world.now) (g.W.World.seen c.arrived.new.world) c.args.self.now.net c.arrived.new.self r) c.in_ok-event.was c.arrived.ensures) c.in_ok-append.ensures refl c.in_ok-tell_lost.ensures.tells
 
 pub returns-clause-waits : goal.returns-clause-waits
 returns-clause-waits g c =
     let fit : IsBytes c.args.frame.now = search rules in
-    let arrived : Run = record c.args.self.now { net = c.arrived.new.self; queue = c.append.new.queue } in
-    waits_taken c.args.self.now arrived c.tell_lost.new.self c.in_ok-tell_lost.ensures.waits refl refl refl
+    let arrived : Core = record c.args.self.now { net = c.arrived.new.self; queue = c.append.new.queue } in
+    waits_taken c.args.self.now arrived c.tell_lost.new.self c.in_ok-tell_lost.ensures.waits refl refl
     (message_taken c.args.dpid c.args.frame.now (g.W.World.seen c.args.world.now) (g.W.World.seen c.arrived.new.world) c.args.self.now arrived c.tell_lost.new.self c.in_ok-event.event c.requires.none_left (c.if-not-is_joined.ensures.joined refl) fit
     (subst (λ (r : Result (Option Event) TxnFault). Arrives g.W.World.Tells c.args.dpid c.args.frame.now (g.W.World.seen c.args.world.now) (g.W.World.seen c.arrived.new.world) c.args.self.now.net c.arrived.new.self r) c.in_ok-event.was c.arrived.ensures) c.in_ok-append.ensures refl c.in_ok-tell_lost.ensures.tells)
 

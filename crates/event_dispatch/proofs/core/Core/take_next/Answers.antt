@@ -45,7 +45,6 @@ returns-in-End-clause-taken g c = record {
 pub returns-in_ok-take_item-in_default : goal.returns-in_ok-take_item-in_default
 returns-in_ok-take_item-in_default g c = record {
   waits = c.in_ok-take_item-in_default.ensures.waits;
-  app = c.in_ok-take_item-in_default.ensures.app;
   continues = continues_then g.W.World.Tells (g.W.World.seen c.args.world.now) (g.W.World.seen c.next_item.new.world) (g.W.World.seen c.take_item.new.world) c.in_ok-item.ensures.continues c.in_ok-take_item-in_default.ensures.continues;
   talks = keeps_then g.W.World.Tells (g.W.World.seen c.args.world.now) (g.W.World.seen c.next_item.new.world) (g.W.World.seen c.take_item.new.world) c.in_ok-item.ensures.talks c.in_ok-take_item-in_default.ensures.talks;
   places = handled_places g.W.World.Tells c.in_ok-item.item c.next_item.new.buf (g.W.World.seen c.args.world.now) (g.W.World.seen c.next_item.new.world) (g.W.World.seen c.take_item.new.world) c.args.self.now.net c.in_ok-item.ensures.nexts c.in_ok-take_item-in_default.ensures.continues c.in_ok-item.ensures.no_point c.in_ok-take_item-in_default.ensures.links c.in_ok-take_item-in_default.ensures.places;

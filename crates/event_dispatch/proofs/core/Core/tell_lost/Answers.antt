@@ -1,18 +1,10 @@
-use Rattle.std.proofs.Common.{rules, refl, sym, ◌∙◌}
+use Rattle.std.proofs.Common.{rules, sym, ◌∙◌}
 use Rattle.event_dispatch.specs.laws.LosingLaws.{tells_first, tells_next, tells_all, fewer_left, waits_next, waits_all}
 use Rattle.event_dispatch.proofs.core.Core.tell_lost.Goals as goal
 
 -- src/losing.rt:31:9
 pub loop-event-init : goal.loop-event-init
-loop-event-init c = record { waits = (search rules); app = refl; tells = tells_first c.args.self.now }
-
--- src/losing.rt:31:33
-pub returns-in_err-event-clause-app : goal.returns-in_err-event-clause-app
-returns-in_err-event-clause-app c = c.loop-event.invariant.app
-
--- src/losing.rt:32:13
-pub returns-in_err-note_loss-clause-app : goal.returns-in_err-note_loss-clause-app
-returns-in_err-note_loss-clause-app c = c.note_loss.ensures.app ∙ c.loop-event.invariant.app
+loop-event-init c = record { waits = (search rules); tells = tells_first c.args.self.now }
 
 -- src/losing.rt:31:9
 pub loop-event-smaller : goal.loop-event-smaller
@@ -22,22 +14,13 @@ loop-event-smaller c = fewer_left c.loop-event.self c.note_loss.new.self c.lost.
 pub loop-event-preserved : goal.loop-event-preserved
 loop-event-preserved c = record {
   waits = waits_next c.args.self.now c.loop-event.self c.note_loss.new.self c.lost.new.self c.push.new.self c.loop-event.invariant.waits c.in_ok-event.ensures.rest c.in_ok-note_loss.ensures.waits;
-  app = c.note_loss.ensures.app ∙ c.loop-event.invariant.app;
   tells = tells_next c.args.self.now c.loop-event.self c.note_loss.new.self c.lost.new.self c.push.new.self c.in-Some.event c.loop-event.invariant.tells (sym c.in-Some.is ∙ c.in_ok-event.ensures.first) c.in_ok-event.ensures.rest c.in_ok-note_loss.ensures.adds
       c.in_ok-push.ensures.ok;
 }
 
--- src/losing.rt:33:13
-pub returns-in_err-push-clause-app : goal.returns-in_err-push-clause-app
-returns-in_err-push-clause-app c = c.note_loss.ensures.app ∙ c.loop-event.invariant.app
-
 -- src/losing.rt:25:5
 pub returns-clause-waits : goal.returns-clause-waits
 returns-clause-waits c = waits_all c.args.self.now c.loop-event.self c.lost.new.self c.loop-event.invariant.waits c.in_ok-event.ensures.rest
-
--- src/losing.rt:25:5
-pub returns-clause-app : goal.returns-clause-app
-returns-clause-app c = c.loop-event.invariant.app
 
 -- src/losing.rt:25:5
 pub returns-clause-tells : goal.returns-clause-tells

@@ -1,4 +1,4 @@
-use Rattle.std.proofs.Common.{◌≡◌, length}
+use Rattle.std.proofs.Common.{length}
 use Rattle.event_dispatch.specs.Runs.{Waits}
 use Rattle.event_dispatch.specs.Shows.{TellsOn}
 use Rattle.event_dispatch.proofs.core.Core.tell_lost.Given as goal
@@ -6,7 +6,6 @@ use Rattle.event_dispatch.proofs.core.Core.tell_lost.Given as goal
 abbrev pub invariant-loop-event : goal.invariant-loop-event
 invariant-loop-event l = record {
   waits : Waits l.fn.self l.self;
-  app : l.self.app ≡ l.fn.self.app;
   tells : TellsOn l.fn.self l.self;
 }
 
