@@ -16,7 +16,6 @@ use Rattle.outside.specs.laws.CallLaws.{Ends-state}
 use Rattle.std.specs.List.{AllByRecursion}
 use Rattle.lego_model.specs.OrderlySteps.{IsOrderly}
 use Rattle.lego_model.specs.AtOnce.{AtOnce}
-use Rattle.switch_laws.specs.laws.OrderlyLaws.{orderly-then}
 use Rattle.journal_laws.specs.Readings.{ReadsSame, end_acts}
 use Rattle.lego_model.specs.History.{starts_in, replies_in, own_acts, given_in, stimuli_in, lost_of}
 use Rattle.journal_laws.specs.laws.ReadingLaws.{part_read}
@@ -39,28 +38,6 @@ asked-leaves number lost old new asked switches = record {
   switches = switches;
   at_once = asked.at_once;
   orderly = asked.orderly number;
-}
-
--- ---- One thing left, and then another, which loses no switch
-
-left-none : (d : ℕ) (s : State) → switch_left [] s d ≡ switch_of d s
-left-none d s = refl
-
-pub leaves-then : {Own : Type 0} (number : ℕ) (lost : List ℕ) (old mid new : Seen Own) → Leaves number lost old mid → Leaves number [] mid new → Leaves number lost old new
-leaves-then number lost old mid new first later = record {
-  given = later.given ∙ first.given;
-  told = λ app. record {
-    starts = (later.told app).starts ∙ (first.told app).starts;
-    replies = (later.told app).replies ∙ (first.told app).replies;
-    inputs = (later.told app).inputs ∙ (first.told app).inputs;
-  };
-  stimuli = later.stimuli ∙ first.stimuli;
-  released = later.released ∙ first.released;
-  lost_is = later.lost_is ∙ append-nil (lost_of mid) ∙ first.lost_is;
-  marks = later.marks ∙ first.marks;
-  switches = λ d. later.switches d ∙ left-none d (state mid) ∙ first.switches d;
-  at_once = λ app said. later.at_once app (first.at_once app said);
-  orderly = orderly-then number old mid new first.orderly later.orderly;
 }
 
 -- ---- The end of an application
