@@ -13,7 +13,7 @@ ghost use Rattle.journal_laws.specs.Readings.{LastStands};
 ghost use Rattle.batch_laws.specs.Calm.{Calm};
 ghost use Rattle.run_laws.specs.Engine.{Engine, Focus};
 ghost use Rattle.lego_model.specs.History.{own_acts};
-ghost use Rattle.run_laws.specs.Facts.{StartsAgain, Follows, TakesTurn, Dispatches};
+ghost use Rattle.run_laws.specs.Facts.{StartsAgain, Follows, TakesTurn, Dispatches, DispatchesTo, says_stop};
 ghost use Rattle.run_laws.specs.Moves.{Moves};
 ghost use Rattle.lego_model.specs.ReferenceRun.{dispatch_next};
 ghost use Rattle.run_laws.specs.Readings.{AreRead, JudgesAlike};
@@ -36,7 +36,7 @@ pub fn starts_move<W: World>()
 pub fn turns_move<W: World>()
     ensures { (accepts : List TableView → Bool) (allows : List Place → Bool) (event : Event) (text : List ℕ) (old new : Seen W.Own) (e now_e : Focus)
         → W.Tells → Conforming new → JudgesAlike W.Own allows accepts → AreRead W.Own e.index W.Tells accepts → e.events < 2 ^ 64 → LastStands (own_acts e.index old)
-        → Calm old e.net → TakesTurn W.Tells accepts event text old new e now_e → TurnMoves allows event text old new e now_e }
+        → Calm old e.net → (taken : TakesTurn W.Tells accepts event text old new e now_e) → TurnMoves allows event (says_stop taken.end) text old new e now_e }
 {}
 
 /// In a world that keeps its word: what the engine does at an event is what the reference controller does at it, and so it is
