@@ -93,7 +93,7 @@ names-first i known [] ys are = tt
 names-first i known (a ∷ xs) ys are = (are.0, names-first (i + 1) known xs ys are.1)
 
 -- what is said of the rules tells how many there are
-same-number : (xs ys : List Application) → map (λ a. a.rule) xs ≡ map (λ a. a.rule) ys → length xs ≡ length ys
+pub same-number : (xs ys : List Application) → map (λ a. a.rule) xs ≡ map (λ a. a.rule) ys → length xs ≡ length ys
 same-number xs ys same = sym (length-map (λ (a : Application). a.rule) xs) ∙ ap (λ (rules : List AppValue). length rules) same ∙ length-map (λ (a : Application). a.rule) ys
 
 -- ---- An event that is offered to the first applications
