@@ -27,11 +27,8 @@ use Rattle.switch_laws.specs.Orderly.{OrderlySince}
 use Rattle.switch_laws.specs.Since.{ports_known}
 use Rattle.switch_laws.specs.Sound.{Sound}
 use Rattle.switch_laws.specs.laws.OrderlyLaws.{orderly-whole}
-use Rattle.journal_laws.specs.Readings.{LastStands}
 use Rattle.lego_model.specs.History.{starts_in, replies_in, own_acts, given_in, stimuli_in, points_in}
 use Rattle.journal_laws.specs.laws.CallLaws.{inputs_own}
-use Rattle.journal_laws.specs.laws.AtOnceLaws.{Dialogue-append, others_say}
-use Rattle.lego_model.specs.AtOnce.{at_first, Dialogue}
 use Rattle.batch_laws.specs.Knowledge.{knowledge_of}
 use Rattle.batch_laws.specs.Calm.{Calm}
 use Rattle.batch_laws.specs.Batches.{Standing}
@@ -46,6 +43,7 @@ use Rattle.lego_model.specs.ReferenceRun.{Said, text_of}
 use Rattle.run_laws.specs.LinkSteps.{Silent}
 use Rattle.run_laws.specs.Moves.{TellsMore, IsAtRest, AtRest, Moved, OneHappens}
 use Rattle.run_laws.specs.laws.MoveLaws.{apps-ext, behind-none}
+use Rattle.run_laws.specs.laws.OtherLaws.{silent-rests}
 use Rattle.run_laws.specs.laws.PointLaws.{marks_more, mark_alike}
 use Rattle.run_laws.specs.laws.FinishLaws.{shown-still}
 
@@ -219,25 +217,10 @@ silent-since i number old new since own =
       none = append_cancel_left (own_acts i old) (filter (is_of i) (journal since.steps)) [] (sym more ∙ own ∙ sym (append-nil (own_acts i old)));
     }
 
-rest-still : {Own : Type 0} (i : ℕ) (old new : Seen Own) (a : Application) → own_acts i new ≡ own_acts i old → Silent i old new → IsAtRest old i a → IsAtRest new i a
-rest-still i old new a own silent rest =
-    let said = rest.at_once in
-    let longer : journal new.history ≡ journal old.history ++ journal silent.steps = ap (λ (h : List WorldStep). journal h) silent.history ∙ journal-append old.history silent.steps in
-    let last = record said.last { since = said.last.since ++ journal silent.steps } in
-    record {
-      life = λ alive. subst LastStands (sym own) (rest.life alive);
-      at_once = record {
-        last = last;
-        dialogue = subst (λ (acts : List Act). Dialogue i at_first acts last) (sym longer)
-            (Dialogue-append i (journal old.history) (journal silent.steps) at_first said.last last said.dialogue (others_say i (journal silent.steps) said.last silent.none));
-      };
-      rest_is = rest.rest_is;
-    }
-
 pub each-still : {Own : Type 0} (i number : ℕ) (old new : Seen Own) (apps : List Application) → OrderlySince number old new → ((j : ℕ) → own_acts j new ≡ own_acts j old) → EachFrom (IsAtRest old) i apps → EachFrom (IsAtRest new) i apps
 each-still i number old new [] since own each = tt
 each-still i number old new (a ∷ more) since own each =
-    (rest-still i old new a (own i) (silent-since i number old new since (own i)) each.0, each-still (i + 1) number old new more since own each.1)
+    (silent-rests i a old new (silent-since i number old new since (own i)) each.0, each-still (i + 1) number old new more since own each.1)
 
 -- what is so of the applications then
 talks-still : {Own : Type 0} (old new : Seen Own) (e : Engine) (net : NetState) (queue : List Event) → AtRest old e → ((i : ℕ) → own_acts i new ≡ own_acts i old) → Calm new net → OrderlySince (length e.apps) old new → AtRest new (engine_then e net queue)
