@@ -53,7 +53,7 @@ record IsEnd (app of : ℕ) (running : Bool) : Type 0 where
   switches : (d : ℕ) (s : State) → switch_of d (after_steps (end_steps app running) s) ≡ switch_of d s
   orderly : (number : ℕ) → app < number → AllByRecursion (IsOrderly number) (end_steps app running)
 
-none_either : (b : Bool) → [] ≡ (if b then [] else [])
+none_either : (b : Bool) → ◌≡◌ {A = List Act} [] (if b then [] else [])
 none_either true = refl
 none_either false = refl
 
