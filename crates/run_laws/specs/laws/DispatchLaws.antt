@@ -94,7 +94,7 @@ names-first i known (a ∷ xs) ys are = (are.0, names-first (i + 1) known xs ys 
 
 -- what is said of the rules tells how many there are
 pub same-number : (xs ys : List Application) → map (λ a. a.rule) xs ≡ map (λ a. a.rule) ys → length xs ≡ length ys
-same-number xs ys same = sym (length-map (λ (a : Application). a.rule) xs) ∙ ap (λ (rules : List AppValue). length rules) same ∙ length-map (λ (a : Application). a.rule) ys
+same-number xs ys same = sym (length-map xs (λ a. a.rule)) ∙ ap (λ (rules : List AppValue). length rules) same ∙ length-map ys (λ a. a.rule)
 
 -- ---- An event that is offered to the first applications
 
@@ -135,7 +135,7 @@ module _ {Own : Type 0} (allows : List Place → Bool) (event : Event) (f : Run 
         places = g.shares.places;
         queue = g.shares.queue_is;
         events = g.shares.events_is ∙ sym events_is;
-        apps = ap₂ (λ (as bs : List App). as ++ bs) g.apps_is
+        apps = ap₂ (λ (firsts others : List App). firsts ++ others) g.apps_is
             (apps-ext (0 + length xs) old new ys said left (λ j le. (silent-given j old new (m.still j (λ least less. omega (arith, le, less))), sym (ap (λ (t : Said). left_behind t (said j)) (m.untold j (λ least less. omega (arith, le, less))))))
             ∙ ap (λ (n : ℕ). apps_from (0 + n) new ys left) (sym same))
             ∙ sym (apps-both 0 new front ys left) ∙ ap (λ (all : List Application). apps_from 0 new all left) (sym now_apps_are);
