@@ -1,6 +1,6 @@
 -- Laws of steps in order in a run: no call of a link failed but by the loss of its switch where calls for an application, turns with the release of their packets, starts
 -- and the end of the report succeed.
-use Rattle.std.proofs.Common.{◌≡◌, ◌==◌, ◌<◌, ℕ, suc, zero, ◌+◌, Bool, true, false, List, [], ◌∷◌, ◌++◌, length, map, Option, Ok, ap, ◌∙◌, refl, sym, subst, true≢false, inl, inr}
+use Rattle.std.proofs.Common.{◌≡◌, ◌==◌, ◌<◌, ℕ, suc, zero, ◌+◌, Bool, true, List, [], ◌∷◌, ◌++◌, length, map, Option, Ok, ap, ◌∙◌, refl, sym, subst, true≢false, inl, inr}
 use Rattle.std.specs.List.{AllByRecursion}
 use Rattle.std.proofs.lemmas.Bool.{eq-eqb, eqb-true}
 use Rattle.of_types.specs.declared.journal.Act.{Act}
@@ -115,7 +115,7 @@ follows-orderly Tells accepts number policy.None text old new e now_e told small
 follows-orderly Tells accepts number policy.Absolute text old new e now_e told small reads s = starts-orderly Tells accepts number text old new e now_e told small reads s
 follows-orderly Tells accepts number policy.Equivalence text old new e now_e told small reads s = starts-orderly Tells accepts number text old new e now_e told small reads s
 
-starts-continue : {Own : Type 0} (Tells : Type 0) (text : List ℕ) (old new : Seen Own) (e now_e : Focus) → StartsAgain Tells text old new e now_e → Continues Tells old new
+pub starts-continue : {Own : Type 0} (Tells : Type 0) (text : List ℕ) (old new : Seen Own) (e now_e : Focus) → StartsAgain Tells text old new e now_e → Continues Tells old new
 starts-continue Tells text old new e now_e s = tries_continue Tells e.index e.kept attempts s.restarts.all old new s.restarts.are
 
 follows-continue : {Own : Type 0} (Tells : Type 0) (rule : Policy) (text : List ℕ) (old new : Seen Own) (e now_e : Focus) → Follows Tells rule text old new e now_e → Continues Tells old new
@@ -140,6 +140,13 @@ closed-continues Tells kind (ends.Done stop) checkpoint unread text start mid ne
 closed-continues Tells kind (ends.Failed cause) checkpoint unread text start mid new mid_net e now_e closed =
     Continues-trans Tells mid closed.undone new closed.undoes.continues
     (follows-continue Tells (rule_at e.rule kind) closed.later_text closed.undone new (all_told closed.undone_net e.queue (record e { rest = []; failed = e.failed + 1 })) now_e closed.follows)
+
+-- the history goes on by it
+pub turn-continues : {Own : Type 0} (Tells : Type 0) (accepts : List TableView → Bool) (event : Event) (text : List ℕ) (old new : Seen Own) (e now_e : Focus) → TakesTurn Tells accepts event text old new e now_e → Continues Tells old new
+turn-continues Tells accepts event text old new e now_e turn =
+    let trace = Talk (give_act turn.turns.given e.index (event_frame e.events e.net.moment event)) ∷ turn.turns.trace in
+    Continues-trans Tells old turn.mid new (Chain-continues Tells e.index trace old turn.mid e.net turn.mid_net turn.turns.chain)
+    (closed-continues Tells event.kind turn.end (handed turn.turns.outcome) turn.unread text (length e.net.log) turn.mid new turn.mid_net e now_e turn.closed)
 
 pub turn-orderly : {Own : Type 0} (Tells : Type 0) (accepts : List TableView → Bool) (number : ℕ) (event : Event) (text : List ℕ) (old new : Seen Own) (e now_e : Focus) → Tells → e.index < number → Conforming new → Calm old e.net → AreRead Own e.index Tells accepts → TakesTurn Tells accepts event text old new e now_e → OrderlySince number old new
 turn-orderly Tells accepts number event text old new e now_e told small keeps calm reads turn =
