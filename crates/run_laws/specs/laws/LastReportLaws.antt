@@ -65,7 +65,7 @@ use Rattle.run_laws.specs.laws.LinkStepLaws.{link_steps-tell}
 use Rattle.run_laws.specs.LinkSteps.{TellsSame}
 use Rattle.batch_laws.specs.laws.KeepingLaws.{Conforming-in_order, calls-orderly}
 use Rattle.run_laws.specs.Whole.{at_last}
-use Rattle.run_laws.specs.LastReport.{SameKeys, flow_lines, table_lines, place_lines, shown_text, last_text, last_lines, OnlyAsked, JoinedWith, app_lines, engine_end}
+use Rattle.run_laws.specs.LastReport.{SameKeys, flow_lines, table_lines, place_lines, shown_text, last_text, last_lines, OnlyAsked, JoinedWith, app_lines}
 use Rattle.batch_laws.specs.laws.PortTellLaws.{some_is_none}
 
 -- ---- A switch

@@ -1,5 +1,5 @@
 -- Laws of parts of runs: one behind another is a part, and so is one that does nothing.
-use Rattle.std.proofs.Common.{◌≡◌, ℕ, ◌+◌, ◌≤◌, Bool, List, [], ◌∷◌, ◌++◌, length, drop, refl, sym, ap, ap₂, ◌∙◌, subst, arith}
+use Rattle.std.proofs.Common.{◌≡◌, ℕ, ◌+◌, ◌≤◌, Bool, List, [], ◌∷◌, ◌++◌, refl, sym, ap, ap₂, ◌∙◌, subst, arith}
 use Rattle.std.proofs.lemmas.List.{append-nil, append_assoc}
 use Rattle.of_types.specs.declared.journal.WorldStim.{WorldStim}
 use Rattle.lego_model.specs.Journal.{Reply, Start}
@@ -15,7 +15,7 @@ use Rattle.lego_model.specs.History.{starts_in, replies_in, own_acts, given_in, 
 use Rattle.run_laws.specs.Engine.{Application, Engine, Stands, ahead, app_with, apps_from, rules_of, told_none, told_then, behind, left_behind, both_told}
 use Rattle.lego_model.specs.Application.{names}
 use Rattle.lego_model.specs.ReferenceRun.{Said, text_of, AreFrontsOf}
-use Rattle.run_laws.specs.Moves.{TellsMore, AtRest, Moves, Moved, Shown}
+use Rattle.run_laws.specs.Moves.{AtRest, Moves, Moved, Shown}
 
 -- those of one part, and then those of the next
 pub ahead-then : (bs cs : List Bool) (ts us : List TurnLosses) (later : Losses) → ahead (bs ++ cs) (ts ++ us) later ≡ ahead bs ts (ahead cs us later)

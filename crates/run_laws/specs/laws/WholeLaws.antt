@@ -1,5 +1,5 @@
 -- What a whole run comes to: the run of the reference controller over what the world told, and over all of which that is the front.
-use Rattle.std.proofs.Common.{◌≡◌, ℕ, Bool, List, [], ◌∷◌, ◌++◌, filter, refl, sym, ap, ◌∙◌, subst}
+use Rattle.std.proofs.Common.{◌≡◌, ℕ, Bool, List, [], ◌++◌, filter, refl, sym, ap, ◌∙◌, subst}
 use Rattle.of_types.specs.declared.journal.Act.{Act}
 use Rattle.of_types.specs.declared.journal.WorldStim.{WorldStim}
 use Rattle.flow_table.specs.Switch.{Declared}
@@ -12,7 +12,7 @@ use Rattle.lego_model.specs.Losses.{Losses}
 use Rattle.lego_model.specs.Controller.{App, Run, reference}
 use Rattle.outside.specs.Seen.{Given, Seen}
 use Rattle.lego_model.specs.History.{starts_in, replies_in, own_acts, stimuli_in}
-use Rattle.run_laws.specs.Engine.{Engine, Stands, ahead, behind, rules_of}
+use Rattle.run_laws.specs.Engine.{Engine, Stands, ahead, behind}
 use Rattle.lego_model.specs.Application.{names}
 use Rattle.lego_model.specs.ReferenceRun.{Said, text_of, told_of, fresh_from, before_start, reference_said, AreFrontsOf, AreSaid}
 use Rattle.run_laws.specs.Moves.{TellsMore, Moves}
