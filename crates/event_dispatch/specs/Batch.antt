@@ -17,9 +17,9 @@ use Rattle.batch_laws.specs.Items.{Enters, Handles, TakesNext}
 use Rattle.batch_laws.specs.InBatch.{BatchEnds, BatchOver, SoFar}
 use Rattle.event_dispatch.specs.declared.batch.Rest.{Rest}
 use Rattle.event_dispatch.specs.declared.batch.Rest.TheVariants as rests
-use Rattle.event_dispatch.specs.declared.run.Run.{Run}
+use Rattle.event_dispatch.specs.declared.core.Core.{Core}
 
-abbrev pub standing_of : {Own : Type 0} → Seen Own → Run → Standing Own
+abbrev pub standing_of : {Own : Type 0} → Seen Own → Core → Standing Own
 standing_of seen run = record { seen = seen; net = run.net; queue = run.queue; text = run.lines.items }
 
 -- ---- Why bytes were not read
@@ -31,13 +31,13 @@ of_memory other = false
 -- ---- An item
 
 -- it was handled, and this text noted
-pub record TakesItem {Own : Type 0} (Tells : Type 0) (item : WorldStep) (old new : Seen Own) (run now_run : Run) : Type 0 where
+pub record TakesItem {Own : Type 0} (Tells : Type 0) (item : WorldStep) (old new : Seen Own) (run now_run : Core) : Type 0 where
   pub text : List ℕ
   pub handles : Handles Tells item text old new run.net now_run.net run.queue now_run.queue
   pub lines : now_run.lines.items ≡ run.lines.items ++ text
 
 -- it joined or was lost, and this text noted
-pub record TakesJoin {Own : Type 0} (Tells : Type 0) (d : ℕ) (m : Message) (old new : Seen Own) (run now_run : Run) : Type 0 where
+pub record TakesJoin {Own : Type 0} (Tells : Type 0) (d : ℕ) (m : Message) (old new : Seen Own) (run now_run : Core) : Type 0 where
   pub text : List ℕ
   pub enters : Enters Tells d m text old new run.net now_run.net run.queue now_run.queue
   pub lines : now_run.lines.items ≡ run.lines.items ++ text
@@ -49,7 +49,7 @@ rest_by items.Idle = Some rests.Idle
 rest_by items.End = Some rests.End
 rest_by other = None
 
-pub record NextTaken {Own : Type 0} (Tells : Type 0) (rest : Option Rest) (old new : Seen Own) (run now_run : Run) : Type 0 where
+pub record NextTaken {Own : Type 0} (Tells : Type 0) (rest : Option Rest) (old new : Seen Own) (run now_run : Core) : Type 0 where
   pub item : Item
   pub text : List ℕ
   pub takes : TakesNext Tells item text old new run.net now_run.net run.queue now_run.queue
@@ -63,24 +63,24 @@ abbrev pub as_told : List (ℕ × List ℕ) → List WorldStep
 as_told messages = map (λ m. From m.0 m.1) messages
 
 -- In every world: these were taken, oldest first, and the others are kept still. None of them is an ECHO_REQUEST, so that no switch is lost.
-pub record TakesFirst (taken : List (ℕ × List ℕ)) (run now_run : Run) : Type 0 where
+pub record TakesFirst (taken : List (ℕ × List ℕ)) (run now_run : Core) : Type 0 where
   pub kept_is : run.net.kept ≡ taken ++ now_run.net.kept
   pub knowledge : knowledge_of now_run.net now_run.queue ≡ handled_all (as_told taken) (knowledge_of run.net run.queue)
 
 -- where there is none, nothing is done
 
-abbrev pub IsAsBefore : {Own : Type 0} → Seen Own → Seen Own → Run → Run → Type 0
+abbrev pub IsAsBefore : {Own : Type 0} → Seen Own → Seen Own → Core → Core → Type 0
 IsAsBefore old new run now_run = (new ≡ old) × (now_run.net ≡ run.net) × (now_run.queue ≡ run.queue) × (now_run.lines.items ≡ run.lines.items)
 
 -- after so many of them
-pub record KeptSoFar {Own : Type 0} (n : ℕ) (old new : Seen Own) (run now_run : Run) : Type 0 where
+pub record KeptSoFar {Own : Type 0} (n : ℕ) (old new : Seen Own) (run now_run : Core) : Type 0 where
   pub taken : List (ℕ × List ℕ)
   pub number_is : length taken ≡ n
   pub first : TakesFirst taken run now_run
   pub none : run.net.kept ≡ [] → (n ≡ 0) × IsAsBefore old new run now_run
 
 -- and then, with how many items the batch can still have: all of them, or as many as a batch can have
-pub record TakesKept {Own : Type 0} (left : ℕ) (old new : Seen Own) (run now_run : Run) : Type 0 where
+pub record TakesKept {Own : Type 0} (left : ℕ) (old new : Seen Own) (run now_run : Core) : Type 0 where
   pub taken : List (ℕ × List ℕ)
   pub first : TakesFirst taken run now_run
   pub all : (now_run.net.kept ≡ []) ⊎ ((1000000 ≤ length taken) × (left ≡ 0))
@@ -88,7 +88,7 @@ pub record TakesKept {Own : Type 0} (left : ℕ) (old new : Seen Own) (run now_r
 
 -- In every world: a batch begins with the messages that were kept, oldest first, and then come the items that are told, at each of which its
 -- switch may be lost. Only where more were kept than a batch can have items are some of them not taken.
-pub record KeptComesFirst (run now_run : Run) : Type 0 where
+pub record KeptComesFirst (run now_run : Core) : Type 0 where
   pub taken : List (ℕ × List ℕ)
   pub others : List (ℕ × List ℕ)
   pub told : List WorldStep
@@ -98,7 +98,7 @@ pub record KeptComesFirst (run now_run : Run) : Type 0 where
 
 -- ---- A batch, after so many items
 
-pub record BatchGoes {Own : Type 0} (Tells : Type 0) (n : ℕ) (old new : Seen Own) (run now_run : Run) : Type 0 where
+pub record BatchGoes {Own : Type 0} (Tells : Type 0) (n : ℕ) (old new : Seen Own) (run now_run : Core) : Type 0 where
   pub so_far : Tells → Conforming new → Calm old run.net → SoFar n (standing_of old run) (standing_of new now_run)
 
 -- ---- A batch that is over: one stimulus was begun and its items were told, or nothing is to come
@@ -107,5 +107,5 @@ abbrev pub BatchBy : {Own : Type 0} → Rest → Standing Own → Standing Own �
 BatchBy rests.Idle first now = (x : WorldStim) × BatchEnds x first now
 BatchBy rests.End first now = BatchOver first now
 
-pub record BatchShown {Own : Type 0} (Tells : Type 0) (rest : Rest) (old new : Seen Own) (run now_run : Run) : Type 0 where
+pub record BatchShown {Own : Type 0} (Tells : Type 0) (rest : Rest) (old new : Seen Own) (run now_run : Core) : Type 0 where
   pub shown : Tells → Conforming new → Calm old run.net → BatchBy rest (standing_of old run) (standing_of new now_run)

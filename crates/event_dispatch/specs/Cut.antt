@@ -1,35 +1,43 @@
 -- A run that a fault ends, in the words of what is seen and kept: the parts that were done, and what was written of the one that was not,
 -- which goes on with the dialogue with the application and leaves no quiescent point behind it. All of this is our own.
-use Rattle.std.specs.Prelude.{◌≡◌, ℕ, ◌≤◌, ◌⊎◌, Bool, true, List, [], Option, Result, Ok, Err}
+use Rattle.std.specs.Prelude.{◌≡◌, ℕ, ◌≤◌, ◌⊎◌, Bool, true, false, List, [], ◌∷◌, ◌++◌, length, take, drop, map, Option, Result, Ok, Err}
+use Rattle.std.specs.List.{list_any}
+use Rattle.app_frames.specs.declared.frame.Event.{Event}
 use Rattle.lego_io.specs.Sink.{TookPart}
 use Rattle.flow_table.specs.View.{TableView}
-use Rattle.outside.specs.Seen.{Seen, Continues}
+use Rattle.outside.specs.Seen.{Seen, Continues, journal}
 use Rattle.outside.specs.Conforming.{Conforming}
 use Rattle.outside.specs.InOrder.{InOrder, BringMessages, MessagesSince}
 use Rattle.net_txn.specs.Net.{NetState}
 use Rattle.net_txn.specs.Abreast.{Abreast}
-use Rattle.app_visor.specs.CallsFor.{CallsFor}
+use Rattle.app_visor.specs.CallsFor.{CalmLater}
+use Rattle.run_laws.specs.Cut.{CallsAmong}
+use Rattle.switch_laws.specs.Since.{Ready}
+use Rattle.lego_model.specs.AtOnce.{AtOnce}
+use Rattle.lego_model.specs.AfterFault.{TablesLeft}
 use Rattle.batch_laws.specs.Calm.{Calm}
 use Rattle.run_laws.specs.Engine.{Engine}
-use Rattle.run_laws.specs.Facts.{takes_next}
-use Rattle.lego_model.specs.Application.{index}
-use Rattle.run_laws.specs.Moves.{Shown}
+use Rattle.run_laws.specs.Facts.{is_taking, Offers, DispatchesTo}
+use Rattle.run_laws.specs.Moves.{IsAtRest, Shown}
 use Rattle.lego_model.specs.ReferenceRun.{dispatch_next}
-use Rattle.run_laws.specs.Endings.{Leaves, ShownStart}
+use Rattle.run_laws.specs.Endings.{Leaves as LeavesAsBefore, ShownStart}
 use Rattle.run_laws.specs.LastReport.{last_text}
 use Rattle.event_dispatch.specs.declared.batch.Rest.{Rest}
 use Rattle.event_dispatch.specs.declared.fault.Fault.{Fault}
 use Rattle.event_dispatch.specs.declared.fault.Fault.TheVariants as faults
+use Rattle.event_dispatch.specs.declared.core.Core.{Core}
+use Rattle.event_dispatch.specs.declared.run.Managed.{Managed}
 use Rattle.event_dispatch.specs.declared.run.Run.{Run}
 use Rattle.event_dispatch.specs.declared.served.Served.{Served}
 use Rattle.event_dispatch.specs.declared.served.Served.TheVariants as served
 use Rattle.event_dispatch.specs.Why.{served_by}
-use Rattle.event_dispatch.specs.Shows.{engine_of}
+use Rattle.event_dispatch.specs.Shows.{application_of, engine_with, engine_of}
 use Rattle.event_dispatch.specs.Talking.{KeepsTalking, GoesOnTalking}
 use Rattle.event_dispatch.specs.Steady.{Reads, NoPoint, AtMostThisPoint, NoneMoves}
 use Rattle.event_dispatch.specs.Undone.{IsShort, DispatchLeft}
 use Rattle.std.specs.Io.KnownBytes.{append_known}
-use Rattle.event_dispatch.specs.Serves.{Writes, DispatchesSome, IsBatch, GoesRounds, GoesToEnd, Begins}
+use Rattle.event_dispatch.specs.Plain.{PlainTurn}
+use Rattle.event_dispatch.specs.Serves.{stand, Writes, DispatchesSome, IsBatch, GoesRounds, GoesToEnd, Begins}
 
 -- Nothing was written, and it was not the sink that failed.
 abbrev pub IsStill : Fault → Option (List ℕ) → Option (List ℕ) → Type 0
@@ -46,23 +54,68 @@ pub record EventPart {Own : Type 0} (Tells : Type 0) (accepts : List TableView �
   pub reads : Reads Tells old new e.net now_engine.net
   pub part : TookPart contents now_contents more
 
--- what is wrong with the outside ends the dispatch of an event only where the application has a turn at it
+-- what is wrong with the outside ends the dispatch of an event only where an application has a turn at it
 abbrev pub IsOfTurn : Fault → Bool → Type 0
 IsOfTurn faults.Next takes = takes ≡ true
 IsOfTurn (faults.Txn fault) takes = takes ≡ true
 IsOfTurn other takes = Unit {0}
 
--- a fault ended the dispatch of an event, at which the application has a turn or has not: it goes on with the dialogue up to there, and what
--- it leaves of the tables
-pub record FailsIn {Own : Type 0} (Tells : Type 0) (fault : Fault) (takes : Bool) (old new : Seen Own) (e : Engine) : Type 0 where
+-- a fault ended what one application was to have of an event: it goes on with the dialogue with it, and what it leaves of the tables; or there was
+-- no turn, and nothing was done
+pub record OfferFails {Own : Type 0} (Tells : Type 0) (fault : Fault) (event : Event) (old new : Seen Own) (c : Core) (m : Managed) : Type 0 where
+  pub talks : Tells → IsAtRest old m.state.index (application_of c.store m) → AtOnce m.state.index (journal new.history)
+  pub of_turn : IsOfTurn fault (is_taking event (application_of c.store m))
+  pub left : Tells → Conforming old → InOrder new → Ready old c.net → IsAtRest old m.state.index (application_of c.store m) → TablesLeft m.state.index m.rule.now.budget (IsShort fault) old new
+  pub later : Tells → CalmLater m.state.index old new
+  pub plain : PlainTurn Tells old new c.net fault
+
+-- a fault ended the dispatch of an event behind some turns at it: it goes on with the dialogues up to there, and what it leaves of the tables
+pub record StopsWithin {Own : Type 0} (Tells : Type 0) (fault : Fault) (old new : Seen Own) (e : Engine) : Type 0 where
   pub talks : GoesOnTalking Tells old new e
-  pub of_turn : IsOfTurn fault takes
   pub left : DispatchLeft Tells (IsShort fault) old new e
+  pub here : AtMostThisPoint Tells (length e.apps) old new
+  pub plain : PlainTurn Tells old new e.net fault
+
+-- an event was given to so many of the first applications, and then a fault ended it
+pub record OffersFail {Own : Type 0} (Tells : Type 0) (accepts : List TableView → Bool) (fault : Fault) (event : Event) (old new : Seen Own) (c : Core) (apps : List Managed) : Type 0 where
+  pub number : ℕ
+  pub mid : Seen Own
+  pub mid_core : Core
+  pub mid_apps : List Managed
+  pub on : Continues Tells old mid
+  pub text : List ℕ
+  pub front : List Managed
+  pub offers : Offers Tells accepts event c.events 0 (map (application_of c.store) (take number apps)) text (stand old c) (stand mid mid_core) (map (application_of mid_core.store) front) false
+  pub apps_are : map (application_of mid_core.store) mid_apps ≡ map (application_of mid_core.store) front ++ map (application_of c.store) (drop number apps)
+  pub events_is : mid_core.events ≡ c.events
+  pub of_turn : IsOfTurn fault (list_any (λ m. is_taking event (application_of c.store m)) apps)
+  pub reads : Reads Tells old mid c.net mid_core.net
+  pub later : Continues Tells mid new
+  pub within : StopsWithin Tells fault mid new (engine_with mid_core mid_apps)
+
+-- the same of the engine
+pub record FailsIn {Own : Type 0} (Tells : Type 0) (accepts : List TableView → Bool) (fault : Fault) (event : Event) (old new : Seen Own) (e : Engine) : Type 0 where
+  pub number : ℕ
+  pub mid : Seen Own
+  pub mid_engine : Engine
+  pub on : Continues Tells old mid
+  pub given : DispatchesTo Tells accepts event number old mid e mid_engine
+  pub of_turn : IsOfTurn fault (list_any (is_taking event) e.apps)
+  pub reads : Reads Tells old mid e.net mid_engine.net
+  pub later : Continues Tells mid new
+  pub within : StopsWithin Tells fault mid new mid_engine
+
+-- so it was with the oldest of the events that wait, if one waits
+pub record FailsNext {Own : Type 0} (Tells : Type 0) (accepts : List TableView → Bool) (fault : Fault) (old new : Seen Own) (e : Engine) : Type 0 where
+  pub event : Event
+  pub queue : List Event
+  pub waits : e.queue ≡ event ∷ queue
+  pub fails : FailsIn Tells accepts fault event old new (record e { queue = queue })
 
 -- a fault ended its dispatch, or it was that
 abbrev pub CutOne : {Own : Type 0} → Type 0 → (List TableView → Bool) → Fault → Option (List ℕ) → Option (List ℕ) → Seen Own → Seen Own → Engine → Type 0
 CutOne Tells accepts faults.Write contents now_contents old new e = EventPart Tells accepts contents now_contents old new e
-CutOne Tells accepts other contents now_contents old new e = (now_contents ≡ contents) × FailsIn Tells other (takes_next e e.queue) old new e × AtMostThisPoint Tells old new
+CutOne Tells accepts other contents now_contents old new e = (now_contents ≡ contents) × FailsNext Tells accepts other old new e
 
 -- so many were settled before it
 pub record CutSome {Own : Type 0} (Tells : Type 0) (accepts : List TableView → Bool) (fault : Fault) (contents now_contents : Option (List ℕ)) (old new : Seen Own) (r : Run) : Type 0 where
@@ -73,7 +126,7 @@ pub record CutSome {Own : Type 0} (Tells : Type 0) (accepts : List TableView →
   pub few : number ≤ 999
   pub on : Continues Tells old mid
   pub some : DispatchesSome Tells accepts number contents held old mid r mid_run
-  pub reads : Reads Tells old mid r.net mid_run.net
+  pub reads : Reads Tells old mid r.core.net mid_run.core.net
   pub later : Continues Tells mid new
   pub one : CutOne Tells accepts fault held now_contents mid new (engine_of mid_run)
 
@@ -89,7 +142,7 @@ pub record CutBehind {Own : Type 0} (Tells : Type 0) (accepts : List TableView �
   pub first : Continues Tells old mid
   pub batch : IsBatch Tells rest noted old mid (engine_of r) (engine_of mid_run)
   pub written : held ≡ append_known contents noted
-  pub reads : Reads Tells old mid r.net mid_run.net
+  pub reads : Reads Tells old mid r.core.net mid_run.core.net
   pub later : Continues Tells mid new
   pub some : CutSome Tells accepts fault held now_contents mid new mid_run
 
@@ -100,7 +153,7 @@ pub record LossPart {Own : Type 0} (Tells : Type 0) (contents now_contents : Opt
   pub now_run : Run
   pub batch : IsBatch Tells rest noted old new (engine_of r) (engine_of now_run)
   pub some : noted ≡ [] → ⊥
-  pub reads : Reads Tells old new r.net now_run.net
+  pub reads : Reads Tells old new r.core.net now_run.core.net
   pub part : TookPart contents now_contents noted
 
 abbrev pub CutNoted : {Own : Type 0} → Type 0 → Fault → Option (List ℕ) → Option (List ℕ) → Seen Own → Seen Own → Run → Type 0
@@ -108,13 +161,13 @@ CutNoted Tells faults.Write contents now_contents old new r = LossPart Tells con
 CutNoted Tells other contents now_contents old new r = ⊥
 
 -- it ended the batch, where no quiescent point lies behind, if nothing was kept before it
-pub record StopsBatch {Own : Type 0} (Tells : Type 0) (old new : Seen Own) (net : NetState) : Type 0 where
-  pub here : net.kept ≡ [] → AtMostThisPoint Tells old new
-  pub own : Tells → CallsFor index old new
+pub record StopsBatch {Own : Type 0} (Tells : Type 0) (number : ℕ) (old new : Seen Own) (net : NetState) : Type 0 where
+  pub here : net.kept ≡ [] → AtMostThisPoint Tells number old new
+  pub own : Tells → CallsAmong number old new
 
 -- the one or the other, or the sink failed at what the batch noted
 abbrev pub CutRound : {Own : Type 0} → Type 0 → (List TableView → Bool) → Fault → Option (List ℕ) → Option (List ℕ) → Seen Own → Seen Own → Run → Type 0
-CutRound Tells accepts fault contents now_contents old new r = (IsStill fault contents now_contents × KeepsTalking Tells old new × StopsBatch Tells old new r.net) ⊎ CutBehind Tells accepts fault contents now_contents old new r ⊎ CutNoted Tells fault contents now_contents old new r
+CutRound Tells accepts fault contents now_contents old new r = (IsStill fault contents now_contents × KeepsTalking Tells old new × StopsBatch Tells (length r.core.store) old new r.core.net) ⊎ CutBehind Tells accepts fault contents now_contents old new r ⊎ CutNoted Tells fault contents now_contents old new r
 
 -- so many rounds were gone before it
 pub record CutRounds {Own : Type 0} (Tells : Type 0) (accepts : List TableView → Bool) (fault : Fault) (contents now_contents : Option (List ℕ)) (old new : Seen Own) (r : Run) : Type 0 where
@@ -124,7 +177,7 @@ pub record CutRounds {Own : Type 0} (Tells : Type 0) (accepts : List TableView �
   pub held : Option (List ℕ)
   pub on : Continues Tells old mid
   pub rounds : GoesRounds Tells accepts number contents held old mid r mid_run
-  pub reads : Reads Tells old mid r.net mid_run.net
+  pub reads : Reads Tells old mid r.core.net mid_run.core.net
   pub later : Continues Tells mid new
   pub round : CutRound Tells accepts fault held now_contents mid new mid_run
 
@@ -140,14 +193,14 @@ pub record StartPart {Own : Type 0} (Tells : Type 0) (contents now_contents : Op
 
 abbrev pub CutStart : {Own : Type 0} → Type 0 → Fault → Option (List ℕ) → Option (List ℕ) → Seen Own → Seen Own → Engine → Type 0
 CutStart Tells faults.Write contents now_contents old new e = StartPart Tells contents now_contents old new e
-CutStart Tells faults.NoMemory contents now_contents old new e = (now_contents ≡ contents) × KeepsTalking Tells old new × NoPoint Tells old new
+CutStart Tells faults.NoMemory contents now_contents old new e = (now_contents ≡ contents) × KeepsTalking Tells old new × NoPoint Tells (length e.apps) old new
 CutStart Tells other contents now_contents old new e = ⊥
 
 -- what is said at the end, where these switches are lost
 pub record EndSaid {Own : Type 0} (more : List ℕ) (last new : Seen Own) (e : Engine) : Type 0 where
   pub lost : List ℕ
   pub text_is : more ≡ last_text lost last e
-  pub leaves : Leaves lost last new
+  pub leaves : LeavesAsBefore (length e.apps) lost last new
 
 -- the sink took a part of the lines of the end, for which switches were asked
 pub record EndPart {Own : Type 0} (Tells : Type 0) (contents now_contents : Option (List ℕ)) (last new : Seen Own) (e : Engine) : Type 0 where
@@ -159,7 +212,7 @@ pub record EndPart {Own : Type 0} (Tells : Type 0) (contents now_contents : Opti
 
 abbrev pub CutEnd : {Own : Type 0} → Type 0 → Fault → Option (List ℕ) → Option (List ℕ) → Seen Own → Seen Own → Engine → Type 0
 CutEnd Tells faults.Write contents now_contents last new e = EndPart Tells contents now_contents last new e
-CutEnd Tells other contents now_contents last new e = (now_contents ≡ contents) × KeepsTalking Tells last new × NoPoint Tells last new
+CutEnd Tells other contents now_contents last new e = (now_contents ≡ contents) × KeepsTalking Tells last new × NoPoint Tells (length e.apps) last new
 
 -- of a report to which no event is left
 pub record CutFinish {Own : Type 0} (Tells : Type 0) (end : Served) (contents now_contents : Option (List ℕ)) (last new : Seen Own) (e : Engine) : Type 0 where
@@ -182,8 +235,8 @@ pub record CutGoing {Own : Type 0} (Tells : Type 0) (accepts : List TableView �
   pub held : Option (List ℕ)
   pub first : Continues Tells old begun
   pub starts : ShownStart Tells text old begun e (engine_of begun_run)
-  pub starts_read : Reads Tells old begun e.net begun_run.net
-  pub writes : Writes text contents held begun_run
+  pub starts_read : Reads Tells old begun e.net begun_run.core.net
+  pub writes : Writes text contents held begun_run.core
   pub later : Continues Tells begun new
   pub rounds : CutRounds Tells accepts fault held now_contents begun new begun_run
 
@@ -191,10 +244,10 @@ pub record CutGoing {Own : Type 0} (Tells : Type 0) (accepts : List TableView �
 pub record WentToEnd {Own : Type 0} (Tells : Type 0) (accepts : List TableView → Bool) (most : ℕ) (contents held last_held : Option (List ℕ)) (old begun last : Seen Own) (r begun_run last_run : Run) : Type 0 where
   pub first : Continues Tells old begun
   pub begins : Begins Tells contents held old begun r begun_run
-  pub starts_read : Reads Tells old begun r.net begun_run.net
+  pub starts_read : Reads Tells old begun r.core.net begun_run.core.net
   pub on : Continues Tells begun last
   pub rounds : GoesToEnd Tells accepts most held last_held begun last begun_run last_run
-  pub rounds_read : Reads Tells begun last begun_run.net last_run.net
+  pub rounds_read : Reads Tells begun last begun_run.core.net last_run.core.net
 
 -- and then came the end
 pub record CutEnding {Own : Type 0} (Tells : Type 0) (accepts : List TableView → Bool) (most : ℕ) (fault : Fault) (contents now_contents : Option (List ℕ)) (old new : Seen Own) (e : Engine) : Type 0 where
@@ -207,13 +260,13 @@ pub record CutEnding {Own : Type 0} (Tells : Type 0) (accepts : List TableView �
   pub last_held : Option (List ℕ)
   pub first : Continues Tells old begun
   pub starts : ShownStart Tells text old begun e (engine_of begun_run)
-  pub starts_read : Reads Tells old begun e.net begun_run.net
-  pub writes : Writes text contents held begun_run
+  pub starts_read : Reads Tells old begun e.net begun_run.core.net
+  pub writes : Writes text contents held begun_run.core
   pub on : Continues Tells begun last
   pub rounds : GoesToEnd Tells accepts most held last_held begun last begun_run last_run
-  pub rounds_read : Reads Tells begun last begun_run.net last_run.net
+  pub rounds_read : Reads Tells begun last begun_run.core.net last_run.core.net
   pub later : Continues Tells last new
-  pub none_left : last_run.queue ≡ []
+  pub none_left : last_run.core.queue ≡ []
   pub ends : CutEnd Tells fault last_held now_contents last new (engine_of last_run)
 
 abbrev pub CutGoes : {Own : Type 0} → Type 0 → (List TableView → Bool) → ℕ → Fault → Option (List ℕ) → Option (List ℕ) → Seen Own → Seen Own → Engine → Type 0
@@ -227,7 +280,7 @@ pub record CutRun {Own : Type 0} (Tells : Type 0) (accepts : List TableView → 
   pub before : Continues Tells old stop
   pub later : Continues Tells stop new
   pub talks : KeepsTalking Tells stop new
-  pub no_point : NoPoint Tells stop new
+  pub no_point : NoPoint Tells (length e.apps) stop new
   pub none_moves : NoneMoves Tells stop new
   pub goes : CutGoes Tells accepts most fault contents now_contents old stop e
 

@@ -1,6 +1,6 @@
 -- What the engine does, in the words of what is seen and kept: the facts of `run_laws`, each with its text behind what waited to be
 -- written, and what was written where it was. All of this is our own.
-use Rattle.std.specs.Prelude.{◌≡◌, ℕ, ◌+◌, ◌<◌, ◌⊎◌, Bool, false, List, [], ◌∷◌, ◌++◌, length, Option, Result, Ok, Err}
+use Rattle.std.specs.Prelude.{◌≡◌, ℕ, ◌+◌, ◌<◌, ◌⊎◌, Bool, false, List, [], ◌∷◌, ◌++◌, length, map, Option, Result, Ok, Err}
 use Rattle.std.specs.Io.KnownBytes.{append_known}
 use Rattle.flow_table.specs.View.{TableView}
 use Rattle.app_frames.specs.declared.frame.Event.{Event}
@@ -26,7 +26,7 @@ use Rattle.batch_laws.specs.Knowledge.{lost_text}
 use Rattle.run_laws.specs.Engine.{Engine}
 use Rattle.lego_model.specs.History.{stimuli_in}
 use Rattle.run_laws.specs.Readings.{JudgesAlike}
-use Rattle.run_laws.specs.Facts.{turn_word, out_text, all_told, StartsAgain, GoesAway, Follows, TakesTurn, Dispatches}
+use Rattle.run_laws.specs.Facts.{turn_word, out_text, all_told, StartsAgain, GoesAway, Follows, TakesTurn, is_taking, says_stop, Between, IsOffered, Offers, Dispatches, StartsFrom}
 use Rattle.run_laws.specs.Moves.{AtRest, Shown, ShownIdle, ShownOver, ShownRounds, ShownToEnd}
 use Rattle.lego_model.specs.ReferenceRun.{dispatch_next, times}
 use Rattle.run_laws.specs.First.{engine_at_first}
@@ -37,35 +37,37 @@ use Rattle.event_dispatch.specs.declared.batch.Rest.{Rest}
 use Rattle.event_dispatch.specs.declared.batch.Rest.TheVariants as rests
 use Rattle.event_dispatch.specs.declared.closing.Closing.{Closing}
 use Rattle.event_dispatch.specs.declared.closing.Closing.TheVariants as closings
+use Rattle.event_dispatch.specs.declared.core.Core.{Core}
+use Rattle.event_dispatch.specs.declared.run.Managed.{Managed}
 use Rattle.event_dispatch.specs.declared.run.Run.{Run}
 use Rattle.event_dispatch.specs.declared.served.Served.{Served}
 use Rattle.event_dispatch.specs.declared.served.Served.TheVariants as served
-use Rattle.event_dispatch.specs.Shows.{engine_of, name_of}
+use Rattle.event_dispatch.specs.Shows.{application_of, focus_of, engine_of, name_of, Stays}
 use Rattle.lego_model.specs.CutRun.{NothingDone}
 
 -- text was noted behind what waits to be written
-abbrev pub Notes : List ℕ → Run → Run → Type 0
-Notes text r now_r = now_r.lines.items ≡ r.lines.items ++ text
+abbrev pub Notes : List ℕ → Core → Core → Type 0
+Notes text c now_c = now_c.lines.items ≡ c.lines.items ++ text
 
--- ---- The application
+-- ---- An application
 
 -- it was started, in some attempts, and how they ended was noted
-pub record Starts {Own : Type 0} (Tells : Type 0) (old new : Seen Own) (r now_r : Run) : Type 0 where
+pub record Starts {Own : Type 0} (Tells : Type 0) (old new : Seen Own) (c now_c : Core) (m now_m : Managed) : Type 0 where
   pub text : List ℕ
-  pub starts : StartsAgain Tells text old new (engine_of r) (engine_of now_r)
-  pub notes : Notes text r now_r
+  pub starts : StartsAgain Tells text old new (focus_of c m) (focus_of now_c now_m)
+  pub notes : Notes text c now_c
 
 -- it is ended, and gone
-pub record Leaves {Own : Type 0} (Tells : Type 0) (old new : Seen Own) (r now_r : Run) : Type 0 where
+pub record Leaves {Own : Type 0} (Tells : Type 0) (old new : Seen Own) (c now_c : Core) (m now_m : Managed) : Type 0 where
   pub text : List ℕ
-  pub goes : GoesAway Tells text old new (engine_of r) (engine_of now_r)
-  pub notes : Notes text r now_r
+  pub goes : GoesAway Tells text old new (focus_of c m) (focus_of now_c now_m)
+  pub notes : Notes text c now_c
 
 -- behind a turn that failed at an event of this kind it goes by its policy
-pub record GoesOn {Own : Type 0} (Tells : Type 0) (kind : EventKind) (old new : Seen Own) (r now_r : Run) : Type 0 where
+pub record GoesOn {Own : Type 0} (Tells : Type 0) (kind : EventKind) (old new : Seen Own) (c now_c : Core) (m now_m : Managed) : Type 0 where
   pub text : List ℕ
-  pub follows : Follows Tells (rule_at (app_value r.app.rule.now) kind) text old new (engine_of r) (engine_of now_r)
-  pub notes : Notes text r now_r
+  pub follows : Follows Tells (rule_at (app_value m.rule.now) kind) text old new (focus_of c m) (focus_of now_c now_m)
+  pub notes : Notes text c now_c
 
 -- how a turn ended that was closed so
 abbrev pub end_of : Closing → TurnEnd
@@ -84,58 +86,76 @@ pub record PlaysTurn {Own : Type 0} (Tells : Type 0) (accepts : List TableView �
   pub played : IsPlayed Tells closing (length net.log) mid new mid_net now_net queue now_queue
 
 -- the turn was counted, and how it ended was noted, with the packets that were released and the switches that were lost
-pub record IsCounted {Own : Type 0} (stop : Bool) (out : List (ℕ × ℕ)) (old new : Seen Own) (r now_r : Run) : Type 0 where
+pub record IsCounted {Own : Type 0} (stop : Bool) (out : List (ℕ × ℕ)) (old new : Seen Own) (c now_c : Core) (m now_m : Managed) : Type 0 where
   pub seen : new ≡ old
-  pub engine : engine_of now_r ≡ all_told r.net r.queue (record (engine_of r) { done = r.app.done + 1 })
-  pub notes : Notes (turn_line (name_of r) (turn_word (ends.Done stop)) ++ (out_text out ++ lost_text r.net.left)) r now_r
+  pub engine : focus_of now_c now_m ≡ all_told c.net c.queue (record (focus_of c m) { done = m.done + 1 })
+  pub notes : Notes (turn_line (name_of m) (turn_word (ends.Done stop)) ++ (out_text out ++ lost_text c.net.left)) c now_c
 
 -- and so it was where it failed, and the application goes by its policy
-pub record IsFollowed {Own : Type 0} (Tells : Type 0) (kind : EventKind) (cause : Cause) (old new : Seen Own) (r now_r : Run) : Type 0 where
+pub record IsFollowed {Own : Type 0} (Tells : Type 0) (kind : EventKind) (cause : Cause) (old new : Seen Own) (c now_c : Core) (m now_m : Managed) : Type 0 where
   pub text : List ℕ
-  pub follows : Follows Tells (rule_at (app_value r.app.rule.now) kind) text old new (all_told r.net r.queue (record (engine_of r) { failed = r.app.failed + 1 })) (engine_of now_r)
-  pub notes : Notes (turn_line (name_of r) (words.Failed cause) ++ (lost_text r.net.left ++ text)) r now_r
+  pub follows : Follows Tells (rule_at (app_value m.rule.now) kind) text old new (all_told c.net c.queue (record (focus_of c m) { failed = m.failed + 1 })) (focus_of now_c now_m)
+  pub notes : Notes (turn_line (name_of m) (words.Failed cause) ++ (lost_text c.net.left ++ text)) c now_c
 
-abbrev pub Closes : {Own : Type 0} → Type 0 → EventKind → Closing → Seen Own → Seen Own → Run → Run → Type 0
-Closes Tells kind (closings.Done stop out) old new r now_r = IsCounted stop out.items old new r now_r
-Closes Tells kind (closings.Failed cause) old new r now_r = IsFollowed Tells kind cause old new r now_r
+abbrev pub Closes : {Own : Type 0} → Type 0 → EventKind → Closing → Seen Own → Seen Own → Core → Core → Managed → Managed → Type 0
+Closes Tells kind (closings.Done stop out) old new c now_c m now_m = IsCounted stop out.items old new c now_c m now_m
+Closes Tells kind (closings.Failed cause) old new c now_c m now_m = IsFollowed Tells kind cause old new c now_c m now_m
 
--- the application had its turn
-pub record HasTurn {Own : Type 0} (Tells : Type 0) (accepts : List TableView → Bool) (event : Event) (old new : Seen Own) (r now_r : Run) : Type 0 where
+-- it had its turn, and says whether the event goes no further
+pub record TurnNoted {Own : Type 0} (Tells : Type 0) (accepts : List TableView → Bool) (event : Event) (stops : Bool) (old new : Seen Own) (c now_c : Core) (m now_m : Managed) : Type 0 where
   pub text : List ℕ
-  pub takes : TakesTurn Tells accepts event text old new (engine_of r) (engine_of now_r)
-  pub notes : Notes text r now_r
+  pub takes : TakesTurn Tells accepts event text old new (focus_of c m) (focus_of now_c now_m)
+  pub stops_is : stops ≡ says_stop takes.end
+  pub notes : Notes text c now_c
+
+-- how all stands between two applications
+abbrev pub stand : {Own : Type 0} → Seen Own → Core → Between Own
+stand seen c = record { seen = seen; net = c.net; queue = c.queue }
+
+-- it had its turn, or was passed over
+pub record OfferNoted {Own : Type 0} (Tells : Type 0) (accepts : List TableView → Bool) (event : Event) (stops : Bool) (old new : Seen Own) (c now_c : Core) (m now_m : Managed) : Type 0 where
+  pub text : List ℕ
+  pub offered : IsOffered Tells accepts event c.events m.state.index (is_taking event (application_of c.store m)) stops text (stand old c) (stand new now_c) (application_of c.store m) (application_of now_c.store now_m)
+  pub notes : Notes text c now_c
+
+-- so it was with all of them, in order, up to one that stopped the event
+pub record AllOffered {Own : Type 0} (Tells : Type 0) (accepts : List TableView → Bool) (event : Event) (old new : Seen Own) (c now_c : Core) (apps now_apps : List Managed) : Type 0 where
+  pub text : List ℕ
+  pub stopped : Bool
+  pub offers : Offers Tells accepts event c.events 0 (map (application_of c.store) apps) text (stand old c) (stand new now_c) (map (application_of now_c.store) now_apps) stopped
+  pub notes : Notes text c now_c
 
 -- an event was dispatched
 pub record IsDispatched {Own : Type 0} (Tells : Type 0) (accepts : List TableView → Bool) (event : Event) (old new : Seen Own) (r now_r : Run) : Type 0 where
   pub text : List ℕ
   pub dispatches : Dispatches Tells accepts event text old new (engine_of r) (engine_of now_r)
-  pub notes : Notes text r now_r
+  pub notes : Notes text r.core now_r.core
 
 -- ---- Events that wait, where no line waits to be written
 
 -- the text that was written, and then none waits
-pub record Writes (text : List ℕ) (contents now_contents : Option (List ℕ)) (now_r : Run) : Type 0 where
+pub record Writes (text : List ℕ) (contents now_contents : Option (List ℕ)) (now_c : Core) : Type 0 where
   pub written : now_contents ≡ append_known contents text
-  pub none_waits : now_r.lines.items ≡ []
+  pub none_waits : now_c.lines.items ≡ []
 
 -- The oldest event was dispatched and its lines written, or there was none and nothing was done.
 pub record DispatchesOldest {Own : Type 0} (Tells : Type 0) (accepts : List TableView → Bool) (found : Bool) (contents now_contents : Option (List ℕ)) (old new : Seen Own) (r now_r : Run) : Type 0 where
   pub text : List ℕ
   pub shown : Shown Tells accepts [] dispatch_next text old new (engine_of r) (engine_of now_r)
-  pub writes : Writes text contents now_contents now_r
-  pub none : found ≡ false → now_r.queue ≡ []
+  pub writes : Writes text contents now_contents now_r.core
+  pub none : found ≡ false → now_r.core.queue ≡ []
 
 -- so many times
 pub record DispatchesSome {Own : Type 0} (Tells : Type 0) (accepts : List TableView → Bool) (n : ℕ) (contents now_contents : Option (List ℕ)) (old new : Seen Own) (r now_r : Run) : Type 0 where
   pub text : List ℕ
   pub shown : Shown Tells accepts [] (λ allows q. times n (dispatch_next allows) q) text old new (engine_of r) (engine_of now_r)
-  pub writes : Writes text contents now_contents now_r
+  pub writes : Writes text contents now_contents now_r.core
 
 -- up to 1,000 of them
 pub record DispatchesWaiting {Own : Type 0} (Tells : Type 0) (accepts : List TableView → Bool) (contents now_contents : Option (List ℕ)) (old new : Seen Own) (r now_r : Run) : Type 0 where
   pub text : List ℕ
   pub shown : Shown Tells accepts [] settle text old new (engine_of r) (engine_of now_r)
-  pub writes : Writes text contents now_contents now_r
+  pub writes : Writes text contents now_contents now_r.core
 
 -- ---- Rounds
 
@@ -166,7 +186,7 @@ pub record GoesRound {Own : Type 0} (Tells : Type 0) (accepts : List TableView �
 pub record GoesRounds {Own : Type 0} (Tells : Type 0) (accepts : List TableView → Bool) (number : ℕ) (contents now_contents : Option (List ℕ)) (old new : Seen Own) (r now_r : Run) : Type 0 where
   pub text : List ℕ
   pub shown : ShownRounds Tells accepts number text old new (engine_of r) (engine_of now_r)
-  pub writes : Writes text contents now_contents now_r
+  pub writes : Writes text contents now_contents now_r.core
 
 -- in a world that keeps its word no stimulus is to come, where they are fewer than this number of rounds
 pub record NoneToCome {Own : Type 0} (Tells : Type 0) (accepts : List TableView → Bool) (most : ℕ) (old new : Seen Own) (e : Engine) : Type 0 where
@@ -177,24 +197,31 @@ pub record GoesToEnd {Own : Type 0} (Tells : Type 0) (accepts : List TableView �
   pub text : List ℕ
   pub shown : ShownToEnd Tells accepts most text old new (engine_of r) (engine_of now_r)
   pub none_to_come : NoneToCome Tells accepts most old new (engine_of r)
-  pub writes : Writes text contents now_contents now_r
+  pub writes : Writes text contents now_contents now_r.core
 
 -- ---- The start, and the end
+
+-- all applications were started, and how their attempts ended was noted
+pub record AllStarted {Own : Type 0} (Tells : Type 0) (old new : Seen Own) (c now_c : Core) (apps now_apps : List Managed) : Type 0 where
+  pub text : List ℕ
+  pub started : StartsFrom Tells 0 (map (application_of c.store) apps) text old new c.net c.queue c.events (map (application_of now_c.store) now_apps)
+  pub stays : Stays c now_c
+  pub notes : Notes text c now_c
 
 pub record Begins {Own : Type 0} (Tells : Type 0) (contents now_contents : Option (List ℕ)) (old new : Seen Own) (r now_r : Run) : Type 0 where
   pub text : List ℕ
   pub shown : ShownStart Tells text old new (engine_of r) (engine_of now_r)
-  pub writes : Writes text contents now_contents now_r
+  pub writes : Writes text contents now_contents now_r.core
 
 pub record EndsReport {Own : Type 0} (Tells : Type 0) (contents now_contents : Option (List ℕ)) (last new : Seen Own) (r now_r : Run) : Type 0 where
   pub finish : ShownFinish Tells contents now_contents last new (engine_of r)
-  pub events : now_r.events ≡ r.events
+  pub events : now_r.core.events ≡ r.core.events
 
 -- The end of the report was written, where no event is left; else nothing was done.
 abbrev pub Finishes : {Own : Type 0} → Type 0 → Result (Unit {0}) Served → Option (List ℕ) → Option (List ℕ) → Seen Own → Seen Own → Run → Run → Type 0
-Finishes Tells (Ok x) contents now_contents last new r now_r = (r.queue ≡ []) × EndsReport Tells contents now_contents last new r now_r
+Finishes Tells (Ok x) contents now_contents last new r now_r = (r.core.queue ≡ []) × EndsReport Tells contents now_contents last new r now_r
 Finishes Tells (Err (served.Ended events)) contents now_contents last new r now_r = ⊥
-Finishes Tells (Err (served.EventsLeft left)) contents now_contents last new r now_r = (left ≡ length r.queue) × (now_contents ≡ contents) × (new ≡ last)
+Finishes Tells (Err (served.EventsLeft left)) contents now_contents last new r now_r = (left ≡ length r.core.queue) × (now_contents ≡ contents) × (new ≡ last)
 Finishes Tells (Err other) contents now_contents last new r now_r = Unit {0}
 
 -- ---- A whole run of a world that was opened
@@ -212,16 +239,16 @@ pub record RunsFull {Own : Type 0} (Tells : Type 0) (accepts : List TableView �
   pub none_to_come : NoneToCome Tells accepts most old new e
 
 abbrev pub GoesAs : {Own : Type 0} → Type 0 → (List TableView → Bool) → ℕ → Result (Unit {0}) Served → Option (List ℕ) → Option (List ℕ) → Seen Own → Seen Own → Run → Run → Type 0
-GoesAs Tells accepts most (Ok x) contents now_contents old new r now_r = RunsOut Tells accepts most now_r.events contents now_contents old new (engine_of r)
+GoesAs Tells accepts most (Ok x) contents now_contents old new r now_r = RunsOut Tells accepts most now_r.core.events contents now_contents old new (engine_of r)
 GoesAs Tells accepts most (Err (served.Ended events)) contents now_contents old new r now_r = ⊥
 GoesAs Tells accepts most (Err (served.EventsLeft left)) contents now_contents old new r now_r = RunsFull Tells accepts most left contents now_contents old new (engine_of r)
 GoesAs Tells accepts most (Err other) contents now_contents old new r now_r = Unit {0}
 
-abbrev pub RunsAs : {Own : Type 0} → AppValue → Type 0 → (List TableView → Bool) → ℕ → Result ℕ Served → Option (List ℕ) → Option (List ℕ) → Seen Own → Seen Own → Type 0
-RunsAs rule Tells accepts most (Ok events) contents now_contents old new = RunsOut Tells accepts most events contents now_contents old new (engine_at_first rule)
-RunsAs rule Tells accepts most (Err (served.Ended events)) contents now_contents old new = ⊥
-RunsAs rule Tells accepts most (Err (served.EventsLeft left)) contents now_contents old new = RunsFull Tells accepts most left contents now_contents old new (engine_at_first rule)
-RunsAs rule Tells accepts most (Err other) contents now_contents old new = Unit {0}
+abbrev pub RunsAs : {Own : Type 0} → List AppValue → Type 0 → (List TableView → Bool) → ℕ → Result ℕ Served → Option (List ℕ) → Option (List ℕ) → Seen Own → Seen Own → Type 0
+RunsAs rules Tells accepts most (Ok events) contents now_contents old new = RunsOut Tells accepts most events contents now_contents old new (engine_at_first rules)
+RunsAs rules Tells accepts most (Err (served.Ended events)) contents now_contents old new = ⊥
+RunsAs rules Tells accepts most (Err (served.EventsLeft left)) contents now_contents old new = RunsFull Tells accepts most left contents now_contents old new (engine_at_first rules)
+RunsAs rules Tells accepts most (Err other) contents now_contents old new = Unit {0}
 
 -- why a world is not opened, and what its history tells then
 abbrev pub IsUnopened : {Own : Type 0} → Type 0 → Seen Own → Seen Own → Served → Type 0
@@ -232,34 +259,34 @@ IsUnopened Tells old new other = ⊥
 -- ---- What a whole run promises
 
 -- All events were dispatched, and no stimulus is to come.
-pub record IsWhole {Own : Type 0} (rule : AppValue) (allows : List Place → Bool) (seen : Seen Own) (contents now_contents : Option (List ℕ)) (events : ℕ) : Type 0 where
-  pub alike : EndsAlike rule allows seen contents now_contents events
+pub record IsWhole {Own : Type 0} (rules : List AppValue) (allows : List Place → Bool) (seen : Seen Own) (contents now_contents : Option (List ℕ)) (events : ℕ) : Type 0 where
+  pub alike : EndsAlike rules allows seen contents now_contents events
   pub none_to_come : (state seen).to_come ≡ []
 
 -- Some were left after the last batch.
-pub record IsPart {Own : Type 0} (rule : AppValue) (allows : List Place → Bool) (seen : Seen Own) (contents now_contents : Option (List ℕ)) (left : ℕ) : Type 0 where
-  pub alike : LeavesAlike rule allows seen contents now_contents left
+pub record IsPart {Own : Type 0} (rules : List AppValue) (allows : List Place → Bool) (seen : Seen Own) (contents now_contents : Option (List ℕ)) (left : ℕ) : Type 0 where
+  pub alike : LeavesAlike rules allows seen contents now_contents left
   pub none_to_come : (state seen).to_come ≡ []
 
 -- Of a world that tells, on which no call was made before: where a fault ends the run, it is the reference controller's up to a point, if
 -- the world kept its word as far as there, and so is what was written. No line is missing of the start and of all events before where what
 -- comes next failed, or a switch. Where the sink failed it took a part of the lines of what was done last, behind all those before. Where
 -- memory was wanting the lines of the start are there, if a stimulus happened, and those of what was done.
-abbrev pub IsCut : {Own : Type 0} → AppValue → (List Place → Bool) → Seen Own → Option (List ℕ) → Option (List ℕ) → Served → Type 0
-IsCut rule allows seen contents now_contents (served.Ended events) = Unit {0}
-IsCut rule allows seen contents now_contents (served.EventsLeft left) = Unit {0}
-IsCut rule allows seen contents now_contents served.WriteFault = CutWriting rule allows seen contents now_contents
-IsCut rule allows seen contents now_contents served.Shut = NothingDone (NotOpened ∷ []) seen contents now_contents
-IsCut rule allows seen contents now_contents served.NextFault = CutWithLines rule allows seen contents now_contents
-IsCut rule allows seen contents now_contents (served.Txn fault) = CutWithLines rule allows seen contents now_contents
-IsCut rule allows seen contents now_contents served.NoMemory = CutAlike rule allows seen contents now_contents ⊎ NothingDone [] seen contents now_contents
+abbrev pub IsCut : {Own : Type 0} → List AppValue → (List Place → Bool) → Seen Own → Option (List ℕ) → Option (List ℕ) → Served → Type 0
+IsCut rules allows seen contents now_contents (served.Ended events) = Unit {0}
+IsCut rules allows seen contents now_contents (served.EventsLeft left) = Unit {0}
+IsCut rules allows seen contents now_contents served.WriteFault = CutWriting rules allows seen contents now_contents
+IsCut rules allows seen contents now_contents served.Shut = NothingDone (NotOpened ∷ []) seen contents now_contents
+IsCut rules allows seen contents now_contents served.NextFault = CutWithLines rules allows seen contents now_contents
+IsCut rules allows seen contents now_contents (served.Txn fault) = CutWithLines rules allows seen contents now_contents
+IsCut rules allows seen contents now_contents served.NoMemory = CutAlike rules allows seen contents now_contents ⊎ NothingDone [] seen contents now_contents
 
 -- Of one that keeps its word, too: the run is the reference controller's, whole, and so is what was written.
-abbrev pub IsAlike : {Own : Type 0} → AppValue → (List Place → Bool) → Seen Own → Option (List ℕ) → Option (List ℕ) → Served → Type 0
-IsAlike rule allows seen contents now_contents (served.Ended events) = IsWhole rule allows seen contents now_contents events
-IsAlike rule allows seen contents now_contents (served.EventsLeft left) = IsPart rule allows seen contents now_contents left
-IsAlike rule allows seen contents now_contents served.WriteFault = IsCut rule allows seen contents now_contents served.WriteFault
-IsAlike rule allows seen contents now_contents served.Shut = IsCut rule allows seen contents now_contents served.Shut
-IsAlike rule allows seen contents now_contents served.NextFault = IsCut rule allows seen contents now_contents served.NextFault
-IsAlike rule allows seen contents now_contents (served.Txn fault) = IsCut rule allows seen contents now_contents (served.Txn fault)
-IsAlike rule allows seen contents now_contents served.NoMemory = IsCut rule allows seen contents now_contents served.NoMemory
+abbrev pub IsAlike : {Own : Type 0} → List AppValue → (List Place → Bool) → Seen Own → Option (List ℕ) → Option (List ℕ) → Served → Type 0
+IsAlike rules allows seen contents now_contents (served.Ended events) = IsWhole rules allows seen contents now_contents events
+IsAlike rules allows seen contents now_contents (served.EventsLeft left) = IsPart rules allows seen contents now_contents left
+IsAlike rules allows seen contents now_contents served.WriteFault = IsCut rules allows seen contents now_contents served.WriteFault
+IsAlike rules allows seen contents now_contents served.Shut = IsCut rules allows seen contents now_contents served.Shut
+IsAlike rules allows seen contents now_contents served.NextFault = IsCut rules allows seen contents now_contents served.NextFault
+IsAlike rules allows seen contents now_contents (served.Txn fault) = IsCut rules allows seen contents now_contents (served.Txn fault)
+IsAlike rules allows seen contents now_contents served.NoMemory = IsCut rules allows seen contents now_contents served.NoMemory

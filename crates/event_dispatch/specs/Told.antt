@@ -13,8 +13,7 @@ use Rattle.net_txn.specs.Net.{NetState}
 use Rattle.net_txn.specs.LinkSteps.{MakesNoStrayCall}
 use Rattle.net_txn.specs.Views.{is_viewed}
 use Rattle.net_txn.specs.Abreast.{Abreast}
-use Rattle.app_visor.specs.CallsFor.{CallsFor}
-use Rattle.lego_model.specs.Application.{index}
+use Rattle.run_laws.specs.Cut.{CallsAmong}
 use Rattle.event_dispatch.specs.declared.batch.Rest.{Rest}
 use Rattle.event_dispatch.specs.Steady.{NothingUnderWay}
 
@@ -47,7 +46,7 @@ pub record OnlyMessages {Own : Type 0} (Tells : Type 0) (old new : Seen Own) : T
   pub read : Tells → MessagesSince old new
 
 -- however it ended: no call of a link was a stray one
-pub record NoStrayAtItem {Own : Type 0} (Tells : Type 0) (step : WorldStep) (old new : Seen Own) (net : NetState) : Type 0 where
+pub record NoStrayAtItem {Own : Type 0} (Tells : Type 0) (number : ℕ) (step : WorldStep) (old new : Seen Own) (net : NetState) : Type 0 where
   pub places : Tells → InOrder new → IsTold step (state old) net.views → MakesNoStrayCall old new
 
 -- where it was done: the host keeps up with the switches, and the item and what came since are messages
@@ -59,10 +58,10 @@ pub record CatchesUp {Own : Type 0} (Tells : Type 0) (step : WorldStep) (old new
 -- ---- What is told next, and is handled
 
 -- No quiescent point lies behind the one before it, and where a stimulus was begun before, none lies there either.
-pub record NextPoint {Own : Type 0} (Tells : Type 0) (old new : Seen Own) : Type 0 where
+pub record NextPoint {Own : Type 0} (Tells : Type 0) (number : ℕ) (old new : Seen Own) : Type 0 where
   pub last : Tells → IsLastQuiescent old new
   pub none_quiescent : Tells → InOrder new → (state old).begun ≡ true → NoneQuiescentSince old new
-  pub own : Tells → CallsFor index old new
+  pub own : Tells → CallsAmong number old new
 
 -- where the batch goes on, a stimulus is begun: it was before, or all was at rest
 pub record GoesBegun {Own : Type 0} (Tells : Type 0) (rest : Option Rest) (old new : Seen Own) : Type 0 where
@@ -73,6 +72,6 @@ pub record GoesBegun {Own : Type 0} (Tells : Type 0) (rest : Option Rest) (old n
 
 -- Where all was at rest and nothing was kept: nothing was done yet, or a stimulus is begun and no quiescent point lies behind the one where the
 -- batch began.
-pub record BatchPoint {Own : Type 0} (Tells : Type 0) (old new : Seen Own) (net : NetState) : Type 0 where
+pub record BatchPoint {Own : Type 0} (Tells : Type 0) (number : ℕ) (old new : Seen Own) (net : NetState) : Type 0 where
   pub here : Tells → InOrder new → NothingUnderWay (state old) → net.kept ≡ [] → (new ≡ old) ⊎ (((state new).begun ≡ true) × IsLastQuiescent old new)
-  pub own : Tells → CallsFor index old new
+  pub own : Tells → CallsAmong number old new

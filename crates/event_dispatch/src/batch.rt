@@ -1,6 +1,6 @@
 //! A batch: what comes up to the next rest of the outside, and the events that it makes.
 
-ghost use Rattle.std.specs.Prelude.{◌≡◌, ◌==◌, ◌≤◌, length, true, false, Ok, None, IsSome, IfOk, IfErr, OnOk, OnErr, [], ◌∷◌, ◌++◌};
+ghost use Rattle.std.specs.Prelude.{◌≡◌, ◌==◌, ◌≤◌, ℕ, length, true, false, Ok, None, IsSome, IfOk, IfErr, OnOk, OnErr, [], ◌∷◌, ◌++◌};
 ghost use Rattle.std.specs.List.{list_any};
 ghost use Rattle.of_types.specs.Fields.{IsBytes};
 ghost use Rattle.outside.specs.declared.step.WorldStep.TheVariants.{From, Joined};
@@ -16,15 +16,14 @@ ghost use Rattle.event_dispatch.specs.Batch.{of_memory, TakesItem, TakesJoin, Ta
 ghost use Rattle.event_dispatch.specs.Why.{IsReason, WhyItem, WhyMessage, served_by};
 ghost use Rattle.event_dispatch.specs.Talking.{KeepsTalking};
 ghost use Rattle.net_txn.specs.LinkSteps.{OnLinks, MakesNoStrayCall, AsksWithoutStrays};
-ghost use Rattle.app_visor.specs.CallsFor.{CallsFor};
-ghost use Rattle.lego_model.specs.Application.{index};
+ghost use Rattle.run_laws.specs.Cut.{CallsAmong};
 ghost use Rattle.event_dispatch.specs.Steady.{NoStray, Reads, AtMostThisPoint};
 ghost use Rattle.event_dispatch.specs.Told.{OnlyMessages, NoStrayAtItem, NextPoint, GoesBegun};
 ghost use Rattle.event_dispatch.specs.Plain.{IsPlainEnd, PlainRead, PlainJoin, PlainItem, PlainNext, PlainKept, PlainCalm};
 
 use crate::fault::Fault;
 use crate::limits::MOST_ITEMS;
-use crate::run::Run;
+use crate::core::Core;
 use app_frames::{Event, EventKind};
 use flow_table::TableView;
 use net_txn::{EventQueue, Net};
@@ -88,7 +87,7 @@ fn next_item<W: World>(world: &mut W, buf: &mut [u8]) -> Result<Item, Fault>
     ensures item { IfOk result (λ item. IsItemIn W.Tells item buf.new) }
     ensures continues { Continues W.Tells (W.seen world.old) (W.seen world.new) }
     ensures talks { KeepsTalking W.Tells (W.seen world.old) (W.seen world.new) }
-    ensures no_point { NextPoint W.Tells (W.seen world.old) (W.seen world.new) }
+    ensures no_point { (number : ℕ) → NextPoint W.Tells number (W.seen world.old) (W.seen world.new) }
     ensures places { W.Tells → MakesNoStrayCall (W.seen world.old) (W.seen world.new) }
     ensures why { IfErr result (IsReason W.Tells (W.seen world.old) (W.seen world.new) 0 0) }
     ensures plain { IfErr result IsPlainEnd }
@@ -103,7 +102,7 @@ fn next_item<W: World>(world: &mut W, buf: &mut [u8]) -> Result<Item, Fault>
     }
 }
 
-impl Run<'_> {
+impl Core {
     /// Takes a message that came from a switch. One of a switch that is not joined is ignored; where an ECHO_REQUEST could not be
     /// answered the switch is lost, and told.
     #[tactic(auto, using(crate::specs::laws::BatchSteadyLaws::links_none, crate::specs::laws::BatchSteadyLaws::only_none, crate::specs::laws::SteadyLaws::places_none, crate::specs::laws::SteadyLaws::reads_none, crate::specs::laws::FaultLaws::arrival_why, crate::specs::laws::TalkingLaws::keeps_none, crate::specs::laws::TalkingLaws::keeps_links))]
@@ -115,11 +114,10 @@ impl Run<'_> {
     ) -> Result<(), Fault>
         requires none_left { self.old.net.left ≡ [] }
         ensures waits { OnOk result (Waits self.old self.new) }
-        ensures app { self.new.app ≡ self.old.app }
         ensures continues { Continues W.Tells (W.seen world.old) (W.seen world.new) }
         ensures talks { KeepsTalking W.Tells (W.seen world.old) (W.seen world.new) }
         ensures links { OnLinks W.Tells (W.seen world.old) (W.seen world.new) }
-        ensures places { NoStray W.Tells (W.seen world.old) (W.seen world.new) self.old.net }
+        ensures places { NoStray W.Tells (length self.old.store) (W.seen world.old) (W.seen world.new) self.old.net }
         ensures reads { OnOk result (Reads W.Tells (W.seen world.old) (W.seen world.new) self.old.net self.new.net) }
         ensures messages { OnOk result (OnlyMessages W.Tells (W.seen world.old) (W.seen world.new)) }
         ensures read { OnOk result (AreRead self.old.net.kept → AreRead self.new.net.kept) }
@@ -138,7 +136,6 @@ impl Run<'_> {
     /// Takes a switch out that leaves. One that is not joined is ignored.
     fn take_out(&mut self, dpid: Dpid) -> Result<(), AllocError>
         ensures waits { OnOk result (Waits self.old self.new) }
-        ensures app { self.new.app ≡ self.old.app }
         ensures lines { self.new.lines ≡ self.old.lines }
         ensures read { OnOk result (AreRead self.old.net.kept → AreRead self.new.net.kept) }
         ensures departs { OnOk result (Departs dpid self.old.net self.new.net self.old.queue self.new.queue) }
@@ -155,11 +152,10 @@ impl Run<'_> {
     fn take_in<W: World>(&mut self, world: &mut W, dpid: Dpid, frame: &[u8]) -> Result<(), Fault>
         requires none_left { self.old.net.left ≡ [] }
         ensures waits { OnOk result (Waits self.old self.new) }
-        ensures app { self.new.app ≡ self.old.app }
         ensures continues { Continues W.Tells (W.seen world.old) (W.seen world.new) }
         ensures talks { KeepsTalking W.Tells (W.seen world.old) (W.seen world.new) }
         ensures links { OnLinks W.Tells (W.seen world.old) (W.seen world.new) }
-        ensures places { NoStrayAtItem W.Tells (Joined dpid frame.now) (W.seen world.old) (W.seen world.new) self.old.net }
+        ensures places { NoStrayAtItem W.Tells (length self.old.store) (Joined dpid frame.now) (W.seen world.old) (W.seen world.new) self.old.net }
         ensures messages { OnOk result (OnlyMessages W.Tells (W.seen world.old) (W.seen world.new)) }
         ensures read { OnOk result (AreRead self.old.net.kept → AreRead self.new.net.kept) }
         ensures why { IfErr result (IsReason W.Tells (W.seen world.old) (W.seen world.new) 0 0) }
@@ -186,7 +182,6 @@ impl Run<'_> {
         requires out { rows_at dpid self.old.net.views ≡ None }
         requires fits { message_size message.now ≤ 65535 }
         ensures waits { OnOk result (Waits self.old self.new) }
-        ensures app { self.new.app ≡ self.old.app }
         ensures continues { Continues W.Tells (W.seen world.old) (W.seen world.new) }
         ensures talks { KeepsTalking W.Tells (W.seen world.old) (W.seen world.new) }
         ensures links { OnLinks W.Tells (W.seen world.old) (W.seen world.new) }
@@ -211,7 +206,6 @@ impl Run<'_> {
     fn announce(&mut self, dpid: Dpid, message: &Message) -> Result<(), AllocError>
         requires { message_size message.now ≤ 65535 }
         ensures waits { OnOk result (Waits self.old self.new) }
-        ensures app { self.new.app ≡ self.old.app }
         ensures lines { self.new.lines ≡ self.old.lines }
         ensures queue { OnOk result (self.new.queue
             ≡ self.old.queue ++ record { kind = kinds.Join; dpid = dpid; body = message_bytes 0 message.now } ∷ []) }
@@ -229,13 +223,12 @@ impl Run<'_> {
         requires item { IsItemIn W.Tells item buf.now }
         requires none_left { self.old.net.left ≡ [] }
         ensures waits { OnOk result (Waits self.old self.new) }
-        ensures app { self.new.app ≡ self.old.app }
         ensures continues { Continues W.Tells (W.seen world.old) (W.seen world.new) }
         ensures talks { KeepsTalking W.Tells (W.seen world.old) (W.seen world.new) }
         ensures links { OnLinks W.Tells (W.seen world.old) (W.seen world.new) }
 
         // Where the item was told to a host that kept up with its switches, no call of a link is a stray one.
-        ensures places { NoStrayAtItem W.Tells (item_step item buf.now) (W.seen world.old) (W.seen world.new) self.old.net }
+        ensures places { NoStrayAtItem W.Tells (length self.old.store) (item_step item buf.now) (W.seen world.old) (W.seen world.new) self.old.net }
         ensures messages { OnOk result (OnlyMessages W.Tells (W.seen world.old) (W.seen world.new)) }
         ensures read { OnOk result (AreRead self.old.net.kept → AreRead self.new.net.kept) }
         ensures why { IfErr result (WhyItem W.Tells (item_step item buf.now) (W.seen world.old) (W.seen world.new)) }
@@ -261,12 +254,11 @@ impl Run<'_> {
         requires read { AreRead self.old.net.kept }
         requires none_left { self.old.net.left ≡ [] }
         ensures waits { OnOk result (Waits self.old self.new) }
-        ensures app { self.new.app ≡ self.old.app }
         ensures lines { OnOk result (self.new.lines.items ≡ self.old.lines.items) }
         ensures continues { Continues W.Tells (W.seen world.old) (W.seen world.new) }
         ensures talks { KeepsTalking W.Tells (W.seen world.old) (W.seen world.new) }
         ensures links { OnLinks W.Tells (W.seen world.old) (W.seen world.new) }
-        ensures places { NoStray W.Tells (W.seen world.old) (W.seen world.new) self.old.net }
+        ensures places { NoStray W.Tells (length self.old.store) (W.seen world.old) (W.seen world.new) self.old.net }
         ensures reads { OnOk result (Reads W.Tells (W.seen world.old) (W.seen world.new) self.old.net self.new.net) }
         ensures read { OnOk result (AreRead self.new.net.kept) }
         ensures why { IfErr result (IsReason W.Tells (W.seen world.old) (W.seen world.new) 0 0) }
@@ -288,14 +280,13 @@ impl Run<'_> {
         requires buffer { most_message ≤ length buf.old }
         requires none_left { self.old.net.left ≡ [] }
         ensures waits { OnOk result (Waits self.old self.new) }
-        ensures app { self.new.app ≡ self.old.app }
         ensures continues { Continues W.Tells (W.seen world.old) (W.seen world.new) }
         ensures talks { KeepsTalking W.Tells (W.seen world.old) (W.seen world.new) }
-        ensures places { NoStray W.Tells (W.seen world.old) (W.seen world.new) self.old.net }
+        ensures places { NoStray W.Tells (length self.old.store) (W.seen world.old) (W.seen world.new) self.old.net }
         ensures reads { OnOk result (Reads W.Tells (W.seen world.old) (W.seen world.new) self.old.net self.new.net) }
 
         // One stimulus is begun at most, before all else, and where the batch goes on one is begun.
-        ensures no_point { NextPoint W.Tells (W.seen world.old) (W.seen world.new) }
+        ensures no_point { NextPoint W.Tells (length self.old.store) (W.seen world.old) (W.seen world.new) }
         ensures begun { IfOk result (λ rest. GoesBegun W.Tells rest (W.seen world.old) (W.seen world.new)) }
         ensures read { OnOk result (AreRead self.old.net.kept → AreRead self.new.net.kept) }
         ensures why { IfErr result (IsReason W.Tells (W.seen world.old) (W.seen world.new) 0 0) }
@@ -325,18 +316,17 @@ impl Run<'_> {
         requires read { AreRead self.old.net.kept }
         requires none_left { self.old.net.left ≡ [] }
         ensures waits { OnOk result (Waits self.old self.new) }
-        ensures app { self.new.app ≡ self.old.app }
         ensures continues { Continues W.Tells (W.seen world.old) (W.seen world.new) }
         ensures talks { KeepsTalking W.Tells (W.seen world.old) (W.seen world.new) }
 
         // Where the world tells in order and the host keeps up with its switches, no call of a link is a stray one; where the batch was done,
         // all that came were messages, and the host keeps up then.
-        ensures places { NoStray W.Tells (W.seen world.old) (W.seen world.new) self.old.net }
+        ensures places { NoStray W.Tells (length self.old.store) (W.seen world.old) (W.seen world.new) self.old.net }
         ensures reads { OnOk result (Reads W.Tells (W.seen world.old) (W.seen world.new) self.old.net self.new.net) }
 
         // Where all was at rest and nothing was kept, no quiescent point lies behind, and no other application was called.
-        ensures here { OnErr result (self.old.net.kept ≡ [] → AtMostThisPoint W.Tells (W.seen world.old) (W.seen world.new)) }
-        ensures own { OnErr result (W.Tells → CallsFor index (W.seen world.old) (W.seen world.new)) }
+        ensures here { OnErr result (self.old.net.kept ≡ [] → AtMostThisPoint W.Tells (length self.old.store) (W.seen world.old) (W.seen world.new)) }
+        ensures own { OnErr result (W.Tells → CallsAmong (length self.old.store) (W.seen world.old) (W.seen world.new)) }
         ensures read { OnOk result (AreRead self.new.net.kept) }
         ensures why { IfErr result (IsReason W.Tells (W.seen world.old) (W.seen world.new) 0 0) }
         ensures buffer { length buf.new ≡ length buf.old }

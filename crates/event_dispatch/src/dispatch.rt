@@ -7,25 +7,25 @@ ghost use Rattle.app_frames.specs.Frames.{HostFits};
 ghost use Rattle.outside.specs.Seen.{Continues};
 ghost use Rattle.event_dispatch.specs.Steady.{NoStray, Reads, NoPoint, AtMostThisPoint};
 ghost use Rattle.app_visor.specs.CallsFor.{CalmLater, OwnSteps};
-ghost use Rattle.event_dispatch.specs.Runs.{AreRead, StoreRests, Going, Waits};
-ghost use Rattle.event_dispatch.specs.Stored.{KeepsSlots, closes_slot, PlaysStaged, HoldsTurn};
+ghost use Rattle.event_dispatch.specs.Runs.{AreRead, StoreRests, CoreGoes, AreGoing, AreBefore, IsCountedTo, SameManaged, Going, Waits};
+ghost use Rattle.event_dispatch.specs.Stored.{KeepsSlots, KeepsOthers, closes_slot, PlaysStaged, HoldsTurn};
 ghost use Rattle.app_visor.specs.Attempts.{kept_of};
 ghost use Rattle.checkpoint_store.specs.Slots.{with_slot};
 ghost use Rattle.event_dispatch.specs.Why.{IsReason, served_by};
 ghost use Rattle.event_dispatch.specs.Plain.{PlainTurn, PlainRun};
 ghost use Rattle.lego_model.specs.RunReport.{turn_line as turn_line_of, gone_line as gone_line_of};
-ghost use Rattle.lego_model.specs.Application.{index};
-ghost use Rattle.run_laws.specs.Facts.{out_text, starts_text, takes_event};
-ghost use Rattle.event_dispatch.specs.Shows.{engine_of, name_of, Adds};
-ghost use Rattle.event_dispatch.specs.Serves.{Starts, Leaves, GoesOn, Closes, HasTurn, IsDispatched, DispatchesOldest, DispatchesWaiting};
+ghost use Rattle.run_laws.specs.Facts.{out_text, starts_text, says_stop};
+ghost use Rattle.event_dispatch.specs.Shows.{engine_of, Adds};
+ghost use Rattle.event_dispatch.specs.Serves.{end_of, Starts, Leaves, GoesOn, Closes, TurnNoted, OfferNoted, AllOffered, IsDispatched, DispatchesOldest, DispatchesWaiting};
 ghost use Rattle.event_dispatch.specs.Talking.{KeepsTalking, TurnTalks};
 ghost use Rattle.event_dispatch.specs.Undone.{IsShort, TurnLeft};
-ghost use Rattle.event_dispatch.specs.Cut.{FailsIn, CutOne, CutSome};
+ghost use Rattle.event_dispatch.specs.Cut.{OfferFails, OffersFail, FailsIn, CutOne, CutSome};
 
 use crate::closing::Closing;
 use crate::fault::Fault;
 use crate::limits::{MOST_BODY, MOST_EVENTS};
-use crate::run::{INDEX, Run};
+use crate::core::Core;
+use crate::run::{Managed, Run};
 use app_frames::{Event, EventKind};
 use app_visor::{AppState, Back, TurnEnd, restart, turn};
 use checkpoint_store::Store;
@@ -59,7 +59,6 @@ fn play_turn<W: World, J: Judge>(
     occasion: Occasion<'_, J>,
 ) -> Result<Closing, Fault>
     requires room { 1 ≤ net.old.room }
-    requires index { app.old.index ≡ index }
     requires place { app.old.index < length store.old }
     requires fits { HostFits (host.Event occasion.number net.old.moment occasion.event.now) }
     ensures room { OnOk result (net.new.room ≡ net.old.room) }
@@ -70,13 +69,13 @@ fn play_turn<W: World, J: Judge>(
     ensures slots { KeepsSlots app.old.index store.old store.new }
     ensures read { OnOk result (AreRead net.old.kept → AreRead net.new.kept) }
     ensures continues { Continues W.Tells (W.seen world.old) (W.seen world.new) }
-    ensures places { NoStray W.Tells (W.seen world.old) (W.seen world.new) net.old }
+    ensures places { NoStray W.Tells (length store.old) (W.seen world.old) (W.seen world.new) net.old }
     ensures reads { OnOk result (Reads W.Tells (W.seen world.old) (W.seen world.new) net.old net.new) }
     ensures later { W.Tells → CalmLater app.old.index (W.seen world.old) (W.seen world.new) }
     ensures talks { OnErr result (TurnTalks W.Tells app.old.index app.old.rest (W.seen world.old) (W.seen world.new)) }
     ensures why { IfErr result (IsReason W.Tells (W.seen world.old) (W.seen world.new) 0 0) }
     ensures plain { IfErr result (PlainTurn W.Tells (W.seen world.old) (W.seen world.new) net.old) }
-    ensures left { IfErr result (λ fault. TurnLeft W.Tells (IsShort fault) occasion.entry.budget app.old.rest (W.seen world.old) (W.seen world.new) net.old) }
+    ensures left { IfErr result (λ fault. TurnLeft W.Tells (IsShort fault) app.old.index occasion.entry.budget app.old.rest (W.seen world.old) (W.seen world.new) net.old) }
 {
     let Occasion {
         alloc,
@@ -126,7 +125,7 @@ fn hold_turn<W: World, J: Judge>(
     occasion: Occasion<'_, J>,
 ) -> Result<Closing, Fault>
     requires room { 1 ≤ net.old.room }
-    requires index { app.old.index ≡ index }
+    requires place { app.old.index < length store.old }
     requires fits { HostFits (host.Event occasion.number net.old.moment occasion.event.now) }
     requires rests { StoreRests store.old }
     ensures room { OnOk result (net.new.room ≡ net.old.room) }
@@ -134,18 +133,19 @@ fn hold_turn<W: World, J: Judge>(
     ensures alive { app.new.alive ≡ app.old.alive }
     ensures plays { IfOk result (λ end. HoldsTurn W.Tells (J.accepts occasion.entry.judge.now) app.old.index occasion.entry.budget occasion.entry.number occasion.entry.event.now end (W.seen world.old) (W.seen world.new)
         net.old net.new queue.old queue.new app.old.rest app.new.rest (kept_of app.old.index store.old) (kept_of app.old.index store.new)) }
-    // However it went, nothing that it staged is left; where it did not go well, the kept checkpoint is the one before.
+    // However it went, nothing that it staged is left; where it did not go well, the kept checkpoint is the one before. Those of others stay.
     ensures rests { StoreRests store.new }
+    ensures others { KeepsOthers app.old.index store.old store.new }
     ensures unkept { OnErr result (kept_of app.old.index store.new ≡ kept_of app.old.index store.old) }
     ensures read { OnOk result (AreRead net.old.kept → AreRead net.new.kept) }
     ensures continues { Continues W.Tells (W.seen world.old) (W.seen world.new) }
-    ensures places { NoStray W.Tells (W.seen world.old) (W.seen world.new) net.old }
+    ensures places { NoStray W.Tells (length store.old) (W.seen world.old) (W.seen world.new) net.old }
     ensures reads { OnOk result (Reads W.Tells (W.seen world.old) (W.seen world.new) net.old net.new) }
     ensures later { W.Tells → CalmLater app.old.index (W.seen world.old) (W.seen world.new) }
     ensures talks { OnErr result (TurnTalks W.Tells app.old.index app.old.rest (W.seen world.old) (W.seen world.new)) }
     ensures why { IfErr result (IsReason W.Tells (W.seen world.old) (W.seen world.new) 0 0) }
     ensures plain { IfErr result (PlainTurn W.Tells (W.seen world.old) (W.seen world.new) net.old) }
-    ensures left { IfErr result (λ fault. TurnLeft W.Tells (IsShort fault) occasion.entry.budget app.old.rest (W.seen world.old) (W.seen world.new) net.old) }
+    ensures left { IfErr result (λ fault. TurnLeft W.Tells (IsShort fault) app.old.index occasion.entry.budget app.old.rest (W.seen world.old) (W.seen world.new) net.old) }
 {
     let index = app.index;
     let closing = play_turn(world, net, queue, store, app, occasion);
@@ -153,106 +153,106 @@ fn hold_turn<W: World, J: Judge>(
     closing
 }
 
-impl Run<'_> {
-    /// Appends the line of how a turn ended.
-    fn note_turn(&mut self, word: TurnWord) -> Result<(), AllocError>
+impl Core {
+    /// Appends the line of how a turn of the application of a name ended.
+    fn note_turn(&mut self, name: &str, word: TurnWord) -> Result<(), AllocError>
         ensures waits { OnOk result (Waits self.old self.new) }
-        ensures adds { OnOk result (Adds (turn_line_of (name_of self.old) word) self.old self.new) }
+        ensures adds { OnOk result (Adds (turn_line_of (name.now) word) self.old self.new) }
     {
-        let line = turn_line(self.alloc, self.app.rule.name.as_str(), &word)?;
+        let line = turn_line(self.alloc, name, &word)?;
         self.note(&line)
     }
 
-    /// Starts the application at its kept checkpoint, in at most three attempts.
+    /// Starts an application at its kept checkpoint, in at most three attempts.
     #[tactic(auto, using(crate::specs::laws::WhyLaws::waits_then))]
-    pub(crate) fn start<W: World>(&mut self, world: &mut W) -> Result<(), AllocError>
-        requires index { self.old.app.state.index ≡ index }
+    pub(crate) fn start<W: World>(&mut self, world: &mut W, app: &mut Managed<'_>) -> Result<(), AllocError>
+        requires place { app.old.state.index < length self.old.store }
         requires store { StoreRests self.old.store }
         ensures waits { OnOk result (Waits self.old self.new) }
-        ensures index { OnOk result (self.new.app.state.index ≡ index) }
+        ensures same { SameManaged app.old app.new }
         ensures net { OnOk result (self.new.net ≡ self.old.net) }
-        ensures starts { OnOk result (Starts W.Tells (W.seen world.old) (W.seen world.new) self.old self.new) }
+        ensures queue { OnOk result (self.new.queue ≡ self.old.queue) }
+        ensures starts { OnOk result (Starts W.Tells (W.seen world.old) (W.seen world.new) self.old self.new app.old app.new) }
         ensures continues { Continues W.Tells (W.seen world.old) (W.seen world.new) }
-        ensures places { NoStray W.Tells (W.seen world.old) (W.seen world.new) self.old.net }
+        ensures places { NoStray W.Tells (length self.old.store) (W.seen world.old) (W.seen world.new) self.old.net }
         ensures reads { OnOk result (Reads W.Tells (W.seen world.old) (W.seen world.new) self.old.net self.new.net) }
-        ensures no_point { NoPoint W.Tells (W.seen world.old) (W.seen world.new) }
+        ensures no_point { NoPoint W.Tells (length self.old.store) (W.seen world.old) (W.seen world.new) }
         ensures talks { KeepsTalking W.Tells (W.seen world.old) (W.seen world.new) }
-        ensures own { W.Tells → OwnSteps index (W.seen world.old) (W.seen world.new) }
+        ensures own { W.Tells → OwnSteps app.old.state.index (W.seen world.old) (W.seen world.new) }
     {
-        let app = self.app.rule;
         let back = restart(
             self.alloc,
             world,
             &self.store,
-            &mut self.app.state,
-            &app.command,
+            &mut app.state,
+            &app.rule.command,
         )?;
-        self.note_start(back)
+        self.note_start(app.rule.name.as_str(), back)
     }
 
-    /// Appends the lines of the attempts to start the application.
+    /// Appends the lines of the attempts to start the application of a name.
     #[tactic(auto, using(crate::specs::laws::WhyLaws::waits_then))]
-    fn note_start(&mut self, back: Back) -> Result<(), AllocError>
+    fn note_start(&mut self, name: &str, back: Back) -> Result<(), AllocError>
         ensures waits { OnOk result (Waits self.old self.new) }
-        ensures adds { OnOk result (Adds (starts_text (name_of self.old) back.tries.items back.back) self.old self.new) }
+        ensures adds { OnOk result (Adds (starts_text (name.now) back.tries.items back.back) self.old self.new) }
     {
         for tried in back.tries.iter() {
-            let line = start_line(self.alloc, self.app.rule.name.as_str(), tried)?;
+            let line = start_line(self.alloc, name, tried)?;
             self.note(&line)?;
         }
         if !back.back {
-            self.note_gone()?;
+            self.note_gone(name)?;
         }
         Ok(())
     }
 
-    /// Appends the line that says that the application is gone.
-    fn note_gone(&mut self) -> Result<(), AllocError>
+    /// Appends the line that says that the application of a name is gone.
+    fn note_gone(&mut self, name: &str) -> Result<(), AllocError>
         ensures waits { OnOk result (Waits self.old self.new) }
-        ensures adds { OnOk result (Adds (gone_line_of (name_of self.old)) self.old self.new) }
+        ensures adds { OnOk result (Adds (gone_line_of (name.now)) self.old self.new) }
     {
-        let line = gone_line(self.alloc, self.app.rule.name.as_str())?;
+        let line = gone_line(self.alloc, name)?;
         self.note(&line)
     }
 
-    /// Ends the application, which is gone from now on.
-    fn leave<W: World>(&mut self, world: &mut W) -> Result<(), AllocError>
-        requires index { self.old.app.state.index ≡ index }
+    /// Ends an application, which is gone from now on.
+    fn leave<W: World>(&mut self, world: &mut W, app: &mut Managed<'_>) -> Result<(), AllocError>
+        requires place { app.old.state.index < length self.old.store }
         ensures waits { OnOk result (Waits self.old self.new) }
-        ensures index { OnOk result (self.new.app.state.index ≡ index) }
+        ensures same { SameManaged app.old app.new }
         ensures net { OnOk result (self.new.net ≡ self.old.net) }
-        ensures leaves { OnOk result (Leaves W.Tells (W.seen world.old) (W.seen world.new) self.old self.new) }
+        ensures leaves { OnOk result (Leaves W.Tells (W.seen world.old) (W.seen world.new) self.old self.new app.old app.new) }
         ensures continues { Continues W.Tells (W.seen world.old) (W.seen world.new) }
-        ensures places { NoStray W.Tells (W.seen world.old) (W.seen world.new) self.old.net }
+        ensures places { NoStray W.Tells (length self.old.store) (W.seen world.old) (W.seen world.new) self.old.net }
         ensures reads { OnOk result (Reads W.Tells (W.seen world.old) (W.seen world.new) self.old.net self.new.net) }
-        ensures no_point { NoPoint W.Tells (W.seen world.old) (W.seen world.new) }
+        ensures no_point { NoPoint W.Tells (length self.old.store) (W.seen world.old) (W.seen world.new) }
         ensures talks { KeepsTalking W.Tells (W.seen world.old) (W.seen world.new) }
-        ensures own { W.Tells → OwnSteps index (W.seen world.old) (W.seen world.new) }
+        ensures own { W.Tells → OwnSteps app.old.state.index (W.seen world.old) (W.seen world.new) }
     {
-        world.end(INDEX);
-        self.app.state.alive = false;
-        self.note_gone()
+        world.end(app.state.index);
+        app.state.alive = false;
+        self.note_gone(app.rule.name.as_str())
     }
 
-    /// Does what the policy says of a turn that failed at an event of a kind: the application is gone, or it is started again
+    /// Does what the policy says of an application whose turn failed at an event of a kind: it is gone, or it is started again
     /// at its kept checkpoint.
-    fn go_on<W: World>(&mut self, world: &mut W, kind: EventKind) -> Result<(), AllocError>
-        requires index { self.old.app.state.index ≡ index }
+    fn go_on<W: World>(&mut self, world: &mut W, app: &mut Managed<'_>, kind: EventKind) -> Result<(), AllocError>
+        requires place { app.old.state.index < length self.old.store }
         requires store { StoreRests self.old.store }
         ensures waits { OnOk result (Waits self.old self.new) }
-        ensures index { OnOk result (self.new.app.state.index ≡ index) }
+        ensures same { SameManaged app.old app.new }
         ensures net { OnOk result (self.new.net ≡ self.old.net) }
-        ensures goes_on { OnOk result (GoesOn W.Tells kind (W.seen world.old) (W.seen world.new) self.old self.new) }
+        ensures goes_on { OnOk result (GoesOn W.Tells kind (W.seen world.old) (W.seen world.new) self.old self.new app.old app.new) }
         ensures continues { Continues W.Tells (W.seen world.old) (W.seen world.new) }
-        ensures places { NoStray W.Tells (W.seen world.old) (W.seen world.new) self.old.net }
+        ensures places { NoStray W.Tells (length self.old.store) (W.seen world.old) (W.seen world.new) self.old.net }
         ensures reads { OnOk result (Reads W.Tells (W.seen world.old) (W.seen world.new) self.old.net self.new.net) }
-        ensures no_point { NoPoint W.Tells (W.seen world.old) (W.seen world.new) }
+        ensures no_point { NoPoint W.Tells (length self.old.store) (W.seen world.old) (W.seen world.new) }
         ensures talks { KeepsTalking W.Tells (W.seen world.old) (W.seen world.new) }
-        ensures own { W.Tells → OwnSteps index (W.seen world.old) (W.seen world.new) }
+        ensures own { W.Tells → OwnSteps app.old.state.index (W.seen world.old) (W.seen world.new) }
     {
-        match rule(self.app.rule, kind) {
-            Policy::None => self.leave(world),
-            Policy::Absolute | Policy::Equivalence => self.start(world),
+        match rule(app.rule, kind) {
+            Policy::None => self.leave(world, app),
+            Policy::Absolute | Policy::Equivalence => self.start(world, app),
         }
     }
 
@@ -271,87 +271,99 @@ impl Run<'_> {
 
     /// Appends the lines of a turn that was done: how it ended, and the packets that were released.
     #[tactic(auto, using(crate::specs::laws::WhyLaws::waits_then))]
-    fn note_done(&mut self, word: TurnWord, out: &[(Dpid, u32)]) -> Result<(), AllocError>
+    fn note_done(&mut self, name: &str, word: TurnWord, out: &[(Dpid, u32)]) -> Result<(), AllocError>
         ensures waits { OnOk result (Waits self.old self.new) }
-        ensures adds { OnOk result (Adds (turn_line_of (name_of self.old) word ++ out_text out.now) self.old self.new) }
+        ensures adds { OnOk result (Adds (turn_line_of (name.now) word ++ out_text out.now) self.old self.new) }
     {
-        self.note_turn(word)?;
+        self.note_turn(name, word)?;
         self.note_out(out)
     }
 
-    /// Closes a turn at an event of a kind: counts and tells it, with the switches that were lost in it, and does what the
-    /// policy says of an application that failed.
+    /// Closes a turn of an application at an event of a kind: counts and tells it, with the switches that were lost in it, and
+    /// does what the policy says of one that failed. Answers whether the event goes no further.
     #[tactic(auto, using(crate::specs::laws::TalkingLaws::keeps_none))]
     fn close<W: World>(
         &mut self,
         world: &mut W,
+        app: &mut Managed<'_>,
         kind: EventKind,
         closing: Closing,
-    ) -> Result<(), AllocError>
-        requires done { self.old.app.done < self.old.events }
-        requires failed { self.old.app.failed < self.old.events }
+    ) -> Result<bool, AllocError>
+        requires done { app.old.done < self.old.events }
+        requires failed { app.old.failed < self.old.events }
         requires room { 1 ≤ self.old.net.room }
-        requires index { self.old.app.state.index ≡ index }
+        requires place { app.old.state.index < length self.old.store }
         requires read { AreRead self.old.net.kept }
         requires store { StoreRests self.old.store }
-        ensures going { OnOk result (Going self.new) }
+        ensures goes { OnOk result (CoreGoes self.new) }
         ensures events { OnOk result (self.new.events ≡ self.old.events) }
-        ensures closes { OnOk result (Closes W.Tells kind closing (W.seen world.old) (W.seen world.new) self.old self.new) }
+        ensures store { OnOk result (self.new.store ≡ self.old.store) }
+        ensures counted { OnOk result (IsCountedTo self.old.events app.new) }
+        ensures index { app.new.state.index ≡ app.old.state.index }
+        ensures rule { app.new.rule ≡ app.old.rule }
+        ensures stops { IfOk result (λ stops. stops ≡ says_stop (end_of closing)) }
+        ensures closes { OnOk result (Closes W.Tells kind closing (W.seen world.old) (W.seen world.new) self.old self.new app.old app.new) }
         ensures continues { Continues W.Tells (W.seen world.old) (W.seen world.new) }
-        ensures places { NoStray W.Tells (W.seen world.old) (W.seen world.new) self.old.net }
+        ensures places { NoStray W.Tells (length self.old.store) (W.seen world.old) (W.seen world.new) self.old.net }
         ensures reads { OnOk result (Reads W.Tells (W.seen world.old) (W.seen world.new) self.old.net self.new.net) }
-        ensures no_point { NoPoint W.Tells (W.seen world.old) (W.seen world.new) }
+        ensures no_point { NoPoint W.Tells (length self.old.store) (W.seen world.old) (W.seen world.new) }
         ensures talks { KeepsTalking W.Tells (W.seen world.old) (W.seen world.new) }
-        ensures own { W.Tells → OwnSteps index (W.seen world.old) (W.seen world.new) }
+        ensures own { W.Tells → OwnSteps app.old.state.index (W.seen world.old) (W.seen world.new) }
     {
+        let name = app.rule.name.as_str();
         match closing {
             Closing::Done { stop, out } => {
-                self.app.done += 1;
-                self.note_done(if stop { TurnWord::Stop } else { TurnWord::Done }, &out)?;
-                self.tell_lost()
+                app.done += 1;
+                self.note_done(name, if stop { TurnWord::Stop } else { TurnWord::Done }, &out)?;
+                self.tell_lost()?;
+                Ok(stop)
             }
             Closing::Failed(cause) => {
-                self.app.failed += 1;
-                self.note_turn(TurnWord::Failed(cause))?;
+                app.failed += 1;
+                self.note_turn(name, TurnWord::Failed(cause))?;
                 self.tell_lost()?;
-                self.go_on(world, kind)
+                self.go_on(world, app, kind)?;
+                Ok(false)
             }
         }
     }
 
-    /// Gives the application its turn at an event, whose frame four bytes can count.
+    /// Gives an application its turn at an event, whose frame four bytes can count. Answers whether the event goes no further.
     fn take_turn<'x, W: World, J: Judge>(
         &mut self,
         world: &mut W,
+        app: &mut Managed<'_>,
         judge: &'x J,
         event: &'x Event,
-    ) -> Result<(), Fault>
-        requires done { self.old.app.done < self.old.events }
-        requires failed { self.old.app.failed < self.old.events }
-        requires room { 1 ≤ self.old.net.room }
-        requires index { self.old.app.state.index ≡ index }
-        requires read { AreRead self.old.net.kept }
-        requires store { StoreRests self.old.store }
+    ) -> Result<bool, Fault>
+        requires goes { CoreGoes self.old }
+        requires done { app.old.done < self.old.events }
+        requires failed { app.old.failed < self.old.events }
+        requires place { app.old.state.index < length self.old.store }
         requires fits { HostFits (host.Event self.old.events self.old.net.moment event.now) }
-        ensures going { OnOk result (Going self.new) }
+        ensures goes { OnOk result (CoreGoes self.new) }
         ensures events { OnOk result (self.new.events ≡ self.old.events) }
-        ensures turn { OnOk result (HasTurn W.Tells (J.accepts judge.now) event.now (W.seen world.old) (W.seen world.new) self.old self.new) }
+        ensures others { OnOk result (KeepsOthers app.old.state.index self.old.store self.new.store) }
+        ensures counted { OnOk result (IsCountedTo self.old.events app.new) }
+        ensures index { OnOk result (app.new.state.index ≡ app.old.state.index) }
+        ensures rule { OnOk result (app.new.rule ≡ app.old.rule) }
+        ensures turn { IfOk result (λ stops. TurnNoted W.Tells (J.accepts judge.now) event.now stops (W.seen world.old) (W.seen world.new) self.old self.new app.old app.new) }
         ensures continues { Continues W.Tells (W.seen world.old) (W.seen world.new) }
-        ensures places { NoStray W.Tells (W.seen world.old) (W.seen world.new) self.old.net }
+        ensures places { NoStray W.Tells (length self.old.store) (W.seen world.old) (W.seen world.new) self.old.net }
         ensures reads { OnOk result (Reads W.Tells (W.seen world.old) (W.seen world.new) self.old.net self.new.net) }
-        ensures later { W.Tells → CalmLater index (W.seen world.old) (W.seen world.new) }
-        ensures talks { OnErr result (TurnTalks W.Tells index self.old.app.state.rest (W.seen world.old) (W.seen world.new)) }
+        ensures later { W.Tells → CalmLater app.old.state.index (W.seen world.old) (W.seen world.new) }
+        ensures talks { OnErr result (TurnTalks W.Tells app.old.state.index app.old.state.rest (W.seen world.old) (W.seen world.new)) }
         ensures why { IfErr result (IsReason W.Tells (W.seen world.old) (W.seen world.new) 0 0) }
         ensures plain { IfErr result (PlainTurn W.Tells (W.seen world.old) (W.seen world.new) self.old.net) }
-        ensures left { IfErr result (λ fault. TurnLeft W.Tells (IsShort fault) self.old.app.rule.now.budget self.old.app.state.rest (W.seen world.old) (W.seen world.new) self.old.net) }
+        ensures left { IfErr result (λ fault. TurnLeft W.Tells (IsShort fault) app.old.state.index app.old.rule.now.budget app.old.state.rest (W.seen world.old) (W.seen world.new) self.old.net) }
     {
-        let budget = self.app.rule.budget;
+        let budget = app.rule.budget;
         let closing = hold_turn(
             world,
             &mut self.net,
             &mut self.queue,
             &mut self.store,
-            &mut self.app.state,
+            &mut app.state,
             Occasion {
                 alloc: self.alloc,
                 budget,
@@ -360,17 +372,76 @@ impl Run<'_> {
                 judge,
             },
         )?;
-        Ok(self.close(world, event.kind, closing)?)
+        Ok(self.close(world, app, event.kind, closing)?)
     }
+}
 
-    /// Tells whether the application has a turn at an event: it is alive, and is given events of that kind.
-    fn takes(&self, event: &Event) -> bool
-        ensures { result ≡ takes_event (engine_of self.now) event.now }
-    {
-        self.app.state.alive && listens(self.app.rule, event.kind)
+/// Gives an event to an application, where it has a turn at it. Answers whether the event goes no further.
+fn offer<'x, W: World, J: Judge>(
+    core: &mut Core,
+    world: &mut W,
+    app: &mut Managed<'_>,
+    judge: &'x J,
+    event: &'x Event,
+) -> Result<bool, Fault>
+    requires goes { CoreGoes core.old }
+    requires few { core.old.events < 2 ^ 64 }
+    requires done { app.old.done < core.old.events }
+    requires failed { app.old.failed < core.old.events }
+    requires place { app.old.state.index < length core.old.store }
+    ensures goes { OnOk result (CoreGoes core.new) }
+    ensures events { OnOk result (core.new.events ≡ core.old.events) }
+    ensures others { OnOk result (KeepsOthers app.old.state.index core.old.store core.new.store) }
+    ensures counted { OnOk result (IsCountedTo core.old.events app.new) }
+    ensures index { OnOk result (app.new.state.index ≡ app.old.state.index) }
+    ensures rule { OnOk result (app.new.rule ≡ app.old.rule) }
+    ensures offered { IfOk result (λ stops. OfferNoted W.Tells (J.accepts judge.now) event.now stops (W.seen world.old) (W.seen world.new) core.old core.new app.old app.new) }
+    ensures continues { Continues W.Tells (W.seen world.old) (W.seen world.new) }
+    ensures places { NoStray W.Tells (length core.old.store) (W.seen world.old) (W.seen world.new) core.old.net }
+    ensures reads { OnOk result (Reads W.Tells (W.seen world.old) (W.seen world.new) core.old.net core.new.net) }
+    ensures fails { IfErr result (λ fault. OfferFails W.Tells fault event.now (W.seen world.old) (W.seen world.new) core.old app.old) }
+    ensures why { IfErr result (IsReason W.Tells (W.seen world.old) (W.seen world.new) 0 0) }
+{
+    if !app.takes(event) {
+        return Ok(false);
     }
+    if event.body.len() > MOST_BODY {
+        return Err(Fault::NoMemory);
+    }
+    core.take_turn(world, app, judge, event)
+}
 
-    /// Gives an event to the application, where it has a turn at it.
+/// Gives an event to the applications that have a turn at it, in order, until one that was done says that it goes no further.
+fn offer_all<'x, W: World, J: Judge>(
+    core: &mut Core,
+    world: &mut W,
+    apps: &mut Vec<Managed<'_>>,
+    judge: &'x J,
+    event: &'x Event,
+) -> Result<(), Fault>
+    requires going { AreGoing core.old apps.old.items }
+    requires before { AreBefore core.old.events apps.old.items }
+    requires few { core.old.events < 2 ^ 64 }
+    ensures going { OnOk result (AreGoing core.new apps.new.items) }
+    ensures events { OnOk result (core.new.events ≡ core.old.events) }
+    ensures number { OnOk result (length core.new.store ≡ length core.old.store) }
+    ensures offered { OnOk result (AllOffered W.Tells (J.accepts judge.now) event.now (W.seen world.old) (W.seen world.new) core.old core.new apps.old.items apps.new.items) }
+    ensures continues { Continues W.Tells (W.seen world.old) (W.seen world.new) }
+    ensures places { NoStray W.Tells (length core.old.store) (W.seen world.old) (W.seen world.new) core.old.net }
+    ensures reads { OnOk result (Reads W.Tells (W.seen world.old) (W.seen world.new) core.old.net core.new.net) }
+    ensures fails { IfErr result (λ fault. OffersFail W.Tells (J.accepts judge.now) fault event.now (W.seen world.old) (W.seen world.new) core.old apps.old.items) }
+    ensures why { IfErr result (IsReason W.Tells (W.seen world.old) (W.seen world.new) 0 0) }
+{
+    for at in 0..apps.len() {
+        if offer(core, world, &mut apps[at], judge, event)? {
+            return Ok(());
+        }
+    }
+    Ok(())
+}
+
+impl Run<'_> {
+    /// Gives an event to the applications that have a turn at it.
     fn dispatch<W: World, J: Judge>(
         &mut self,
         world: &mut W,
@@ -378,29 +449,26 @@ impl Run<'_> {
         event: &Event,
     ) -> Result<(), Fault>
         requires going { Going self.old }
-        requires few { self.old.events < 2 ^ 63 }
+        requires few { self.old.core.events < 2 ^ 63 }
         ensures going { OnOk result (Going self.new) }
-        ensures events { OnOk result (self.new.events ≡ self.old.events + 1) }
+        ensures events { OnOk result (self.new.core.events ≡ self.old.core.events + 1) }
+        ensures number { OnOk result (length self.new.core.store ≡ length self.old.core.store) }
         ensures dispatched { OnOk result (IsDispatched W.Tells (J.accepts judge.now) event.now (W.seen world.old) (W.seen world.new) self.old self.new) }
         ensures continues { Continues W.Tells (W.seen world.old) (W.seen world.new) }
-        ensures places { NoStray W.Tells (W.seen world.old) (W.seen world.new) self.old.net }
-        ensures reads { OnOk result (Reads W.Tells (W.seen world.old) (W.seen world.new) self.old.net self.new.net) }
-        ensures here { AtMostThisPoint W.Tells (W.seen world.old) (W.seen world.new) }
-        ensures later { W.Tells → CalmLater index (W.seen world.old) (W.seen world.new) }
-        ensures fails { IfErr result (λ fault. FailsIn W.Tells fault (takes_event (engine_of self.old) event.now) (W.seen world.old) (W.seen world.new) (engine_of self.old)) }
+        ensures places { NoStray W.Tells (length self.old.core.store) (W.seen world.old) (W.seen world.new) self.old.core.net }
+        ensures reads { OnOk result (Reads W.Tells (W.seen world.old) (W.seen world.new) self.old.core.net self.new.core.net) }
+        ensures fails { IfErr result (λ fault. FailsIn W.Tells (J.accepts judge.now) fault event.now (W.seen world.old) (W.seen world.new) (engine_of self.old)) }
         ensures why { IfErr result (IsReason W.Tells (W.seen world.old) (W.seen world.new) 0 0) }
-        ensures plain { IfErr result (PlainTurn W.Tells (W.seen world.old) (W.seen world.new) self.old.net) }
     {
-        self.events += 1;
-        let line = event_line(self.alloc, self.events, event.kind, event.dpid)?;
-        self.note(&line)?;
-        if !self.takes(event) {
-            return Ok(());
-        }
-        if event.body.len() > MOST_BODY {
-            return Err(Fault::NoMemory);
-        }
-        self.take_turn(world, judge, event)
+        self.core.events += 1;
+        let line = event_line(
+            self.core.alloc,
+            self.core.events,
+            event.kind,
+            event.dpid,
+        )?;
+        self.core.note(&line)?;
+        offer_all(&mut self.core, world, &mut self.apps, judge, event)
     }
 
     /// Dispatches the oldest event that waits, and writes its lines; answers whether there was one.
@@ -412,27 +480,27 @@ impl Run<'_> {
         sink: &mut K,
     ) -> Result<bool, Fault>
         requires going { Going self.old }
-        requires few { self.old.events < 2 ^ 63 }
-        requires none_waits { self.old.lines.items ≡ [] }
+        requires few { self.old.core.events < 2 ^ 63 }
+        requires none_waits { self.old.core.lines.items ≡ [] }
         ensures going { OnOk result (Going self.new) }
-        ensures events { OnOk result (self.new.events ≤ self.old.events + 1) }
+        ensures events { OnOk result (self.new.core.events ≤ self.old.core.events + 1) }
+        ensures number { OnOk result (length self.new.core.store ≡ length self.old.core.store) }
         ensures dispatches { IfOk result (λ found. DispatchesOldest W.Tells (J.accepts judge.now) found (K.contents sink.old) (K.contents sink.new)
             (W.seen world.old) (W.seen world.new) self.old self.new) }
         ensures cut { IfErr result (λ fault. CutOne W.Tells (J.accepts judge.now) fault (K.contents sink.old) (K.contents sink.new)
             (W.seen world.old) (W.seen world.new) (engine_of self.old)) }
         ensures continues { Continues W.Tells (W.seen world.old) (W.seen world.new) }
-        ensures places { NoStray W.Tells (W.seen world.old) (W.seen world.new) self.old.net }
-        ensures reads { OnOk result (Reads W.Tells (W.seen world.old) (W.seen world.new) self.old.net self.new.net) }
-        ensures here { OnErr result (AtMostThisPoint W.Tells (W.seen world.old) (W.seen world.new)) }
+        ensures places { NoStray W.Tells (length self.old.core.store) (W.seen world.old) (W.seen world.new) self.old.core.net }
+        ensures reads { OnOk result (Reads W.Tells (W.seen world.old) (W.seen world.new) self.old.core.net self.new.core.net) }
         ensures never_fell { NeverFell (K.faults sink.old) (K.faults sink.new) }
         ensures why { IfErr result (IsReason W.Tells (W.seen world.old) (W.seen world.new) (K.faults sink.old) (K.faults sink.new)) }
         ensures plain { IfErr result (λ fault. PlainRun W.Tells (J.accepts judge.now) (W.seen world.old) (W.seen world.new) (engine_of self.old) (served_by fault)) }
     {
-        let Some(event) = self.queue.take_first() else {
+        let Some(event) = self.core.queue.take_first() else {
             return Ok(false);
         };
         self.dispatch(world, judge, &event)?;
-        self.write(sink)?;
+        self.core.write(sink)?;
         Ok(true)
     }
 
@@ -445,10 +513,11 @@ impl Run<'_> {
         sink: &mut K,
     ) -> Result<(), Fault>
         requires going { Going self.old }
-        requires few { self.old.events < 2 ^ 62 }
-        requires none_waits { self.old.lines.items ≡ [] }
+        requires few { self.old.core.events < 2 ^ 62 }
+        requires none_waits { self.old.core.lines.items ≡ [] }
         ensures going { OnOk result (Going self.new) }
-        ensures events { OnOk result (self.new.events ≤ self.old.events + 1000) }
+        ensures events { OnOk result (self.new.core.events ≤ self.old.core.events + 1000) }
+        ensures number { OnOk result (length self.new.core.store ≡ length self.old.core.store) }
 
         // In a world that keeps its word this is what the reference controller does with the events that wait.
         ensures dispatches { OnOk result (DispatchesWaiting W.Tells (J.accepts judge.now) (K.contents sink.old) (K.contents sink.new)
@@ -458,8 +527,8 @@ impl Run<'_> {
         ensures cut { IfErr result (λ fault. CutSome W.Tells (J.accepts judge.now) fault (K.contents sink.old) (K.contents sink.new)
             (W.seen world.old) (W.seen world.new) self.old) }
         ensures continues { Continues W.Tells (W.seen world.old) (W.seen world.new) }
-        ensures places { NoStray W.Tells (W.seen world.old) (W.seen world.new) self.old.net }
-        ensures reads { OnOk result (Reads W.Tells (W.seen world.old) (W.seen world.new) self.old.net self.new.net) }
+        ensures places { NoStray W.Tells (length self.old.core.store) (W.seen world.old) (W.seen world.new) self.old.core.net }
+        ensures reads { OnOk result (Reads W.Tells (W.seen world.old) (W.seen world.new) self.old.core.net self.new.core.net) }
         ensures never_fell { NeverFell (K.faults sink.old) (K.faults sink.new) }
         ensures why { IfErr result (IsReason W.Tells (W.seen world.old) (W.seen world.new) (K.faults sink.old) (K.faults sink.new)) }
 

@@ -1,24 +1,25 @@
-//! The end of a report: the tables of the joined switches, the application, and how many events there were. A switch that is lost when it
+//! The end of a report: the tables of the joined switches, the applications, and how many events there were. A switch that is lost when it
 //! is asked for its table is told in its place.
 
-ghost use Rattle.std.specs.Prelude.{◌≡◌, ◌<◌, ◌∷◌, List, length, map, drop, None, Some, MatchOption, IsSome, IfSome, IfOk, IfErr, OnOk};
+ghost use Rattle.std.specs.Prelude.{◌≡◌, ◌<◌, [], ◌∷◌, List, length, map, drop, None, Some, MatchOption, IsSome, IfSome, IfOk, IfErr, OnOk};
 ghost use Rattle.flow_table.specs.declared.view.ViewRow.{ViewRow};
 ghost use Rattle.flow_table.specs.View.{plains};
 ghost use Rattle.outside.specs.Seen.{Continues};
 ghost use Rattle.lego_model.specs.RunReport.{flow_line};
 ghost use Rattle.net_txn.specs.Views.{rows_at};
-ghost use Rattle.run_laws.specs.LastReport.{engine_end};
+ghost use Rattle.run_laws.specs.LastReport.{app_lines, engine_end};
 ghost use Rattle.event_dispatch.specs.Steady.{NoStray, Reads, NoPoint};
 ghost use Rattle.event_dispatch.specs.Runs.{Waits, WaitsAtEnd};
 ghost use Rattle.event_dispatch.specs.Why.{IsReason, served_by};
 ghost use Rattle.event_dispatch.specs.Plain.{PlainTable, PlainCalm};
 ghost use Rattle.event_dispatch.specs.Talking.{KeepsTalking};
-ghost use Rattle.event_dispatch.specs.Shows.{engine_of, Adds};
-ghost use Rattle.event_dispatch.specs.ReportEnd.{FindsFlags, FlowsSaid, TableSaid, AsksAs, TableShown, LastShown};
+ghost use Rattle.event_dispatch.specs.Shows.{application_of, engine_with, Adds};
+ghost use Rattle.event_dispatch.specs.ReportEnd.{FindsFlags, FlowsSaid, TableSaid, AsksAs, TableShown, TablesShown, LastShown};
 
 use crate::batch::is_joined;
 use crate::fault::Fault;
-use crate::run::Run;
+use crate::core::Core;
+use crate::run::{Managed, Run};
 use flow_table::{TableView, ViewList, ViewRow};
 use of_match::Key;
 use of_stats::{FlowRow, RowList};
@@ -62,7 +63,7 @@ fn rows_of(views: &[TableView], dpid: Dpid) -> Option<&ViewList>
     None
 }
 
-impl Run<'_> {
+impl Core {
     /// Appends the line of an entry, with the flags with which its owner asked for it.
     fn note_flow(&mut self, row: &FlowRow, flags: u16) -> Result<(), AllocError>
         ensures waits { OnOk result (Waits self.old self.new) }
@@ -116,9 +117,9 @@ impl Run<'_> {
         requires { IsSome (rows_at dpid self.old.net.views) }
         ensures waits { OnOk result (WaitsAtEnd self.old self.new) }
         ensures continues { Continues W.Tells (W.seen world.old) (W.seen world.new) }
-        ensures places { NoStray W.Tells (W.seen world.old) (W.seen world.new) self.old.net }
+        ensures places { NoStray W.Tells (length self.old.store) (W.seen world.old) (W.seen world.new) self.old.net }
         ensures reads { OnOk result (Reads W.Tells (W.seen world.old) (W.seen world.new) self.old.net self.new.net) }
-        ensures no_point { NoPoint W.Tells (W.seen world.old) (W.seen world.new) }
+        ensures no_point { NoPoint W.Tells (length self.old.store) (W.seen world.old) (W.seen world.new) }
         ensures talks { KeepsTalking W.Tells (W.seen world.old) (W.seen world.new) }
         ensures why { IfErr result (IsReason W.Tells (W.seen world.old) (W.seen world.new) 0 0) }
         ensures plain { IfErr result (PlainTable W.Tells (W.seen world.old) (W.seen world.new) self.old.net) }
@@ -136,9 +137,9 @@ impl Run<'_> {
     fn note_table<W: World>(&mut self, world: &mut W, dpid: Dpid) -> Result<(), Fault>
         ensures waits { OnOk result (WaitsAtEnd self.old self.new) }
         ensures continues { Continues W.Tells (W.seen world.old) (W.seen world.new) }
-        ensures places { NoStray W.Tells (W.seen world.old) (W.seen world.new) self.old.net }
+        ensures places { NoStray W.Tells (length self.old.store) (W.seen world.old) (W.seen world.new) self.old.net }
         ensures reads { OnOk result (Reads W.Tells (W.seen world.old) (W.seen world.new) self.old.net self.new.net) }
-        ensures no_point { NoPoint W.Tells (W.seen world.old) (W.seen world.new) }
+        ensures no_point { NoPoint W.Tells (length self.old.store) (W.seen world.old) (W.seen world.new) }
         ensures talks { KeepsTalking W.Tells (W.seen world.old) (W.seen world.new) }
         ensures why { IfErr result (IsReason W.Tells (W.seen world.old) (W.seen world.new) 0 0) }
         ensures plain { IfErr result (PlainTable W.Tells (W.seen world.old) (W.seen world.new) self.old.net) }
@@ -164,37 +165,17 @@ impl Run<'_> {
         Ok(switches)
     }
 
-    /// Appends the lines of the application and of the end.
-    fn note_end(&mut self) -> Result<(), AllocError>
-        ensures waits { OnOk result (Waits self.old self.new) }
-        ensures adds { OnOk result (Adds (engine_end (engine_of self.old)) self.old self.new) }
-    {
-        let app = &self.app;
-        let line = app_line(
-            self.alloc,
-            app.rule.name.as_str(),
-            app.state.alive,
-            app.done,
-            app.failed,
-        )?;
-        let last = end_line(self.alloc, self.net.moment(), self.events)?;
-        self.note(&line)?;
-        self.note(&last)
-    }
-
-    /// Appends the last lines: the tables of the joined switches, by number, the application, and the end.
+    /// Appends the tables of the joined switches, by number.
     #[tactic(auto, using(crate::specs::laws::WhyLaws::continues_then, crate::specs::laws::WhyLaws::why_then, crate::specs::laws::WhyLaws::waits_at_end, crate::specs::laws::TalkingLaws::keeps_none, crate::specs::laws::TalkingLaws::keeps_then))]
-    pub(crate) fn note_last<W: World>(&mut self, world: &mut W) -> Result<(), Fault>
+    fn note_tables<W: World>(&mut self, world: &mut W) -> Result<(), Fault>
         ensures waits { OnOk result (WaitsAtEnd self.old self.new) }
         ensures continues { Continues W.Tells (W.seen world.old) (W.seen world.new) }
-        ensures places { NoStray W.Tells (W.seen world.old) (W.seen world.new) self.old.net }
+        ensures places { NoStray W.Tells (length self.old.store) (W.seen world.old) (W.seen world.new) self.old.net }
         ensures reads { OnOk result (Reads W.Tells (W.seen world.old) (W.seen world.new) self.old.net self.new.net) }
-        ensures no_point { NoPoint W.Tells (W.seen world.old) (W.seen world.new) }
+        ensures no_point { NoPoint W.Tells (length self.old.store) (W.seen world.old) (W.seen world.new) }
         ensures talks { KeepsTalking W.Tells (W.seen world.old) (W.seen world.new) }
         ensures why { IfErr result (IsReason W.Tells (W.seen world.old) (W.seen world.new) 0 0) }
-
-        // Where the world keeps its word, this is what the reference controller says at the end.
-        ensures shown { OnOk result (LastShown W.Tells (W.seen world.old) (W.seen world.new) self.old self.new) }
+        ensures shown { OnOk result (TablesShown W.Tells (map (λ v. v.dpid) self.old.net.views) (W.seen world.old) (W.seen world.new) self.old self.new) }
 
         // There a fault is a plain one.
         ensures plain { IfErr result (λ fault. PlainCalm W.Tells (W.seen world.old) (W.seen world.new) self.old.net (served_by fault)) }
@@ -203,6 +184,57 @@ impl Run<'_> {
         for dpid in switches.iter() {
             self.note_table(world, *dpid)?;
         }
-        Ok(self.note_end()?)
+        Ok(())
+    }
+
+    /// Appends the line of an application.
+    fn note_app(&mut self, app: &Managed<'_>) -> Result<(), AllocError>
+        ensures waits { OnOk result (Waits self.old self.new) }
+        ensures adds { OnOk result (Adds (app_lines (application_of self.old.store app.now ∷ [])) self.old self.new) }
+    {
+        let line = app_line(
+            self.alloc,
+            app.rule.name.as_str(),
+            app.state.alive,
+            app.done,
+            app.failed,
+        )?;
+        self.note(&line)
+    }
+
+    /// Appends the lines of applications, and of the end.
+    #[tactic(auto, using(crate::specs::laws::WhyLaws::waits_then))]
+    fn note_end(&mut self, apps: &[Managed<'_>]) -> Result<(), AllocError>
+        ensures waits { OnOk result (Waits self.old self.new) }
+        ensures adds { OnOk result (Adds (engine_end (engine_with self.old apps.now)) self.old self.new) }
+    {
+        for app in apps {
+            self.note_app(app)?;
+        }
+        let last = end_line(self.alloc, self.net.moment(), self.events)?;
+        self.note(&last)
+    }
+}
+
+impl Run<'_> {
+    /// Appends the last lines: the tables of the joined switches, by number, the applications, and the end.
+    pub(crate) fn note_last<W: World>(&mut self, world: &mut W) -> Result<(), Fault>
+        ensures waits { OnOk result (WaitsAtEnd self.old.core self.new.core) }
+        ensures apps { self.new.apps ≡ self.old.apps }
+        ensures continues { Continues W.Tells (W.seen world.old) (W.seen world.new) }
+        ensures places { NoStray W.Tells (length self.old.core.store) (W.seen world.old) (W.seen world.new) self.old.core.net }
+        ensures reads { OnOk result (Reads W.Tells (W.seen world.old) (W.seen world.new) self.old.core.net self.new.core.net) }
+        ensures no_point { NoPoint W.Tells (length self.old.core.store) (W.seen world.old) (W.seen world.new) }
+        ensures talks { KeepsTalking W.Tells (W.seen world.old) (W.seen world.new) }
+        ensures why { IfErr result (IsReason W.Tells (W.seen world.old) (W.seen world.new) 0 0) }
+
+        // Where the world keeps its word, this is what the reference controller says at the end.
+        ensures shown { OnOk result (LastShown W.Tells (W.seen world.old) (W.seen world.new) self.old self.new) }
+
+        // There a fault is a plain one.
+        ensures plain { IfErr result (λ fault. PlainCalm W.Tells (W.seen world.old) (W.seen world.new) self.old.core.net (served_by fault)) }
+    {
+        self.core.note_tables(world)?;
+        Ok(self.core.note_end(&self.apps)?)
     }
 }

@@ -1,4 +1,4 @@
-//! The engine: it takes what a world tells, makes events of it, gives them to the application, and writes the report.
+//! The engine: it takes what a world tells, makes events of it, gives them to the applications, and writes the report.
 //!
 //! `serve` runs a world to its end, in at most so many rounds. In a world that tells and keeps its word, with fewer stimuli
 //! than rounds, the run is the reference controller's (`reference_run`), also up to the point where a fault ended it
@@ -10,6 +10,7 @@
 
 mod batch;
 mod closing;
+mod core;
 mod dispatch;
 mod fault;
 mod last;

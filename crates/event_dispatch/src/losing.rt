@@ -5,16 +5,15 @@ ghost use Rattle.lego_model.specs.RunReport.{lost_line as lost_line_of};
 ghost use Rattle.event_dispatch.specs.Runs.{Waits};
 ghost use Rattle.event_dispatch.specs.Shows.{Adds, TellsLost};
 
-use crate::run::Run;
+use crate::core::Core;
 use of_types::Dpid;
 use report_text::lost_line;
 use std::alloc::AllocError;
 
-impl Run<'_> {
+impl Core {
     /// Appends the line of a switch that was lost.
     pub(crate) fn note_loss(&mut self, dpid: Dpid) -> Result<(), AllocError>
         ensures waits { OnOk result (Waits self.old self.new) }
-        ensures app { self.new.app ≡ self.old.app }
         ensures adds { OnOk result (Adds (lost_line_of dpid) self.old self.new) }
     {
         let line = lost_line(self.alloc, dpid)?;
@@ -25,7 +24,6 @@ impl Run<'_> {
     #[tactic(auto, using(crate::specs::laws::WhyLaws::waits_then))]
     pub(crate) fn tell_lost(&mut self) -> Result<(), AllocError>
         ensures waits { OnOk result (Waits self.old self.new) }
-        ensures app { self.new.app ≡ self.old.app }
         ensures tells { OnOk result (TellsLost self.old self.new) }
     {
         while let Some(event) = self.net.lost()? {

@@ -1,27 +1,18 @@
-//! What the engine keeps of a run.
+//! A run so far: what the engine keeps, and its applications.
 
-ghost use Rattle.std.specs.Prelude.{◌≡◌, [], IfOk, OnOk, OnErr};
+ghost use Rattle.std.specs.Prelude.{◌≡◌, ◌<◌, ◌≤◌, ◌^◌, List, [], length, map, IfOk};
+ghost use Rattle.checkpoint_store.specs.Slots.{Slot};
 ghost use Rattle.crash_policy.specs.Policies.{app_value};
-ghost use Rattle.lego_io.specs.Count.{Rose, NeverFell};
-ghost use Rattle.lego_io.specs.Sink.{TookPart};
-ghost use Rattle.event_dispatch.specs.Runs.{Going, Waits};
+ghost use Rattle.event_dispatch.specs.Runs.{Going, AreFresh};
 ghost use Rattle.run_laws.specs.First.{engine_at_first};
-ghost use Rattle.event_dispatch.specs.Shows.{engine_of, Adds};
-ghost use Rattle.event_dispatch.specs.Serves.{Writes};
+ghost use Rattle.run_laws.specs.Facts.{is_taking};
+ghost use Rattle.event_dispatch.specs.Shows.{engine_of, application_of};
 
+use crate::core::Core;
+use app_frames::Event;
 use app_visor::AppState;
-use checkpoint_store::Store;
-use crash_policy::AppRule;
-use lego_io::{Sink, WriteFault, write_all};
-use net_txn::{EventQueue, Net};
-use of_types::ByteList;
+use crash_policy::{AppRule, listens};
 use std::alloc::{AllocError, Global};
-
-/// The index of the one application.
-pub(crate) const INDEX: u32 = 0;
-
-/// How many applications there are.
-const APPS: u32 = 1;
 
 /// An application with what it has done.
 #[derive(Drop, Debug)]
@@ -35,67 +26,51 @@ pub(crate) struct Managed<'a> {
     pub(crate) failed: u64,
 }
 
+impl Managed<'_> {
+    /// Tells whether it has a turn at an event: it is alive, and is given events of that kind.
+    pub(crate) fn takes(&self, event: &Event) -> bool
+        ensures { (slots : List Slot) → result ≡ is_taking event.now (application_of slots self.now) }
+    {
+        self.state.alive && listens(self.rule, event.kind)
+    }
+}
+
 /// A run so far.
 #[derive(Drop, Debug)]
 pub(crate) struct Run<'a> {
-    pub(crate) alloc: Global,
-    pub(crate) net: Net,
-    pub(crate) queue: EventQueue,
-    /// How many events were dispatched.
-    pub(crate) events: u64,
-    pub(crate) app: Managed<'a>,
-    /// The kept checkpoint of the application, and the one that its turn staged.
-    pub(crate) store: Store,
-    /// Lines of the report that were not written yet.
-    pub(crate) lines: Vec<u8>,
+    pub(crate) core: Core,
+    /// In the order of the policy. The index of an application is its place.
+    pub(crate) apps: Vec<Managed<'a>>,
+}
+
+/// Makes the applications, of which nothing has happened.
+fn fresh<'a>(alloc: Global, rules: &'a [AppRule]) -> Result<Vec<Managed<'a>>, AllocError>
+    requires { length rules.now < 2 ^ 32 }
+    ensures { IfOk result (λ apps. AreFresh 0 rules.now apps.items) }
+{
+    let mut apps = Vec::new(alloc);
+    for at in 0..rules.len() {
+        apps.push(Managed {
+            rule: &rules[at],
+            state: AppState::new(alloc, at as u32),
+            done: 0,
+            failed: 0,
+        })?;
+    }
+    Ok(apps)
 }
 
 impl<'a> Run<'a> {
-    /// Makes a run of an application of which nothing has happened.
-    pub(crate) fn new(alloc: Global, rule: &'a AppRule) -> Result<Run<'a>, AllocError>
+    /// Makes a run of applications of which nothing has happened.
+    pub(crate) fn new(alloc: Global, rules: &'a [AppRule]) -> Result<Run<'a>, AllocError>
+        requires { length rules.now < 2 ^ 32 }
         ensures going { IfOk result Going }
-        ensures first { IfOk result (λ r. engine_of r ≡ engine_at_first (app_value rule.now)) }
-        ensures none_waits { IfOk result (λ r. r.lines.items ≡ []) }
+        ensures first { IfOk result (λ r. engine_of r ≡ engine_at_first (map app_value rules.now)) }
+        ensures none_waits { IfOk result (λ r. r.core.lines.items ≡ []) }
     {
-        let state = AppState::new(alloc, INDEX);
         Ok(Run {
-            alloc,
-            net: Net::new(alloc)?,
-            queue: EventQueue::new(alloc),
-            events: 0,
-            app: Managed {
-                rule,
-                state,
-                done: 0,
-                failed: 0,
-            },
-            store: Store::new(alloc, APPS)?,
-            lines: Vec::new(alloc),
+            core: Core::new(alloc, rules.len() as u32)?,
+            apps: fresh(alloc, rules)?,
         })
-    }
-
-    /// Appends a line to those that are to be written.
-    pub(crate) fn note(&mut self, line: &ByteList) -> Result<(), AllocError>
-        ensures waits { OnOk result (Waits self.old self.new) }
-        ensures app { self.new.app ≡ self.old.app }
-        ensures adds { OnOk result (Adds line.now self.old self.new) }
-    {
-        self.lines.extend_from_slice(line.as_slice())?;
-        Ok(())
-    }
-
-    /// Writes the lines, after which none is left.
-    pub(crate) fn write<K: Sink>(&mut self, sink: &mut K) -> Result<(), WriteFault>
-        ensures waits { OnOk result (Waits self.old self.new) }
-        ensures engine { engine_of self.new ≡ engine_of self.old }
-        ensures index { self.new.app.state.index ≡ self.old.app.state.index }
-        ensures writes { OnOk result (Writes self.old.lines.items (K.contents sink.old) (K.contents sink.new) self.new) }
-        ensures part { OnErr result (TookPart (K.contents sink.old) (K.contents sink.new) self.old.lines.items) }
-        ensures rose { OnErr result (Rose (K.faults sink.old) (K.faults sink.new)) }
-        ensures never_fell { NeverFell (K.faults sink.old) (K.faults sink.new) }
-    {
-        write_all(sink, &self.lines)?;
-        self.lines.clear();
-        Ok(())
     }
 }

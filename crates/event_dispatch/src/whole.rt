@@ -1,16 +1,16 @@
 //! A whole run.
 
-ghost use Rattle.std.specs.Prelude.{◌≡◌, ℕ, ◌+◌, ◌^◌, ◌<◌, ◌≤◌, Bool, List, [], ◌∷◌, ◌++◌, length, IfOk, IfErr, OnOk, OnErr};
+ghost use Rattle.std.specs.Prelude.{◌≡◌, ℕ, ◌+◌, ◌^◌, ◌<◌, ◌≤◌, Bool, List, [], ◌∷◌, ◌++◌, length, map, IfOk, IfErr, OnOk, OnErr};
 ghost use Rattle.lego_io.specs.Count.{Rose, NeverFell};
 ghost use Rattle.lego_io.specs.Sink.{TookPart};
 ghost use Rattle.outside.specs.Seen.{Continues};
-ghost use Rattle.outside.specs.Calls.{most_message};
+ghost use Rattle.outside.specs.Calls.{Ends, most_message};
 ghost use Rattle.outside.specs.State.{state};
 ghost use Rattle.outside.specs.InOrder.{InOrder};
 ghost use Rattle.net_txn.specs.LinkSteps.{MakesNoStrayCall};
-ghost use Rattle.event_dispatch.specs.Runs.{Going, Waits, most_rounds};
+ghost use Rattle.event_dispatch.specs.Runs.{AreGoing, Going, Waits, most_rounds};
 ghost use Rattle.event_dispatch.specs.Why.{IsWhy, IsReason, served_by};
-ghost use Rattle.event_dispatch.specs.Shows.{engine_of};
+ghost use Rattle.event_dispatch.specs.Shows.{Stays, engine_of};
 ghost use Rattle.event_dispatch.specs.Plain.{IsPlainEnd, EndsPlain, PlainCalm, PlainRun, PlainWhole};
 ghost use Rattle.crash_policy.specs.Policies.{app_value};
 ghost use Rattle.lego_model.specs.Places.{Place};
@@ -21,24 +21,24 @@ ghost use Rattle.run_laws.specs.Promise.{PremiseSoFar, Premise};
 ghost use Rattle.event_dispatch.specs.Talking.{KeepsTalking};
 ghost use Rattle.event_dispatch.specs.Steady.{NoStray, Reads, IsEnded, NoneRuns};
 ghost use Rattle.event_dispatch.specs.Cut.{CutRound, CutRounds, CutStart, CutEnd, CutFinishAs, CutAs, ReadsAs, IsReadServed};
-ghost use Rattle.event_dispatch.specs.Serves.{Writes, GoesRound, GoesToEnd, Begins, EndsReport, Finishes, GoesAs, RunsAs, IsUnopened, IsCut, IsAlike};
+ghost use Rattle.event_dispatch.specs.Serves.{AllStarted, Writes, GoesRound, GoesToEnd, Begins, EndsReport, Finishes, GoesAs, RunsAs, IsUnopened, IsCut, IsAlike};
 
 use crate::batch::Rest;
 use crate::fault::Fault;
-use crate::run::{INDEX, Run};
+use crate::core::Core;
+use crate::run::{Managed, Run};
 use crate::served::Served;
 use crash_policy::AppRule;
 use lego_io::{Sink, WriteFault};
 use of_types::limits::MOST_MESSAGE_BYTES;
 use outside::{Judge, OpenFault, World};
-use std::alloc::Global;
+use std::alloc::{AllocError, Global};
 
-impl Run<'_> {
+impl Core {
     /// Writes the lines that a batch noted, of a switch that was lost; mostly there are none.
     fn write_noted<K: Sink>(&mut self, sink: &mut K) -> Result<(), WriteFault>
         ensures waits { OnOk result (Waits self.old self.new) }
-        ensures engine { engine_of self.new ≡ engine_of self.old }
-        ensures index { self.new.app.state.index ≡ self.old.app.state.index }
+        ensures stays { Stays self.old self.new }
         ensures writes { OnOk result (Writes self.old.lines.items (K.contents sink.old) (K.contents sink.new) self.new) }
         ensures some { OnErr result (self.old.lines.items ≡ [] → ⊥) }
         ensures part { OnErr result (TookPart (K.contents sink.old) (K.contents sink.new) self.old.lines.items) }
@@ -50,7 +50,31 @@ impl Run<'_> {
         }
         self.write(sink)
     }
+}
 
+/// Starts applications at their kept checkpoints, in order.
+fn start_all<W: World>(
+    core: &mut Core,
+    world: &mut W,
+    apps: &mut Vec<Managed<'_>>,
+) -> Result<(), AllocError>
+    requires going { AreGoing core.old apps.old.items }
+    ensures going { OnOk result (AreGoing core.new apps.new.items) }
+    ensures waits { OnOk result (Waits core.old core.new) }
+    ensures started { OnOk result (AllStarted W.Tells (W.seen world.old) (W.seen world.new) core.old core.new apps.old.items apps.new.items) }
+    ensures continues { Continues W.Tells (W.seen world.old) (W.seen world.new) }
+    ensures places { NoStray W.Tells (length core.old.store) (W.seen world.old) (W.seen world.new) core.old.net }
+    ensures reads { OnOk result (Reads W.Tells (W.seen world.old) (W.seen world.new) core.old.net core.new.net) }
+    ensures no_point { NoPoint W.Tells (length core.old.store) (W.seen world.old) (W.seen world.new) }
+    ensures talks { KeepsTalking W.Tells (W.seen world.old) (W.seen world.new) }
+{
+    for at in 0..apps.len() {
+        core.start(world, &mut apps[at])?;
+    }
+    Ok(())
+}
+
+impl Run<'_> {
     /// Runs one round: a batch, whose lines are written, and then the events that wait.
     #[tactic(auto, using(crate::specs::laws::WhyLaws::continues_then, crate::specs::laws::WhyLaws::why_behind, crate::specs::laws::WhyLaws::why_sink))]
     fn run_round<W: World, J: Judge, K: Sink>(
@@ -62,24 +86,25 @@ impl Run<'_> {
     ) -> Result<Rest, Fault>
         requires buffer { most_message ≤ length buf.old }
         requires going { Going self.old }
-        requires few { self.old.events < 2 ^ 62 }
-        requires none_waits { self.old.lines.items ≡ [] }
+        requires few { self.old.core.events < 2 ^ 62 }
+        requires none_waits { self.old.core.lines.items ≡ [] }
         ensures round { IfOk result (λ rest. GoesRound W.Tells (J.accepts judge.now) rest (K.contents sink.old) (K.contents sink.new)
             (W.seen world.old) (W.seen world.new) self.old self.new) }
         ensures cut { IfErr result (λ fault. CutRound W.Tells (J.accepts judge.now) fault (K.contents sink.old) (K.contents sink.new)
             (W.seen world.old) (W.seen world.new) self.old) }
         ensures buffer { length buf.new ≡ length buf.old }
         ensures going { OnOk result (Going self.new) }
-        ensures events { OnOk result (self.new.events ≤ self.old.events + 1000) }
+        ensures number { OnOk result (length self.new.core.store ≡ length self.old.core.store) }
+        ensures events { OnOk result (self.new.core.events ≤ self.old.core.events + 1000) }
         ensures continues { Continues W.Tells (W.seen world.old) (W.seen world.new) }
-        ensures places { NoStray W.Tells (W.seen world.old) (W.seen world.new) self.old.net }
-        ensures reads { OnOk result (Reads W.Tells (W.seen world.old) (W.seen world.new) self.old.net self.new.net) }
+        ensures places { NoStray W.Tells (length self.old.core.store) (W.seen world.old) (W.seen world.new) self.old.core.net }
+        ensures reads { OnOk result (Reads W.Tells (W.seen world.old) (W.seen world.new) self.old.core.net self.new.core.net) }
         ensures never_fell { NeverFell (K.faults sink.old) (K.faults sink.new) }
         ensures why { IfErr result (IsReason W.Tells (W.seen world.old) (W.seen world.new) (K.faults sink.old) (K.faults sink.new)) }
         ensures plain { IfErr result (λ fault. PlainRun W.Tells (J.accepts judge.now) (W.seen world.old) (W.seen world.new) (engine_of self.old) (served_by fault)) }
     {
-        let rest = self.take_batch(world, buf)?;
-        self.write_noted(sink)?;
+        let rest = self.core.take_batch(world, buf)?;
+        self.core.write_noted(sink)?;
         self.dispatch_waiting(world, judge, sink)?;
         Ok(rest)
     }
@@ -97,15 +122,15 @@ impl Run<'_> {
         requires buffer { most_message ≤ length buf.old }
         requires few { rounds ≤ most_rounds }
         requires going { Going self.old }
-        requires none { self.old.events ≡ 0 }
-        requires none_waits { self.old.lines.items ≡ [] }
+        requires none { self.old.core.events ≡ 0 }
+        requires none_waits { self.old.core.lines.items ≡ [] }
         ensures to_end { OnOk result (GoesToEnd W.Tells (J.accepts judge.now) rounds (K.contents sink.old) (K.contents sink.new)
             (W.seen world.old) (W.seen world.new) self.old self.new) }
         ensures cut { IfErr result (λ fault. CutRounds W.Tells (J.accepts judge.now) fault (K.contents sink.old) (K.contents sink.new)
             (W.seen world.old) (W.seen world.new) self.old) }
         ensures continues { Continues W.Tells (W.seen world.old) (W.seen world.new) }
-        ensures places { NoStray W.Tells (W.seen world.old) (W.seen world.new) self.old.net }
-        ensures reads { OnOk result (Reads W.Tells (W.seen world.old) (W.seen world.new) self.old.net self.new.net) }
+        ensures places { NoStray W.Tells (length self.old.core.store) (W.seen world.old) (W.seen world.new) self.old.core.net }
+        ensures reads { OnOk result (Reads W.Tells (W.seen world.old) (W.seen world.new) self.old.core.net self.new.core.net) }
         ensures never_fell { NeverFell (K.faults sink.old) (K.faults sink.new) }
         ensures why { IfErr result (IsReason W.Tells (W.seen world.old) (W.seen world.new) (K.faults sink.old) (K.faults sink.new)) }
         ensures plain { IfErr result (λ fault. PlainRun W.Tells (J.accepts judge.now) (W.seen world.old) (W.seen world.new) (engine_of self.old) (served_by fault)) }
@@ -119,66 +144,67 @@ impl Run<'_> {
         Ok(())
     }
 
-    /// Starts the application, and writes how its attempts ended.
+    /// Starts the applications, and writes how their attempts ended.
     #[tactic(auto, using(crate::specs::laws::WhyLaws::why_sink))]
     fn begin<W: World, K: Sink>(&mut self, world: &mut W, sink: &mut K) -> Result<(), Fault>
         requires going { Going self.old }
-        requires none { self.old.events ≡ 0 }
-        requires none_waits { self.old.lines.items ≡ [] }
+        requires none { self.old.core.events ≡ 0 }
+        requires none_waits { self.old.core.lines.items ≡ [] }
         ensures begins { OnOk result (Begins W.Tells (K.contents sink.old) (K.contents sink.new) (W.seen world.old) (W.seen world.new) self.old self.new) }
         ensures cut { IfErr result (λ fault. CutStart W.Tells fault (K.contents sink.old) (K.contents sink.new) (W.seen world.old) (W.seen world.new) (engine_of self.old)) }
         ensures going { OnOk result (Going self.new) }
-        ensures none { OnOk result (self.new.events ≡ 0) }
+        ensures none { OnOk result (self.new.core.events ≡ 0) }
+        ensures number { OnOk result (length self.new.core.store ≡ length self.old.core.store) }
         ensures continues { Continues W.Tells (W.seen world.old) (W.seen world.new) }
-        ensures places { NoStray W.Tells (W.seen world.old) (W.seen world.new) self.old.net }
-        ensures reads { OnOk result (Reads W.Tells (W.seen world.old) (W.seen world.new) self.old.net self.new.net) }
+        ensures places { NoStray W.Tells (length self.old.core.store) (W.seen world.old) (W.seen world.new) self.old.core.net }
+        ensures reads { OnOk result (Reads W.Tells (W.seen world.old) (W.seen world.new) self.old.core.net self.new.core.net) }
         ensures never_fell { NeverFell (K.faults sink.old) (K.faults sink.new) }
         ensures why { IfErr result (IsReason W.Tells (W.seen world.old) (W.seen world.new) (K.faults sink.old) (K.faults sink.new)) }
         ensures plain { IfErr result IsPlainEnd }
     {
-        self.start(world)?;
-        self.write(sink)?;
+        start_all(&mut self.core, world, &mut self.apps)?;
+        self.core.write(sink)?;
         Ok(())
     }
 
     /// Writes the end of the report.
     #[tactic(auto, using(crate::specs::laws::WhyLaws::why_sink))]
     fn end_report<W: World, K: Sink>(&mut self, world: &mut W, sink: &mut K) -> Result<(), Fault>
-        requires none_waits { self.old.lines.items ≡ [] }
+        requires none_waits { self.old.core.lines.items ≡ [] }
         ensures ends { OnOk result (EndsReport W.Tells (K.contents sink.old) (K.contents sink.new) (W.seen world.old) (W.seen world.new) self.old self.new) }
         ensures cut { IfErr result (λ fault. CutEnd W.Tells fault (K.contents sink.old) (K.contents sink.new) (W.seen world.old) (W.seen world.new) (engine_of self.old)) }
         ensures continues { Continues W.Tells (W.seen world.old) (W.seen world.new) }
-        ensures places { NoStray W.Tells (W.seen world.old) (W.seen world.new) self.old.net }
-        ensures reads { OnOk result (Reads W.Tells (W.seen world.old) (W.seen world.new) self.old.net self.new.net) }
+        ensures places { NoStray W.Tells (length self.old.core.store) (W.seen world.old) (W.seen world.new) self.old.core.net }
+        ensures reads { OnOk result (Reads W.Tells (W.seen world.old) (W.seen world.new) self.old.core.net self.new.core.net) }
         ensures never_fell { NeverFell (K.faults sink.old) (K.faults sink.new) }
         ensures why { IfErr result (IsReason W.Tells (W.seen world.old) (W.seen world.new) (K.faults sink.old) (K.faults sink.new)) }
-        ensures plain { IfErr result (λ fault. PlainCalm W.Tells (W.seen world.old) (W.seen world.new) self.old.net (served_by fault)) }
+        ensures plain { IfErr result (λ fault. PlainCalm W.Tells (W.seen world.old) (W.seen world.new) self.old.core.net (served_by fault)) }
     {
         self.note_last(world)?;
-        self.write(sink)?;
+        self.core.write(sink)?;
         Ok(())
     }
 
     /// Writes the end of the report, where no event is left.
     #[tactic(auto, using(crate::specs::laws::WhyLaws::why_sink))]
     fn finish<W: World, K: Sink>(&mut self, world: &mut W, sink: &mut K) -> Result<(), Served>
-        requires none_waits { self.old.lines.items ≡ [] }
+        requires none_waits { self.old.core.lines.items ≡ [] }
         ensures finishes { Finishes W.Tells result (K.contents sink.old) (K.contents sink.new) (W.seen world.old) (W.seen world.new) self.old self.new }
         ensures cut { IfErr result (λ end. CutFinishAs W.Tells end (K.contents sink.old) (K.contents sink.new) (W.seen world.old) (W.seen world.new) (engine_of self.old)) }
         ensures continues { Continues W.Tells (W.seen world.old) (W.seen world.new) }
-        ensures places { NoStray W.Tells (W.seen world.old) (W.seen world.new) self.old.net }
-        ensures reads { ReadsAs W.Tells result (W.seen world.old) (W.seen world.new) self.old.net }
+        ensures places { NoStray W.Tells (length self.old.core.store) (W.seen world.old) (W.seen world.new) self.old.core.net }
+        ensures reads { ReadsAs W.Tells result (W.seen world.old) (W.seen world.new) self.old.core.net }
         ensures never_fell { NeverFell (K.faults sink.old) (K.faults sink.new) }
         ensures why { IfErr result (IsWhy W.Tells (W.seen world.old) (W.seen world.new) (K.faults sink.old) (K.faults sink.new)) }
-        ensures plain { IfErr result (PlainCalm W.Tells (W.seen world.old) (W.seen world.new) self.old.net) }
+        ensures plain { IfErr result (PlainCalm W.Tells (W.seen world.old) (W.seen world.new) self.old.core.net) }
     {
-        if !self.queue.is_empty() {
-            return Err(Served::EventsLeft(self.queue.len()));
+        if !self.core.queue.is_empty() {
+            return Err(Served::EventsLeft(self.core.queue.len()));
         }
         Ok(self.end_report(world, sink)?)
     }
 
-    /// Runs a world that was opened, from the start of its application to the end of the report.
+    /// Runs a world that was opened, from the start of its applications to the end of the report.
     #[tactic(auto, using(crate::specs::laws::WhyLaws::continues_then, crate::specs::laws::WhyLaws::why_behind, crate::specs::laws::WhyLaws::fell_then))]
     fn run_opened<W: World, J: Judge, K: Sink>(
         &mut self,
@@ -191,13 +217,13 @@ impl Run<'_> {
         requires buffer { most_message ≤ length buf.old }
         requires few { rounds ≤ most_rounds }
         requires going { Going self.old }
-        requires none { self.old.events ≡ 0 }
-        requires none_waits { self.old.lines.items ≡ [] }
+        requires none { self.old.core.events ≡ 0 }
+        requires none_waits { self.old.core.lines.items ≡ [] }
         ensures goes { GoesAs W.Tells (J.accepts judge.now) rounds result (K.contents sink.old) (K.contents sink.new) (W.seen world.old) (W.seen world.new) self.old self.new }
         ensures cut { IfErr result (λ end. CutAs W.Tells (J.accepts judge.now) rounds end (K.contents sink.old) (K.contents sink.new) (W.seen world.old) (W.seen world.new) (engine_of self.old)) }
         ensures continues { Continues W.Tells (W.seen world.old) (W.seen world.new) }
-        ensures places { NoStray W.Tells (W.seen world.old) (W.seen world.new) self.old.net }
-        ensures reads { ReadsAs W.Tells result (W.seen world.old) (W.seen world.new) self.old.net }
+        ensures places { NoStray W.Tells (length self.old.core.store) (W.seen world.old) (W.seen world.new) self.old.core.net }
+        ensures reads { ReadsAs W.Tells result (W.seen world.old) (W.seen world.new) self.old.core.net }
         ensures never_fell { NeverFell (K.faults sink.old) (K.faults sink.new) }
         ensures why { IfErr result (IsWhy W.Tells (W.seen world.old) (W.seen world.new) (K.faults sink.old) (K.faults sink.new)) }
         ensures plain { IfErr result (PlainWhole W.Tells (J.accepts judge.now) rounds (W.seen world.old) (W.seen world.new) (engine_of self.old)) }
@@ -222,18 +248,28 @@ fn open<W: World>(world: &mut W, port: u16) -> Result<(), Served>
     }
 }
 
-/// Ends the application, if it runs.
+/// Ends an application, if it runs.
 #[tactic(auto, using(crate::specs::laws::WhyLaws::ends_continue))]
-fn end<W: World>(world: &mut W)
+fn end_one<W: World>(world: &mut W, app: u32)
     ensures continues { Continues W.Tells (W.seen world.old) (W.seen world.new) }
-    ensures ended { IsEnded W.Tells (W.seen world.old) (W.seen world.new) }
-    ensures leaves { ShownLeaves W.Tells (W.seen world.old) (W.seen world.new) }
-    ensures talks { KeepsTalking W.Tells (W.seen world.old) (W.seen world.new) }
+    ensures ends { Ends W.Tells app (W.seen world.old) (W.seen world.new) }
 {
-    world.end(INDEX);
+    world.end(app);
 }
 
-/// Runs an opened world to its end, after which its application is ended.
+/// Ends the first so many applications, those of them that run.
+fn end_all<W: World>(world: &mut W, apps: u32)
+    ensures continues { Continues W.Tells (W.seen world.old) (W.seen world.new) }
+    ensures ended { IsEnded W.Tells apps (W.seen world.old) (W.seen world.new) }
+    ensures leaves { ShownLeaves W.Tells apps (W.seen world.old) (W.seen world.new) }
+    ensures talks { KeepsTalking W.Tells (W.seen world.old) (W.seen world.new) }
+{
+    for app in 0..apps {
+        end_one(world, app);
+    }
+}
+
+/// Runs an opened world to its end, after which its applications are ended.
 #[tactic(auto, using(crate::specs::laws::WhyLaws::continues_then, crate::specs::laws::WhyLaws::why_still))]
 fn run_then_end<W: World, J: Judge, K: Sink>(
     run: &mut Run<'_>,
@@ -246,54 +282,57 @@ fn run_then_end<W: World, J: Judge, K: Sink>(
     requires buffer { most_message ≤ length buf.old }
     requires few { rounds ≤ most_rounds }
     requires going { Going run.old }
-    requires none { run.old.events ≡ 0 }
-    requires none_waits { run.old.lines.items ≡ [] }
+    requires number { length run.old.apps.items < 2 ^ 32 }
+    requires none { run.old.core.events ≡ 0 }
+    requires none_waits { run.old.core.lines.items ≡ [] }
     ensures goes { GoesAs W.Tells (J.accepts judge.now) rounds result (K.contents sink.old) (K.contents sink.new) (W.seen world.old) (W.seen world.new) run.old run.new }
     ensures cut { IfErr result (λ end. CutAs W.Tells (J.accepts judge.now) rounds end (K.contents sink.old) (K.contents sink.new) (W.seen world.old) (W.seen world.new) (engine_of run.old)) }
     ensures continues { Continues W.Tells (W.seen world.old) (W.seen world.new) }
-    ensures none_runs { NoneRuns W.Tells (W.seen world.old) (W.seen world.new) run.old.net }
-    ensures reads { ReadsAs W.Tells result (W.seen world.old) (W.seen world.new) run.old.net }
+    ensures none_runs { NoneRuns W.Tells (length run.old.core.store) (W.seen world.old) (W.seen world.new) run.old.core.net }
+    ensures reads { ReadsAs W.Tells result (W.seen world.old) (W.seen world.new) run.old.core.net }
     ensures never_fell { NeverFell (K.faults sink.old) (K.faults sink.new) }
     ensures why { IfErr result (IsWhy W.Tells (W.seen world.old) (W.seen world.new) (K.faults sink.old) (K.faults sink.new)) }
     ensures plain { IfErr result (PlainWhole W.Tells (J.accepts judge.now) rounds (W.seen world.old) (W.seen world.new) (engine_of run.old)) }
 {
+    let apps = run.apps.len() as u32;
     let ended = run.run_opened(world, judge, sink, buf, rounds);
-    end(world);
+    end_all(world, apps);
     ended
 }
 
 /// Runs an opened world to its end, and answers how many events were dispatched.
 fn run<W: World, J: Judge, K: Sink>(
     alloc: Global,
-    app: &AppRule,
+    rules: &[AppRule],
     world: &mut W,
     judge: &J,
     sink: &mut K,
     rounds: u64,
 ) -> Result<u64, Served>
     requires few { rounds ≤ most_rounds }
-    ensures runs { RunsAs (app_value app.now) W.Tells (J.accepts judge.now) rounds result (K.contents sink.old) (K.contents sink.new) (W.seen world.old) (W.seen world.new) }
-    ensures cut { IfErr result (λ end. CutAs W.Tells (J.accepts judge.now) rounds end (K.contents sink.old) (K.contents sink.new) (W.seen world.old) (W.seen world.new) (engine_at_first (app_value app.now))) }
+    requires number { length rules.now < 2 ^ 32 }
+    ensures runs { RunsAs (map app_value rules.now) W.Tells (J.accepts judge.now) rounds result (K.contents sink.old) (K.contents sink.new) (W.seen world.old) (W.seen world.new) }
+    ensures cut { IfErr result (λ end. CutAs W.Tells (J.accepts judge.now) rounds end (K.contents sink.old) (K.contents sink.new) (W.seen world.old) (W.seen world.new) (engine_at_first (map app_value rules.now))) }
     ensures continues { Continues W.Tells (W.seen world.old) (W.seen world.new) }
-    ensures none_runs { NoneRuns W.Tells (W.seen world.old) (W.seen world.new) net_at_first }
+    ensures none_runs { NoneRuns W.Tells (length rules.now) (W.seen world.old) (W.seen world.new) net_at_first }
     ensures reads { ReadsAs W.Tells result (W.seen world.old) (W.seen world.new) net_at_first }
     ensures never_fell { NeverFell (K.faults sink.old) (K.faults sink.new) }
     ensures why { IfErr result (IsWhy W.Tells (W.seen world.old) (W.seen world.new) (K.faults sink.old) (K.faults sink.new)) }
-    ensures plain { IfErr result (PlainWhole W.Tells (J.accepts judge.now) rounds (W.seen world.old) (W.seen world.new) (engine_at_first (app_value app.now))) }
+    ensures plain { IfErr result (PlainWhole W.Tells (J.accepts judge.now) rounds (W.seen world.old) (W.seen world.new) (engine_at_first (map app_value rules.now))) }
 {
-    let mut run = Run::new(alloc, app)?;
+    let mut run = Run::new(alloc, rules)?;
     let mut buf = vec![in alloc; 0; MOST_MESSAGE_BYTES]?;
     run_then_end(&mut run, world, judge, sink, &mut buf, rounds)?;
-    Ok(run.events)
+    Ok(run.core.events)
 }
 
-/// Runs the world to its end with the application of a policy, and writes the report.
+/// Runs the world to its end with the applications of a policy, and writes the report.
 ///
-/// The world is opened at the port. The words of the application's command start it, at first and after a failed turn where its
-/// policy for events of that kind says so; under `none` it is gone then. It is given events of the kinds that it is to be given,
-/// and has a turn of at most so many frames, as the policy says, at each. At most so many rounds are run; one is a batch and the
-/// events that wait then. The lines of an event are written when its dispatch has ended. However the run ends, the application is
-/// ended. A switch whose link fails is lost: it leaves, and the run goes on. What else is wrong with the outside, the sink or a
+/// The world is opened at the port. The words of an application's command start it, at first, in the order of the policy, and after
+/// a failed turn where its policy for events of that kind says so; under `none` it is gone then. Each is given events of the kinds
+/// that it is to be given, in the order of the policy, until one that was done says that the event goes no further; and has a turn
+/// of at most so many frames, as the policy says, at each. At most so many rounds are run; one is a batch and the events that wait
+/// then. The lines of an event are written when its dispatch has ended. However the run ends, all applications are ended. A switch whose link fails is lost: it leaves, and the run goes on. What else is wrong with the outside, the sink or a
 /// switch ends the run, and so do events that are left after the last batch.
 ///
 /// What is said of the reference run holds where fewer stimuli come than there are rounds. Of a run with as many stimuli as
@@ -301,7 +340,7 @@ fn run<W: World, J: Judge, K: Sink>(
 #[tactic(auto, using(crate::specs::laws::WhyLaws::continues_then, crate::specs::laws::WhyLaws::why_behind, crate::specs::laws::WhyLaws::why_sink, crate::specs::laws::WhyLaws::same_fell))]
 pub fn serve<W: World, J: Judge, K: Sink>(
     alloc: Global,
-    app: &AppRule,
+    rules: &[AppRule],
     world: &mut W,
     judge: &J,
     sink: &mut K,
@@ -309,25 +348,26 @@ pub fn serve<W: World, J: Judge, K: Sink>(
     rounds: u64,
 ) -> Served
     requires rounds { rounds ≤ most_rounds }
+    requires number { length rules.now < 2 ^ 32 }
     ensures continues { Continues W.Tells (W.seen world.old) (W.seen world.new) }
     ensures never_fell { NeverFell (K.faults sink.old) (K.faults sink.new) }
     // Each end but the whole one and want of memory has its cause in this call.
     ensures end_has_cause { IsWhy W.Tells (W.seen world.old) (W.seen world.new) (K.faults sink.old) (K.faults sink.new) result }
     // In a world that tells and keeps its word, on which no call was made before, where fewer stimuli come than there are rounds, the run
-    // is the reference controller's over what the world told: the tables agree at every quiescent point, the application was given what it
+    // is the reference controller's over what the world told: the tables agree at every quiescent point, each application was given what it
     // is given there, the packets that were released are those that it releases and the switches that were lost those that it loses, in
     // their order, and what was written is the report, whole
     // where all events were dispatched, and as far as these go where some were left. It is so, too, over all that was said of the
-    // application, of which the world told the front.
+    // applications, of which the world told the front.
     ensures reference_run { (allows : List Place → Bool) → Premise W.Tells (J.accepts judge.now) allows rounds (W.seen world.old) (W.seen world.new)
-        → IsAlike (app_value app.now) allows (W.seen world.new) (K.contents sink.old) (K.contents sink.new) result }
+        → IsAlike (map app_value rules.now) allows (W.seen world.new) (K.contents sink.old) (K.contents sink.new) result }
     // Where a fault ends the run, it is so up to a point, with the lines of all that was done up to there, and where the sink failed,
     // with a part of the lines of the last; if the world kept its word as far as there, with fewer stimuli than rounds, whatever came
-    // behind it. The whole journal is a dialogue with the application then. A world that tells in order kept its word as far as there,
-    // since all bytes that came are messages up to there. Behind it no quiescent point lies in such a world, and no other application was
-    // called.
+    // behind it. The whole journal is a dialogue with each application then. A world that tells in order kept its word as far as there,
+    // since all bytes that came are messages up to there. Behind it no quiescent point lies in such a world, and no other application than
+    // those of the policy was called.
     ensures reference_run_until_fault { (allows : List Place → Bool) → PremiseSoFar W.Tells (J.accepts judge.now) allows rounds (W.seen world.old) (W.seen world.new)
-        → IsCut (app_value app.now) allows (W.seen world.new) (K.contents sink.old) (K.contents sink.new) result }
+        → IsCut (map app_value rules.now) allows (W.seen world.new) (K.contents sink.old) (K.contents sink.new) result }
     // In a world that keeps its word to the end no switch is at fault for what it sent, and none ends the run, unless a packet that was
     // released made it send as many messages as are too many: one whose link fails is lost, and the run goes on.
     ensures no_switch_at_fault { (allows : List Place → Bool) → Premise W.Tells (J.accepts judge.now) allows rounds (W.seen world.old) (W.seen world.new)
@@ -342,7 +382,7 @@ pub fn serve<W: World, J: Judge, K: Sink>(
     if let Err(served) = open(world, port) {
         return served;
     }
-    match run(alloc, app, world, judge, sink, rounds) {
+    match run(alloc, rules, world, judge, sink, rounds) {
         Ok(events) => Served::Ended { events },
         Err(served) => served,
     }
