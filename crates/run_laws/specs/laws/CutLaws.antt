@@ -19,7 +19,7 @@ use Rattle.lego_model.specs.History.{starts_in, replies_in, own_acts, stimuli_in
 use Rattle.lego_model.specs.OrderlySteps.{IsOrderly}
 use Rattle.lego_model.specs.AtOnce.{AtOnce}
 use Rattle.switch_laws.specs.laws.OrderlyLaws.{orderly-none}
-use Rattle.run_laws.specs.Engine.{Application, Engine, apps_from, nothing, left_behind, behind, told_then, rules_of, Stands, ahead}
+use Rattle.run_laws.specs.Engine.{Application, Engine, apps_from, nothing, behind, told_then, Stands, ahead}
 use Rattle.lego_model.specs.Application.{names}
 use Rattle.lego_model.specs.ReferenceRun.{Said, text_of, told_of, dispatch_next, times, rounds, AreSaid, AreFrontsOf, fresh, fresh_from, before_start, all_started, RunsAlike}
 use Rattle.run_laws.specs.Moves.{TellsMore, AtRest, Moves, Moved, Rounds, OneHappens}
@@ -37,7 +37,7 @@ use Rattle.run_laws.specs.Endings.{WholeMoves, Leaves}
 use Rattle.run_laws.specs.laws.FinishLaws.{said-before, runs-alike, ends-so, all-in-order, each-at-once, count-of}
 use Rattle.run_laws.specs.Cut.{GoneSoFar, GoneWithin, RanTo}
 use Rattle.lego_model.specs.AllLines.{is_given_to_some, is_next_given, NoneAhead, AllDone, NoneBetween, CutBehindLines, CutInLines, CutForMemory}
-use Rattle.lego_model.specs.CutRun.{start_said, start_of, dispatch_partly, reference_so_far, reference_to, reference_within, Progress, WroteSoFar, WasWriting, AlikeUpTo, CutBetweenLines}
+use Rattle.lego_model.specs.CutRun.{start_said, start_of, dispatch_partly, reference_so_far, reference_to, Progress, WroteSoFar, WasWriting, AlikeUpTo, CutBetweenLines}
 
 -- ---- Parts of a run, one behind the other
 

@@ -1,6 +1,6 @@
 -- The law of an event: what the engine does at it is what the reference controller does, whether it is offered to all applications or, so far, to
 -- the first of them; one event more was dispatched, and those that wait stay, in front of those that join them.
-use Rattle.std.proofs.Common.{◌≡◌, ℕ, zero, suc, ◌+◌, ◌^◌, ◌<◌, ◌≤◌, Bool, true, false, List, [], ◌∷◌, ◌++◌, length, take, drop, map, Option, Some, Result, Ok, Err, refl, sym, ap, ap₂, ◌∙◌, subst, inl, inr, arith}
+use Rattle.std.proofs.Common.{◌≡◌, ℕ, zero, suc, ◌+◌, Bool, true, false, List, [], ◌∷◌, ◌++◌, length, take, drop, map, Option, Result, Ok, Err, refl, sym, ap, ap₂, ◌∙◌, subst, inl, inr, arith}
 use Rattle.std.proofs.lemmas.List.{append-nil, append_assoc, length-append, length-map, map-append, take-append-drop}
 use Rattle.std.proofs.lemmas.List.Concat.{flat_map-append}
 use Rattle.std.specs.List.{AllByRecursion}
@@ -15,12 +15,12 @@ use Rattle.lego_model.specs.Places.{Place}
 use Rattle.lego_model.specs.Losses.{Losses}
 use Rattle.lego_model.specs.Packets.{Held}
 use Rattle.lego_model.specs.Application.{names}
-use Rattle.lego_model.specs.Controller.{App, Line, Dispatched, Run, given_to, next_dispatched, dispatch_next, dispatch}
+use Rattle.lego_model.specs.Controller.{App, Dispatched, Run, given_to, next_dispatched, dispatch_next, dispatch}
 use Rattle.lego_model.specs.RunReport.{event_line, line_text}
 use Rattle.lego_model.specs.ReferenceRun.{Said, AreFrontsOf, text_of}
 use Rattle.lego_model.specs.CutRun.{dispatch_to, next_dispatched_to, dispatch_partly}
 use Rattle.lego_model.specs.OrderlySteps.{IsOrderly}
-use Rattle.lego_model.specs.History.{given_in, stimuli_in}
+use Rattle.lego_model.specs.History.{stimuli_in}
 use Rattle.outside.specs.Seen.{Seen}
 use Rattle.of_wire.specs.declared.message.Envelope.{Envelope}
 use Rattle.of_wire.specs.declared.fault.WireFault.{WireFault}
@@ -35,14 +35,14 @@ use Rattle.app_visor.specs.declared.state.TurnEnd.TheVariants as ends
 use Rattle.switch_laws.specs.laws.OrderlyLaws.{orderly-whole}
 use Rattle.batch_laws.specs.Knowledge.{left_events}
 use Rattle.run_laws.specs.Engine.{Application, Engine, EachFrom, Focus, focus, apps_from, left_behind, behind, Shares, Stands, ahead, rules_of}
-use Rattle.run_laws.specs.Facts.{Between, between, Follows, all_told, IsClosed, is_taking, TakesTurn, IsOffered, AreLeftOut, if_stopped, Offers, Dispatches, DispatchesTo}
+use Rattle.run_laws.specs.Facts.{Between, between, Follows, all_told, IsClosed, is_taking, IsOffered, AreLeftOut, if_stopped, Offers, Dispatches}
 use Rattle.run_laws.specs.Moves.{IsAtRest, AtRest, Moves, Moved}
 use Rattle.run_laws.specs.ReferenceTurn.{numbered}
 use Rattle.run_laws.specs.LastReport.{lines_text}
 use Rattle.run_laws.specs.EventMoves.{Joins}
 use Rattle.run_laws.specs.laws.MoveLaws.{apps-ext, moves-none, moves-as}
 use Rattle.run_laws.specs.laws.OtherLaws.{silent-given}
-use Rattle.run_laws.specs.laws.OfferLaws.{NamesFrom, names-from, names-take, IsGivenAlike, OfferMoves, each-silent}
+use Rattle.run_laws.specs.laws.OfferLaws.{NamesFrom, names-from, OfferMoves, each-silent}
 
 -- ---- Applications in two parts
 

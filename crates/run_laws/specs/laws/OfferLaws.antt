@@ -1,6 +1,6 @@
 -- Laws of an event that is offered to one application after the other: what the engine does is what the reference controller does, whether an
 -- application is given it or passed over, and whether one stops it or not.
-use Rattle.std.proofs.Common.{◌≡◌, ◌==◌, ℕ, zero, suc, ◌+◌, ◌&&◌, ◌^◌, ◌<◌, ◌≤◌, Bool, true, false, List, [], ◌∷◌, ◌++◌, length, take, drop, map, if◌then◌else◌, Option, Some, refl, sym, ap, ap₂, ◌∙◌, subst, inl, inr, arith, true≢false}
+use Rattle.std.proofs.Common.{◌≡◌, ◌==◌, ℕ, zero, suc, ◌+◌, ◌^◌, ◌<◌, ◌≤◌, Bool, true, false, List, [], ◌∷◌, ◌++◌, length, take, drop, map, if◌then◌else◌, Some, refl, sym, ap, ap₂, ◌∙◌, subst, inl, inr, arith, true≢false}
 use Rattle.std.proofs.lemmas.Bool.{cases_Bool, eqb-true, eqb-false, eq-eqb, ne_eqb}
 use Rattle.std.proofs.lemmas.List.{append-nil, append_assoc}
 use Rattle.std.proofs.lemmas.List.Concat.{flat_map-append}
@@ -29,13 +29,11 @@ use Rattle.switch_laws.specs.Orderly.{OrderlySince}
 use Rattle.switch_laws.specs.laws.OrderlyLaws.{orderly-none, orderly-then}
 use Rattle.switch_laws.specs.laws.StandLaws.{state-links}
 use Rattle.batch_laws.specs.Calm.{Calm}
-use Rattle.app_visor.specs.CallsFor.{CallsFor}
-use Rattle.journal_laws.specs.Readings.{LastStands}
 use Rattle.run_laws.specs.Engine.{Application, EachFrom, Focus, focus, app_at, app_with, apps_from, nothing, both_told, told_then, left_behind, behind, Shares, ahead}
-use Rattle.run_laws.specs.Facts.{Between, is_taking, says_stop, HasItsTurn, IsOffered, OffersOne, AreLeftOut, if_stopped, Offers}
+use Rattle.run_laws.specs.Facts.{Between, is_taking, HasItsTurn, IsOffered, AreLeftOut, if_stopped, Offers}
 use Rattle.run_laws.specs.LastReport.{lines_text}
 use Rattle.run_laws.specs.LinkSteps.{Silent}
-use Rattle.run_laws.specs.Moves.{TellsMore, IsAtRest, Conversing}
+use Rattle.run_laws.specs.Moves.{TellsMore, IsAtRest}
 use Rattle.run_laws.specs.Readings.{JudgesAlike}
 use Rattle.run_laws.specs.ReferenceTurn.{after_turn}
 use Rattle.run_laws.specs.EventMoves.{TurnAlike, TurnMoves}

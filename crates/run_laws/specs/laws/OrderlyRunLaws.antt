@@ -157,10 +157,3 @@ turn-orderly Tells accepts number event text old new e now_e told small keeps ca
     (chain-orderly Tells e.index number (length e.net.log) [] old e.net trace old turn.mid e.net turn.mid_net told small kept turn.turns.chain first)
     (closed-orderly Tells accepts number event.kind turn.end (handed turn.turns.outcome) turn.unread text (length e.net.log) turn.mid new turn.mid_net e now_e told small keeps
     (chain_ready Tells e.index (length e.net.log) [] old e.net trace old turn.mid e.net turn.mid_net told kept turn.turns.chain first) reads turn.closed)
-
--- the history goes on by it
-pub turn-continues : {Own : Type 0} (Tells : Type 0) (accepts : List TableView → Bool) (event : Event) (text : List ℕ) (old new : Seen Own) (e now_e : Focus) → TakesTurn Tells accepts event text old new e now_e → Continues Tells old new
-turn-continues Tells accepts event text old new e now_e turn =
-    let trace = Talk (give_act turn.turns.given e.index (event_frame e.events e.net.moment event)) ∷ turn.turns.trace in
-    Continues-trans Tells old turn.mid new (Chain-continues Tells e.index trace old turn.mid e.net turn.mid_net turn.turns.chain)
-    (closed-continues Tells event.kind turn.end (handed turn.turns.outcome) turn.unread text (length e.net.log) turn.mid new turn.mid_net e now_e turn.closed)

@@ -1,6 +1,6 @@
 -- The start of a run is that of the reference controller, in a world that keeps its word: one application is started after the other.
-use Rattle.std.proofs.Common.{◌≡◌, ℕ, ◌+◌, ◌<◌, ◌≤◌, Bool, true, List, [], ◌∷◌, ◌++◌, length, drop, map, refl, sym, ap, ap₂, ◌∙◌, subst, arith}
-use Rattle.std.proofs.lemmas.List.{append-nil, append_assoc}
+use Rattle.std.proofs.Common.{◌≡◌, ℕ, ◌+◌, ◌<◌, ◌≤◌, Bool, true, List, [], ◌∷◌, ◌++◌, length, map, refl, sym, ap, ap₂, ◌∙◌, subst, arith}
+use Rattle.std.proofs.lemmas.List.{append-nil}
 use Rattle.std.proofs.lemmas.List.Concat.{flat_map-append}
 use Rattle.std.specs.List.{AllByRecursion}
 use Rattle.flow_table.specs.View.{TableView}
@@ -22,13 +22,13 @@ use Rattle.switch_laws.specs.Orderly.{OrderlySince}
 use Rattle.switch_laws.specs.Shown.{shown_places}
 use Rattle.switch_laws.specs.laws.OrderlyLaws.{orderly-none, orderly-then, orderly-whole}
 use Rattle.batch_laws.specs.Calm.{Calm}
-use Rattle.run_laws.specs.Engine.{Application, Engine, EachFrom, focus, app_at, app_with, apps_from, nothing, both_told, told_then, left_behind, behind, Stands, rules_of}
-use Rattle.lego_model.specs.ReferenceRun.{Said, AreFrontsOf, text_of, all_started}
+use Rattle.run_laws.specs.Engine.{Application, Engine, EachFrom, focus, app_with, apps_from, nothing, both_told, told_then, left_behind, behind, Stands, rules_of}
+use Rattle.lego_model.specs.ReferenceRun.{Said, AreFrontsOf, text_of}
 use Rattle.run_laws.specs.EventMoves.{StartsAlike}
-use Rattle.run_laws.specs.Facts.{StartsOne, StartsFrom, StartsAll}
+use Rattle.run_laws.specs.Facts.{StartsFrom, StartsAll}
 use Rattle.run_laws.specs.LastReport.{lines_text}
-use Rattle.run_laws.specs.LinkSteps.{Silent, Rests, TriesKeep}
-use Rattle.run_laws.specs.Moves.{TellsMore, IsAtRest, AtRest}
+use Rattle.run_laws.specs.LinkSteps.{Silent, TriesKeep}
+use Rattle.run_laws.specs.Moves.{TellsMore, IsAtRest}
 use Rattle.run_laws.specs.laws.MoveLaws.{apps-ext, behind-then, fronts-then}
 use Rattle.run_laws.specs.laws.OfferLaws.{told_at, told-other, tells-same, tells-then, tells-at, fronts-here, behind-other, behind-here, each-silent, NamesFrom, names-from}
 use Rattle.run_laws.specs.laws.OtherLaws.{calls-silent, silent-none, silent-then, silent-given, silent-rests}
