@@ -300,8 +300,8 @@ stands-told rules f later xs text first last e is m =
     let fronts = said-of first last m.told said is m.read (told-said last) in
     let r0 : Run = before_start first.given.declared losses (fresh_from 0 rules said) in
     stands-ext last e (behind m.told said) (λ i. nothing) later (f (start_of rules losses last)) (λ i. ap₂ (λ (ss : List Start) (rs : List Reply). record { starts = ss; replies = rs })
-      (used-up (said i).starts (starts_in (own_acts i first)) (m.told i).starts (m.read i).starts (ap starts_in (no-own i first is)))
-      (used-up (said i).replies (replies_in (own_acts i first)) (m.told i).replies (m.read i).replies (ap replies_in (no-own i first is))))
+    (used-up (said i).starts (starts_in (own_acts i first)) (m.told i).starts (m.read i).starts (ap starts_in (no-own i first is)))
+    (used-up (said i).replies (replies_in (own_acts i first)) (m.told i).replies (m.read i).replies (ap replies_in (no-own i first is))))
     (subst (λ (r : Run). Stands last e (behind m.told said) later (f r)) (begun-same rules losses first last said m.given) (m.stands said later r0 fronts (stands-first rules first said losses is)))
 
 -- all that is told was done
