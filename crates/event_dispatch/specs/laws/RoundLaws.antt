@@ -39,6 +39,8 @@ use Rattle.checkpoint_store.specs.Slots.{Slot}
 use Rattle.lego_model.specs.Application.{names}
 use Rattle.event_dispatch.specs.Serves.{Notes, Writes, AllStarted, IsDispatched, DispatchesOldest, DispatchesSome, DispatchesWaiting, IsBatch, GoesRound, GoesRounds, GoesToEnd, Begins}
 use Rattle.run_laws.specs.laws.EndingLaws.{known-append}
+use Rattle.event_dispatch.specs.Steady.{Reads}
+use Rattle.event_dispatch.specs.laws.SteadyLaws.{reads_as}
 
 -- ---- What is written
 
@@ -74,6 +76,10 @@ pub stays_engine : (r : Run) (c now_c : Core) → Stays c now_c → engine_of (r
 stays_engine r c now_c stays =
     ap₂ (λ (net : NetState) (queue : List Event). record { net = net; queue = queue; events = now_c.events; apps = map (application_of now_c.store) r.apps.items }) stays.net stays.queue
     ∙ ap₂ (λ (events : ℕ) (slots : List Slot). record { net = c.net; queue = c.queue; events = events; apps = map (application_of slots) r.apps.items }) stays.events stays.store
+
+-- and what is kept of switches
+pub reads_stay : {Own : Type 0} {Tells : Type 0} (old new : Seen Own) (net : NetState) (c now_c : Core) → Stays c now_c → Reads Tells old new net c.net → Reads Tells old new net now_c.net
+reads_stay {Tells = Tells} old new net c now_c stays reads = reads_as Tells old new net c.net now_c.net (ap (λ (n : NetState). n.views) stays.net) reads
 
 -- as many applications as places for checkpoints
 pub number_is : (r : Run) → Going r → length r.core.store ≡ length (engine_of r).apps
