@@ -33,7 +33,7 @@ use Rattle.event_dispatch.specs.Runs.{Going, Waits}
 use Rattle.event_dispatch.specs.Batch.{BatchShown}
 use Rattle.event_dispatch.specs.Shows.{Stays, engine_of, queued_run}
 use Rattle.event_dispatch.specs.ReportEnd.{LastShown}
-use Rattle.event_dispatch.specs.laws.LastLaws.{says_leaves}
+use Rattle.run_laws.specs.laws.LeaveLaws.{asked-leaves}
 use Rattle.event_dispatch.specs.Talking.{KeepsTalking}
 use Rattle.event_dispatch.specs.Steady.{Reads, NoPoint, NoneMoves}
 use Rattle.event_dispatch.specs.laws.SteadyLaws.{quietly_none, quietly_then, none_move, none_move_then}
@@ -198,7 +198,7 @@ end_unwritten Tells contents now_contents last new r mid none shown reads part =
   now_net = mid.core.net;
   shown = λ told keeps calm.
       let says = shown.shown told keeps calm in
-      record { lost = says.lost; text_is = says.says.lines ∙ ap (λ (xs : List ℕ). xs ++ last_text says.lost last (engine_of r)) none; leaves = says_leaves (length (engine_of r).apps) says.says };
+      record { lost = says.lost; text_is = says.says.lines ∙ ap (λ (xs : List ℕ). xs ++ last_text says.lost last (engine_of r)) none; leaves = asked-leaves (length (engine_of r).apps) says.lost last new says.says.asked says.says.switches };
   reads = reads;
   part = part;
 }
