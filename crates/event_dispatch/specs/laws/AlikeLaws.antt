@@ -350,9 +350,9 @@ some_partly : {Own : Type 0} {rules : List AppValue} {Tells : Type 0} {accepts :
 some_partly {Tells = Tells} {accepts = accepts} {allows = allows} {fault = fault} {stop = stop} p g h next keeps =
     partly_gone Tells accepts allows fault h.some.mid stop (engine_of h.some.mid_run) next p.told keeps p.judges (some_to p g h next keeps).moved.settled
 
-some_within : {Own : Type 0} {rules : List AppValue} {Tells : Type 0} {accepts : List TableView → Bool} {allows : List Place → Bool} {most : ℕ} {fault : Fault} {a b : Option (List ℕ)} {first stop seen : Seen Own} (p : Supposed rules Tells accepts allows most first stop seen) (g : CutGoing Tells accepts fault a b first stop (engine_at_first rules)) (h : CutBehind Tells accepts fault g.rounds.held b g.rounds.mid stop g.rounds.mid_run) (next : FailsNext Tells accepts fault h.some.mid stop (engine_of h.some.mid_run)) (keeps : Conforming next.fails.mid)
+abbrev some_within : {Own : Type 0} {rules : List AppValue} {Tells : Type 0} {accepts : List TableView → Bool} {allows : List Place → Bool} {most : ℕ} {fault : Fault} {a b : Option (List ℕ)} {first stop seen : Seen Own} (p : Supposed rules Tells accepts allows most first stop seen) (g : CutGoing Tells accepts fault a b first stop (engine_at_first rules)) (h : CutBehind Tells accepts fault g.rounds.held b g.rounds.mid stop g.rounds.mid_run) (next : FailsNext Tells accepts fault h.some.mid stop (engine_of h.some.mid_run)) (keeps : Conforming next.fails.mid)
     → GoneWithin allows h.some.number (some_partly p g h next keeps).given (((g.text ++ g.rounds.rounds.text) ++ h.noted) ++ h.some.some.text) first next.fails.mid (engine_at_first rules) (some_partly p g h next keeps).now_engine
-abbrev some_within p g h next keeps =
+some_within p g h next keeps =
     let partly = some_partly p g h next keeps in
     record { here = h.some.mid; here_engine = engine_of h.some.mid_run; gone = some_to p g h next keeps; more = partly.more; partly = partly.partly }
 

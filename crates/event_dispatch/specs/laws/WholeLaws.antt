@@ -1,9 +1,10 @@
 -- Laws of a whole run: its start, its rounds and its end are the run that is promised.
-use Rattle.std.proofs.Common.{◌≡◌, ℕ, Bool, List, [], ◌∷◌, ◌++◌, length, Option, Result, Ok, Err, IsErrAnd, refl, sym, ap, ◌∙◌, subst, inr}
+use Rattle.std.proofs.Common.{◌≡◌, ℕ, ◌^◌, ◌<◌, Bool, List, [], ◌∷◌, ◌++◌, length, map, Option, Result, Ok, Err, IsErrAnd, refl, sym, ap, ◌∙◌, subst, inr}
 use Rattle.std.specs.Io.KnownBytes.{append_known}
-use Rattle.std.proofs.lemmas.List.{append-nil}
+use Rattle.std.proofs.lemmas.List.{append-nil, length-map}
 use Rattle.flow_table.specs.View.{TableView}
-use Rattle.crash_policy.specs.Policies.{AppValue}
+use Rattle.crash_policy.specs.Policies.{AppValue, app_value}
+use Rattle.crash_policy.specs.declared.policy_file.AppRule.{AppRule}
 use Rattle.lego_model.specs.Places.{Place}
 use Rattle.lego_model.specs.History.{lost_of}
 use Rattle.outside.specs.declared.step.WorldStep.{WorldStep}
@@ -17,7 +18,7 @@ use Rattle.outside.specs.laws.StateLaws.{Conforming-before}
 use Rattle.switch_laws.specs.laws.OrderlyLaws.{orderly-none}
 use Rattle.run_laws.specs.Engine.{Engine}
 use Rattle.run_laws.specs.laws.FirstLaws.{settled-first}
-use Rattle.run_laws.specs.First.{IsOpened, engine_at_first}
+use Rattle.run_laws.specs.First.{IsOpened, app_at_first, engine_at_first}
 use Rattle.run_laws.specs.laws.StimuliLaws.{none-later, fewer-front, fewer-before}
 use Rattle.run_laws.specs.LastReport.{last_text}
 use Rattle.run_laws.specs.Endings.{Leaves, ShownStart, ShownFinish, ShownLeaves}
@@ -32,7 +33,8 @@ use Rattle.event_dispatch.specs.declared.run.Run.{Run}
 use Rattle.event_dispatch.specs.declared.served.Served.{Served}
 use Rattle.event_dispatch.specs.declared.served.Served.TheVariants as served
 use Rattle.event_dispatch.specs.Why.{served_by}
-use Rattle.event_dispatch.specs.Shows.{Stays, engine_of}
+use Rattle.event_dispatch.specs.Shows.{Stays, application_of, engine_of}
+use Rattle.event_dispatch.specs.Steady.{NoPoint, IsEnded}
 use Rattle.event_dispatch.specs.ReportEnd.{LastShown}
 use Rattle.event_dispatch.specs.Runs.{Going}
 use Rattle.event_dispatch.specs.laws.RoundLaws.{writes_then, number_is}
@@ -188,7 +190,31 @@ goes_then Tells accepts most (Err served.NextFault) a b old mid new r now_r late
 goes_then Tells accepts most (Err (served.Txn fault)) a b old mid new r now_r later leaves goes = tt
 goes_then Tells accepts most (Err served.NoMemory) a b old mid new r now_r later leaves goes = tt
 
+-- the applications of the run were ended
+ended_apps : (r : Run) → length r.apps.items ≡ length (engine_of r).apps
+ended_apps r = sym (length-map r.apps.items (application_of r.core.store))
+
+pub ended_leaves : {Own : Type 0} (Tells : Type 0) (mid new : Seen Own) (r : Run) → ShownLeaves Tells (length r.apps.items) mid new → ShownLeaves Tells (length (engine_of r).apps) mid new
+ended_leaves Tells mid new r leaves = subst (λ (n : ℕ). ShownLeaves Tells n mid new) (ended_apps r) leaves
+
+pub ended_point : {Own : Type 0} (Tells : Type 0) (mid new : Seen Own) (r : Run) → IsEnded Tells (length r.apps.items) mid new → NoPoint Tells (length (engine_of r).apps) mid new
+ended_point Tells mid new r ended = subst (λ (n : ℕ). NoPoint Tells n mid new) (ended_apps r) ended.no_point
+
+pub ended_number : {Own : Type 0} (Tells : Type 0) (mid new : Seen Own) (r : Run) → Going r → IsEnded Tells (length r.apps.items) mid new → IsEnded Tells (length r.core.store) mid new
+ended_number Tells mid new r going ended = subst (λ (n : ℕ). IsEnded Tells n mid new) (sym going.number) ended
+
 -- ---- From an engine before anything happened
+
+-- as many places and applications as rules
+first_number : (rules : List AppRule) (r : Run) → engine_of r ≡ engine_at_first (map app_value rules) → length r.apps.items ≡ length rules
+first_number rules r first =
+    sym (length-map r.apps.items (application_of r.core.store)) ∙ ap (λ (e : Engine). length e.apps) first ∙ length-map (map app_value rules) app_at_first ∙ length-map rules app_value
+
+pub first_places : (rules : List AppRule) (r : Run) → Going r → engine_of r ≡ engine_at_first (map app_value rules) → length r.core.store ≡ length rules
+first_places rules r going first = going.number ∙ first_number rules r first
+
+pub first_few : (rules : List AppRule) (r : Run) → engine_of r ≡ engine_at_first (map app_value rules) → length rules < 2 ^ 32 → length r.apps.items < 2 ^ 32
+first_few rules r first few = subst (λ (n : ℕ). n < 2 ^ 32) (sym (first_number rules r first)) few
 
 pub runs_done : {Own : Type 0} (rules : List AppValue) (Tells : Type 0) (accepts : List TableView → Bool) (most : ℕ) (a b : Option (List ℕ)) (old new : Seen Own) (r now_r : Run) → engine_of r ≡ engine_at_first rules → GoesAs Tells accepts most (Ok tt) a b old new r now_r → RunsAs rules Tells accepts most (Ok now_r.core.events) a b old new
 runs_done rules Tells accepts most a b old new r now_r first goes = subst (RunsOut Tells accepts most now_r.core.events a b old new) first goes
@@ -263,6 +289,10 @@ alike_done rules Tells accepts most events a b old mid new opened runs allows p 
       alike = ran-out rules Tells accepts allows most a b mid new runs.last p.told p.keeps p.judges is p.few runs.out;
       none_to_come = runs.none_to_come.none allows p.told p.keeps p.judges (settled-first rules mid is) p.few;
     })
+
+-- no other application was called than those of the policy
+pub rules_own : {Own : Type 0} {Tells : Type 0} {old new : Seen Own} (rules : List AppRule) → (Tells → CallsAmong (length rules) old new) → Tells → CallsAmong (length (map app_value rules)) old new
+rules_own {old = old} {new = new} rules own told = subst (λ (n : ℕ). CallsAmong n old new) (sym (length-map rules app_value)) (own told)
 
 -- a fault ended it
 pub cut_failed : {Own : Type 0} (rules : List AppValue) (Tells : Type 0) (accepts : List TableView → Bool) (most : ℕ) (end : Served) (a b : Option (List ℕ)) (old mid new : Seen Own) → (Tells → mid.history ≡ old.history ++ Opened ∷ []) → Continues Tells mid new → (Tells → CallsAmong (length rules) mid new) → RunsAs rules Tells accepts most (Err end) a b mid new
