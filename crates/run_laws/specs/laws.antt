@@ -6,6 +6,8 @@ pub mod WholeLaws
 pub mod FinishLaws
 pub mod EndingLaws
 pub mod LeaveLaws
+pub mod OtherLaws
+pub mod ReadRunLaws
 pub mod BatchMoveLaws
 pub mod LastReportLaws
 pub mod FrameLaws

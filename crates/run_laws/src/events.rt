@@ -11,7 +11,7 @@ ghost use Rattle.outside.specs.Seen.{Seen, Continues};
 ghost use Rattle.outside.specs.Conforming.{Conforming};
 ghost use Rattle.journal_laws.specs.Readings.{LastStands};
 ghost use Rattle.batch_laws.specs.Calm.{Calm};
-ghost use Rattle.run_laws.specs.Engine.{Engine};
+ghost use Rattle.run_laws.specs.Engine.{Engine, Focus};
 ghost use Rattle.lego_model.specs.History.{own_acts};
 ghost use Rattle.run_laws.specs.Facts.{StartsAgain, Follows, TakesTurn, Dispatches};
 ghost use Rattle.run_laws.specs.Moves.{Moves};
@@ -24,9 +24,9 @@ use outside::World;
 /// The application is started in the attempts of the reference controller, which comes to the same by them; and so it is with
 /// what follows a turn that failed, where it may be gone instead.
 pub fn starts_move<W: World>()
-    ensures starts { (accepts : List TableView → Bool) (text : List ℕ) (old new : Seen W.Own) (e now_e : Engine) → W.Tells → AreRead W.Own W.Tells accepts
+    ensures starts { (accepts : List TableView → Bool) (text : List ℕ) (old new : Seen W.Own) (e now_e : Focus) → W.Tells → AreRead W.Own e.index W.Tells accepts
         → StartsAgain W.Tells text old new e now_e → StartsAlike W.Tells policy.Absolute text old new e now_e }
-    ensures follows { (accepts : List TableView → Bool) (rule : Policy) (text : List ℕ) (old new : Seen W.Own) (e now_e : Engine) → W.Tells → AreRead W.Own W.Tells accepts
+    ensures follows { (accepts : List TableView → Bool) (rule : Policy) (text : List ℕ) (old new : Seen W.Own) (e now_e : Focus) → W.Tells → AreRead W.Own e.index W.Tells accepts
         → Follows W.Tells rule text old new e now_e → StartsAlike W.Tells rule text old new e now_e }
 {}
 
@@ -34,8 +34,8 @@ pub fn starts_move<W: World>()
 /// that loses the same switches in it, whether it was done and its packets released, or failed and was undone, and the
 /// application started again or gone.
 pub fn turns_move<W: World>()
-    ensures { (accepts : List TableView → Bool) (allows : List Place → Bool) (event : Event) (text : List ℕ) (old new : Seen W.Own) (e now_e : Engine)
-        → W.Tells → Conforming new → JudgesAlike W.Own allows accepts → AreRead W.Own W.Tells accepts → e.events < 2 ^ 64 → LastStands (own_acts old)
+    ensures { (accepts : List TableView → Bool) (allows : List Place → Bool) (event : Event) (text : List ℕ) (old new : Seen W.Own) (e now_e : Focus)
+        → W.Tells → Conforming new → JudgesAlike W.Own allows accepts → AreRead W.Own e.index W.Tells accepts → e.events < 2 ^ 64 → LastStands (own_acts e.index old)
         → Calm old e.net → TakesTurn W.Tells accepts event text old new e now_e → TurnMoves allows event text old new e now_e }
 {}
 

@@ -14,7 +14,6 @@ ghost use Rattle.outside.specs.Conforming.{Conforming};
 ghost use Rattle.batch_laws.specs.Batches.{Standing};
 ghost use Rattle.batch_laws.specs.InBatch.{BatchEnds, BatchOver};
 ghost use Rattle.run_laws.specs.Engine.{Engine, engine_then};
-ghost use Rattle.lego_model.specs.Application.{index};
 ghost use Rattle.lego_model.specs.History.{stimuli_in};
 ghost use Rattle.run_laws.specs.Facts.{takes_next, Dispatches};
 ghost use Rattle.run_laws.specs.Readings.{JudgesAlike};
@@ -47,26 +46,26 @@ pub fn oldest_events_move<W: World>()
         → Dispatches W.Tells accepts event text old new (record e { queue = queue }) now_e → Shown W.Tells accepts [] dispatch_next text old new e now_e }
 {}
 
-/// In a world that tells, the end of the application leaves what the world told of the run; and behind the questions for rows, in
-/// which switches may be lost, both together do.
+/// In a world that tells, the end of an application leaves what the world told of the run; and behind the questions for rows, in
+/// which switches may be lost, and the ends of others, both together do.
 pub fn ends_leave<W: World>()
-    ensures end { (old new : Seen W.Own) → W.Tells → Ends W.Tells index old new → Leaves [] old new }
-    ensures both { (lost : List ℕ) (old mid new : Seen W.Own) → Leaves lost old mid → Leaves [] mid new → Leaves lost old new }
+    ensures end { (app number : ℕ) (old new : Seen W.Own) → W.Tells → app < number → Ends W.Tells app old new → Leaves number [] old new }
+    ensures both { (number : ℕ) (lost : List ℕ) (old mid new : Seen W.Own) → Leaves number lost old mid → Leaves number [] mid new → Leaves number lost old new }
 {}
 
 /// Of a world that was just opened and that keeps its word: a run whose parts are those of the reference controller is the run
-/// of the reference controller over what the world told, and over all that was said of the application, of which the world
-/// told the front. At every quiescent point the tables agree, the application was given what
+/// of the reference controller over what the world told, and over all that was said of the applications, of which the world
+/// told the fronts. At every quiescent point the tables agree, each application was given what
 /// it is given there, and what was written is its report, whole where all events were dispatched. The journal is a dialogue
-/// with the application: each answer is to its next message, a change has reached its switch at once where it is answered, and
-/// no call for the application is a stray one.
+/// with each application: each answer is to its next message, a change has reached its switch at once where it is answered, and
+/// no call for an application is a stray one.
 pub fn runs_are_the_references<W: World>()
-    ensures out { (rule : AppValue) (accepts : List TableView → Bool) (allows : List Place → Bool) (most : ℕ) (contents now_contents : Option (List ℕ)) (old new : Seen W.Own) (e : Engine)
+    ensures out { (rules : List AppValue) (accepts : List TableView → Bool) (allows : List Place → Bool) (most : ℕ) (contents now_contents : Option (List ℕ)) (old new : Seen W.Own) (e : Engine)
         → W.Tells → Conforming new → JudgesAlike W.Own allows accepts → IsOpened old → length (stimuli_in new) < most
-        → RanOut W.Tells accepts most contents now_contents old new (engine_at_first rule) e → EndsAlike rule allows new contents now_contents e.events }
-    ensures full { (rule : AppValue) (accepts : List TableView → Bool) (allows : List Place → Bool) (most left : ℕ) (contents now_contents : Option (List ℕ)) (old new : Seen W.Own)
+        → RanOut W.Tells accepts most contents now_contents old new (engine_at_first rules) e → EndsAlike rules allows new contents now_contents e.events }
+    ensures full { (rules : List AppValue) (accepts : List TableView → Bool) (allows : List Place → Bool) (most left : ℕ) (contents now_contents : Option (List ℕ)) (old new : Seen W.Own)
         → W.Tells → Conforming new → JudgesAlike W.Own allows accepts → IsOpened old → length (stimuli_in new) < most
-        → RanFull W.Tells accepts most left contents now_contents old new (engine_at_first rule) → LeavesAlike rule allows new contents now_contents left }
+        → RanFull W.Tells accepts most left contents now_contents old new (engine_at_first rules) → LeavesAlike rules allows new contents now_contents left }
 {}
 
 /// Of a world that was just opened and that keeps its word up to a point: where a fault ends a run whose parts are those of the

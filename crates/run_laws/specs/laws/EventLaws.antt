@@ -26,31 +26,6 @@ use Rattle.run_laws.specs.laws.DialogueLaws.{takes_alive, turn_goes_on}
 use Rattle.run_laws.specs.laws.DispatchLaws.{dispatch-moves, dispatch-life, next-moves, none-moves}
 use Rattle.run_laws.specs.laws.OrderlyRunLaws.{turn-orderly}
 
--- ---- Every turn and every restart is read
-
--- of each attempt enough is told
-tries-heard : {Own : Type 0} (Tells : Type 0) (app : ℕ) (kept : List ℕ) (n : ℕ) (ts : List (OneTry Own)) (old new : Seen Own) → AreTries Tells app kept n ts old new → AllByRecursion (λ t. is_start_heard (start_of t.attempt) ≡ true) ts
-tries-heard Tells app kept zero [] old new are = tt
-tries-heard Tells app kept zero (t ∷ ts) old new are = absurd are
-tries-heard Tells app kept (suc n) [] old new are = absurd are
-tries-heard {Own} Tells app kept (suc n) (t ∷ ts) old new are = (
-  are.0.heard,
-  elim are.1 [
-    | inl h ↦ subst (λ (l : List (OneTry Own)). AllByRecursion (λ x. is_start_heard (start_of x.attempt) ≡ true) l) (sym h.1) tt
-    | inr h ↦ tries-heard Tells app kept n ts t.after new h.1
-  ],
-)
-
-pub are-read : {Own : Type 0} (Tells : Type 0) (accepts : List TableView → Bool) → AreRead Own Tells accepts
-are-read Tells accepts = record {
-  turn = λ budget number moment event rest old mid net mid_net end unread told t stood.
-      let r = turn_told t told (event_is number moment event) stood in
-      record { starts = r.starts; replies = r.replies; heard = t.heard; life = r.life };
-  tries = λ kept old new found tries told s.
-      let r = tries_told Tells index kept attempts s.all old new s.are told in
-      record { starts = r.starts; replies = r.replies; heard = tries-heard Tells index kept attempts s.all old new s.are; life = λ some. r.life (sym (ap (λ (o : Option (List ℕ)). is_some o) s.found_is) ∙ some); own = r.own };
-}
-
 -- ---- An event
 
 calm-by : {Own : Type 0} (Tells : Type 0) (accepts : List TableView → Bool) (allows : List Place → Bool) (event : Event) (text : List ℕ) (old new : Seen Own) (e now_e : Engine) (takes : Bool) → takes_event e event ≡ takes → Tells → Conforming new → JudgesAlike Own allows accepts
