@@ -28,19 +28,18 @@ use Rattle.batch_laws.specs.InBatch.{SoFar, GoesOn}
 use Rattle.batch_laws.specs.laws.InBatchLaws.{next_goes_on, never_so_many}
 use Rattle.event_dispatch.specs.declared.batch.Rest.{Rest}
 use Rattle.event_dispatch.specs.declared.batch.Rest.TheVariants as rests
-use Rattle.event_dispatch.specs.declared.run.Run.{Run}
+use Rattle.event_dispatch.specs.declared.core.Core.{Core}
 use Rattle.event_dispatch.specs.Runs.{AreRead}
 use Rattle.event_dispatch.specs.Shows.{TellsLost}
 use Rattle.event_dispatch.specs.Batch.{of_memory, standing_of, rest_by, as_told, TakesItem, TakesJoin, TakesFirst, KeptSoFar, TakesKept, KeptComesFirst, NextTaken, BatchGoes, BatchShown}
 use Rattle.run_laws.specs.laws.EchoLaws.{no-echo}
-use Rattle.run_laws.specs.Engine.{Engine}
 use Rattle.of_types.specs.Fields.{IsBytes, number_at}
 use Rattle.net_txn.specs.Arriving.{Arrives}
 use Rattle.net_txn.specs.LinkSteps.{OnLinks, AsksWithoutStrays}
 
 -- ---- What was kept
 
-pub kept_at_first : {Own : Type 0} (seen : Seen Own) (run : Run) → KeptSoFar 0 seen seen run run
+pub kept_at_first : {Own : Type 0} (seen : Seen Own) (run : Core) → KeptSoFar 0 seen seen run run
 kept_at_first seen run = record { taken = []; number_is = refl; first = record { kept_is = refl; knowledge = refl }; none = λ is. (refl, (refl, refl, refl, refl)) }
 
 pub some_kept : (m : ℕ × List ℕ) (kept : List (ℕ × List ℕ)) → Some m ≡ slice_get kept 0 → kept ≡ [] → ⊥
@@ -75,7 +74,7 @@ still_one bytes other (inl still) = still
 still_one bytes other (inr lost) = absurd (no-echo bytes other lost.at.2)
 
 -- the oldest of those that are kept is taken, as if it were told now
-takes_next : {Own : Type 0} (Tells : Type 0) (taken : List (ℕ × List ℕ)) (m : ℕ × List ℕ) (text : List ℕ) (now new : Seen Own) (run mid later : Run) (taken_net : NetState) → TakesFirst taken run mid → Some m ≡ slice_get mid.net.kept 0 → taken_net ≡ record mid.net { kept = drop 1 mid.net.kept }
+takes_next : {Own : Type 0} (Tells : Type 0) (taken : List (ℕ × List ℕ)) (m : ℕ × List ℕ) (text : List ℕ) (now new : Seen Own) (run mid later : Core) (taken_net : NetState) → TakesFirst taken run mid → Some m ≡ slice_get mid.net.kept 0 → taken_net ≡ record mid.net { kept = drop 1 mid.net.kept }
     → HandlesStill Tells (From m.0 m.1) text now new taken_net later.net mid.queue later.queue → TakesFirst (taken ++ m ∷ []) run later
 takes_next Tells taken m text now new run mid later taken_net first is without handles = record {
   kept_is = first.kept_is ∙ ap (λ (xs : List (ℕ × List ℕ)). taken ++ xs) (one_first m mid.net.kept is) ∙ sym (append_assoc taken (m ∷ []) (drop 1 mid.net.kept))
@@ -84,7 +83,7 @@ takes_next Tells taken m text now new run mid later taken_net first is without h
       ∙ sym (handled_all-append (as_told taken) (From m.0 m.1 ∷ []) (knowledge_of run.net run.queue)) ∙ ap (λ (items : List WorldStep). handled_all items (knowledge_of run.net run.queue)) (sym (told_append taken (m ∷ [])));
 }
 
-pub kept_one_more : {Own : Type 0} {Tells : Type 0} (n d : ℕ) (bytes frame : List ℕ) (old now new : Seen Own) (run mid later : Run) (taken_net : NetState) → KeptSoFar n old now run mid → AreRead mid.net.kept → Some (d, bytes) ≡ slice_get mid.net.kept 0 → frame ≡ bytes
+pub kept_one_more : {Own : Type 0} {Tells : Type 0} (n d : ℕ) (bytes frame : List ℕ) (old now new : Seen Own) (run mid later : Core) (taken_net : NetState) → KeptSoFar n old now run mid → AreRead mid.net.kept → Some (d, bytes) ≡ slice_get mid.net.kept 0 → frame ≡ bytes
     → taken_net ≡ record mid.net { kept = drop 1 mid.net.kept } → TakesItem Tells (From d frame) now new (record mid { net = taken_net }) later → KeptSoFar (n + 1) old new run later
 kept_one_more {Tells = Tells} n d bytes frame old now new run mid later taken_net so_far read is same without takes = record {
   taken = so_far.taken ++ (d, bytes) ∷ [];
@@ -95,7 +94,7 @@ kept_one_more {Tells = Tells} n d bytes frame old now new run mid later taken_ne
 }
 
 -- and nothing is noted
-pub kept_line : {Own : Type 0} {Tells : Type 0} (d : ℕ) (bytes frame : List ℕ) (now new : Seen Own) (mid later : Run) (taken_net : NetState) → AreRead mid.net.kept → Some (d, bytes) ≡ slice_get mid.net.kept 0 → frame ≡ bytes
+pub kept_line : {Own : Type 0} {Tells : Type 0} (d : ℕ) (bytes frame : List ℕ) (now new : Seen Own) (mid later : Core) (taken_net : NetState) → AreRead mid.net.kept → Some (d, bytes) ≡ slice_get mid.net.kept 0 → frame ≡ bytes
     → TakesItem Tells (From d frame) now new (record mid { net = taken_net }) later → later.lines.items ≡ mid.lines.items
 kept_line {Tells = Tells} d bytes frame now new mid later taken_net read is same takes =
     let still = still_one bytes (first_other (d, bytes) mid.net.kept read is)
@@ -108,7 +107,7 @@ without_first net none = ap (λ (xs : List (ℕ × List ℕ)). record net { kept
 none_left : (mid later : NetState) → later ≡ record mid { kept = drop 1 mid.kept } → None ≡ slice_get mid.kept 0 → later.kept ≡ []
 none_left mid later without none = ap (λ (s : NetState). s.kept) without ∙ ap (drop 1) (none_first mid.kept none)
 
-pub kept_ends : {Own : Type 0} (n : ℕ) (old now : Seen Own) (run mid later : Run) → KeptSoFar n old now run mid → later.net ≡ record mid.net { kept = drop 1 mid.net.kept } → None ≡ slice_get mid.net.kept 0 → later.queue ≡ mid.queue → later.lines.items ≡ mid.lines.items → TakesKept (1000000 - n) old now run later
+pub kept_ends : {Own : Type 0} (n : ℕ) (old now : Seen Own) (run mid later : Core) → KeptSoFar n old now run mid → later.net ≡ record mid.net { kept = drop 1 mid.net.kept } → None ≡ slice_get mid.net.kept 0 → later.queue ≡ mid.queue → later.lines.items ≡ mid.lines.items → TakesKept (1000000 - n) old now run later
 kept_ends n old now run mid later so_far net no_more queue lines = record {
   taken = so_far.taken;
   first = record {
@@ -122,7 +121,7 @@ kept_ends n old now run mid later so_far net no_more queue lines = record {
       (ap (λ (k : ℕ). 1000000 - k) is.0, (is.1.0, net ∙ without_first mid.net kept ∙ is.1.1, queue ∙ is.1.2, lines ∙ is.1.3));
 }
 
-pub kept_all : {Own : Type 0} (n : ℕ) (old now : Seen Own) (run mid : Run) → 1000000 ≤ n → KeptSoFar n old now run mid → TakesKept 0 old now run mid
+pub kept_all : {Own : Type 0} (n : ℕ) (old now : Seen Own) (run mid : Core) → 1000000 ≤ n → KeptSoFar n old now run mid → TakesKept 0 old now run mid
 kept_all n old now run mid many so_far = record {
   taken = so_far.taken;
   first = so_far.first;
@@ -145,7 +144,7 @@ item_handled : {Own Tells : Type 0} {item : WorldStep} {text : List ℕ} {old ne
 item_handled (inl still) = inl still.knowledge
 item_handled (inr lost) = inr (lost.dpid, lost.at, lost.knowledge)
 
-pub then_told : {Own Tells : Type 0} (rest : Option Rest) (now new : Seen Own) (run mid later : Run) → KeptComesFirst run mid → NextTaken Tells rest now new mid later → KeptComesFirst run later
+pub then_told : {Own Tells : Type 0} (rest : Option Rest) (now new : Seen Own) (run mid later : Core) → KeptComesFirst run mid → NextTaken Tells rest now new mid later → KeptComesFirst run later
 then_told rest now new run mid later first next =
     let item = item_step next.item next.takes.buf in
     record {
@@ -163,17 +162,17 @@ takes_continues : {Own Tells : Type 0} {item : Item} {text : List ℕ} {old new 
 takes_continues {Tells = Tells} {old = old} {new = new} takes = Continues-trans Tells old takes.mid new (Nexts-continues takes.nexts) takes.handles.continues
 
 -- one item more was told, and this text noted
-record OneMore {Own : Type 0} (Tells : Type 0) (item : Item) (now new : Seen Own) (mid later : Run) : Type 0 where
+record OneMore {Own : Type 0} (Tells : Type 0) (item : Item) (now new : Seen Own) (mid later : Core) : Type 0 where
   text : List ℕ
   takes : TakesNext Tells item text now new mid.net later.net mid.queue later.queue
   lines : later.lines.items ≡ mid.lines.items ++ text
 
 -- what comes of it
-went : {Own Tells : Type 0} {n : ℕ} {first now new : Seen Own} {run mid : Run} (later : Run) (item : Item) → BatchGoes Tells n first now run mid → OneMore Tells item now new mid later → Tells → Conforming new → Calm first run.net → GoesOn item n (standing_of first run) (standing_of new later)
+went : {Own Tells : Type 0} {n : ℕ} {first now new : Seen Own} {run mid : Core} (later : Core) (item : Item) → BatchGoes Tells n first now run mid → OneMore Tells item now new mid later → Tells → Conforming new → Calm first run.net → GoesOn item n (standing_of first run) (standing_of new later)
 went {n = n} {first = first} {now = now} {run = run} {mid = mid} later item goes more told keeps calm =
     next_goes_on n (standing_of first run) (standing_of now mid) later.lines.items item told keeps calm (goes.so_far told (Conforming-before told (takes_continues more.takes) keeps) calm) more.takes more.lines
 
-goes_by : {Own Tells : Type 0} {n : ℕ} {first now new : Seen Own} {run mid : Run} (later : Run) (item : Item) → BatchGoes Tells n first now run mid → OneMore Tells item now new mid later → None ≡ rest_by item → BatchGoes Tells (n + 1) first new run later
+goes_by : {Own Tells : Type 0} {n : ℕ} {first now new : Seen Own} {run mid : Core} (later : Core) (item : Item) → BatchGoes Tells n first now run mid → OneMore Tells item now new mid later → None ≡ rest_by item → BatchGoes Tells (n + 1) first new run later
 goes_by later (items.From d k) goes more is = record { so_far = λ told keeps calm. inr (went later (items.From d k) goes more told keeps calm) }
 goes_by later (items.Joined d k) goes more is = record { so_far = λ told keeps calm. inr (went later (items.Joined d k) goes more told keeps calm) }
 goes_by later (items.Left d) goes more is = record { so_far = λ told keeps calm. inr (went later (items.Left d) goes more told keeps calm) }
@@ -181,13 +180,13 @@ goes_by later (items.Moment t) goes more is = record { so_far = λ told keeps ca
 goes_by later items.Idle goes more is = absurd cc
 goes_by later items.End goes more is = absurd cc
 
-pub batch_goes : {Own : Type 0} {Tells : Type 0} (n : ℕ) (first now new : Seen Own) (run mid later : Run) → BatchGoes Tells n first now run mid → NextTaken Tells None now new mid later → BatchGoes Tells (n + 1) first new run later
+pub batch_goes : {Own : Type 0} {Tells : Type 0} (n : ℕ) (first now new : Seen Own) (run mid later : Core) → BatchGoes Tells n first now run mid → NextTaken Tells None now new mid later → BatchGoes Tells (n + 1) first new run later
 batch_goes n first now new run mid later goes taken = goes_by later taken.item goes (record { text = taken.text; takes = taken.takes; lines = taken.lines }) taken.rest_is
 
 same_rest : (a b : Rest) → Some a ≡ Some b → a ≡ b
 same_rest a b e = cc
 
-shown_by : {Own Tells : Type 0} {n : ℕ} {first now new : Seen Own} {run mid : Run} (later : Run) (rest : Rest) (item : Item) → BatchGoes Tells n first now run mid → OneMore Tells item now new mid later → Some rest ≡ rest_by item → BatchShown Tells rest first new run later
+shown_by : {Own Tells : Type 0} {n : ℕ} {first now new : Seen Own} {run mid : Core} (later : Core) (rest : Rest) (item : Item) → BatchGoes Tells n first now run mid → OneMore Tells item now new mid later → Some rest ≡ rest_by item → BatchShown Tells rest first new run later
 shown_by later rest (items.From d k) goes more is = absurd cc
 shown_by later rest (items.Joined d k) goes more is = absurd cc
 shown_by later rest (items.Left d) goes more is = absurd cc
@@ -197,11 +196,11 @@ shown_by {Tells = Tells} {first = first} {new = new} {run = run} later rest item
 shown_by {Tells = Tells} {first = first} {new = new} {run = run} later rest items.End goes more is =
     subst (λ (r : Rest). BatchShown Tells r first new run later) (sym (same_rest rest rests.End is)) (record { shown = λ told keeps calm. went later items.End goes more told keeps calm })
 
-pub batch_ends : {Own : Type 0} {Tells : Type 0} (n : ℕ) (rest : Rest) (first now new : Seen Own) (run mid later : Run) → BatchGoes Tells n first now run mid → NextTaken Tells (Some rest) now new mid later → BatchShown Tells rest first new run later
+pub batch_ends : {Own : Type 0} {Tells : Type 0} (n : ℕ) (rest : Rest) (first now new : Seen Own) (run mid later : Core) → BatchGoes Tells n first now run mid → NextTaken Tells (Some rest) now new mid later → BatchShown Tells rest first new run later
 batch_ends n rest first now new run mid later goes taken = shown_by later rest taken.item goes (record { text = taken.text; takes = taken.takes; lines = taken.lines }) taken.rest_is
 
 -- a batch ends before so many items
-pub batch_too_long : {Own : Type 0} {Tells : Type 0} (n left : ℕ) (old first now : Seen Own) (run begun mid : Run) → left ≤ n → Continues Tells old now → TakesKept left old first run begun → BatchGoes Tells n old now run mid → BatchShown Tells rests.Idle old now run mid
+pub batch_too_long : {Own : Type 0} {Tells : Type 0} (n left : ℕ) (old first now : Seen Own) (run begun mid : Core) → left ≤ n → Continues Tells old now → TakesKept left old first run begun → BatchGoes Tells n old now run mid → BatchShown Tells rests.Idle old now run mid
 batch_too_long n left old first now run begun mid many continues kept goes = record { shown = λ told keeps calm. absurd (by (kept.none calm.kept).0 (Conforming-before told continues keeps) calm (goes.so_far told keeps calm)) }
   where
     by : left ≡ 1000000 → Conforming old → Calm old run.net → SoFar n (standing_of old run) (standing_of now mid) → ⊥
@@ -246,25 +245,25 @@ rest_handles {Tells = Tells} item buf seen net queue none (inr is) = subst (λ (
 -- ---- An item that is taken, and the text that is noted
 
 -- nothing is noted
-pub takes_none : {Own Tells : Type 0} {item : WorldStep} {old new : Seen Own} (run now_run : Run) → now_run.lines.items ≡ run.lines.items → Handles Tells item [] old new run.net now_run.net run.queue now_run.queue → TakesItem Tells item old new run now_run
+pub takes_none : {Own Tells : Type 0} {item : WorldStep} {old new : Seen Own} (run now_run : Core) → now_run.lines.items ≡ run.lines.items → Handles Tells item [] old new run.net now_run.net run.queue now_run.queue → TakesItem Tells item old new run now_run
 takes_none run now_run same handles = record { text = []; handles = handles; lines = same ∙ sym (append-nil run.lines.items) }
 
 -- of a message, where the switches that were lost are told behind it
-pub message_taken : {Own Tells : Type 0} (d : ℕ) (bytes : List ℕ) (old new : Seen Own) (run mid now_run : Run) (event : Option Event) → run.net.left ≡ [] → IsSome (rows_at d run.net.views) → IsBytes bytes → Arrives Tells d bytes old new run.net mid.net (Ok event)
+pub message_taken : {Own Tells : Type 0} (d : ℕ) (bytes : List ℕ) (old new : Seen Own) (run mid now_run : Core) (event : Option Event) → run.net.left ≡ [] → IsSome (rows_at d run.net.views) → IsBytes bytes → Arrives Tells d bytes old new run.net mid.net (Ok event)
     → mid.queue ≡ with_event event run.queue → mid.lines.items ≡ run.lines.items → TellsLost mid now_run → TakesItem Tells (From d bytes) old new run now_run
 message_taken d bytes old new run mid now_run event none known fit arrives waits lines tells = record {
   text = lost_text mid.net.left;
   handles = arrived_handles d bytes old new run.net mid.net now_run.net run.queue mid.queue now_run.queue (lost_text mid.net.left) event none known fit arrives waits
-      (ap (λ (e : Engine). e.net) tells.engine) (ap (λ (e : Engine). e.queue) tells.engine) refl;
+      tells.net tells.queue refl;
   lines = tells.lines ∙ ap (λ (t : List ℕ). t ++ lost_text mid.net.left) lines;
 }
 
 -- of a switch that leaves
-pub left_taken : {Own Tells : Type 0} (d : ℕ) (seen : Seen Own) (run now_run : Run) → run.net.left ≡ [] → now_run.lines.items ≡ run.lines.items → Departs d run.net now_run.net run.queue now_run.queue → TakesItem Tells (Left d) seen seen run now_run
+pub left_taken : {Own Tells : Type 0} (d : ℕ) (seen : Seen Own) (run now_run : Core) → run.net.left ≡ [] → now_run.lines.items ≡ run.lines.items → Departs d run.net now_run.net run.queue now_run.queue → TakesItem Tells (Left d) seen seen run now_run
 left_taken d seen run now_run none lines departs = takes_none run now_run lines (departs_handles d seen run.net now_run.net run.queue now_run.queue none departs)
 
 -- of a switch that joins or is lost
-pub joined_taken : {Own Tells : Type 0} (d : ℕ) (bytes : List ℕ) (e : Envelope) (old new : Seen Own) (run now_run : Run) → run.net.left ≡ [] → rows_at d run.net.views ≡ None → reading_of bytes ≡ Ok e → Continues Tells old new → OnLinks Tells old new → AsksWithoutStrays Tells d old new
+pub joined_taken : {Own Tells : Type 0} (d : ℕ) (bytes : List ℕ) (e : Envelope) (old new : Seen Own) (run now_run : Core) → run.net.left ≡ [] → rows_at d run.net.views ≡ None → reading_of bytes ≡ Ok e → Continues Tells old new → OnLinks Tells old new → AsksWithoutStrays Tells d old new
     → TakesJoin Tells d e.message old new run now_run → TakesItem Tells (Joined d bytes) old new run now_run
 joined_taken d bytes e old new run now_run none out read continues links no_strays joins = record {
   text = joins.text;

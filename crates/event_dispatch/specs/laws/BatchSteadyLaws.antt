@@ -24,20 +24,17 @@ use Rattle.net_txn.specs.Arriving.{Arrives}
 use Rattle.net_txn.specs.laws.AgreeLaws.{viewed}
 use Rattle.net_txn.specs.laws.AbreastLaws.{links-begun, links-none_quiescent, arrives_abreast}
 use Rattle.net_txn.specs.laws.ReadLaws.{arrives_read}
-use Rattle.app_visor.specs.CallsFor.{CallsFor}
-use Rattle.lego_model.specs.Application.{index}
+use Rattle.run_laws.specs.Cut.{CallsAmong}
 use Rattle.batch_laws.specs.Items.{Handles}
 use Rattle.event_dispatch.specs.declared.batch.Rest.{Rest}
-use Rattle.event_dispatch.specs.declared.run.Managed.{Managed}
-use Rattle.event_dispatch.specs.declared.run.Run.{Run}
+use Rattle.event_dispatch.specs.declared.core.Core.{Core}
 use Rattle.event_dispatch.specs.Runs.{AreRead, Waits}
 use Rattle.event_dispatch.specs.Shows.{TellsLost}
 use Rattle.event_dispatch.specs.Batch.{TakesItem, rest_by}
-use Rattle.run_laws.specs.Engine.{Engine}
 use Rattle.event_dispatch.specs.laws.BatchLaws.{joined_step, rest_handles}
 use Rattle.event_dispatch.specs.laws.KeptLaws.{read_rest, read_same, read_alike}
 use Rattle.event_dispatch.specs.Steady.{NoStray, Reads, NothingUnderWay, AtMostThisPoint}
-use Rattle.event_dispatch.specs.laws.SteadyLaws.{reads_as, places_then, reads_then, quietly_here, calls_then}
+use Rattle.event_dispatch.specs.laws.SteadyLaws.{reads_as, places_then, reads_then, quietly_here, calls_then, links_among}
 use Rattle.event_dispatch.specs.Told.{OnlyMessages, NoStrayAtItem, CatchesUp, NextPoint, GoesBegun, BatchPoint}
 use Rattle.event_dispatch.specs.laws.AbreastItemLaws.{next_tells}
 use Rattle.event_dispatch.specs.laws.NextPointLaws.{next_in_place, next_messages, next_still, next_anew}
@@ -52,15 +49,15 @@ links_none Tells seen = OnLinks-refl Tells seen
 pub links_then : {Own : Type 0} (Tells : Type 0) (a b c : Seen Own) → OnLinks Tells a b → OnLinks Tells b c → OnLinks Tells a c
 links_then Tells a b c first second = OnLinks-trans Tells a b c first second
 
-links_own : {Own : Type 0} {Tells : Type 0} {old new : Seen Own} → OnLinks Tells old new → Tells → CallsFor index old new
-links_own links told = (links_quietly links).own told
+links_own : {Own : Type 0} {Tells : Type 0} {number : ℕ} {old new : Seen Own} → OnLinks Tells old new → Tells → CallsAmong number old new
+links_own {number = number} links told = links_among number (links told)
 
 pub only_none : {Own : Type 0} (Tells : Type 0) (seen : Seen Own) → OnlyMessages Tells seen seen
 only_none Tells seen = record { read = λ told. messages-none seen }
 
 -- ---- A message of a switch that has a view
 
-pub arrived_places : {Own : Type 0} (Tells : Type 0) (d : ℕ) (frame : List ℕ) (old new : Seen Own) (net now_net : NetState) (result : Result (Option Event) TxnFault) → IsSome (rows_at d net.views) → Arrives Tells d frame old new net now_net result → NoStray Tells old new net
+pub arrived_places : {Own : Type 0} {number : ℕ} (Tells : Type 0) (d : ℕ) (frame : List ℕ) (old new : Seen Own) (net now_net : NetState) (result : Result (Option Event) TxnFault) → IsSome (rows_at d net.views) → Arrives Tells d frame old new net now_net result → NoStray Tells number old new net
 arrived_places Tells d frame old new net now_net result known arrives = record {
   places = λ told order abreast. arrives.no_strays told order (abreast.joined d ∙ viewed d net.views ∙ known);
   own = links_own arrives.links;
@@ -73,19 +70,17 @@ arrived_reads Tells d frame old new net now_net event known arrives = record {
 }
 
 -- and the switches that were lost are told
-pub told_reads : {Own : Type 0} (Tells : Type 0) (old new : Seen Own) (net : NetState) (mid now_run : Run) → TellsLost mid now_run → Reads Tells old new net mid.net → Reads Tells old new net now_run.net
-told_reads Tells old new net mid now_run tells reads = reads_as Tells old new net mid.net now_run.net (ap (λ (e : Engine). e.net.views) tells.engine) reads
+pub told_reads : {Own : Type 0} (Tells : Type 0) (old new : Seen Own) (net : NetState) (mid now_run : Core) → TellsLost mid now_run → Reads Tells old new net mid.net → Reads Tells old new net now_run.net
+told_reads Tells old new net mid now_run tells reads = reads_as Tells old new net mid.net now_run.net (ap (λ (n : NetState). n.views) tells.net) reads
 
-pub told_read : (mid now_run : Run) → TellsLost mid now_run → AreRead mid.net.kept → AreRead now_run.net.kept
-told_read mid now_run tells read = read_alike mid.net.kept now_run.net.kept (ap (λ (e : Engine). e.net.kept) tells.engine) read
+pub told_read : (mid now_run : Core) → TellsLost mid now_run → AreRead mid.net.kept → AreRead now_run.net.kept
+told_read mid now_run tells read = read_alike mid.net.kept now_run.net.kept (ap (λ (n : NetState). n.kept) tells.net) read
 
 -- an item was taken, and no event was dispatched
-pub waits_taken : {Own Tells : Type 0} {item : WorldStep} {old new : Seen Own} (run mid now_run : Run) → Waits mid now_run → mid.events ≡ run.events → mid.app ≡ run.app → mid.store ≡ run.store → TakesItem Tells item old new run now_run → Waits run now_run
-waits_taken run mid now_run waits events app store takes = record {
+pub waits_taken : {Own Tells : Type 0} {item : WorldStep} {old new : Seen Own} (run mid now_run : Core) → Waits mid now_run → mid.events ≡ run.events → mid.store ≡ run.store → TakesItem Tells item old new run now_run → Waits run now_run
+waits_taken run mid now_run waits events store takes = record {
   room = takes.handles.room;
   events = waits.events ∙ events;
-  done = waits.done ∙ ap (λ (a : Managed). a.done) app;
-  failed = waits.failed ∙ ap (λ (a : Managed). a.failed) app;
   store = waits.store ∙ store;
   left = λ none. takes.handles.left;
 }
@@ -104,18 +99,16 @@ same_views mid_net taken_net taken = ap (λ (n : NetState). n.views) taken
 pub taken_read : (mid_net taken_net : NetState) → WithoutFirst mid_net taken_net → AreRead mid_net.kept → AreRead taken_net.kept
 taken_read mid_net taken_net taken read = read_same (record mid_net { kept = drop 1 mid_net.kept }) taken_net taken (read_rest mid_net.kept read)
 
-pub taken_waits : (run mid later : Run) (taken_net : NetState) → WithoutFirst mid.net taken_net → Waits run mid → Waits (record mid { net = taken_net }) later → Waits run later
+pub taken_waits : (run mid later : Core) (taken_net : NetState) → WithoutFirst mid.net taken_net → Waits run mid → Waits (record mid { net = taken_net }) later → Waits run later
 taken_waits run mid later taken_net taken first second = record {
   room = second.room ∙ ap (λ (n : NetState). n.room) taken ∙ first.room;
   events = second.events ∙ first.events;
-  done = second.done ∙ first.done;
-  failed = second.failed ∙ first.failed;
   store = second.store ∙ first.store;
   left = λ none. second.left (ap (λ (n : NetState). n.left) taken ∙ first.left none);
 }
 
-pub taken_places : {Own : Type 0} (Tells : Type 0) (old now new : Seen Own) (net mid_net taken_net : NetState) → WithoutFirst mid_net taken_net → Continues Tells old now → Continues Tells now new → NoStray Tells old now net → Reads Tells old now net mid_net → NoStray Tells now new taken_net
-    → NoStray Tells old new net
+pub taken_places : {Own : Type 0} {number : ℕ} (Tells : Type 0) (old now new : Seen Own) (net mid_net taken_net : NetState) → WithoutFirst mid_net taken_net → Continues Tells old now → Continues Tells now new → NoStray Tells number old now net → Reads Tells old now net mid_net → NoStray Tells number now new taken_net
+    → NoStray Tells number old new net
 taken_places Tells old now new net mid_net taken_net taken before later first so_far second = places_then old now new net taken_net before later first (reads_as Tells old now net mid_net taken_net (same_views mid_net taken_net taken) so_far) second
 
 pub taken_reads : {Own : Type 0} (Tells : Type 0) (old now new : Seen Own) (net mid_net taken_net now_net : NetState) → WithoutFirst mid_net taken_net → Continues Tells old now → Continues Tells now new → Reads Tells old now net mid_net → Reads Tells now new taken_net now_net
@@ -124,26 +117,26 @@ taken_reads Tells old now new net mid_net taken_net now_net taken before later f
 
 -- ---- An item
 
-pub puts_none : {Own : Type 0} (Tells : Type 0) (step : WorldStep) (seen : Seen Own) (net : NetState) → NoStrayAtItem Tells step seen seen net
+pub puts_none : {Own : Type 0} {number : ℕ} (Tells : Type 0) (step : WorldStep) (seen : Seen Own) (net : NetState) → NoStrayAtItem Tells number step seen seen net
 puts_none Tells step seen net = record { places = λ told order at. no_strays_none seen }
 
-pub joined_puts : {Own : Type 0} (Tells : Type 0) (d : ℕ) (bytes : List ℕ) (old new : Seen Own) (net : NetState) → AsksWithoutStrays Tells d old new → NoStrayAtItem Tells (Joined d bytes) old new net
+pub joined_puts : {Own : Type 0} {number : ℕ} (Tells : Type 0) (d : ℕ) (bytes : List ℕ) (old new : Seen Own) (net : NetState) → AsksWithoutStrays Tells d old new → NoStrayAtItem Tells number (Joined d bytes) old new net
 joined_puts Tells d bytes old new net asks = record { places = λ told order at. asks told order at.told_of.0 }
 
-pub from_puts : {Own : Type 0} (Tells : Type 0) (item : Item) (d n : ℕ) (buf : List ℕ) (old new : Seen Own) (net : NetState) → item ≡ items.From d n → NoStray Tells old new net → NoStrayAtItem Tells (item_step item buf) old new net
+pub from_puts : {Own : Type 0} {number : ℕ} (Tells : Type 0) (item : Item) (d n : ℕ) (buf : List ℕ) (old new : Seen Own) (net : NetState) → item ≡ items.From d n → NoStray Tells number old new net → NoStrayAtItem Tells number (item_step item buf) old new net
 unfolding item_step
 from_puts Tells item d n buf old new net is places = rw is (record { places = λ told order at. places.places told order (record { joined = λ e. at.others e refl; none_due = at.none_due }) })
 
-pub joined_item : {Own : Type 0} (Tells : Type 0) (item : Item) (d n : ℕ) (buf : List ℕ) (old new : Seen Own) (net : NetState) → item ≡ items.Joined d n → NoStrayAtItem Tells (Joined d (take n buf)) old new net → NoStrayAtItem Tells (item_step item buf) old new net
-joined_item Tells item d n buf old new net is puts = subst (λ (step : WorldStep). NoStrayAtItem Tells step old new net) (joined_step item d n buf is) puts
+pub joined_item : {Own : Type 0} {number : ℕ} (Tells : Type 0) (item : Item) (d n : ℕ) (buf : List ℕ) (old new : Seen Own) (net : NetState) → item ≡ items.Joined d n → NoStrayAtItem Tells number (Joined d (take n buf)) old new net → NoStrayAtItem Tells number (item_step item buf) old new net
+joined_item {number = number} Tells item d n buf old new net is puts = subst (λ (step : WorldStep). NoStrayAtItem Tells number step old new net) (joined_step item d n buf is) puts
 
 -- ---- What is told next
 
-pub next_places : {Own : Type 0} (Tells : Type 0) (old new : Seen Own) (net : NetState) → (Tells → MakesNoStrayCall old new) → NextPoint Tells old new → NoStray Tells old new net
+pub next_places : {Own : Type 0} {number : ℕ} (Tells : Type 0) (old new : Seen Own) (net : NetState) → (Tells → MakesNoStrayCall old new) → NextPoint Tells number old new → NoStray Tells number old new net
 next_places Tells old new net places next = record { places = λ told order abreast. places told; own = next.own }
 
-pub handled_places : {Own : Type 0} (Tells : Type 0) (item : Item) (buf : List ℕ) (old mid new : Seen Own) (net : NetState) → Nexts Tells old mid (Ok item) buf → Continues Tells mid new → NextPoint Tells old mid → OnLinks Tells mid new → NoStrayAtItem Tells (item_step item buf) mid new net
-    → NoStray Tells old new net
+pub handled_places : {Own : Type 0} {number : ℕ} (Tells : Type 0) (item : Item) (buf : List ℕ) (old mid new : Seen Own) (net : NetState) → Nexts Tells old mid (Ok item) buf → Continues Tells mid new → NextPoint Tells number old mid → OnLinks Tells mid new → NoStrayAtItem Tells number (item_step item buf) mid new net
+    → NoStray Tells number old new net
 handled_places Tells item buf old mid new net call later next links puts = record {
   places = λ told order abreast.
       let so_far = InOrder-before told later order in
@@ -168,7 +161,7 @@ pub over_reads : {Own : Type 0} (Tells : Type 0) (item : Item) (buf : List ℕ) 
 over_reads Tells item buf old mid net none over call =
     handled_reads Tells item buf old mid mid net net [] [] call (rest_handles item buf mid net [] none over) (links_none Tells mid) (only_none Tells mid)
 
-pub handled_quietly : {Own : Type 0} (Tells : Type 0) (old mid new : Seen Own) → Continues Tells mid new → NextPoint Tells old mid → OnLinks Tells mid new → NextPoint Tells old new
+pub handled_quietly : {Own : Type 0} {number : ℕ} (Tells : Type 0) (old mid new : Seen Own) → Continues Tells mid new → NextPoint Tells number old mid → OnLinks Tells mid new → NextPoint Tells number old new
 handled_quietly Tells old mid new later next links = record {
   last = λ told. last_quiescent-then (next.last told) (links-none_quiescent (links told));
   none_quiescent = λ told order is. none_since-then (next.none_quiescent told (InOrder-before told later order) is) (links-none_quiescent (links told));
@@ -184,10 +177,13 @@ goes_begun Tells item buf old mid new call later links goes = record {
   anew = λ told order none at. links-begun later (links told) ∙ next_anew call told (InOrder-before told later order) goes at;
 }
 
+pub next_number : {Own : Type 0} {Tells : Type 0} {old new : Seen Own} (n m : ℕ) → m ≡ n → NextPoint Tells m old new → NextPoint Tells n old new
+next_number {Tells = Tells} {old = old} {new = new} n m same next = subst (λ (k : ℕ). NextPoint Tells k old new) same next
+
 -- ---- A batch
 
 -- behind what was done so far
-last_by : {Own : Type 0} {Tells : Type 0} (old now new : Seen Own) → Tells → InOrder new → NextPoint Tells now new → (now ≡ old) ⊎ (((state now).begun ≡ true) × IsLastQuiescent old now) → IsLastQuiescent old new
+last_by : {Own : Type 0} {number : ℕ} {Tells : Type 0} (old now new : Seen Own) → Tells → InOrder new → NextPoint Tells number now new → (now ≡ old) ⊎ (((state now).begun ≡ true) × IsLastQuiescent old now) → IsLastQuiescent old new
 last_by old now new told order next (inl same) = subst (λ (x : Seen _). IsLastQuiescent x new) same (next.last told)
 last_by old now new told order next (inr some) = last_quiescent-then some.1 (next.none_quiescent told order some.0)
 
@@ -195,7 +191,7 @@ begun_by : {Own : Type 0} {Tells : Type 0} (old now new : Seen Own) → Tells �
 begun_by old now new told order rest goes (inl same) = goes.anew told order refl (subst (λ (x : Seen _). NothingUnderWay (state x)) (sym same) rest)
 begun_by old now new told order rest goes (inr some) = goes.still told refl some.0
 
-pub here_goes : {Own : Type 0} {Tells : Type 0} (old now new : Seen Own) (net : NetState) → Continues Tells now new → BatchPoint Tells old now net → NextPoint Tells now new → GoesBegun Tells None now new → BatchPoint Tells old new net
+pub here_goes : {Own : Type 0} {number : ℕ} {Tells : Type 0} (old now new : Seen Own) (net : NetState) → Continues Tells now new → BatchPoint Tells number old now net → NextPoint Tells number now new → GoesBegun Tells None now new → BatchPoint Tells number old new net
 here_goes old now new net later so_far next goes = record {
   here = λ told order rest none.
       let before = so_far.here told (InOrder-before told later order) rest none in
@@ -203,11 +199,11 @@ here_goes old now new net later so_far next goes = record {
   own = λ told. calls_then (so_far.own told) (next.own told);
 }
 
-pub here_ends : {Own : Type 0} {Tells : Type 0} (old now new : Seen Own) (net : NetState) → Continues Tells now new → BatchPoint Tells old now net → NextPoint Tells now new → net.kept ≡ [] → AtMostThisPoint Tells old new
+pub here_ends : {Own : Type 0} {number : ℕ} {Tells : Type 0} (old now new : Seen Own) (net : NetState) → Continues Tells now new → BatchPoint Tells number old now net → NextPoint Tells number now new → net.kept ≡ [] → AtMostThisPoint Tells number old new
 here_ends old now new net later so_far next none = record {
   last = λ told order rest. last_by old now new told order next (so_far.here told (InOrder-before told later order) rest none);
   own = λ told. calls_then (so_far.own told) (next.own told);
 }
 
-pub here_kept : {Own : Type 0} {Tells : Type 0} (old new : Seen Own) → OnLinks Tells old new → AtMostThisPoint Tells old new
+pub here_kept : {Own : Type 0} {number : ℕ} {Tells : Type 0} (old new : Seen Own) → OnLinks Tells old new → AtMostThisPoint Tells number old new
 here_kept old new links = quietly_here (links_quietly links)

@@ -1,10 +1,11 @@
 -- Laws of what turns, starts and questions for rows keep of a world that tells in order.
-use Rattle.std.specs.Prelude.{◌≡◌, ℕ, Bool, List, [], IsSome, Option, Some, None, Result, Ok, refl, ◌∷◌}
+use Rattle.std.specs.Prelude.{◌≡◌, ◌<◌, ℕ, Bool, List, [], IsSome, Option, Some, None, Result, Ok, refl, ◌∷◌}
 use Rattle.std.proofs.Common.{ap, subst}
 use Rattle.flow_table.specs.View.{TableView}
 use Rattle.of_stats.specs.declared.flow_row.FlowRow.{FlowRow}
 use Rattle.app_frames.specs.declared.frame.Event.{Event}
 use Rattle.outside.specs.Seen.{Seen, Continues}
+use Rattle.outside.specs.Quiescence.{NoneQuiescentSince}
 use Rattle.outside.specs.laws.InOrderLaws.{InOrder-before, messages-then}
 use Rattle.lego_model.specs.declared.fault.TxnFault.{TxnFault}
 use Rattle.net_txn.specs.Net.{NetState}
@@ -21,20 +22,20 @@ use Rattle.app_visor.specs.Talks.{give_act}
 use Rattle.app_visor.specs.Beats.{Talk, Stops}
 use Rattle.app_visor.specs.laws.BeatLaws.{Chain-continues, Stops-continues}
 use Rattle.app_visor.specs.Turns.{Turns}
-use Rattle.app_visor.specs.CallsFor.{CallsFor, OwnSteps, CalmLater}
+use Rattle.app_visor.specs.CallsFor.{OwnSteps, CalmLater}
 use Rattle.app_visor.specs.laws.OwnLaws.{own_calls, own_none_quiescent}
 use Rattle.app_visor.specs.laws.CalmLaws.{calm_links, later_then}
 use Rattle.app_visor.specs.laws.CallOrderLaws.{own_places, own_messages, own_abreast, abreast_joined, turn_abreast, turn_places, turn_messages, stops_abreast, stops_places}
-use Rattle.lego_model.specs.Application.{index}
+use Rattle.run_laws.specs.Cut.{CallsAmong}
 use Rattle.event_dispatch.specs.declared.closing.Closing.{Closing}
 use Rattle.event_dispatch.specs.declared.closing.Closing.TheVariants as closings
 use Rattle.event_dispatch.specs.Serves.{PlaysTurn}
 use Rattle.event_dispatch.specs.Steady.{NoStray, Reads, NoPoint, AtMostThisPoint}
-use Rattle.event_dispatch.specs.laws.SteadyLaws.{abreast_as}
+use Rattle.event_dispatch.specs.laws.SteadyLaws.{abreast_as, calls_among, links_among}
 
 -- ---- The same views
 
-pub places_as : {Own : Type 0} {Tells : Type 0} {old new : Seen Own} (net now_net : NetState) → now_net.views ≡ net.views → NoStray Tells old new now_net → NoStray Tells old new net
+pub places_as : {Own : Type 0} {number : ℕ} {Tells : Type 0} {old new : Seen Own} (net now_net : NetState) → now_net.views ≡ net.views → NoStray Tells number old new now_net → NoStray Tells number old new net
 places_as {old = old} net now_net same all = record { places = λ told order abreast. all.places told order (abreast_as old net now_net same abreast); own = all.own }
 
 pub reads_over : {Own : Type 0} {Tells : Type 0} {old new : Seen Own} (net mid_net at_net now_net : NetState) → mid_net.views ≡ net.views → now_net.views ≡ at_net.views → Reads Tells old new mid_net at_net → Reads Tells old new net now_net
@@ -45,10 +46,10 @@ reads_over {old = old} {new = new} net mid_net at_net now_net before after all =
 
 -- ---- Links were used
 
-pub links_quietly : {Own : Type 0} {Tells : Type 0} {old new : Seen Own} → OnLinks Tells old new → NoPoint Tells old new
-links_quietly links = record { none_quiescent = λ told. (calm_links index (links told)).none_quiescent; own = λ told. (calm_links index (links told)).own }
+pub links_quietly : {Own : Type 0} {number : ℕ} {Tells : Type 0} {old new : Seen Own} → OnLinks Tells old new → NoPoint Tells number old new
+links_quietly {number = number} links = record { none_quiescent = λ told. (calm_links 0 (links told)).none_quiescent; own = λ told. links_among number (links told) }
 
-pub asked_places : {Own : Type 0} {Tells : Type 0} {d : ℕ} {old new : Seen Own} {now_net : NetState} {result : Result (Option (List FlowRow)) TxnFault} (net : NetState) → IsSome (rows_at d net.views) → Asks Tells d old new net now_net result → NoStray Tells old new net
+pub asked_places : {Own : Type 0} {number : ℕ} {Tells : Type 0} {d : ℕ} {old new : Seen Own} {now_net : NetState} {result : Result (Option (List FlowRow)) TxnFault} (net : NetState) → IsSome (rows_at d net.views) → Asks Tells d old new net now_net result → NoStray Tells number old new net
 asked_places {d = d} net there asks = record { places = λ told order abreast. asks.no_strays told order (abreast_joined d abreast there); own = (links_quietly asks.links).own }
 
 asked_abreast : {Own : Type 0} (Tells : Type 0) (d : ℕ) (old new : Seen Own) (net now_net : NetState) (rows : Option (List FlowRow)) → IsSome (rows_at d net.views) → Asks Tells d old new net now_net (Ok rows) → Tells → Abreast old net → Abreast new now_net
@@ -65,17 +66,14 @@ asked_reads {Tells = Tells} {d = d} {old = old} {new = new} {rows = rows} net no
 
 -- ---- Attempts to start
 
-pub started_own : {Own : Type 0} {Tells : Type 0} {old new : Seen Own} (app : ℕ) → app ≡ index → (Tells → OwnSteps app old new) → Tells → OwnSteps index old new
-started_own {old = old} {new = new} app is own told = subst (λ (i : ℕ). OwnSteps i old new) is (own told)
-
-pub started_quietly : {Own : Type 0} {Tells : Type 0} {old new : Seen Own} (app : ℕ) → app ≡ index → (Tells → OwnSteps app old new) → NoPoint Tells old new
-started_quietly {old = old} {new = new} app is own = record {
+pub started_quietly : {Own : Type 0} {number : ℕ} {Tells : Type 0} {old new : Seen Own} (app : ℕ) → app < number → (Tells → OwnSteps app old new) → NoPoint Tells number old new
+started_quietly {old = old} {new = new} app small own = record {
   none_quiescent = λ told. own_none_quiescent (own told);
-  own = λ told. subst (λ (i : ℕ). CallsFor i old new) is (own_calls (own told));
+  own = λ told. calls_among app small (own_calls (own told));
 }
 
-pub started_places : {Own : Type 0} {Tells : Type 0} {old new : Seen Own} (app : ℕ) (net : NetState) → app ≡ index → (Tells → OwnSteps app old new) → NoStray Tells old new net
-started_places app net is own = record { places = λ told order abreast. own_places (own told); own = (started_quietly app is own).own }
+pub started_places : {Own : Type 0} {number : ℕ} {Tells : Type 0} {old new : Seen Own} (app : ℕ) (net : NetState) → app < number → (Tells → OwnSteps app old new) → NoStray Tells number old new net
+started_places app net small own = record { places = λ told order abreast. own_places (own told); own = (started_quietly app small own).own }
 
 pub started_reads : {Own : Type 0} {Tells : Type 0} {old new : Seen Own} (app : ℕ) (net now_net : NetState) → now_net.views ≡ net.views → Continues Tells old new → (Tells → OwnSteps app old new) → Reads Tells old new net now_net
 started_reads {new = new} app net now_net views continues own = record {
@@ -88,17 +86,14 @@ started_reads {new = new} app net now_net views continues own = record {
 pub later_links : {Own : Type 0} {Tells : Type 0} {app : ℕ} {old mid new : Seen Own} → (Tells → CalmLater app old mid) → OnLinks Tells mid new → Tells → CalmLater app old new
 later_links {app = app} later links told = later_then (later told) (calm_links app (links told))
 
-pub later_own : {Own : Type 0} {Tells : Type 0} {old new : Seen Own} (app : ℕ) → app ≡ index → (Tells → CalmLater app old new) → Tells → CallsFor index old new
-later_own {old = old} {new = new} app is later told = subst (λ (i : ℕ). CallsFor i old new) is (later told).own
+pub later_own : {Own : Type 0} {Tells : Type 0} {number : ℕ} {old new : Seen Own} (app : ℕ) → app < number → (Tells → CalmLater app old new) → Tells → CallsAmong number old new
+later_own app small later told = calls_among app small (later told).own
 
-pub later_of : {Own : Type 0} {Tells : Type 0} {old new : Seen Own} (app : ℕ) → app ≡ index → (Tells → CalmLater app old new) → Tells → CalmLater index old new
-later_of {old = old} {new = new} app is later told = subst (λ (i : ℕ). CalmLater i old new) is (later told)
+pub later_quietly : {Own : Type 0} {Tells : Type 0} {old mid new : Seen Own} (app : ℕ) → (Tells → CalmLater app old mid) → (Tells → NoneQuiescentSince mid new) → (Tells → OwnSteps app mid new) → Tells → CalmLater app old new
+later_quietly app later none own told = later_then (later told) (record { none_quiescent = none told; own = own_calls (own told) })
 
-pub later_quietly : {Own : Type 0} {Tells : Type 0} {old mid new : Seen Own} (app : ℕ) → app ≡ index → (Tells → CalmLater app old mid) → NoPoint Tells mid new → Tells → CalmLater index old new
-later_quietly app is later no_point told = later_then (later_of app is later told) (record { none_quiescent = no_point.none_quiescent told; own = no_point.own told })
-
-pub later_here : {Own : Type 0} {Tells : Type 0} {old new : Seen Own} → (Tells → CalmLater index old new) → AtMostThisPoint Tells old new
-later_here later = record { last = λ told order rest. (later told).last; own = λ told. (later told).own }
+pub later_here : {Own : Type 0} {number : ℕ} {Tells : Type 0} {old new : Seen Own} (app : ℕ) → app < number → (Tells → CalmLater app old new) → AtMostThisPoint Tells number old new
+later_here app small later = record { last = λ told order rest. (later told).last; own = λ told. calls_among app small (later told).own }
 
 -- ---- A turn, and its undo
 
@@ -106,9 +101,9 @@ turn_continues : {Own : Type 0} {Tells : Type 0} {accepts : List TableView → B
 turn_continues {Tells = Tells} {app = app} {frame = frame} {old = old} {new = new} {net = net} {now_net = now_net} t = Chain-continues Tells app (Talk (give_act t.given app frame) ∷ t.trace) old new net now_net t.chain
 
 -- it was played, and its packets were released, or not all of them
-pub turn_committed : {Own : Type 0} {Tells : Type 0} {accepts : List TableView → Bool} {app budget start : ℕ} {rest frame unread : List ℕ} {old mid new : Seen Own} {at_net mid_net now_net : NetState} {queue now_queue : List Event} {end : TurnEnd} {result : Result (List (ℕ × ℕ)) TxnFault} (net : NetState) → at_net ≡ net
-    → (Tells → CallsFor index old new) → Turns Tells accepts app budget rest frame old mid at_net mid_net end unread → Commits Tells start mid new mid_net now_net queue now_queue result → NoStray Tells old new net
-turn_committed {Tells = Tells} {old = old} {mid = mid} {new = new} net begun own t commits = subst (λ (n : NetState). NoStray Tells old new n) begun (record {
+pub turn_committed : {Own : Type 0} {number : ℕ} {Tells : Type 0} {accepts : List TableView → Bool} {app budget start : ℕ} {rest frame unread : List ℕ} {old mid new : Seen Own} {at_net mid_net now_net : NetState} {queue now_queue : List Event} {end : TurnEnd} {result : Result (List (ℕ × ℕ)) TxnFault} (net : NetState) → at_net ≡ net
+    → (Tells → CallsAmong number old new) → Turns Tells accepts app budget rest frame old mid at_net mid_net end unread → Commits Tells start mid new mid_net now_net queue now_queue result → NoStray Tells number old new net
+turn_committed {number = number} {Tells = Tells} {old = old} {mid = mid} {new = new} net begun own t commits = subst (λ (n : NetState). NoStray Tells number old new n) begun (record {
   places = λ told order abreast.
       no_strays_then old mid new told (turn_continues t) commits.continues (turn_places t told (InOrder-before told commits.continues order) abreast)
       (commits.no_strays told order (viewed_joined (turn_abreast t told abreast)));
@@ -116,9 +111,9 @@ turn_committed {Tells = Tells} {old = old} {mid = mid} {new = new} net begun own
 })
 
 -- it was played, and an undo followed
-pub turn_undone : {Own : Type 0} {Tells : Type 0} {accepts : List TableView → Bool} {app budget start : ℕ} {rest frame unread : List ℕ} {old mid new : Seen Own} {at_net mid_net now_net : NetState} {end : TurnEnd} {result : Result (Unit {0}) TxnFault} (net : NetState) → at_net ≡ net → (Tells → CallsFor index old new)
-    → Turns Tells accepts app budget rest frame old mid at_net mid_net end unread → Undoes Tells start mid new mid_net now_net result → NoStray Tells old new net
-turn_undone {Tells = Tells} {old = old} {mid = mid} {new = new} net begun own t undone = subst (λ (n : NetState). NoStray Tells old new n) begun (record {
+pub turn_undone : {Own : Type 0} {number : ℕ} {Tells : Type 0} {accepts : List TableView → Bool} {app budget start : ℕ} {rest frame unread : List ℕ} {old mid new : Seen Own} {at_net mid_net now_net : NetState} {end : TurnEnd} {result : Result (Unit {0}) TxnFault} (net : NetState) → at_net ≡ net → (Tells → CallsAmong number old new)
+    → Turns Tells accepts app budget rest frame old mid at_net mid_net end unread → Undoes Tells start mid new mid_net now_net result → NoStray Tells number old new net
+turn_undone {number = number} {Tells = Tells} {old = old} {mid = mid} {new = new} net begun own t undone = subst (λ (n : NetState). NoStray Tells number old new n) begun (record {
   places = λ told order abreast.
       no_strays_then old mid new told (turn_continues t) undone.continues (turn_places t told (InOrder-before told undone.continues order) abreast)
       (undone.no_strays told order (viewed_joined (turn_abreast t told abreast)));
@@ -126,17 +121,17 @@ turn_undone {Tells = Tells} {old = old} {mid = mid} {new = new} net begun own t 
 })
 
 -- it stopped, and an undo followed
-pub stop_undone : {Own : Type 0} {Tells : Type 0} {app start : ℕ} {old mid new : Seen Own} {at_net mid_net now_net : NetState} {fault : TxnFault} {result : Result (Unit {0}) TxnFault} (net : NetState) → at_net ≡ net → (Tells → CallsFor index old new)
-    → Stops Tells app old mid at_net mid_net fault → Undoes Tells start mid new mid_net now_net result → NoStray Tells old new net
-stop_undone {Tells = Tells} {old = old} {mid = mid} {new = new} net begun own s undone = subst (λ (n : NetState). NoStray Tells old new n) begun (record {
+pub stop_undone : {Own : Type 0} {number : ℕ} {Tells : Type 0} {app start : ℕ} {old mid new : Seen Own} {at_net mid_net now_net : NetState} {fault : TxnFault} {result : Result (Unit {0}) TxnFault} (net : NetState) → at_net ≡ net → (Tells → CallsAmong number old new)
+    → Stops Tells app old mid at_net mid_net fault → Undoes Tells start mid new mid_net now_net result → NoStray Tells number old new net
+stop_undone {number = number} {Tells = Tells} {old = old} {mid = mid} {new = new} net begun own s undone = subst (λ (n : NetState). NoStray Tells number old new n) begun (record {
   places = λ told order abreast.
       no_strays_then old mid new told (Stops-continues s) undone.continues (stops_places s told (InOrder-before told undone.continues order) abreast)
       (undone.no_strays told order (viewed_joined (stops_abreast s told abreast)));
   own = own;
 })
 
-pub played_places : {Own : Type 0} {Tells : Type 0} {accepts : List TableView → Bool} {app budget number : ℕ} {event : Event} {old new : Seen Own} {queue now_queue : List Event} {rest unread : List ℕ} (closing : Closing) (net now_net : NetState) → (Tells → CallsFor index old new)
-    → PlaysTurn Tells accepts app budget number event closing old new net now_net queue now_queue rest unread → NoStray Tells old new net
+pub played_places : {Own : Type 0} {number : ℕ} {Tells : Type 0} {accepts : List TableView → Bool} {app budget number : ℕ} {event : Event} {old new : Seen Own} {queue now_queue : List Event} {rest unread : List ℕ} (closing : Closing) (net now_net : NetState) → (Tells → CallsAmong number old new)
+    → PlaysTurn Tells accepts app budget number event closing old new net now_net queue now_queue rest unread → NoStray Tells number old new net
 played_places (closings.Done stop out) net now_net own plays = turn_committed net refl own plays.turns plays.played
 played_places (closings.Failed cause) net now_net own plays = turn_undone net refl own plays.turns plays.played.0
 

@@ -20,8 +20,7 @@ use Rattle.net_txn.specs.Joining.{JoinsOrNot}
 use Rattle.net_txn.specs.JoiningSteps.{JoinedInStep}
 use Rattle.batch_laws.specs.Knowledge.{knowledge_of, joined_by}
 use Rattle.batch_laws.specs.Items.{TakesIn, EntersStill}
-use Rattle.run_laws.specs.Engine.{Engine}
-use Rattle.event_dispatch.specs.declared.run.Run.{Run}
+use Rattle.event_dispatch.specs.declared.core.Core.{Core}
 use Rattle.event_dispatch.specs.Shows.{Adds}
 use Rattle.event_dispatch.specs.Batch.{TakesJoin}
 
@@ -51,7 +50,7 @@ other_enters Tells d (messages.QueueGetConfigRequest payload) other seen net que
 other_enters Tells d (messages.QueueGetConfigReply payload) other seen net queue = record { knowledge = refl; takes = record { seen = refl; kept = refl }; text_is = refl }
 other_enters Tells d (messages.FeaturesReply features) other seen net queue = absurd (other features refl)
 
-pub other_taken : {Own Tells : Type 0} (d : ℕ) (m : Message) (seen : Seen Own) (run : Run) → ((features : Features) → m ≡ messages.FeaturesReply features → ⊥) → TakesJoin Tells d m seen seen run run
+pub other_taken : {Own Tells : Type 0} (d : ℕ) (m : Message) (seen : Seen Own) (run : Core) → ((features : Features) → m ≡ messages.FeaturesReply features → ⊥) → TakesJoin Tells d m seen seen run run
 other_taken {Tells = Tells} d m seen run other = record {
   text = [];
   enters = record { log = refl; room = refl; held = refl; left = refl; went = inl (other_enters Tells d m other seen run.net run.queue) };
@@ -76,7 +75,7 @@ known_by d features net now_net queue now_queue moment views ports waits =
     ∙ ap (λ (t : ℕ). record { views = (joined_by d (messages.FeaturesReply features) (knowledge_of net queue)).views; ports = (joined_by d (messages.FeaturesReply features) (knowledge_of net queue)).ports; moment = t; queue = now_queue }) moment
     ∙ ap (λ (q : List Event). record { views = (joined_by d (messages.FeaturesReply features) (knowledge_of net queue)).views; ports = (joined_by d (messages.FeaturesReply features) (knowledge_of net queue)).ports; moment = net.moment; queue = q }) waits
 
-pub joins_taken : {Own Tells : Type 0} (d : ℕ) (m : Message) (features : Features) (joined : Bool) (old new : Seen Own) (run : Run) (mid_net : NetState) (now_run : Run) → m ≡ messages.FeaturesReply features → joined ≡ true → JoinsOrNot Tells d features.ports joined old new run.net mid_net
+pub joins_taken : {Own Tells : Type 0} (d : ℕ) (m : Message) (features : Features) (joined : Bool) (old new : Seen Own) (run : Core) (mid_net : NetState) (now_run : Core) → m ≡ messages.FeaturesReply features → joined ≡ true → JoinsOrNot Tells d features.ports joined old new run.net mid_net
     → (Tells → Conforming new → waits_of d (state old) ≡ [] → JoinedInStep d joined old new run.net mid_net) → StaysSo run.net mid_net → now_run.net ≡ mid_net → now_run.queue ≡ run.queue ++ record { kind = kinds.Join; dpid = d; body = message_bytes 0 m } ∷ [] → now_run.lines.items ≡ run.lines.items
     → TakesJoin Tells d m old new run now_run
 joins_taken d m features false old new run mid_net now_run is not joins in_step stays net waits lines = absurd (true≢false (sym not))
@@ -100,11 +99,11 @@ joins_taken {Tells = Tells} d m features true old new run mid_net now_run is sam
 
 -- ---- It is lost
 
-pub lost_taken : {Own Tells : Type 0} (d : ℕ) (m : Message) (ports : List PortDesc) (joined : Bool) (old new : Seen Own) (run mid now_run : Run) → joined ≡ false → JoinsOrNot Tells d ports joined old new run.net mid.net → mid.queue ≡ run.queue → mid.lines.items ≡ run.lines.items → Adds (lost_line d) mid now_run → TakesJoin Tells d m old new run now_run
+pub lost_taken : {Own Tells : Type 0} (d : ℕ) (m : Message) (ports : List PortDesc) (joined : Bool) (old new : Seen Own) (run mid now_run : Core) → joined ≡ false → JoinsOrNot Tells d ports joined old new run.net mid.net → mid.queue ≡ run.queue → mid.lines.items ≡ run.lines.items → Adds (lost_line d) mid now_run → TakesJoin Tells d m old new run now_run
 lost_taken d m ports true old new run mid now_run not gone waits lines adds = absurd (true≢false not)
 lost_taken {Tells = Tells} d m ports false old new run mid now_run same gone waits lines adds =
-    let net : now_run.net ≡ record run.net { xid = mid.net.xid; kept = filter (λ m. not (m.0 == d)) run.net.kept } = ap (λ (e : Engine). e.net) adds.engine ∙ gone.net_is in
-    let queue : now_run.queue ≡ run.queue = ap (λ (e : Engine). e.queue) adds.engine ∙ waits in
+    let net : now_run.net ≡ record run.net { xid = mid.net.xid; kept = filter (λ m. not (m.0 == d)) run.net.kept } = adds.stays.net ∙ gone.net_is in
+    let queue : now_run.queue ≡ run.queue = adds.stays.queue ∙ waits in
     record {
       text = lost_line d;
       enters = record {

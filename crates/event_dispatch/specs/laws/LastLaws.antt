@@ -12,7 +12,7 @@ use Rattle.flow_table.specs.View.{TableView}
 use Rattle.flow_table.specs.Switch.{SwitchState}
 use Rattle.undo_laws.specs.Owned.{owned_switch}
 use Rattle.lego_model.specs.Answers.{rows_of_table, rows_of_view}
-use Rattle.lego_model.specs.RunReport.{lost_line, flow_line, app_line, end_line, switch_text}
+use Rattle.lego_model.specs.RunReport.{lost_line, flow_line, end_line, switch_text}
 use Rattle.net_txn.specs.declared.ports.KnownPorts.{KnownPorts}
 use Rattle.net_txn.specs.Losing.{is_among, lost_net, lose_all}
 use Rattle.net_txn.specs.Net.{NetState}
@@ -32,15 +32,17 @@ use Rattle.switch_laws.specs.Sound.{Sound}
 use Rattle.switch_laws.specs.laws.SoundLaws.{rows-are}
 use Rattle.switch_laws.specs.laws.StandLaws.{all-stand}
 use Rattle.switch_laws.specs.laws.ClockLaws.{switch-in_time, moment-within}
-use Rattle.run_laws.specs.Engine.{Engine}
-use Rattle.run_laws.specs.LastReport.{SameKeys, flow_lines, table_lines, shown_text, switch_left, place_lines, engine_end, OnlyAsked}
+use Rattle.run_laws.specs.LastReport.{SameKeys, flow_lines, table_lines, shown_text, switch_left, place_lines, app_lines, engine_end, OnlyAsked}
 use Rattle.run_laws.specs.laws.LastReportLaws.{keys-same, table-shown, joined-with, out-with, places-shown, asked-nothing, rows-asked, lost-asked, asked-then}
 use Rattle.run_laws.specs.Endings.{Leaves}
 use Rattle.run_laws.specs.laws.LeaveLaws.{asked-leaves}
-use Rattle.event_dispatch.specs.declared.run.Run.{Run}
+use Rattle.event_dispatch.specs.declared.core.Core.{Core}
 use Rattle.event_dispatch.specs.Runs.{WaitsAtEnd}
-use Rattle.event_dispatch.specs.Shows.{engine_of, name_of, Adds}
-use Rattle.event_dispatch.specs.ReportEnd.{FindsFlags, FlowsSoFar, TableSaid, AsksShown, AsksNone, AsksAs, Says, SaysOf, TableShown, TablesShown, LastShown, NextRow}
+use Rattle.event_dispatch.specs.declared.run.Managed.{Managed}
+use Rattle.event_dispatch.specs.declared.run.Run.{Run}
+use Rattle.checkpoint_store.specs.Slots.{Slot}
+use Rattle.event_dispatch.specs.Shows.{application_of, engine_with, Stays, Adds}
+use Rattle.event_dispatch.specs.ReportEnd.{FindsFlags, FlowsSoFar, TableSaid, AsksShown, AsksNone, AsksAs, Says, SaysOf, TableShown, TablesShown, SameBesides, LastSays, LastShown, NextRow}
 
 -- ---- Text that is noted
 
@@ -48,12 +50,26 @@ nothing_more : (xs : List ℕ) → xs ++ [] ≡ xs
 nothing_more [] = refl
 nothing_more (x ∷ xs) = ap (λ (ys : List ℕ). x ∷ ys) (nothing_more xs)
 
-pub adds_then : {first rest : List ℕ} {a b c : Run} → Adds first a b → Adds rest b c → Adds (first ++ rest) a c
+pub stays_then : {a b c : Core} → Stays a b → Stays b c → Stays a c
+stays_then one two = record { net = two.net ∙ one.net; queue = two.queue ∙ one.queue; events = two.events ∙ one.events; store = two.store ∙ one.store }
+
+besides_then : {a b c : Core} → SameBesides a b → SameBesides b c → SameBesides a c
+besides_then one two = record { queue = two.queue ∙ one.queue; events = two.events ∙ one.events; store = two.store ∙ one.store }
+
+besides_of : {a b : Core} → Stays a b → SameBesides a b
+besides_of stays = record { queue = stays.queue; events = stays.events; store = stays.store }
+
+besides_none : (c : Core) → SameBesides c c
+besides_none c = record { queue = refl; events = refl; store = refl }
+
+pub adds_then : {first rest : List ℕ} {a b c : Core} → Adds first a b → Adds rest b c → Adds (first ++ rest) a c
 adds_then {first = first} {rest = rest} {a = a} one two = record {
-  engine = two.engine ∙ one.engine;
-  index = two.index ∙ one.index;
+  stays = stays_then one.stays two.stays;
   lines = two.lines ∙ ap (λ (xs : List ℕ). xs ++ rest) one.lines ∙ append_assoc a.lines.items first rest;
 }
+
+pub adds_none : (c : Core) → Adds [] c c
+adds_none c = record { stays = record { net = refl; queue = refl; events = refl; store = refl }; lines = sym (nothing_more c.lines.items) }
 
 -- ---- The rows of a switch
 
@@ -110,7 +126,7 @@ first_of p q h = ap (λ (r : ℕ × ℕ). r.0) h
 second_of : (p q : ℕ × ℕ) → p ≡ q → p.1 ≡ q.1
 second_of p q h = ap (λ (r : ℕ × ℕ). r.1) h
 
-pub flows_next : (rows : List FlowRow) (vs : List ViewRow) (place from : ℕ) (row : FlowRow) (more : List FlowRow) (found : ℕ × ℕ) (a b c : Run) → SameKeys rows vs → drop place rows ≡ row ∷ more → FlowsSoFar rows vs place from a b
+pub flows_next : (rows : List FlowRow) (vs : List ViewRow) (place from : ℕ) (row : FlowRow) (more : List FlowRow) (found : ℕ × ℕ) (a b c : Core) → SameKeys rows vs → drop place rows ≡ row ∷ more → FlowsSoFar rows vs place from a b
     → FindsFlags from row.key vs found → Adds (flow_line row found.0) b c → FlowsSoFar rows vs (place + 1) found.1 a c
 flows_next rows vs place from row more found a b c same is so finds adds =
     let there = next_row row (drop place vs) more (subst (λ (rs : List FlowRow). SameKeys rs (drop place vs)) is (same_drop place rows vs same)) in
@@ -129,28 +145,27 @@ pub net_stays : (net now_net : NetState) (x : ℕ) → now_net ≡ record net { 
 net_stays net now_net x h = h ∙ ap (λ (y : ℕ). record net { xid = y; kept = now_net.kept }) (sym (ap (λ (n : NetState). n.xid) h))
 
 -- rows were asked for
-pub asks_as : {Own : Type 0} (Tells : Type 0) (d : ℕ) (old new : Seen Own) (r : Run) (net : NetState) (rows : Option (List FlowRow)) → Asks Tells d old new r.net net (Ok rows) → AskSteps Tells d old new r.net.kept net.kept (Ok rows) → AsksAs Tells d old new r (record r { net = net }) rows
+pub asks_as : {Own : Type 0} (Tells : Type 0) (d : ℕ) (old new : Seen Own) (r : Core) (net : NetState) (rows : Option (List FlowRow)) → Asks Tells d old new r.net net (Ok rows) → AskSteps Tells d old new r.net.kept net.kept (Ok rows) → AsksAs Tells d old new r (record r { net = net }) rows
 asks_as Tells d old new r net (Some rows) asks steps = record {
   in_step = steps;
   asked = λ told. rows-asked Tells d r.net.xid old new r.net.kept net.kept rows told asks.asks.answer;
-  engine = ap (λ (n : NetState). record (engine_of r) { net = n }) (net_stays r.net net _ asks.asks.stays);
-  index = refl;
+  net = net_stays r.net net _ asks.asks.stays;
+  same = besides_none r;
   lines = refl;
 }
 asks_as Tells d old new r net None asks steps = record {
   lost = asks.asks;
   asked = λ told keeps joined. lost-asked Tells d old new r.net net told keeps joined asks.continues asks.links asks.no_strays asks.asks;
-  engine = refl;
-  index = refl;
+  same = besides_none r;
   lines = refl;
 }
 
-pub asks_wait : {Own : Type 0} {Tells : Type 0} {d : ℕ} {old new : Seen Own} (r : Run) (net : NetState) (rows : Option (List FlowRow)) → Asks Tells d old new r.net net (Ok rows) → WaitsAtEnd r (record r { net = net })
-asks_wait r net (Some rows) asks = record { room = ap (λ (n : NetState). n.room) asks.asks.stays; events = refl; done = refl; failed = refl; store = refl }
-asks_wait r net None asks = record { room = ap (λ (n : NetState). n.room) asks.asks.net_is; events = refl; done = refl; failed = refl; store = refl }
+pub asks_wait : {Own : Type 0} {Tells : Type 0} {d : ℕ} {old new : Seen Own} (r : Core) (net : NetState) (rows : Option (List FlowRow)) → Asks Tells d old new r.net net (Ok rows) → WaitsAtEnd r (record r { net = net })
+asks_wait r net (Some rows) asks = record { room = ap (λ (n : NetState). n.room) asks.asks.stays; events = refl; store = refl }
+asks_wait r net None asks = record { room = ap (λ (n : NetState). n.room) asks.asks.net_is; events = refl; store = refl }
 
-pub views_kept : {text : List ℕ} {r now_r : Run} (d : ℕ) (vs : List ViewRow) → Adds text r now_r → rows_at d r.net.views ≡ Some vs → rows_at d now_r.net.views ≡ Some vs
-views_kept d vs adds is = ap (λ (e : Engine). rows_at d e.net.views) adds.engine ∙ is
+pub views_kept : {text : List ℕ} {r now_r : Core} (d : ℕ) (vs : List ViewRow) → Adds text r now_r → rows_at d r.net.views ≡ Some vs → rows_at d now_r.net.views ≡ Some vs
+views_kept d vs adds is = ap (λ (n : NetState). rows_at d n.views) adds.stays.net ∙ is
 
 -- ---- A switch in a world that keeps its word
 
@@ -161,18 +176,15 @@ some_is (Some vs) h = (vs, refl)
 shown_here : (views : List TableView) (s : State) (d : ℕ) (x : SwitchState) → switch_of d s ≡ Some x → shown_text [] views s d ≡ switch_text (Some (owned_switch (flags_at d views) x))
 shown_here views s d x is = rw is refl
 
-views_of : (e f : Engine) → e ≡ f → e.net.views ≡ f.net.views
-views_of e f h = ap (λ (g : Engine). g.net.views) h
-
-in_step_says : {Own : Type 0} (d : ℕ) (s : SwitchState) (old new : Seen Own) (r mid now_r : Run) (rows : List FlowRow) (text : List ℕ) → ((e : ℕ) → waits_of e (state old) ≡ []) → switch_of d (state old) ≡ Some s
-    → engine_of mid ≡ record (engine_of r) { net = record r.net { xid = mid.net.xid; kept = mid.net.kept } } → mid.app.state.index ≡ r.app.state.index → mid.lines.items ≡ r.lines.items
+in_step_says : {Own : Type 0} (d : ℕ) (s : SwitchState) (old new : Seen Own) (r mid now_r : Core) (rows : List FlowRow) (text : List ℕ) → ((e : ℕ) → waits_of e (state old) ≡ []) → switch_of d (state old) ≡ Some s
+    → mid.net ≡ record r.net { xid = mid.net.xid; kept = mid.net.kept } → SameBesides r mid → mid.lines.items ≡ r.lines.items
     → RowsInStep d s old new r.net.kept mid.net.kept rows → OnlyAsked [] old new → Adds text mid now_r → Says [] text old new r now_r
-in_step_says d s old new r mid now_r rows text none is engine index lines step asked adds =
-    let xid : mid.net.xid ≡ now_r.net.xid = sym (ap (λ (e : Engine). e.net.xid) adds.engine) in
+in_step_says d s old new r mid now_r rows text none is net same lines step asked adds =
+    let xid : mid.net.xid ≡ now_r.net.xid = sym (ap (λ (n : NetState). n.xid) adds.stays.net) in
     record {
       lines = adds.lines ∙ ap (λ (xs : List ℕ). xs ++ text) lines;
-      engine = adds.engine ∙ engine ∙ ap₂ (λ (x : ℕ) (k : List (ℕ × List ℕ)). record (engine_of r) { net = record r.net { xid = x; kept = k } }) xid step.kept_is;
-      index = adds.index ∙ index;
+      net = adds.stays.net ∙ net ∙ ap₂ (λ (x : ℕ) (k : List (ℕ × List ℕ)). record r.net { xid = x; kept = k }) xid step.kept_is;
+      same = besides_then same (besides_of adds.stays);
       switches = λ e. elim (cases_eq e d) [
         | inl same ↦ ap (λ (n : ℕ). switch_of n (state new)) same ∙ step.stays ∙ sym is ∙ ap (λ (n : ℕ). switch_of n (state old)) (sym same)
         | inr other ↦ step.others e other
@@ -184,7 +196,7 @@ in_step_says d s old new r mid now_r rows text none is engine index lines step a
       asked = asked;
     }
 
-told_table : {Own : Type 0} (Tells : Type 0) (d : ℕ) (vs : List ViewRow) (old new : Seen Own) (r mid now_r : Run) (rows : List FlowRow) → rows_at d r.net.views ≡ Some vs → Continues Tells old new → AsksShown Tells d old new r mid rows → TableSaid d rows mid now_r
+told_table : {Own : Type 0} (Tells : Type 0) (d : ℕ) (vs : List ViewRow) (old new : Seen Own) (r mid now_r : Core) (rows : List FlowRow) → rows_at d r.net.views ≡ Some vs → Continues Tells old new → AsksShown Tells d old new r mid rows → TableSaid d rows mid now_r
     → Tells → Conforming new → Ready old r.net → Sound (state old) → Says [] (shown_text [] r.net.views (state old) d) old new r now_r
 told_table Tells d vs old new r mid now_r rows is continues asks said told keeps ready sound =
     let j = joined-with d r.net.views (state old) vs (ready.agrees d) is in
@@ -194,11 +206,11 @@ told_table Tells d vs old new r mid now_r rows is continues asks said told keeps
     let step = asks.in_step j.switch told keeps j.stands (ready.waits d) in
     let own : rows ≡ own_rows j.switch = step.same_rows (rows-are j.switch (sound.entries d j.switch j.stands) small) in
     let same : SameKeys rows vs = subst (λ (rs : List FlowRow). SameKeys rs vs) (sym own) (keys-same j.switch.moment j.switch.table.entries vs j.rows) in
-    let there : rows_at d mid.net.views ≡ Some vs = ap (rows_at d) (views_of (engine_of mid) _ asks.engine) ∙ is in
+    let there : rows_at d mid.net.views ≡ Some vs = ap (λ (n : NetState). rows_at d n.views) asks.net ∙ is in
     let text : table_lines d rows vs ≡ shown_text [] r.net.views (state old) d =
     ap (λ (rs : List FlowRow). table_lines d rs vs) own ∙ table-shown d r.net.views vs j.switch is j.rows ((all-stand old).table d j.switch j.stands) time.number ∙ sym (shown_here r.net.views (state old) d j.switch j.stands)
     in
-    in_step_says d j.switch old new r mid now_r rows (shown_text [] r.net.views (state old) d) ready.waits j.stands asks.engine asks.index asks.lines step (asks.asked told) (subst (λ (t : List ℕ). Adds t mid now_r) text (said.adds vs there same))
+    in_step_says d j.switch old new r mid now_r rows (shown_text [] r.net.views (state old) d) ready.waits j.stands asks.net asks.same asks.lines step (asks.asked told) (subst (λ (t : List ℕ). Adds t mid now_r) text (said.adds vs there same))
 
 -- where it is lost that is told, and it is out
 said_lost : (d : ℕ) (lost : List ℕ) (views : List TableView) (s : State) → is_among d lost ≡ true → shown_text lost views s d ≡ lost_line d
@@ -217,11 +229,11 @@ or_none : (a : Bool) → a ≡ false → (a || false) ≡ false
 or_none a is = rw is refl
 
 -- where none is lost
-says-of : {Own : Type 0} (ds : List ℕ) (text : List ℕ → List ℕ) (old new : Seen Own) (r now_r : Run) → Says [] (text []) old new r now_r → SaysOf ds text old new r now_r
+says-of : {Own : Type 0} (ds : List ℕ) (text : List ℕ → List ℕ) (old new : Seen Own) (r now_r : Core) → Says [] (text []) old new r now_r → SaysOf ds text old new r now_r
 says-of ds text old new r now_r says = record { lost = []; among = λ e none. refl; says = says }
 
 -- a switch that has a view
-pub table_told : {Own : Type 0} {Tells : Type 0} {d : ℕ} {old new : Seen Own} {r mid now_r : Run} {rows : List FlowRow} → IsSome (rows_at d r.net.views) → Continues Tells old new → AsksShown Tells d old new r mid rows → TableSaid d rows mid now_r
+pub table_told : {Own : Type 0} {Tells : Type 0} {d : ℕ} {old new : Seen Own} {r mid now_r : Core} {rows : List FlowRow} → IsSome (rows_at d r.net.views) → Continues Tells old new → AsksShown Tells d old new r mid rows → TableSaid d rows mid now_r
     → TableShown Tells d old new r now_r
 table_told {Tells = Tells} {d = d} {old = old} {new = new} {r = r} {mid = mid} {now_r = now_r} {rows = rows} joined continues asks said =
     let vs = some_is (rows_at d r.net.views) joined in
@@ -231,20 +243,19 @@ table_told {Tells = Tells} {d = d} {old = old} {new = new} {r = r} {mid = mid} {
     }
 
 -- a switch that is lost meanwhile
-lost_says : {Own : Type 0} (Tells : Type 0) (d : ℕ) (old new : Seen Own) (r mid now_r : Run) → IsSome (rows_at d r.net.views) → AsksNone Tells d old new r mid → Adds (lost_line d) mid now_r → Tells → Conforming new → Ready old r.net
+lost_says : {Own : Type 0} (Tells : Type 0) (d : ℕ) (old new : Seen Own) (r mid now_r : Core) → IsSome (rows_at d r.net.views) → AsksNone Tells d old new r mid → Adds (lost_line d) mid now_r → Tells → Conforming new → Ready old r.net
     → Says (d ∷ []) (shown_text (d ∷ []) r.net.views (state old) d) old new r now_r
 lost_says Tells d old new r mid now_r there asks adds told keeps ready =
     let vs = some_is (rows_at d r.net.views) there in
     let viewed : is_viewed d r.net.views ≡ true = viewed_rows d r.net.views ∙ ap (λ (o : Option (List ViewRow)). is_some o) vs.1 in
     let joined = ready-joined old r.net ready d viewed in
     let out = asks.lost.is_lost.out told joined in
-    let xid : mid.net.xid ≡ now_r.net.xid = sym (ap (λ (e : Engine). e.net.xid) adds.engine) in
+    let xid : mid.net.xid ≡ now_r.net.xid = sym (ap (λ (n : NetState). n.xid) adds.stays.net) in
     let here : is_among d (d ∷ []) ≡ true = rw (eq-eqb d d refl) refl in
     record {
       lines = adds.lines ∙ ap₂ (λ (xs ys : List ℕ). xs ++ ys) asks.lines (sym (said_lost d (d ∷ []) r.net.views (state old) here));
-      engine = adds.engine ∙ asks.engine ∙ ap (λ (n : NetState). record (engine_of r) { net = n }) asks.lost.net_is
-          ∙ ap (λ (x : ℕ). record (engine_of r) { net = record (lost_net d r.net) { xid = x } }) xid;
-      index = adds.index ∙ asks.index;
+      net = adds.stays.net ∙ asks.lost.net_is ∙ ap (λ (x : ℕ). record (lost_net d r.net) { xid = x }) xid;
+      same = besides_then asks.same (besides_of adds.stays);
       switches = λ e. elim (cases_eq e d) [
         | inl same ↦ subst (λ (n : ℕ). switch_of n (state new) ≡ switch_left (d ∷ []) (state old) n) (sym same) (out.out ∙ sym (left_out (d ∷ []) (state old) d here))
         | inr other ↦ out.others e other ∙ sym (left_in (d ∷ []) (state old) e (only_first d e other))
@@ -256,28 +267,28 @@ lost_says Tells d old new r mid now_r there asks adds told keeps ready =
       asked = asks.asked told keeps joined;
     }
 
-pub table_lost : {Own : Type 0} {Tells : Type 0} {d : ℕ} {old new : Seen Own} {r mid now_r : Run} → IsSome (rows_at d r.net.views) → AsksNone Tells d old new r mid → Adds (lost_line d) mid now_r → TableShown Tells d old new r now_r
+pub table_lost : {Own : Type 0} {Tells : Type 0} {d : ℕ} {old new : Seen Own} {r mid now_r : Core} → IsSome (rows_at d r.net.views) → AsksNone Tells d old new r mid → Adds (lost_line d) mid now_r → TableShown Tells d old new r now_r
 table_lost {Tells = Tells} {d = d} {old = old} {new = new} {r = r} {mid = mid} {now_r = now_r} there asks adds = record {
   shown = λ told keeps ready sound. record { lost = d ∷ []; among = λ e none. none; says = lost_says Tells d old new r mid now_r there asks adds told keeps ready };
 }
 
 -- one that has none
-pub table_out : {Own : Type 0} (Tells : Type 0) (d : ℕ) (seen : Seen Own) (r : Run) → rows_at d r.net.views ≡ None → TableShown Tells d seen seen r r
+pub table_out : {Own : Type 0} (Tells : Type 0) (d : ℕ) (seen : Seen Own) (r : Core) → rows_at d r.net.views ≡ None → TableShown Tells d seen seen r r
 table_out Tells d seen r out = record {
   shown = λ told keeps ready sound.
       let none : shown_text [] r.net.views (state seen) d ≡ [] = rw (out-with d r.net.views (state seen) (ready.agrees d) out) refl in
       says-of (d ∷ []) (λ lost. shown_text lost r.net.views (state seen) d) seen seen r r
-      (record { lines = sym (nothing_more r.lines.items) ∙ ap (λ (text : List ℕ). r.lines.items ++ text) (sym none); engine = refl; index = refl; switches = λ e. refl; waits = ready.waits; asked = asked-nothing seen });
+      (record { lines = sym (nothing_more r.lines.items) ∙ ap (λ (text : List ℕ). r.lines.items ++ text) (sym none); net = refl; same = besides_none r; switches = λ e. refl; waits = ready.waits; asked = asked-nothing seen });
 }
 
 -- ---- Switches, one after the other
 
 -- of none at all
-pub tables_none : {Own : Type 0} (Tells : Type 0) (seen : Seen Own) (r : Run) → TablesShown Tells [] seen seen r r
+pub tables_none : {Own : Type 0} (Tells : Type 0) (seen : Seen Own) (r : Core) → TablesShown Tells [] seen seen r r
 tables_none Tells seen r = record {
   shown = λ apart told keeps ready sound.
       says-of [] (λ lost. flat_map (shown_text lost r.net.views (state seen)) []) seen seen r r
-      (record { lines = sym (nothing_more r.lines.items); engine = refl; index = refl; switches = λ e. refl; waits = ready.waits; asked = asked-nothing seen });
+      (record { lines = sym (nothing_more r.lines.items); net = refl; same = besides_none r; switches = λ e. refl; waits = ready.waits; asked = asked-nothing seen });
 }
 
 left_twice : (a b : Bool) (o : Option SwitchState) → (if b then None else (if a then None else o)) ≡ (if a || b then None else o)
@@ -292,43 +303,43 @@ left_then lost more old mid d is =
     ∙ left_twice (is_among d lost) (is_among d more) (switch_of d (state old))
     ∙ ap (λ (b : Bool). if b then None else switch_of d (state old)) (sym (among-append d lost more))
 
-says_then : {Own : Type 0} (lost more first rest : List ℕ) (old mid new : Seen Own) (a b c : Run) → Says lost first old mid a b → Says more rest mid new b c → Says (lost ++ more) (first ++ rest) old new a c
+says_then : {Own : Type 0} (lost more first rest : List ℕ) (old mid new : Seen Own) (a b c : Core) → Says lost first old mid a b → Says more rest mid new b c → Says (lost ++ more) (first ++ rest) old new a c
 says_then lost more first rest old mid new a b c one two = record {
   lines = two.lines ∙ ap (λ (xs : List ℕ). xs ++ rest) one.lines ∙ append_assoc a.lines.items first rest;
-  engine = two.engine ∙ ap (λ (e : Engine). record e { net = record (lose_all more e.net) { xid = c.net.xid } }) one.engine
-      ∙ ap (λ (n : NetState). record (engine_of a) { net = record n { xid = c.net.xid } }) (lose_all-xid more (lose_all lost a.net) b.net.xid)
-      ∙ ap (λ (n : NetState). record (engine_of a) { net = record n { xid = c.net.xid } }) (sym (lose_all-append lost more a.net));
-  index = two.index ∙ one.index;
+  net = two.net ∙ ap (λ (n : NetState). record (lose_all more n) { xid = c.net.xid }) one.net
+      ∙ ap (λ (n : NetState). record n { xid = c.net.xid }) (lose_all-xid more (lose_all lost a.net) b.net.xid)
+      ∙ ap (λ (n : NetState). record n { xid = c.net.xid }) (sym (lose_all-append lost more a.net));
+  same = besides_then one.same two.same;
   switches = λ d. two.switches d ∙ left_then lost more old mid d (one.switches d);
   waits = two.waits;
   asked = asked-then lost more old mid new one.asked two.asked;
 }
 
 -- and what it leaves
-pub says_leaves : {Own : Type 0} {lost text : List ℕ} {old new : Seen Own} {r now_r : Run} → Says lost text old new r now_r → Leaves lost old new
-says_leaves {lost = lost} {old = old} {new = new} says = asked-leaves lost old new says.asked says.switches
+pub says_leaves : {Own : Type 0} {lost text : List ℕ} {number : ℕ} {old new : Seen Own} {r now_r : Run} → LastSays lost text old new r now_r → Leaves number lost old new
+says_leaves {lost = lost} {number = number} {old = old} {new = new} says = asked-leaves number lost old new says.asked says.switches
 
 flat_map-last : (f : ℕ → List ℕ) (xs : List ℕ) (x : ℕ) → flat_map f (xs ++ x ∷ []) ≡ flat_map f xs ++ f x
 flat_map-last f [] x = nothing_more (f x)
 flat_map-last f (y ∷ ys) x = ap (λ (text : List ℕ). f y ++ text) (flat_map-last f ys x) ∙ sym (append_assoc (f y) (flat_map f ys) (f x))
 
 -- what is known then is known of the switches that were not lost
-says_views : {Own : Type 0} {lost text : List ℕ} {old mid : Seen Own} {a b : Run} (d : ℕ) → is_among d lost ≡ false → Says lost text old mid a b → rows_at d b.net.views ≡ rows_at d a.net.views
-says_views {lost = lost} {a = a} {b = b} d here says = ap (rows_at d) (views_of (engine_of b) _ says.engine) ∙ lose_all-rows lost d a.net here
+says_views : {Own : Type 0} {lost text : List ℕ} {old mid : Seen Own} {a b : Core} (d : ℕ) → is_among d lost ≡ false → Says lost text old mid a b → rows_at d b.net.views ≡ rows_at d a.net.views
+says_views {lost = lost} {a = a} {b = b} d here says = ap (λ (n : NetState). rows_at d n.views) says.net ∙ lose_all-rows lost d a.net here
 
-says_shown : {Own : Type 0} {lost text : List ℕ} {old mid : Seen Own} {a b : Run} (d : ℕ) → is_among d lost ≡ false → Says lost text old mid a b → shown_switch b.net.views (state mid) d ≡ shown_switch a.net.views (state old) d
+says_shown : {Own : Type 0} {lost text : List ℕ} {old mid : Seen Own} {a b : Core} (d : ℕ) → is_among d lost ≡ false → Says lost text old mid a b → shown_switch b.net.views (state mid) d ≡ shown_switch a.net.views (state old) d
 says_shown {lost = lost} {old = old} {mid = mid} {a = a} {b = b} d here says =
     ap₂ (λ (o : Option (List ViewRow)) (x : Option SwitchState). option_map (owned_switch (flags_in (rows_or_none o))) x) (says_views d here says) (says.switches d ∙ left_in lost (state old) d here)
 
 -- after what was said all is as ready and as sound
-pub says_ready : {Own : Type 0} {lost text : List ℕ} {old mid : Seen Own} {a b : Run} → Says lost text old mid a b → Ready old a.net → Ready mid b.net
+pub says_ready : {Own : Type 0} {lost text : List ℕ} {old mid : Seen Own} {a b : Core} → Says lost text old mid a b → Ready old a.net → Ready mid b.net
 says_ready {lost = lost} {old = old} {mid = mid} {a = a} {b = b} says ready =
-    let net : (f : NetState → List KnownPorts) → f b.net ≡ f (record (lose_all lost a.net) { xid = b.net.xid }) = λ f. ap (λ (e : Engine). f e.net) says.engine in
+    let net : (f : NetState → List KnownPorts) → f b.net ≡ f (record (lose_all lost a.net) { xid = b.net.xid }) = λ f. ap f says.net in
     record {
       waits = says.waits;
       agrees = λ d. elim (cases_Bool (is_among d lost)) [
         | inl gone ↦
-            ap (option_map rows_of_view) (ap (rows_at d) (views_of (engine_of b) _ says.engine) ∙ lose_all-rows_gone lost d a.net gone)
+            ap (option_map rows_of_view) (ap (λ (n : NetState). rows_at d n.views) says.net ∙ lose_all-rows_gone lost d a.net gone)
             ∙ sym (ap (option_map (λ x. rows_of_table x.table.entries)) (says.switches d ∙ left_out lost (state old) d gone))
         | inr here ↦
             ap (option_map rows_of_view) (says_views d here says) ∙ ready.agrees d ∙ sym (ap (option_map (λ x. rows_of_table x.table.entries)) (says.switches d ∙ left_in lost (state old) d here))
@@ -339,7 +350,7 @@ says_ready {lost = lost} {old = old} {mid = mid} {a = a} {b = b} says ready =
       ];
     }
 
-pub says_sound : {Own : Type 0} {lost text : List ℕ} {old mid : Seen Own} {a b : Run} → Says lost text old mid a b → Sound (state old) → Sound (state mid)
+pub says_sound : {Own : Type 0} {lost text : List ℕ} {old mid : Seen Own} {a b : Core} → Says lost text old mid a b → Sound (state old) → Sound (state mid)
 says_sound {lost = lost} {old = old} says sound = record {
   entries = λ d x is. elim (cases_Bool (is_among d lost)) [
     | inl gone ↦ absurd (no_switch x (sym (says.switches d ∙ left_out lost (state old) d gone) ∙ is))
@@ -372,7 +383,7 @@ distinct-front (e ∷ es) d apart =
 not_last : (ds : List ℕ) (d e : ℕ) → is_among d ds ≡ false → is_among e ds ≡ true → e ≢ d
 not_last ds d e none is same = true≢false (sym is ∙ ap (λ (n : ℕ). is_among n ds) same ∙ none)
 
-module _ {Own : Type 0} (ds : List ℕ) (d : ℕ) (old mid new : Seen Own) (a b c : Run) (none : is_among d ds ≡ false)
+module _ {Own : Type 0} (ds : List ℕ) (d : ℕ) (old mid new : Seen Own) (a b c : Core) (none : is_among d ds ≡ false)
     (one : SaysOf ds (λ lost. flat_map (shown_text lost a.net.views (state old)) ds) old mid a b) (two : SaysOf (d ∷ []) (λ lost. shown_text lost b.net.views (state mid) d) mid new b c) where
   both_lost : List ℕ
   both_lost = one.lost ++ two.lost
@@ -407,7 +418,7 @@ module _ {Own : Type 0} (ds : List ℕ) (d : ℕ) (old mid new : Seen Own) (a b 
         (says_then one.lost two.lost (flat_map (shown_text one.lost a.net.views (state old)) ds) (shown_text two.lost b.net.views (state mid) d) old mid new a b c one.says two.says);
   }
 
-pub tables_next : {Own : Type 0} (Tells : Type 0) (ds : List ℕ) (d : ℕ) (old mid new : Seen Own) (a b c : Run) → TablesShown Tells ds old mid a b → Continues Tells mid new → TableShown Tells d mid new b c → TablesShown Tells (ds ++ d ∷ []) old new a c
+pub tables_next : {Own : Type 0} (Tells : Type 0) (ds : List ℕ) (d : ℕ) (old mid new : Seen Own) (a b c : Core) → TablesShown Tells ds old mid a b → Continues Tells mid new → TableShown Tells d mid new b c → TablesShown Tells (ds ++ d ∷ []) old new a c
 tables_next Tells ds d old mid new a b c first continues next = record {
   shown = λ apart told keeps ready sound.
       let n = distinct-front ds d apart in
@@ -456,30 +467,30 @@ none-among d (v ∷ vs) none =
     no_rows : (rows : List ViewRow) → Some rows ≡ None → ⊥
     no_rows rows h = cc
 
-engine_end-lost : (lost : List ℕ) (r mid : Run) → engine_of mid ≡ record (engine_of r) { net = record (lose_all lost r.net) { xid = mid.net.xid } } → engine_end (engine_of mid) ≡ engine_end (engine_of r)
-engine_end-lost lost r mid is =
-    ap engine_end is ∙ ap (λ (moment : ℕ). app_line (name_of r) r.app.state.alive r.app.done r.app.failed ++ end_line moment r.events) (lose_all-moment lost r.net)
+engine_end-lost : (lost : List ℕ) (r mid : Core) (apps : List Managed) → mid.net ≡ record (lose_all lost r.net) { xid = mid.net.xid } → SameBesides r mid → engine_end (engine_with mid apps) ≡ engine_end (engine_with r apps)
+engine_end-lost lost r mid apps net same =
+    ap₂ (λ (slots : List Slot) (events : ℕ). app_lines (map (application_of slots) apps) ++ end_line mid.net.moment events) same.store same.events
+    ∙ ap (λ (moment : ℕ). app_lines (map (application_of r.store) apps) ++ end_line moment r.events) (ap (λ (n : NetState). n.moment) net ∙ lose_all-moment lost r.net)
 
-pub last_shown : {Own : Type 0} {Tells : Type 0} {ds : List ℕ} {old new : Seen Own} {r mid now_r : Run} → Continues Tells old new → ds ≡ map (λ v. v.dpid) r.net.views → TablesShown Tells ds old new r mid → Adds (engine_end (engine_of mid)) mid now_r
-    → LastShown Tells old new r now_r
-last_shown {Tells = Tells} {ds = ds} {old = old} {new = new} {r = r} {mid = mid} {now_r = now_r} continues all tables end = record {
+pub last_shown : {Own : Type 0} {Tells : Type 0} {old new : Seen Own} (r : Run) (mid now_c : Core) (apps : List Managed) → Continues Tells old new → TablesShown Tells (map (λ v. v.dpid) r.core.net.views) old new r.core mid → apps ≡ r.apps.items → Adds (engine_end (engine_with mid apps)) mid now_c
+    → LastShown Tells old new r (record r { core = now_c })
+last_shown {Tells = Tells} {old = old} {new = new} r mid now_c apps continues tables here end = record {
   shown = λ told keeps calm.
-      let one = tables.shown (subst Distinct (sym all) (distinct-views 0 r.net.views calm.order)) told keeps calm.ready calm.sound in
+      let c = r.core in
+      let one = tables.shown (distinct-views 0 c.net.views calm.order) told keeps calm.ready calm.sound in
       let before : Conforming old = Conforming-before told continues keeps in
-      let text : flat_map (shown_text one.lost r.net.views (state old)) ds ≡ flat_map (place_lines one.lost) (shown_places old.given.declared r.net.views (state old)) =
-      ap (flat_map (shown_text one.lost r.net.views (state old))) all ∙ over_map (shown_text one.lost r.net.views (state old)) r.net.views
-      ∙ places-shown one.lost old.given.declared r.net.views (state old) calm.order before.declared (all-stand old) calm.ready.agrees
-      (λ d none. one.among d (ap (is_among d) all ∙ none-among d r.net.views none))
+      let text : flat_map (shown_text one.lost c.net.views (state old)) (map (λ v. v.dpid) c.net.views) ≡ flat_map (place_lines one.lost) (shown_places old.given.declared c.net.views (state old)) =
+      over_map (shown_text one.lost c.net.views (state old)) c.net.views
+      ∙ places-shown one.lost old.given.declared c.net.views (state old) calm.order before.declared (all-stand old) calm.ready.agrees
+      (λ d none. one.among d (none-among d c.net.views none))
       in
-      let last : engine_end (engine_of mid) ≡ engine_end (engine_of r) = engine_end-lost one.lost r mid one.says.engine in
-      let xid : mid.net.xid ≡ now_r.net.xid = sym (ap (λ (e : Engine). e.net.xid) end.engine) in
+      let last : engine_end (engine_with mid apps) ≡ engine_end (engine_with c r.apps.items) = engine_end-lost one.lost c mid apps one.says.net one.says.same ∙ ap (λ (ms : List Managed). engine_end (engine_with c ms)) here in
       record {
         lost = one.lost;
-        among = λ d none. one.among d (ap (is_among d) all ∙ none);
         says = record {
-          lines = end.lines ∙ ap₂ (λ (xs ys : List ℕ). xs ++ ys) one.says.lines last ∙ append_assoc r.lines.items _ (engine_end (engine_of r)) ∙ ap (λ (t : List ℕ). r.lines.items ++ (t ++ engine_end (engine_of r))) text;
-          engine = end.engine ∙ one.says.engine ∙ ap (λ (x : ℕ). record (engine_of r) { net = record (lose_all one.lost r.net) { xid = x } }) xid;
-          index = end.index ∙ one.says.index;
+          lines = end.lines ∙ ap₂ (λ (xs ys : List ℕ). xs ++ ys) one.says.lines last ∙ append_assoc c.lines.items _ (engine_end (engine_with c r.apps.items)) ∙ ap (λ (t : List ℕ). c.lines.items ++ (t ++ engine_end (engine_with c r.apps.items))) text;
+          apps = refl;
+          same = besides_then one.says.same (besides_of end.stays);
           switches = one.says.switches;
           waits = one.says.waits;
           asked = one.says.asked;

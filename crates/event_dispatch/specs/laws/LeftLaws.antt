@@ -8,7 +8,6 @@ use Rattle.of_types.specs.declared.journal.Act.{Act}
 use Rattle.app_frames.specs.declared.frame.Answer.{Answer}
 use Rattle.crash_policy.specs.Policies.{AppValue}
 use Rattle.app_frames.specs.declared.frame.Event.{Event}
-use Rattle.lego_model.specs.Application.{index}
 use Rattle.lego_model.specs.AtOnce.{Passes, AtOnce}
 use Rattle.lego_model.specs.Controller.{event_frame}
 use Rattle.lego_model.specs.History.{own_acts}
@@ -26,7 +25,7 @@ use Rattle.lego_model.specs.declared.fault.TxnFault.TheVariants.{NoMemory}
 use Rattle.net_txn.specs.Net.{NetState}
 use Rattle.net_txn.specs.Undos.{AreJoined, Undoes}
 use Rattle.net_txn.specs.Releases.{committed, Commits}
-use Rattle.lego_model.specs.AfterFault.{NoEventSince, answering, IsCompleted, HasEntriesAgain, WasLost, UndoneButFailed, TurnDone, SwitchesStay, TurnKept, after_packets, TurnReleasing, TablesLeft}
+use Rattle.lego_model.specs.AfterFault.{NoEventSince, answering, IsCompleted, HasEntriesAgain, WasLost, UndoneButFailed, TurnDone, SwitchesStay, TurnKept, after_packets, TurnReleasing, TablesLeft, TablesBehind}
 use Rattle.lego_model.specs.laws.SwitchFaultLaws.{failed_before, failed_told}
 use Rattle.switch_laws.specs.Released.{MovesOrLoses}
 use Rattle.switch_laws.specs.Since.{Ready}
@@ -70,7 +69,7 @@ undone_then old mid new told first later stay u = record {
   out = λ d is. stay d ∙ u.out d is;
 }
 
-kept_then : {Own : Type 0} {Tells : Type 0} {budget : ℕ} (old mid new : Seen Own) → Tells → Continues Tells mid new → SwitchesStay mid new → TurnKept budget old mid → TurnKept budget old new
+kept_then : {Own : Type 0} {Tells : Type 0} {app budget : ℕ} (old mid new : Seen Own) → Tells → Continues Tells mid new → SwitchesStay mid new → TurnKept app budget old mid → TurnKept app budget old new
 kept_then old mid new told later stay k =
     let longer = later.told told in
     record {
@@ -82,7 +81,7 @@ kept_then old mid new told later stay k =
     }
 
 -- behind a release that was begun none was released, so that the packets are the same
-releasing_then : {Own : Type 0} {Tells : Type 0} {budget : ℕ} (old mid new : Seen Own) → Continues Tells mid new → NoneReleased mid new → SwitchesStay mid new → TurnReleasing budget old mid → TurnReleasing budget old new
+releasing_then : {Own : Type 0} {Tells : Type 0} {app budget : ℕ} (old mid new : Seen Own) → Continues Tells mid new → NoneReleased mid new → SwitchesStay mid new → TurnReleasing app budget old mid → TurnReleasing app budget old new
 unfolding released
 releasing_then old mid new later none stay r =
     let front = r.first ∷ r.steps in
@@ -102,18 +101,27 @@ releasing_then old mid new later none stay r =
     }
 
 -- What is left stays so behind parts in which no event is given, no packet is released, and no switch moves.
-pub tables_then : {Own : Type 0} {Tells Short : Type 0} {budget : ℕ} (old mid new : Seen Own) → Tells → Continues Tells old mid → Continues Tells mid new → NoEventSince mid new → NoneReleased mid new → SwitchesStay mid new → TablesLeft budget Short old mid → TablesLeft budget Short old new
+pub tables_then : {Own : Type 0} {Tells Short : Type 0} {app budget : ℕ} (old mid new : Seen Own) → Tells → Continues Tells old mid → Continues Tells mid new → NoEventSince mid new → NoneReleased mid new → SwitchesStay mid new → TablesLeft app budget Short old mid → TablesLeft app budget Short old new
 tables_then old mid new told first later none released_none stay (inl before) = inl (no_event_then before none)
 tables_then old mid new told first later none released_none stay (inr (inl undone)) = inr (inl (undone_then old mid new told first later stay undone))
 tables_then old mid new told first later none released_none stay (inr (inr (inl kept))) = inr (inr (inl (kept.0, kept_then old mid new told later stay kept.1)))
 tables_then old mid new told first later none released_none stay (inr (inr (inr releasing))) = inr (inr (inr (releasing_then old mid new later released_none stay releasing)))
 
 -- where memory may have been wanting in more cases
-pub tables_for : {Own : Type 0} {Short Other : Type 0} {budget : ℕ} {old new : Seen Own} → (Short → Other) → TablesLeft budget Short old new → TablesLeft budget Other old new
+pub tables_for : {Own : Type 0} {Short Other : Type 0} {app budget : ℕ} {old new : Seen Own} → (Short → Other) → TablesLeft app budget Short old new → TablesLeft app budget Other old new
 tables_for short (inl before) = inl before
 tables_for short (inr (inl undone)) = inr (inl undone)
 tables_for short (inr (inr (inl kept))) = inr (inr (inl (short kept.0, kept.1)))
 tables_for short (inr (inr (inr releasing))) = inr (inr (inr releasing))
+
+-- so it is with one of some applications
+pub behind_then : {Own : Type 0} {Tells Short : Type 0} {rules : List AppValue} (old mid new : Seen Own) → Tells → Continues Tells old mid → Continues Tells mid new → NoEventSince mid new → NoneReleased mid new → SwitchesStay mid new → TablesBehind rules Short old mid → TablesBehind rules Short old new
+behind_then old mid new told first later none released_none stay (inl before) = inl (no_event_then before none)
+behind_then old mid new told first later none released_none stay (inr turn) = inr (record { app = turn.app; rule = turn.rule; rule_is = turn.rule_is; tables = tables_then old mid new told first later none released_none stay turn.tables })
+
+pub behind_for : {Own : Type 0} {Short Other : Type 0} {rules : List AppValue} {old new : Seen Own} → (Short → Other) → TablesBehind rules Short old new → TablesBehind rules Other old new
+behind_for short (inl before) = inl before
+behind_for short (inr turn) = inr (record { app = turn.app; rule = turn.rule; rule_is = turn.rule_is; tables = tables_for short turn.tables })
 
 -- ---- A whole turn
 
@@ -138,10 +146,10 @@ never_given : (budget : ℕ) (rest : List ℕ) (acts : List Act) (judged : Bool)
 unfolding turn_of reply_of
 never_given budget rest acts judged answers is = is
 
-done_by : {Own : Type 0} (budget : ℕ) (given : Bool) (rest event : List ℕ) (acts : List Act) (judged : Bool) (answers : List Answer) (old new : Seen Own) → is_event event ≡ true
-    → own_acts new ≡ own_acts old ++ give_act given index event ∷ acts → IsCompleted (turn_of (answering judged) budget rest (reply_of (record { given = given; acts = acts })) answers).outcome
-    → (a : AtOnce index (journal old.history)) → Passes a.last.unread rest → TurnDone budget old new
-done_by budget true rest event acts judged answers old new is more completed a passes = record {
+done_by : {Own : Type 0} (app budget : ℕ) (given : Bool) (rest event : List ℕ) (acts : List Act) (judged : Bool) (answers : List Answer) (old new : Seen Own) → is_event event ≡ true
+    → own_acts app new ≡ own_acts app old ++ give_act given app event ∷ acts → IsCompleted (turn_of (answering judged) budget rest (reply_of (record { given = given; acts = acts })) answers).outcome
+    → (a : AtOnce app (journal old.history)) → Passes a.last.unread rest → TurnDone app budget old new
+done_by app budget true rest event acts judged answers old new is more completed a passes = record {
   event = event;
   event_is = is;
   acts = acts;
@@ -153,26 +161,26 @@ done_by budget true rest event acts judged answers old new is more completed a p
   answers = answers;
   completed = completed;
 }
-done_by budget false rest event acts judged answers old new is more completed a passes = absurd (never_given budget rest acts judged answers completed)
+done_by app budget false rest event acts judged answers old new is more completed a passes = absurd (never_given budget rest acts judged answers completed)
 
-turn_done : {Own : Type 0} {Tells : Type 0} {accepts : List TableView → Bool} {app budget : ℕ} {rest event unread : List ℕ} {old new : Seen Own} {net now_net : NetState} {stop : Bool} → Tells → app ≡ index → is_event event ≡ true → Turns Tells accepts app budget rest event old new net now_net (ends.Done stop) unread
-    → (a : AtOnce index (journal old.history)) → Passes a.last.unread rest → TurnDone budget old new
-turn_done {accepts = accepts} {budget = budget} {rest = rest} {event = event} {unread = unread} {old = old} {new = new} {now_net = now_net} {stop = stop} told at is t a passes =
+turn_done : {Own : Type 0} {Tells : Type 0} {accepts : List TableView → Bool} {app budget : ℕ} {rest event unread : List ℕ} {old new : Seen Own} {net now_net : NetState} {stop : Bool} → Tells → is_event event ≡ true → Turns Tells accepts app budget rest event old new net now_net (ends.Done stop) unread
+    → (a : AtOnce app (journal old.history)) → Passes a.last.unread rest → TurnDone app budget old new
+turn_done {accepts = accepts} {app = app} {budget = budget} {rest = rest} {event = event} {unread = unread} {old = old} {new = new} {now_net = now_net} {stop = stop} told is t a passes =
     let judged = accepts now_net.views in
     let exchanges = exchanges_in t.trace in
     let alike = turn_alike (answering judged) (answers_of exchanges) [] t (answers_agree judged exchanges) (judged_is judged) in
-    done_by budget t.given rest event (acts_in t.trace) judged (answers_of exchanges) old new is
-    (subst (λ (i : ℕ). acts_of i new.history ≡ acts_of i old.history ++ give_act t.given i event ∷ acts_in t.trace) at (turn_acts t told))
+    done_by app budget t.given rest event (acts_in t.trace) judged (answers_of exchanges) old new is
+    (turn_acts t told)
     (subst IsCompleted (sym (ap (λ (p : Played (List Answer)). p.outcome) alike)) (completes stop unread t.outcome t.ends)) a passes
 
 -- ---- The dispatch of an event
 
 pub left_none : {Own : Type 0} (Tells Short : Type 0) (seen : Seen Own) (e : Engine) → DispatchLeft Tells Short seen seen e
-left_none Tells Short seen e = record { left = λ told keeps order ready talking. inl (no_event_none seen) }
+left_none Tells Short seen e = record { left = λ told keeps order ready each. inl (no_event_none seen) }
 
 -- its turn stopped, and was undone
 pub left_stopped : {Own : Type 0} {Tells Short : Type 0} {app budget start now_start : ℕ} {old mid new : Seen Own} {at_net mid_net now_net : NetState} {fault : TxnFault} {result : Result (Unit {0}) TxnFault} (rest : List ℕ) (net : NetState) → at_net ≡ net → start ≡ length net.log → now_start ≡ start
-    → Stops Tells app old mid at_net mid_net fault → Undoes Tells now_start mid new mid_net now_net result → TurnLeft Tells Short budget rest old new net
+    → Stops Tells app old mid at_net mid_net fault → Undoes Tells now_start mid new mid_net now_net result → TurnLeft Tells Short app budget rest old new net
 left_stopped {Tells = Tells} {app = app} {old = old} {mid = mid} {new = new} {mid_net = mid_net} {now_net = now_net} {fault = fault} {result = result} rest net same at kept stops undoes = record {
   left = λ told keeps order ready a passes.
       inr (inl (undone_is old new told
@@ -182,7 +190,7 @@ left_stopped {Tells = Tells} {app = app} {old = old} {mid = mid} {new = new} {mi
 
 -- it failed, and could not be undone on each switch
 pub left_failed : {Own : Type 0} {Tells Short : Type 0} {accepts : List TableView → Bool} {app budget most start now_start : ℕ} {taken frame unread : List ℕ} {old mid new : Seen Own} {at_net mid_net now_net : NetState} {end : TurnEnd} {result : Result (Unit {0}) TxnFault} (rest : List ℕ) (net : NetState)
-    → at_net ≡ net → start ≡ length net.log → now_start ≡ start → Turns Tells accepts app most taken frame old mid at_net mid_net end unread → Undoes Tells now_start mid new mid_net now_net result → TurnLeft Tells Short budget rest old new net
+    → at_net ≡ net → start ≡ length net.log → now_start ≡ start → Turns Tells accepts app most taken frame old mid at_net mid_net end unread → Undoes Tells now_start mid new mid_net now_net result → TurnLeft Tells Short app budget rest old new net
 left_failed {Tells = Tells} {accepts = accepts} {app = app} {most = most} {taken = taken} {frame = frame} {unread = unread} {old = old} {mid = mid} {new = new} {mid_net = mid_net} {now_net = now_net} {end = end} {result = result} rest net same at kept turns undoes = record {
   left = λ told keeps order ready a passes.
       inr (inl (undone_is old new told
@@ -191,24 +199,24 @@ left_failed {Tells = Tells} {accepts = accepts} {app = app} {most = most} {taken
       (subst (λ (n : ℕ). Undoes Tells n mid new mid_net now_net result) (kept ∙ at) undoes))));
 }
 
-committed_is : {Own : Type 0} (Tells : Type 0) (budget : ℕ) (old new : Seen Own) (fault : TxnFault) → Tells → UndoneButFailed Tells old new ⊎ ((fault ≡ NoMemory) × TurnKept budget old new) ⊎ TurnReleasing budget old new → TablesLeft budget (IsShort (fault_of fault)) old new
-committed_is Tells budget old new fault told (inl undone) = inr (inl (undone_is old new told undone))
-committed_is Tells budget old new fault told (inr (inl kept)) = inr (inr (inl (subst (λ (f : TxnFault). IsShort (fault_of f)) (sym kept.0) tt, kept.1)))
-committed_is Tells budget old new fault told (inr (inr releasing)) = inr (inr (inr releasing))
+committed_is : {Own : Type 0} (Tells : Type 0) (app budget : ℕ) (old new : Seen Own) (fault : TxnFault) → Tells → UndoneButFailed Tells old new ⊎ ((fault ≡ NoMemory) × TurnKept app budget old new) ⊎ TurnReleasing app budget old new → TablesLeft app budget (IsShort (fault_of fault)) old new
+committed_is Tells app budget old new fault told (inl undone) = inr (inl (undone_is old new told undone))
+committed_is Tells app budget old new fault told (inr (inl kept)) = inr (inr (inl (subst (λ (f : TxnFault). IsShort (fault_of f)) (sym kept.0) tt, kept.1)))
+committed_is Tells app budget old new fault told (inr (inr releasing)) = inr (inr (inr releasing))
 
 -- it was whole, and not all of its packets could be released
 pub left_committed : {Own : Type 0} {Tells : Type 0} {accepts : List TableView → Bool} {app budget start now_start : ℕ} {event rest unread : List ℕ} {old mid new : Seen Own} {at_net mid_net now_net : NetState} {queue now_queue : List Event} {stop : Bool} {end : TurnEnd} (net : NetState)
-    (fault : TxnFault) → app ≡ index → at_net ≡ net → start ≡ length net.log → now_start ≡ start → end ≡ ends.Done stop → is_event event ≡ true → Turns Tells accepts app budget rest event old mid at_net mid_net end unread
-    → Commits Tells now_start mid new mid_net now_net queue now_queue (Err fault) → TurnLeft Tells (IsShort (fault_of fault)) budget rest old new net
+    (fault : TxnFault) → at_net ≡ net → start ≡ length net.log → now_start ≡ start → end ≡ ends.Done stop → is_event event ≡ true → Turns Tells accepts app budget rest event old mid at_net mid_net end unread
+    → Commits Tells now_start mid new mid_net now_net queue now_queue (Err fault) → TurnLeft Tells (IsShort (fault_of fault)) app budget rest old new net
 left_committed {Tells = Tells} {accepts = accepts} {app = app} {budget = budget} {now_start = now_start} {event = event} {rest = rest} {unread = unread} {old = old} {mid = mid} {new = new} {at_net = at_net} {mid_net = mid_net} {now_net = now_net} {queue = queue} {now_queue = now_queue} {stop = stop} {end = end}
-    net fault is same at kept done gives turns commits = record {
+    net fault same at kept done gives turns commits = record {
       left = λ told keeps order ready a passes.
           let turned : Turns Tells accepts app budget rest event old mid net mid_net (ends.Done stop) unread =
           subst (λ (e : TurnEnd). Turns Tells accepts app budget rest event old mid net mid_net e unread) done (subst (λ (n : NetState). Turns Tells accepts app budget rest event old mid n mid_net end unread) same turns) in
           let broken : Commits Tells (length net.log) mid new mid_net now_net queue now_queue (Err fault) =
           subst (λ (n : ℕ). Commits Tells n mid new mid_net now_net queue now_queue (Err fault)) (kept ∙ at) commits in
-          committed_is Tells budget old new fault told
-          (commit-left Tells accepts app budget rest event old mid new net mid_net now_net (ends.Done stop) unread queue now_queue fault told keeps order ready turned (turn_done told is gives turned a passes) broken);
+          committed_is Tells app budget old new fault told
+          (commit-left Tells accepts app budget rest event old mid new net mid_net now_net (ends.Done stop) unread queue now_queue fault told keeps order ready turned (turn_done told gives turned a passes) broken);
     }
 
 -- all of them were released, and each switch moved by those alone, or was lost
@@ -216,45 +224,25 @@ released_by : {Own : Type 0} {Tells : Type 0} {start : ℕ} {old new : Seen Own}
 released_by {Tells = Tells} {start = start} {old = old} {new = new} {net = net} {now_net = now_net} {queue = queue} {now_queue = now_queue} told joined commits =
     (commits.ended.sent, release-moves Tells net.held commits.ended.sent old new (committed start net) now_net queue now_queue told joined commits.ended.all)
 
-left_moved : {Own : Type 0} {Tells : Type 0} {budget : ℕ} (old first mid new : Seen Own) → Tells → Continues Tells mid new → NoneReleased mid new → SwitchesStay mid new → ((mid.history ≡ first.history) × TurnKept budget old mid) ⊎ TurnReleasing budget old mid → TablesLeft budget (Unit {0}) old new
+left_moved : {Own : Type 0} {Tells : Type 0} {app budget : ℕ} (old first mid new : Seen Own) → Tells → Continues Tells mid new → NoneReleased mid new → SwitchesStay mid new → ((mid.history ≡ first.history) × TurnKept app budget old mid) ⊎ TurnReleasing app budget old mid → TablesLeft app budget (Unit {0}) old new
 left_moved old first mid new told later none stay (inl kept) = inr (inr (inl (tt, kept_then old mid new told later stay kept.1)))
 left_moved old first mid new told later none stay (inr releasing) = inr (inr (inr (releasing_then old mid new later none stay releasing)))
 
 -- its turn ended, and memory was wanting behind it
-pub left_closed : {Own : Type 0} {Tells : Type 0} {accepts : List TableView → Bool} {budget number : ℕ} {event : Event} {queue now_queue : List Event} {rest unread : List ℕ} (app : ℕ) (closing : Closing) (old mid new : Seen Own) (net mid_net : NetState) → app ≡ index → Continues Tells old mid → Continues Tells mid new
-    → (Tells → OwnSteps index mid new) → PlaysTurn Tells accepts app budget number event closing old mid net mid_net queue now_queue rest unread → TurnLeft Tells (Unit {0}) budget rest old new net
-left_closed {Tells = Tells} {accepts = accepts} {budget = budget} {number = number} {event = event} {rest = rest} {unread = unread} app (closings.Done stop out) old mid new net mid_net at first later own plays = record {
+pub left_closed : {Own : Type 0} {Tells : Type 0} {accepts : List TableView → Bool} {budget number : ℕ} {event : Event} {queue now_queue : List Event} {rest unread : List ℕ} (app : ℕ) (closing : Closing) (old mid new : Seen Own) (net mid_net : NetState) → Continues Tells old mid → Continues Tells mid new
+    → (Tells → OwnSteps app mid new) → PlaysTurn Tells accepts app budget number event closing old mid net mid_net queue now_queue rest unread → TurnLeft Tells (Unit {0}) app budget rest old new net
+left_closed {Tells = Tells} {accepts = accepts} {budget = budget} {number = number} {event = event} {rest = rest} {unread = unread} app (closings.Done stop out) old mid new net mid_net first later own plays = record {
   left = λ told keeps order ready a passes.
       let commits = plays.played in
-      let done = turn_done told at (event_is number net.moment event) plays.turns a passes in
+      let done = turn_done told (event_is number net.moment event) plays.turns a passes in
       let order_mid = InOrder-before told commits.continues (InOrder-before told later order) in
       let joined = turn-joined Tells accepts app budget rest (event_frame number net.moment event) old plays.mid net plays.mid_net (ends.Done stop) unread told keeps order_mid ready plays.turns in
       let moves = released_by told joined commits in
       let stay = own_stay later (own told) in
-      left_moved old plays.mid mid new told later (own_releases (own told)) stay (moves-left budget old plays.mid mid moves.0 commits.continues.given done moves.1);
+      left_moved old plays.mid mid new told later (own_releases (own told)) stay (moves-left app budget old plays.mid mid moves.0 commits.continues.given done moves.1);
 }
-left_closed {Tells = Tells} {accepts = accepts} {budget = budget} {number = number} {event = event} {rest = rest} {unread = unread} app (closings.Failed cause) old mid new net mid_net at first later own plays = record {
+left_closed {Tells = Tells} {accepts = accepts} {budget = budget} {number = number} {event = event} {rest = rest} {unread = unread} app (closings.Failed cause) old mid new net mid_net first later own plays = record {
   left = λ told keeps order ready a passes.
       let undone = turn-undone Tells accepts app budget rest (event_frame number net.moment event) old plays.mid mid net plays.mid_net mid_net (ends.Failed cause) unread (Ok tt) told keeps (InOrder-before told later order) ready plays.turns plays.played.0 in
       inr (inl (undone_then old mid new told first later (own_stay later (own told)) (undone_is old mid told undone)));
-}
-
--- the application has its turn while it is alive
-pub left_turn : {Own : Type 0} (Tells Short : Type 0) (budget : ℕ) (rest : List ℕ) (old new : Seen Own) (net : NetState) (e : Engine) → e.alive ≡ true → budget ≡ e.rule.budget → rest ≡ e.rest → net ≡ e.net → TurnLeft Tells Short budget rest old new net → DispatchLeft Tells Short old new e
-left_turn Tells Short budget rest old new net e alive frames same stands turn = record {
-  left = λ told keeps order ready talking.
-      subst (λ (n : ℕ). TablesLeft n Short old new) frames
-      (turn.left told keeps order (subst (λ (n : NetState). Ready old n) (sym stands) ready) talking.at_once (subst (λ (xs : List ℕ). Passes talking.at_once.last.unread xs) (sym same) (talking.rest_is alive).1));
-}
-
--- of an engine that stands as here, but for the events that wait
-pub left_as : {Own : Type 0} (Tells Short : Type 0) (old new : Seen Own) (e now_e : Engine) → now_e.rule ≡ e.rule → now_e.alive ≡ e.alive → now_e.rest ≡ e.rest → now_e.net ≡ e.net → DispatchLeft Tells Short old new e → DispatchLeft Tells Short old new now_e
-left_as Tells Short old new e now_e rule alive rest net dispatch = record {
-  left = λ told keeps order ready talking.
-      subst (λ (r : AppValue). TablesLeft r.budget Short old new) (sym rule)
-      (dispatch.left told keeps order (subst (λ (n : NetState). Ready old n) net ready)
-      (record {
-        at_once = talking.at_once;
-        rest_is = λ is. let so = talking.rest_is (alive ∙ is) in (so.0, subst (λ (xs : List ℕ). Passes talking.at_once.last.unread xs) rest so.1);
-      }));
 }

@@ -8,10 +8,9 @@ use Rattle.net_txn.specs.declared.ports.KnownPorts.{KnownPorts}
 use Rattle.net_txn.specs.Net.{NetState}
 use Rattle.net_txn.specs.Leaving.{left_event}
 use Rattle.batch_laws.specs.Knowledge.{left_events, lost_text}
-use Rattle.run_laws.specs.Engine.{Engine}
-use Rattle.event_dispatch.specs.declared.run.Run.{Run}
+use Rattle.event_dispatch.specs.declared.core.Core.{Core}
 use Rattle.event_dispatch.specs.Runs.{Waits}
-use Rattle.event_dispatch.specs.Shows.{engine_of, Adds, TellsLost, TellsOn}
+use Rattle.event_dispatch.specs.Shows.{none_left, Adds, TellsLost, TellsOn}
 use Rattle.event_dispatch.specs.laws.WhyLaws.{waits_then}
 
 no_more : {A : Type 0} (xs : List A) → xs ++ [] ≡ xs
@@ -19,8 +18,8 @@ no_more [] = refl
 no_more (x ∷ xs) = ap (λ (ys : List _). x ∷ ys) (no_more xs)
 
 -- none is told at first
-pub tells_first : (r : Run) → TellsOn r r
-tells_first r = record { engine = refl; index = refl; lines = refl }
+pub tells_first : (r : Core) → TellsOn r r
+tells_first r = record { net = refl; queue = refl; events = refl; store = refl; lines = refl }
 
 -- the first of those that are left is told next
 events_next : (queue : List Event) (left : List KnownPorts) (event : Event) → Some event ≡ option_map left_event (slice_get left 0) → (queue ++ event ∷ []) ++ left_events (drop 1 left) ≡ queue ++ left_events left
@@ -35,33 +34,34 @@ text_next lines (p ∷ left) event is =
     let same : event ≡ left_event p = cc in
     append_assoc lines (lost_line event.dpid) (lost_text left) ∙ ap (λ (e : Event). lines ++ (lost_line e.dpid ++ lost_text left)) same
 
-pub tells_next : (r at mid : Run) (net : NetState) (queue : List Event) (event : Event) → TellsOn r at → Some event ≡ option_map left_event (slice_get at.net.left 0) → net ≡ record at.net { left = drop 1 at.net.left }
+pub tells_next : (r at mid : Core) (net : NetState) (queue : List Event) (event : Event) → TellsOn r at → Some event ≡ option_map left_event (slice_get at.net.left 0) → net ≡ record at.net { left = drop 1 at.net.left }
     → Adds (lost_line event.dpid) (record at { net = net }) mid → queue ≡ mid.queue ++ event ∷ [] → TellsOn r (record mid { queue = queue })
 tells_next r at mid net queue event so_far is rest adds appended = record {
-  engine = ap (λ (q : List Event). record (engine_of mid) { net = record mid.net { left = [] }; queue = q ++ left_events mid.net.left }) appended
-      ∙ ap (λ (e : Engine). record e { net = record e.net { left = [] }; queue = (e.queue ++ event ∷ []) ++ left_events e.net.left }) adds.engine
-      ∙ ap (λ (n : NetState). record (engine_of at) { net = record n { left = [] }; queue = (at.queue ++ event ∷ []) ++ left_events n.left }) rest
-      ∙ ap (λ (q : List Event). record (engine_of at) { net = record at.net { left = [] }; queue = q }) (events_next at.queue at.net.left event is)
-      ∙ so_far.engine;
-  index = adds.index ∙ so_far.index;
-  lines = ap₂ (λ (xs : List ℕ) (ps : List KnownPorts). xs ++ lost_text ps) adds.lines (ap (λ (e : Engine). e.net.left) adds.engine ∙ ap (λ (n : NetState). n.left) rest)
+  net = ap none_left (adds.stays.net ∙ rest) ∙ so_far.net;
+  queue = ap (λ (q : List Event). q ++ left_events mid.net.left) appended
+      ∙ ap₂ (λ (q : List Event) (ps : List KnownPorts). (q ++ event ∷ []) ++ left_events ps) adds.stays.queue (ap (λ (n : NetState). n.left) (adds.stays.net ∙ rest))
+      ∙ events_next at.queue at.net.left event is
+      ∙ so_far.queue;
+  events = adds.stays.events ∙ so_far.events;
+  store = adds.stays.store ∙ so_far.store;
+  lines = ap₂ (λ (xs : List ℕ) (ps : List KnownPorts). xs ++ lost_text ps) adds.lines (ap (λ (n : NetState). n.left) (adds.stays.net ∙ rest))
       ∙ text_next at.lines.items at.net.left event is
       ∙ so_far.lines;
 }
 
 -- all are told where none is left
-none_left : (left : List KnownPorts) → None ≡ option_map left_event (slice_get left 0) → left ≡ []
-none_left [] is = refl
-none_left (p ∷ left) is = absurd cc
+none_more : (left : List KnownPorts) → None ≡ option_map left_event (slice_get left 0) → left ≡ []
+none_more [] is = refl
+none_more (p ∷ left) is = absurd cc
 
-pub tells_all : (r at : Run) (net : NetState) → TellsOn r at → None ≡ option_map left_event (slice_get at.net.left 0) → net ≡ record at.net { left = drop 1 at.net.left } → TellsLost r (record at { net = net })
+pub tells_all : (r at : Core) (net : NetState) → TellsOn r at → None ≡ option_map left_event (slice_get at.net.left 0) → net ≡ record at.net { left = drop 1 at.net.left } → TellsLost r (record at { net = net })
 tells_all r at net so_far is rest =
-    let none = none_left at.net.left is in
+    let none = none_more at.net.left is in
     record {
-      engine = ap (λ (n : NetState). record (engine_of at) { net = n }) (rest ∙ ap (λ (ps : List KnownPorts). record at.net { left = drop 1 ps }) none)
-          ∙ ap (λ (q : List Event). record (engine_of at) { net = record at.net { left = [] }; queue = q }) (sym (no_more at.queue) ∙ ap (λ (ps : List KnownPorts). at.queue ++ left_events ps) (sym none))
-          ∙ so_far.engine;
-      index = so_far.index;
+      net = rest ∙ ap (λ (ps : List KnownPorts). record at.net { left = drop 1 ps }) none ∙ so_far.net;
+      queue = sym (no_more at.queue) ∙ ap (λ (ps : List KnownPorts). at.queue ++ left_events ps) (sym none) ∙ so_far.queue;
+      events = so_far.events;
+      store = so_far.store;
       lines = sym (no_more at.lines.items) ∙ ap (λ (ps : List KnownPorts). at.lines.items ++ lost_text ps) (sym none) ∙ so_far.lines;
     }
 
@@ -70,26 +70,24 @@ shorter : (left : List KnownPorts) (event : Event) → Some event ≡ option_map
 shorter [] event is = absurd cc
 shorter (p ∷ left) event is = (omega arith)
 
-pub fewer_left : {text : List ℕ} (at mid : Run) (net : NetState) (event : Event) → Some event ≡ option_map left_event (slice_get at.net.left 0) → net ≡ record at.net { left = drop 1 at.net.left } → Adds text (record at { net = net }) mid → length mid.net.left < length at.net.left
+pub fewer_left : {text : List ℕ} (at mid : Core) (net : NetState) (event : Event) → Some event ≡ option_map left_event (slice_get at.net.left 0) → net ≡ record at.net { left = drop 1 at.net.left } → Adds text (record at { net = net }) mid → length mid.net.left < length at.net.left
 fewer_left at mid net event is rest adds =
-    let same : mid.net.left ≡ drop 1 at.net.left = ap (λ (e : Engine). e.net.left) adds.engine ∙ ap (λ (n : NetState). n.left) rest in
+    let same : mid.net.left ≡ drop 1 at.net.left = ap (λ (n : NetState). n.left) (adds.stays.net ∙ rest) in
     subst (λ (ps : List KnownPorts). length ps < length at.net.left) (sym same) (shorter at.net.left event is)
 
 -- what waits meanwhile
-waits_first : (at : Run) (net : NetState) → net ≡ record at.net { left = drop 1 at.net.left } → Waits at (record at { net = net })
+waits_first : (at : Core) (net : NetState) → net ≡ record at.net { left = drop 1 at.net.left } → Waits at (record at { net = net })
 waits_first at net rest = record {
   room = ap (λ (n : NetState). n.room) rest;
   events = refl;
-  done = refl;
-  failed = refl;
   store = refl;
   left = λ none. ap (λ (n : NetState). n.left) rest ∙ ap (λ (ps : List KnownPorts). drop 1 ps) none;
 }
 
-pub waits_all : (r at : Run) (net : NetState) → Waits r at → net ≡ record at.net { left = drop 1 at.net.left } → Waits r (record at { net = net })
+pub waits_all : (r at : Core) (net : NetState) → Waits r at → net ≡ record at.net { left = drop 1 at.net.left } → Waits r (record at { net = net })
 waits_all r at net so_far rest = waits_then r at (record at { net = net }) so_far (waits_first at net rest)
 
-pub waits_next : (r at mid : Run) (net : NetState) (queue : List Event) → Waits r at → net ≡ record at.net { left = drop 1 at.net.left } → Waits (record at { net = net }) mid → Waits r (record mid { queue = queue })
+pub waits_next : (r at mid : Core) (net : NetState) (queue : List Event) → Waits r at → net ≡ record at.net { left = drop 1 at.net.left } → Waits (record at { net = net }) mid → Waits r (record mid { queue = queue })
 waits_next r at mid net queue so_far rest noted =
     let all = waits_then r (record at { net = net }) mid (waits_all r at net so_far rest) noted in
-    record { room = all.room; events = all.events; done = all.done; failed = all.failed; store = all.store; left = all.left }
+    record { room = all.room; events = all.events; store = all.store; left = all.left }

@@ -22,8 +22,7 @@ use Rattle.outside.specs.Quiescence.{is_quiescent, NoneQuiescent, NoneQuiescentL
 use Rattle.net_txn.specs.LinkSteps.{MakesNoStrayCall}
 use Rattle.lego_model.specs.UndoFaults.{AreExpectedOnLinks}
 use Rattle.net_txn.specs.laws.LinkStrayLaws.{no_strays_by}
-use Rattle.app_visor.specs.CallsFor.{IsCallFor}
-use Rattle.lego_model.specs.Application.{index}
+use Rattle.run_laws.specs.Cut.{IsCallAmong}
 use Rattle.event_dispatch.specs.Batch.{rest_by}
 use Rattle.event_dispatch.specs.Steady.{NothingUnderWay}
 use Rattle.event_dispatch.specs.Told.{NextPoint}
@@ -60,31 +59,31 @@ next_unquiet declared (Some x) (Ok item) buf s may is = absurd (true≢false (sy
 next_unquiet declared begun (Err coming.Failed) buf s may is = (refl, tt)
 next_unquiet declared begun (Err coming.Short) buf s may is = tt
 
-item_for : (app : ℕ) (item : Item) (buf : List ℕ) → IsCallFor app (item_step item buf)
+item_for : (number : ℕ) (item : Item) (buf : List ℕ) → IsCallAmong number (item_step item buf)
 unfolding item_step
-item_for app (items.From d n) buf = tt
-item_for app (items.Joined d n) buf = tt
-item_for app (items.Left d) buf = tt
-item_for app (items.Moment t) buf = tt
-item_for app items.Idle buf = tt
-item_for app items.End buf = tt
+item_for number (items.From d n) buf = tt
+item_for number (items.Joined d n) buf = tt
+item_for number (items.Left d) buf = tt
+item_for number (items.Moment t) buf = tt
+item_for number items.Idle buf = tt
+item_for number items.End buf = tt
 
-next_for : (app : ℕ) (begun : Option WorldStim) (result : Result Item NextFault) (buf : List ℕ) → AllByRecursion (IsCallFor app) (next_steps begun result buf)
+next_for : (number : ℕ) (begun : Option WorldStim) (result : Result Item NextFault) (buf : List ℕ) → AllByRecursion (IsCallAmong number) (next_steps begun result buf)
 unfolding next_steps
-next_for app None (Ok item) buf = (item_for app item buf, tt)
-next_for app (Some x) (Ok item) buf = (tt, (item_for app item buf, tt))
-next_for app begun (Err coming.Failed) buf = (tt, tt)
-next_for app begun (Err coming.Short) buf = tt
+next_for number None (Ok item) buf = (item_for number item buf, tt)
+next_for number (Some x) (Ok item) buf = (tt, (item_for number item buf, tt))
+next_for number begun (Err coming.Failed) buf = (tt, tt)
+next_for number begun (Err coming.Short) buf = tt
 
 -- no quiescent point lies behind the one before it
-pub next_quietly : {Own Tells : Type 0} {old new : Seen Own} {result : Result Item NextFault} {buf : List ℕ} → Nexts Tells old new result buf → NextPoint Tells old new
-next_quietly {old = old} {new = new} {result = result} {buf = buf} call = record {
+pub next_quietly : {Own Tells : Type 0} {number : ℕ} {old new : Seen Own} {result : Result Item NextFault} {buf : List ℕ} → Nexts Tells old new result buf → NextPoint Tells number old new
+next_quietly {number = number} {old = old} {new = new} {result = result} {buf = buf} call = record {
   last = λ told. record { steps = next_steps (call.told told).begun result buf; history = (call.told told).history; none_later = next_later (call.told told).begun result buf };
   none_quiescent = λ told order is.
       let begun = (call.told told).begun in
       let may = InOrder-rest old new (next_steps begun result buf) call.given (call.told told).history order in
       record { steps = next_steps begun result buf; history = (call.told told).history; none = next_unquiet old.given.declared begun result buf (state old) may is };
-  own = λ told. record { steps = next_steps (call.told told).begun result buf; history = (call.told told).history; all = next_for index (call.told told).begun result buf };
+  own = λ told. record { steps = next_steps (call.told told).begun result buf; history = (call.told told).history; all = next_for number (call.told told).begun result buf };
 }
 
 -- ---- Calls of links, and what came

@@ -7,7 +7,6 @@ use Rattle.of_types.specs.declared.journal.Act.{Act}
 use Rattle.of_types.specs.declared.journal.Act.TheVariants.{Stim, Started, Gave, Gone, Took, Ended, Sent, Got, Lost}
 use Rattle.of_types.specs.declared.journal.WorldStim.{WorldStim}
 use Rattle.lego_model.specs.Journal.{is_event, released_in, released}
-use Rattle.lego_model.specs.Application.{index}
 use Rattle.outside.specs.declared.step.WorldStep.{WorldStep}
 use Rattle.outside.specs.declared.step.WorldStep.TheVariants.{Acted, TookInto, From, Joined, Left, Moment, Idle, End, Opened, NotOpened, NextFailed, SendLost, RecvLost, SendFailed, RecvFailed}
 use Rattle.outside.specs.declared.item.Item.{Item}
@@ -155,27 +154,27 @@ unfolding end_steps
 end_gives app true = (refl, tt)
 end_gives app false = tt
 
-pub no_event_ended : {Own : Type 0} {Tells : Type 0} {old new : Seen Own} → Ends Tells index old new → Tells → NoEventSince old new
-no_event_ended {old = old} {new = new} ends told =
-    let running = is_running index (state old) in
-    no_event_by old new (end_steps index running) (ends.told told).history (end_gives index running)
+pub no_event_ended : {Own : Type 0} {Tells : Type 0} {app : ℕ} {old new : Seen Own} → Ends Tells app old new → Tells → NoEventSince old new
+no_event_ended {app = app} {old = old} {new = new} ends told =
+    let running = is_running app (state old) in
+    no_event_by old new (end_steps app running) (ends.told told).history (end_gives app running)
 
-end_stays : (running : Bool) (d : ℕ) (s : State) → switch_of d (after_steps (end_steps index running) s) ≡ switch_of d s
+end_stays : (app : ℕ) (running : Bool) (d : ℕ) (s : State) → switch_of d (after_steps (end_steps app running) s) ≡ switch_of d s
 unfolding end_steps switch_of after_act after_step
-end_stays true d s = refl
-end_stays false d s = refl
+end_stays app true d s = refl
+end_stays app false d s = refl
 
-pub end_stay : {Own : Type 0} {Tells : Type 0} {old new : Seen Own} → Ends Tells index old new → Tells → SwitchesStay old new
-end_stay {old = old} ends told d =
-    let running = is_running index (state old) in
-    ap (λ (s : State). switch_of d s) (Ends-state told ends) ∙ end_stays running d (state old)
+pub end_stay : {Own : Type 0} {Tells : Type 0} {app : ℕ} {old new : Seen Own} → Ends Tells app old new → Tells → SwitchesStay old new
+end_stay {app = app} {old = old} ends told d =
+    let running = is_running app (state old) in
+    ap (λ (s : State). switch_of d s) (Ends-state told ends) ∙ end_stays app running d (state old)
 
-end_releases : (running : Bool) → released (journal (end_steps index running)) ≡ []
+end_releases : (app : ℕ) (running : Bool) → released (journal (end_steps app running)) ≡ []
 unfolding end_steps journal released
-end_releases true = refl
-end_releases false = refl
+end_releases app true = refl
+end_releases app false = refl
 
-pub end_releases_none : {Own : Type 0} {Tells : Type 0} {old new : Seen Own} → Ends Tells index old new → Tells → NoneReleased old new
-end_releases_none {old = old} ends told =
-    let running = is_running index (state old) in
-    record { steps = end_steps index running; history = (ends.told told).history; none = end_releases running }
+pub end_releases_none : {Own : Type 0} {Tells : Type 0} {app : ℕ} {old new : Seen Own} → Ends Tells app old new → Tells → NoneReleased old new
+end_releases_none {app = app} {old = old} ends told =
+    let running = is_running app (state old) in
+    record { steps = end_steps app running; history = (ends.told told).history; none = end_releases app running }

@@ -1,5 +1,5 @@
 -- Laws of what came of switches in a run that no fault ends: all of it are messages.
-use Rattle.std.specs.Prelude.{◌≡◌, ℕ, Bool, List, [], ◌∷◌, ◌++◌, Option, Result, Ok, Err, IsErrAnd, refl}
+use Rattle.std.specs.Prelude.{◌≡◌, ◌<◌, ℕ, Bool, List, [], ◌∷◌, ◌++◌, Option, Result, Ok, Err, IsErrAnd, refl}
 use Rattle.std.specs.List.{AllByRecursion}
 use Rattle.std.proofs.Common.{true, false, sym, ap, ◌∙◌, subst}
 use Rattle.std.proofs.lemmas.List.{append-nil}
@@ -18,17 +18,15 @@ use Rattle.net_txn.specs.LinkSteps.{MakesNoStrayCall}
 use Rattle.crash_policy.specs.Policies.{AppValue}
 use Rattle.lego_model.specs.UndoFaults.{AreExpectedOnLinks}
 use Rattle.net_txn.specs.laws.LinkStrayLaws.{no_strays_by, no_strays_then}
-use Rattle.app_visor.specs.CallsFor.{IsCallFor}
-use Rattle.run_laws.specs.Engine.{Engine}
-use Rattle.lego_model.specs.Application.{index}
+use Rattle.run_laws.specs.Cut.{IsCallAmong}
 use Rattle.run_laws.specs.First.{IsOpened, net_at_first}
 use Rattle.event_dispatch.specs.declared.fault.Fault.{Fault}
 use Rattle.event_dispatch.specs.declared.fault.Fault.TheVariants as faults
-use Rattle.event_dispatch.specs.declared.run.Run.{Run}
+use Rattle.event_dispatch.specs.declared.core.Core.{Core}
 use Rattle.event_dispatch.specs.declared.served.Served.{Served}
 use Rattle.event_dispatch.specs.declared.served.Served.TheVariants as served
 use Rattle.event_dispatch.specs.Why.{served_by}
-use Rattle.event_dispatch.specs.Shows.{engine_of}
+use Rattle.event_dispatch.specs.Shows.{Stays}
 use Rattle.event_dispatch.specs.Steady.{NoStray, Reads, NoPoint}
 use Rattle.event_dispatch.specs.Serves.{RunsAs, IsUnopened}
 use Rattle.event_dispatch.specs.Cut.{HasRead, ReadsEnd, ReadsAs, IsReadServed}
@@ -37,8 +35,8 @@ use Rattle.event_dispatch.specs.laws.FrontLaws.{abreast_first, keeps_first}
 -- ---- One part behind the other
 
 -- what is kept of switches stays as it is
-pub reads_engine : {Own : Type 0} {Tells : Type 0} {net : NetState} (old new : Seen Own) (mid now : Run) → engine_of now ≡ engine_of mid → Reads Tells old new net mid.net → Reads Tells old new net now.net
-reads_engine {Tells = Tells} {net = net} old new mid now same reads = subst (λ (e : Engine). Reads Tells old new net e.net) (sym same) reads
+pub reads_engine : {Own : Type 0} {Tells : Type 0} {net : NetState} (old new : Seen Own) (mid now : Core) → Stays mid now → Reads Tells old new net mid.net → Reads Tells old new net now.net
+reads_engine {Tells = Tells} {net = net} old new mid now same reads = subst (λ (n : NetState). Reads Tells old new net n) (sym same.net) reads
 
 pub read_none : {Own : Type 0} (Tells : Type 0) (seen : Seen Own) (net : NetState) → HasRead Tells seen seen net
 read_none Tells seen net = record { read = λ told order abreast. messages-none seen }
@@ -66,30 +64,30 @@ went_read Tells (Err served.NoMemory) old mid new net mid_net before later first
 -- ---- The application is ended at last
 
 -- an end, of an application that runs or of one that does not
-record IsEnd (running : Bool) : Type 0 where
-  quiet : NoneQuiescent (end_steps index running)
-  own : AllByRecursion (IsCallFor index) (end_steps index running)
-  places : (s : State) → AreExpectedOnLinks (end_steps index running) s
-  messages : BringMessages (end_steps index running)
+record IsEnd (app : ℕ) (running : Bool) : Type 0 where
+  quiet : NoneQuiescent (end_steps app running)
+  own : (number : ℕ) → app < number → AllByRecursion (IsCallAmong number) (end_steps app running)
+  places : (s : State) → AreExpectedOnLinks (end_steps app running) s
+  messages : BringMessages (end_steps app running)
 
-is_end : (running : Bool) → IsEnd running
+is_end : (app : ℕ) (running : Bool) → IsEnd app running
 unfolding end_steps
-is_end true = record { quiet = (refl, tt); own = (refl, tt); places = λ s. (tt, tt); messages = (refl, tt) }
-is_end false = record { quiet = tt; own = tt; places = λ s. tt; messages = tt }
+is_end app true = record { quiet = (refl, tt); own = λ number small. (small, tt); places = λ s. (tt, tt); messages = (refl, tt) }
+is_end app false = record { quiet = tt; own = λ number small. tt; places = λ s. tt; messages = tt }
 
-pub end_quietly : {Own : Type 0} (Tells : Type 0) (old new : Seen Own) → Ends Tells index old new → NoPoint Tells old new
-end_quietly Tells old new ends = record {
-  none_quiescent = λ told. none_since-by old new (end_steps index (is_running index (state old))) (ends.told told).history (is_end (is_running index (state old))).quiet;
-  own = λ told. record { steps = end_steps index (is_running index (state old)); history = (ends.told told).history; all = (is_end (is_running index (state old))).own };
+pub end_quietly : {Own : Type 0} {number : ℕ} (Tells : Type 0) (app : ℕ) (old new : Seen Own) → app < number → Ends Tells app old new → NoPoint Tells number old new
+end_quietly {number = number} Tells app old new small ends = record {
+  none_quiescent = λ told. none_since-by old new (end_steps app (is_running app (state old))) (ends.told told).history (is_end app (is_running app (state old))).quiet;
+  own = λ told. record { steps = end_steps app (is_running app (state old)); history = (ends.told told).history; all = (is_end app (is_running app (state old))).own number small };
 }
 
-pub end_places : {Own : Type 0} (Tells : Type 0) (old new : Seen Own) → Ends Tells index old new → Tells → MakesNoStrayCall old new
-end_places Tells old new ends told =
-    no_strays_by old new (end_steps index (is_running index (state old))) (ends.told told).history ((is_end (is_running index (state old))).places (state old))
+pub end_places : {Own : Type 0} (Tells : Type 0) (app : ℕ) (old new : Seen Own) → Ends Tells app old new → Tells → MakesNoStrayCall old new
+end_places Tells app old new ends told =
+    no_strays_by old new (end_steps app (is_running app (state old))) (ends.told told).history ((is_end app (is_running app (state old))).places (state old))
 
-pub end_messages : {Own : Type 0} (Tells : Type 0) (old new : Seen Own) → Ends Tells index old new → Tells → MessagesSince old new
-end_messages Tells old new ends told =
-    messages-by old new (end_steps index (is_running index (state old))) (ends.told told).history (is_end (is_running index (state old))).messages
+pub end_messages : {Own : Type 0} (Tells : Type 0) (app : ℕ) (old new : Seen Own) → Ends Tells app old new → Tells → MessagesSince old new
+end_messages Tells app old new ends told =
+    messages-by old new (end_steps app (is_running app (state old))) (ends.told told).history (is_end app (is_running app (state old))).messages
 
 read_then : {Own : Type 0} (Tells : Type 0) (old mid new : Seen Own) (net : NetState) → Continues Tells old mid → Continues Tells mid new → (Tells → MessagesSince mid new) → HasRead Tells old mid net → HasRead Tells old new net
 read_then Tells old mid new net before later last first = record {
@@ -125,7 +123,7 @@ reads_by Tells fault result old new net is = reads_as Tells (served_by fault) re
 -- ---- Of a world on which no call was made
 
 -- it was opened
-pub opened_places : {Own : Type 0} (Tells : Type 0) (old mid new : Seen Own) → Continues Tells old mid → Continues Tells mid new → (Tells → mid.history ≡ old.history ++ Opened ∷ []) → NoStray Tells mid new net_at_first → Tells → old.history ≡ [] → InOrder new → MakesNoStrayCall old new
+pub opened_places : {Own : Type 0} {number : ℕ} (Tells : Type 0) (old mid new : Seen Own) → Continues Tells old mid → Continues Tells mid new → (Tells → mid.history ≡ old.history ++ Opened ∷ []) → NoStray Tells number mid new net_at_first → Tells → old.history ≡ [] → InOrder new → MakesNoStrayCall old new
 opened_places Tells old mid new before later opened places told none order =
     let first : MakesNoStrayCall old mid = no_strays_by old mid (Opened ∷ []) (opened told) (tt, tt) in
     no_strays_then old mid new told before later first (places.places told order (abreast_first mid (opened told ∙ ap (λ (steps : List WorldStep). steps ++ Opened ∷ []) none)))
@@ -155,12 +153,12 @@ all_read Tells old mid new later opened has told none order =
     let is : IsOpened mid = opened told ∙ ap (λ (steps : List WorldStep). steps ++ Opened ∷ []) none in
     messages-of new (Conforming-on mid new told later (keeps_first mid is (InOrder-before told later order)) order (has.read told order (abreast_first mid is)))
 
-pub failed_read : {Own : Type 0} (rule : AppValue) (Tells : Type 0) (accepts : List TableView → Bool) (most : ℕ) (end : Served) (a b : Option (List ℕ)) (old mid new : Seen Own) → Continues Tells mid new → (Tells → mid.history ≡ old.history ++ Opened ∷ []) → RunsAs rule Tells accepts most (Err end) a b mid new
+pub failed_read : {Own : Type 0} (rules : List AppValue) (Tells : Type 0) (accepts : List TableView → Bool) (most : ℕ) (end : Served) (a b : Option (List ℕ)) (old mid new : Seen Own) → Continues Tells mid new → (Tells → mid.history ≡ old.history ++ Opened ∷ []) → RunsAs rules Tells accepts most (Err end) a b mid new
     → ReadsEnd Tells end mid new net_at_first → Tells → old.history ≡ [] → InOrder new → IsReadServed new end
-failed_read rule Tells accepts most (served.EventsLeft left) a b old mid new later opened runs reads told none order = all_read Tells old mid new later opened reads told none order
-failed_read rule Tells accepts most (served.Ended events) a b old mid new later opened runs reads told none order = absurd runs
-failed_read rule Tells accepts most served.WriteFault a b old mid new later opened runs reads told none order = tt
-failed_read rule Tells accepts most served.Shut a b old mid new later opened runs reads told none order = tt
-failed_read rule Tells accepts most served.NextFault a b old mid new later opened runs reads told none order = tt
-failed_read rule Tells accepts most (served.Txn fault) a b old mid new later opened runs reads told none order = tt
-failed_read rule Tells accepts most served.NoMemory a b old mid new later opened runs reads told none order = tt
+failed_read rules Tells accepts most (served.EventsLeft left) a b old mid new later opened runs reads told none order = all_read Tells old mid new later opened reads told none order
+failed_read rules Tells accepts most (served.Ended events) a b old mid new later opened runs reads told none order = absurd runs
+failed_read rules Tells accepts most served.WriteFault a b old mid new later opened runs reads told none order = tt
+failed_read rules Tells accepts most served.Shut a b old mid new later opened runs reads told none order = tt
+failed_read rules Tells accepts most served.NextFault a b old mid new later opened runs reads told none order = tt
+failed_read rules Tells accepts most (served.Txn fault) a b old mid new later opened runs reads told none order = tt
+failed_read rules Tells accepts most served.NoMemory a b old mid new later opened runs reads told none order = tt

@@ -1,5 +1,6 @@
 -- Laws of what goes on with the dialogue with the application.
-use Rattle.std.proofs.Common.{◌≡◌, ℕ, true, Bool, List, [], ◌∷◌, ◌++◌, filter, Option, Some, None, Result, Ok, Err, refl, sym, ap, ◌∙◌, subst}
+use Rattle.std.proofs.Common.{◌≡◌, ◌<◌, ◌+◌, ℕ, zero, suc, true, Bool, List, [], ◌∷◌, ◌++◌, filter, length, Option, Some, None, Result, Ok, Err, refl, sym, ap, ◌∙◌, subst, arith, inl, inr}
+use Rattle.std.proofs.lemmas.Bool.{cases_eq}
 use Rattle.of_types.specs.declared.journal.WorldStim.{WorldStim}
 use Rattle.std.specs.Prelude.{OnErr}
 use Rattle.lego_model.specs.Journal.{is_of, is_event}
@@ -24,17 +25,20 @@ use Rattle.app_visor.specs.laws.TryLaws.{tries_speak}
 use Rattle.app_visor.specs.Dialogues.{Converses, LeadsOn, TalksOn, Talks}
 use Rattle.app_visor.specs.laws.LeadsOnLaws.{leads_on_links, leads_on_then}
 use Rattle.app_visor.specs.Turns.{Turns}
-use Rattle.app_visor.specs.laws.DialogueLaws.{Converses-then, converses_ended}
-use Rattle.run_laws.specs.laws.DialogueLaws.{at_once_then, runs_now, others_at_once}
+use Rattle.app_visor.specs.laws.DialogueLaws.{Converses-then}
+use Rattle.run_laws.specs.laws.DialogueLaws.{runs_now, others_at_once}
 use Rattle.journal_laws.specs.laws.FrameLaws.{event_is}
-use Rattle.run_laws.specs.Engine.{Engine}
-use Rattle.lego_model.specs.Application.{index}
+use Rattle.run_laws.specs.Engine.{Application, Engine, EachFrom}
+use Rattle.run_laws.specs.Moves.{IsAtRest}
 use Rattle.event_dispatch.specs.declared.closing.Closing.{Closing}
 use Rattle.event_dispatch.specs.declared.closing.Closing.TheVariants as closings
 use Rattle.event_dispatch.specs.Serves.{PlaysTurn}
 use Rattle.event_dispatch.specs.Talking.{KeepsTalking, TurnTalks, GoesOnTalking}
 use Rattle.event_dispatch.specs.laws.NoEventLaws.{no_event_none, no_event_then, no_event_links, no_event_next, no_event_own, no_event_ended}
-use Rattle.app_visor.specs.CallsFor.{OwnSteps}
+use Rattle.app_visor.specs.CallsFor.{CallsFor, OwnSteps}
+use Rattle.app_visor.specs.laws.OwnLaws.{own_calls}
+use Rattle.run_laws.specs.laws.OtherLaws.{calls-silent, silent-at-once}
+use Rattle.run_laws.specs.laws.LeaveLaws.{end-leaves}
 
 -- ---- Of any application
 
@@ -57,63 +61,72 @@ talks_leads says = (says.after, says.converses)
 -- ---- Whatever it was
 
 pub keeps_none : {Own : Type 0} (Tells : Type 0) (seen : Seen Own) → KeepsTalking Tells seen seen
-keeps_none Tells seen = record { talks = λ told a. a; no_event = λ told. no_event_none seen }
+keeps_none Tells seen = record { talks = λ told app a. a; no_event = λ told. no_event_none seen }
 
 pub keeps_then : {Own : Type 0} (Tells : Type 0) (a b c : Seen Own) → KeepsTalking Tells a b → KeepsTalking Tells b c → KeepsTalking Tells a c
-keeps_then Tells a b c first second = record { talks = λ told said. second.talks told (first.talks told said); no_event = λ told. no_event_then (first.no_event told) (second.no_event told) }
+keeps_then Tells a b c first second = record { talks = λ told app said. second.talks told app (first.talks told app said); no_event = λ told. no_event_then (first.no_event told) (second.no_event told) }
 
 -- links were used
 pub keeps_links : {Own : Type 0} (Tells : Type 0) (old new : Seen Own) → OnLinks Tells old new → KeepsTalking Tells old new
-keeps_links Tells old new links = record { talks = λ told a. leads_at_once index old new a (leads_on_links index a.last links told); no_event = λ told. no_event_links (links told) }
+keeps_links Tells old new links = record { talks = λ told app a. leads_at_once app old new a (leads_on_links app a.last links told); no_event = λ told. no_event_links (links told) }
 
 -- no act of the application was told
-item_none : (item : Item) (buf : List ℕ) → filter (is_of index) (journal (item_step item buf ∷ [])) ≡ []
+item_none : (app : ℕ) (item : Item) (buf : List ℕ) → filter (is_of app) (journal (item_step item buf ∷ [])) ≡ []
 unfolding item_step journal
-item_none (items.From d n) buf = refl
-item_none (items.Joined d n) buf = refl
-item_none (items.Left d) buf = refl
-item_none (items.Moment t) buf = refl
-item_none items.Idle buf = refl
-item_none items.End buf = refl
+item_none app (items.From d n) buf = refl
+item_none app (items.Joined d n) buf = refl
+item_none app (items.Left d) buf = refl
+item_none app (items.Moment t) buf = refl
+item_none app items.Idle buf = refl
+item_none app items.End buf = refl
 
-stim_none : (begun : Option WorldStim) (steps : List WorldStep) → filter (is_of index) (journal steps) ≡ [] → filter (is_of index) (journal (stim_steps begun ++ steps)) ≡ []
+stim_none : (app : ℕ) (begun : Option WorldStim) (steps : List WorldStep) → filter (is_of app) (journal steps) ≡ [] → filter (is_of app) (journal (stim_steps begun ++ steps)) ≡ []
 unfolding journal
-stim_none None steps none = none
-stim_none (Some x) steps none = none
+stim_none app None steps none = none
+stim_none app (Some x) steps none = none
 
-next_none : (begun : Option WorldStim) (result : Result Item NextFault) (buf : List ℕ) → filter (is_of index) (journal (next_steps begun result buf)) ≡ []
+next_none : (app : ℕ) (begun : Option WorldStim) (result : Result Item NextFault) (buf : List ℕ) → filter (is_of app) (journal (next_steps begun result buf)) ≡ []
 unfolding next_steps journal
-next_none begun (Ok item) buf = stim_none begun (item_step item buf ∷ []) (item_none item buf)
-next_none begun (Err coming.Failed) buf = refl
-next_none begun (Err coming.Short) buf = refl
+next_none app begun (Ok item) buf = stim_none app begun (item_step item buf ∷ []) (item_none app item buf)
+next_none app begun (Err coming.Failed) buf = refl
+next_none app begun (Err coming.Short) buf = refl
 
 -- what comes next was told, or nothing
 pub keeps_next : {Own : Type 0} {Tells : Type 0} {old new : Seen Own} {result : Result Item NextFault} {buf : List ℕ} → Nexts Tells old new result buf → KeepsTalking Tells old new
 keeps_next {old = old} {new = new} {result = result} {buf = buf} nexts = record {
-  talks = λ told a.
+  talks = λ told app a.
       let call = nexts.told told in
-      others_at_once old new (next_steps call.begun result buf) call.history (next_none call.begun result buf) a;
+      others_at_once app old new (next_steps call.begun result buf) call.history (next_none app call.begun result buf) a;
   no_event = λ told. no_event_next nexts told;
 }
 
 -- the application was ended, if it ran
-pub keeps_ended : {Own : Type 0} (Tells : Type 0) (old new : Seen Own) → Ends Tells index old new → KeepsTalking Tells old new
-keeps_ended Tells old new ends = record { talks = λ told said. let ended = converses_ended Tells index said.last old new ends told (runs_now old said) in at_once_then ended.0 old new said ended.1.0; no_event = λ told. no_event_ended ends told }
+pub keeps_ended : {Own : Type 0} (Tells : Type 0) (app : ℕ) (old new : Seen Own) → Ends Tells app old new → KeepsTalking Tells old new
+keeps_ended Tells app old new ends = record { talks = λ told of said. (end-leaves Tells app (app + 1) old new told (omega arith) ends).at_once of said; no_event = λ told. no_event_ended ends told }
+
+-- calls for one application go on with the dialogue with another
+led_on : {Own : Type 0} (Tells : Type 0) (app of : ℕ) (old new : Seen Own) → CallsFor app old new → ((s : Before) → s.running ≡ is_running app (state old) → LeadsOn app s old new) → AtOnce of (journal old.history) → AtOnce of (journal new.history)
+led_on Tells app of old new calls leads a = elim (cases_eq of app) [
+  | inl same ↦
+      let here : AtOnce app (journal old.history) = subst (λ (i : ℕ). AtOnce i (journal old.history)) same a in
+      subst (λ (i : ℕ). AtOnce i (journal new.history)) (sym same) (leads_at_once app old new here (leads here.last (runs_now app old here)))
+  | inr other ↦ silent-at-once of old new (calls-silent app of old new calls other) a
+]
 
 -- attempts to start it went on with the dialogue
-keeps_led : {Own : Type 0} (Tells : Type 0) (app : ℕ) (old new : Seen Own) → app ≡ index → (Tells → OwnSteps app old new) → TalksOn Tells app old new → KeepsTalking Tells old new
-keeps_led Tells app old new is own leads = record {
-  talks = λ told a. leads_at_once index old new a (subst (λ (i : ℕ). TalksOn Tells i old new) is leads told a.last (runs_now old a));
+keeps_led : {Own : Type 0} (Tells : Type 0) (app : ℕ) (old new : Seen Own) → (Tells → OwnSteps app old new) → TalksOn Tells app old new → KeepsTalking Tells old new
+keeps_led Tells app old new own leads = record {
+  talks = λ told of a. led_on Tells app of old new (own_calls (own told)) (leads told) a;
   no_event = λ told. no_event_own (own told);
 }
 
 -- they stopped early
-pub keeps_tried : {Own : Type 0} (Tells : Type 0) (app : ℕ) (old new : Seen Own) → app ≡ index → (Tells → OwnSteps app old new) → (Tells → (s : Before) → s.running ≡ is_running app (state old) → Talks app s old new) → KeepsTalking Tells old new
-keeps_tried Tells app old new is own says = keeps_led Tells app old new is own (λ told s runs. talks_leads (says told s runs))
+pub keeps_tried : {Own : Type 0} (Tells : Type 0) (app : ℕ) (old new : Seen Own) → (Tells → OwnSteps app old new) → (Tells → (s : Before) → s.running ≡ is_running app (state old) → Talks app s old new) → KeepsTalking Tells old new
+keeps_tried Tells app old new own says = keeps_led Tells app old new own (λ told s runs. talks_leads (says told s runs))
 
 -- they were made to their end
-pub keeps_restarted : {Own : Type 0} {kept : List ℕ} {found : Option (List ℕ)} {tries : List Tried} (Tells : Type 0) (app : ℕ) (old new : Seen Own) → app ≡ index → (Tells → OwnSteps app old new) → Restarts Tells app kept old new found tries → KeepsTalking Tells old new
-keeps_restarted {kept = kept} Tells app old new is own restarts = keeps_led Tells app old new is own
+pub keeps_restarted : {Own : Type 0} {kept : List ℕ} {found : Option (List ℕ)} {tries : List Tried} (Tells : Type 0) (app : ℕ) (old new : Seen Own) → (Tells → OwnSteps app old new) → Restarts Tells app kept old new found tries → KeepsTalking Tells old new
+keeps_restarted {kept = kept} Tells app old new own restarts = keeps_led Tells app old new own
     (λ told s runs. let says = tries_speak Tells app kept attempts restarts.all old new s restarts.are told runs in (says.after, says.converses))
 
 -- ---- A turn
@@ -140,31 +153,27 @@ turn_played : {Own : Type 0} (Tells : Type 0) (accepts : List TableView → Bool
 turn_played Tells accepts app budget number event (closings.Done stop out) old new net now_net queue now_queue rest unread plays = turn_ends app rest old plays.mid new (event_is number net.moment event) plays.turns plays.played.links
 turn_played Tells accepts app budget number event (closings.Failed cause) old new net now_net queue now_queue rest unread plays = turn_ends app rest old plays.mid new (event_is number net.moment event) plays.turns plays.played.0.links
 
--- of the one application
-pub turn_of : {Own : Type 0} (Tells : Type 0) (app : ℕ) (rest : List ℕ) (old new : Seen Own) → app ≡ index → TurnTalks Tells app rest old new → TurnTalks Tells index rest old new
-turn_of Tells app rest old new is talks = subst (λ (i : ℕ). TurnTalks Tells i rest old new) is talks
-
 -- it was played, and what followed goes on
-pub turn_closed : {Own : Type 0} {Tells : Type 0} {accepts : List TableView → Bool} {budget number : ℕ} {event : Event} {closing : Closing} {net now_net : NetState} {queue now_queue : List Event} {unread : List ℕ} (app : ℕ) (rest : List ℕ) (old mid new : Seen Own) → app ≡ index
-    → PlaysTurn Tells accepts app budget number event closing old mid net now_net queue now_queue rest unread → KeepsTalking Tells mid new → TurnTalks Tells index rest old new
-turn_closed {Tells = Tells} {accepts = accepts} {budget = budget} {number = number} {event = event} {closing = closing} {net = net} {now_net = now_net} {queue = queue} {now_queue = now_queue} {unread = unread} app rest old mid new is plays later =
-    let first = turn_of Tells app rest old mid is (turn_played Tells accepts app budget number event closing old mid net now_net queue now_queue rest unread plays) in
-    record { talks = λ told a runs passes. later.talks told (first.talks told a runs passes) }
+pub turn_closed : {Own : Type 0} {Tells : Type 0} {accepts : List TableView → Bool} {budget number : ℕ} {event : Event} {closing : Closing} {net now_net : NetState} {queue now_queue : List Event} {unread : List ℕ} (app : ℕ) (rest : List ℕ) (old mid new : Seen Own)
+    → PlaysTurn Tells accepts app budget number event closing old mid net now_net queue now_queue rest unread → KeepsTalking Tells mid new → TurnTalks Tells app rest old new
+turn_closed {Tells = Tells} {accepts = accepts} {budget = budget} {number = number} {event = event} {closing = closing} {net = net} {now_net = now_net} {queue = queue} {now_queue = now_queue} {unread = unread} app rest old mid new plays later =
+    let first = turn_played Tells accepts app budget number event closing old mid net now_net queue now_queue rest unread plays in
+    record { talks = λ told a runs passes. later.talks told app (first.talks told a runs passes) }
 
 -- ---- Behind parts of a run that were done
 
+-- one of those from an index on
+pub each_at : (P : ℕ → Application → Type 0) (i : ℕ) (apps : List Application) (k n : ℕ) → n ≡ i + k → k < length apps → EachFrom P i apps → (a : Application) × P n a
+each_at P i [] k n same less each = absurd (omega (arith, less))
+each_at P i (a ∷ more) zero n same less each = let here : n ≡ i = omega (arith, same) in (a, subst (λ (m : ℕ). P m a) (sym here) each.0)
+each_at P i (a ∷ more) (suc k) n same less each = each_at P (i + 1) more k n (omega (arith, same)) (omega (arith, less)) each.1
+
+-- each is at rest, so that all that happened is a dialogue with it
+pub rests_at_once : {Own : Type 0} (seen : Seen Own) (apps : List Application) (app : ℕ) → EachFrom (IsAtRest seen) 0 apps → app < length apps → AtOnce app (journal seen.history)
+rests_at_once seen apps app each less = (each_at (IsAtRest seen) 0 apps app app (omega arith) less each).1.at_once
+
 pub goes_none : {Own : Type 0} (Tells : Type 0) (seen : Seen Own) (e : Engine) → GoesOnTalking Tells seen seen e
-goes_none Tells seen e = record { talks = λ told c. c.at_once }
-
--- the application has its turn while it is alive
-pub goes_turn : {Own : Type 0} (Tells : Type 0) (rest : List ℕ) (old new : Seen Own) (e : Engine) → e.alive ≡ true → rest ≡ e.rest → TurnTalks Tells index rest old new → GoesOnTalking Tells old new e
-goes_turn Tells rest old new e alive is turn = record { talks = λ told c. turn.talks told c.at_once (c.rest_is alive).0 (subst (Passes c.at_once.last.unread) (sym is) (c.rest_is alive).1) }
-
--- of an engine whose application stands as here
-pub goes_as : {Own : Type 0} (Tells : Type 0) (old new : Seen Own) (e other : Engine) → e.alive ≡ other.alive → e.rest ≡ other.rest → GoesOnTalking Tells old new e → GoesOnTalking Tells old new other
-goes_as Tells old new e other alive rest goes = record {
-  talks = λ told c. goes.talks told (record { at_once = c.at_once; rest_is = λ is. let so = c.rest_is (sym alive ∙ is) in (so.0, subst (Passes c.at_once.last.unread) (sym rest) so.1) });
-}
+goes_none Tells seen e = record { talks = λ told each app less. rests_at_once seen e.apps app each less }
 
 -- ---- Where a fault ended it
 

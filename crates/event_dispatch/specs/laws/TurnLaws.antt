@@ -21,27 +21,27 @@ use Rattle.app_visor.specs.declared.state.TurnEnd.TheVariants as ends
 use Rattle.app_visor.specs.Attempts.{kept_of}
 use Rattle.app_visor.specs.Turns.{StagesTurn}
 use Rattle.checkpoint_store.specs.Slots.{Slot}
-use Rattle.run_laws.specs.Engine.{Engine}
-use Rattle.lego_model.specs.Application.{index}
+use Rattle.run_laws.specs.Engine.{Focus}
 use Rattle.batch_laws.specs.Knowledge.{lost_text}
-use Rattle.run_laws.specs.Facts.{turn_word, out_text, all_told, Follows}
+use Rattle.run_laws.specs.Facts.{turn_word, out_text, all_told, says_stop, Follows}
 use Rattle.event_dispatch.specs.declared.closing.Closing.{Closing}
 use Rattle.event_dispatch.specs.declared.closing.Closing.TheVariants as closings
-use Rattle.event_dispatch.specs.declared.run.Run.{Run}
-use Rattle.event_dispatch.specs.Shows.{engine_of, name_of, played_run}
-use Rattle.event_dispatch.specs.Serves.{Closes, HasTurn}
+use Rattle.event_dispatch.specs.declared.core.Core.{Core}
+use Rattle.event_dispatch.specs.declared.run.Managed.{Managed}
+use Rattle.event_dispatch.specs.Shows.{focus_of, name_of, played_core, played_app}
+use Rattle.event_dispatch.specs.Serves.{end_of, Closes, TurnNoted}
 use Rattle.event_dispatch.specs.Stored.{PlaysStaged, HoldsTurn}
 use Rattle.event_dispatch.specs.laws.StoreLaws.{none_handed}
 
 -- ---- A turn, from its event on
 
-turn_at : {Own : Type 0} (Tells : Type 0) (accepts : List TableView → Bool) (event : Event) (closing : Closing) (old mid new : Seen Own) (net : NetState) (queue : List Event) (app : AppState) (slots : List Slot) (r now_r : Run)
-    → HoldsTurn Tells accepts index r.app.rule.now.budget r.events event closing old mid r.net net r.queue queue r.app.state.rest app.rest (kept_of index r.store) (kept_of index slots) → app.alive ≡ r.app.state.alive → Closes Tells event.kind closing mid new (played_run net queue app slots r) now_r
-    → HasTurn Tells accepts event old new r now_r
-turn_at Tells accepts event (closings.Done stop out) old mid new net queue app slots r now_r holds alive closes =
+pub turn_is : {Own : Type 0} (Tells : Type 0) (accepts : List TableView → Bool) (event : Event) (closing : Closing) (stops : Bool) (old mid new : Seen Own) (net : NetState) (queue : List Event) (app : AppState) (slots : List Slot) (c now_c : Core) (m now_m : Managed)
+    → HoldsTurn Tells accepts m.state.index m.rule.now.budget c.events event closing old mid c.net net c.queue queue m.state.rest app.rest (kept_of m.state.index c.store) (kept_of m.state.index slots) → app.index ≡ m.state.index → app.alive ≡ m.state.alive → stops ≡ says_stop (end_of closing)
+    → Closes Tells event.kind closing mid new (played_core net queue slots c) now_c (played_app app m) now_m → TurnNoted Tells accepts event stops old new c now_c m now_m
+turn_is Tells accepts event (closings.Done stop out) stops old mid new net queue app slots c now_c m now_m holds index alive stops_is closes =
     let plays = holds.plays in
     record {
-      text = turn_line (name_of r) (turn_word (ends.Done stop)) ++ (out_text out.items ++ lost_text net.left);
+      text = turn_line (name_of m) (turn_word (ends.Done stop)) ++ (out_text out.items ++ lost_text net.left);
       takes = record {
         mid = plays.mid;
         mid_net = plays.mid_net;
@@ -52,21 +52,23 @@ turn_at Tells accepts event (closings.Done stop out) old mid new net queue app s
           net = net;
           queue = queue;
           sent = out.items;
-          commits = subst (λ (s : Seen _). Commits Tells (length r.net.log) plays.mid s plays.mid_net net r.queue queue (Ok out.items)) (sym closes.seen) plays.played;
+          commits = subst (λ (s : Seen _). Commits Tells (length c.net.log) plays.mid s plays.mid_net net c.queue queue (Ok out.items)) (sym closes.seen) plays.played;
           engine = closes.engine
-              ∙ ap (λ (b : Bool). all_told net queue (record (engine_of r) { alive = b; rest = app.rest; kept = kept_of index slots; done = r.app.done + 1 })) alive
-              ∙ ap (λ (kept : List ℕ). all_told net queue (record (engine_of r) { rest = app.rest; kept = kept; done = r.app.done + 1 })) holds.kept_is;
+              ∙ ap (λ (i : ℕ). all_told net queue (record (focus_of c m) { index = i; alive = app.alive; rest = app.rest; kept = kept_of i slots; done = m.done + 1 })) index
+              ∙ ap (λ (b : Bool). all_told net queue (record (focus_of c m) { alive = b; rest = app.rest; kept = kept_of m.state.index slots; done = m.done + 1 })) alive
+              ∙ ap (λ (kept : List ℕ). all_told net queue (record (focus_of c m) { rest = app.rest; kept = kept; done = m.done + 1 })) holds.kept_is;
           text_is = refl;
         };
       };
+      stops_is = stops_is;
       notes = closes.notes;
     }
-turn_at Tells accepts event (closings.Failed cause) old mid new net queue app slots r now_r holds alive closes =
+turn_is Tells accepts event (closings.Failed cause) stops old mid new net queue app slots c now_c m now_m holds index alive stops_is closes =
     let plays = holds.plays in
-    let same : kept_of index slots ≡ kept_of index r.store =
-    holds.kept_is ∙ ap (λ (checkpoint : Option (List ℕ)). unwrap_or checkpoint (kept_of index r.store)) (none_handed cause app.rest plays.turns.outcome plays.turns.ends) in
+    let same : kept_of m.state.index slots ≡ kept_of m.state.index c.store =
+    holds.kept_is ∙ ap (λ (checkpoint : Option (List ℕ)). unwrap_or checkpoint (kept_of m.state.index c.store)) (none_handed cause app.rest plays.turns.outcome plays.turns.ends) in
     record {
-      text = turn_line (name_of r) (words.Failed cause) ++ (lost_text net.left ++ closes.text);
+      text = turn_line (name_of m) (words.Failed cause) ++ (lost_text net.left ++ closes.text);
       takes = record {
         mid = plays.mid;
         mid_net = plays.mid_net;
@@ -78,22 +80,17 @@ turn_at Tells accepts event (closings.Failed cause) old mid new net queue app sl
           undone_net = net;
           undoes = plays.played.0;
           later_text = closes.text;
-          follows = subst (λ (e : Engine). Follows Tells (rule_at (app_value r.app.rule.now) event.kind) closes.text mid new e (engine_of now_r))
-              (ap (λ (unread : List ℕ). all_told net queue (record (engine_of r) { alive = app.alive; rest = unread; kept = kept_of index slots; failed = r.app.failed + 1 })) plays.turns.leaves
-              ∙ ap₂ (λ (q : List Event) (b : Bool). all_told net q (record (engine_of r) { alive = b; rest = []; kept = kept_of index slots; failed = r.app.failed + 1 })) plays.played.1 alive
-              ∙ ap (λ (kept : List ℕ). all_told net r.queue (record (engine_of r) { rest = []; kept = kept; failed = r.app.failed + 1 })) same) closes.follows;
+          follows = subst (λ (e : Focus). Follows Tells (rule_at (app_value m.rule.now) event.kind) closes.text mid new e (focus_of now_c now_m))
+              (ap (λ (i : ℕ). all_told net queue (record (focus_of c m) { index = i; alive = app.alive; rest = app.rest; kept = kept_of i slots; failed = m.failed + 1 })) index
+              ∙ ap (λ (unread : List ℕ). all_told net queue (record (focus_of c m) { alive = app.alive; rest = unread; kept = kept_of m.state.index slots; failed = m.failed + 1 })) plays.turns.leaves
+              ∙ ap₂ (λ (q : List Event) (b : Bool). all_told net q (record (focus_of c m) { alive = b; rest = []; kept = kept_of m.state.index slots; failed = m.failed + 1 })) plays.played.1 alive
+              ∙ ap (λ (kept : List ℕ). all_told net c.queue (record (focus_of c m) { rest = []; kept = kept; failed = m.failed + 1 })) same) closes.follows;
           text_is = refl;
         };
       };
+      stops_is = stops_is;
       notes = closes.notes;
     }
-
-pub turn_is : {Own : Type 0} (Tells : Type 0) (accepts : List TableView → Bool) (event : Event) (closing : Closing) (old mid new : Seen Own) (net : NetState) (queue : List Event) (app : AppState) (slots : List Slot) (r now_r : Run) → r.app.state.index ≡ index
-    → HoldsTurn Tells accepts r.app.state.index r.app.rule.now.budget r.events event closing old mid r.net net r.queue queue r.app.state.rest app.rest (kept_of r.app.state.index r.store) (kept_of r.app.state.index slots) → app.alive ≡ r.app.state.alive
-    → Closes Tells event.kind closing mid new (played_run net queue app slots r) now_r → HasTurn Tells accepts event old new r now_r
-turn_is Tells accepts event closing old mid new net queue app slots r now_r at holds alive closes =
-    turn_at Tells accepts event closing old mid new net queue app slots r now_r
-    (subst (λ (i : ℕ). HoldsTurn Tells accepts i r.app.rule.now.budget r.events event closing old mid r.net net r.queue queue r.app.state.rest app.rest (kept_of i r.store) (kept_of i slots)) at holds) alive closes
 
 -- ---- A turn that was played in a transaction
 

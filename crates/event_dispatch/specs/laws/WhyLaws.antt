@@ -11,7 +11,7 @@ use Rattle.lego_model.specs.declared.fault.TxnFault.{TxnFault}
 use Rattle.lego_model.specs.declared.fault.TxnFault.TheVariants.{SwitchBroke, Diverged, Flooded, NoMemory}
 use Rattle.event_dispatch.specs.declared.served.Served.{Served}
 use Rattle.event_dispatch.specs.declared.served.Served.TheVariants as ends
-use Rattle.event_dispatch.specs.declared.run.Run.{Run}
+use Rattle.event_dispatch.specs.declared.core.Core.{Core}
 use Rattle.event_dispatch.specs.Runs.{Waits, WaitsAtEnd}
 use Rattle.event_dispatch.specs.Why.{IsWhy}
 use Rattle.lego_model.specs.SwitchFaults.{CameFrom, IsBadPart, IsUnanswered, IsErrorFor, IsWhyTxn}
@@ -128,15 +128,15 @@ continues_then Tells a b c first rest = Continues-trans Tells a b c first rest
 pub why_then : {Own : Type 0} {Tells : Type 0} (a b c : Seen Own) (end : Served) → Continues Tells a b → IsWhy Tells b c 0 0 end → IsWhy Tells a c 0 0 end
 why_then a b c end first why = IsWhy-behind a b c 0 0 0 end first (omega arith) why
 
-pub waits_then : (a b c : Run) → Waits a b → Waits b c → Waits a c
-waits_then a b c first rest = record { room = rest.room ∙ first.room; events = rest.events ∙ first.events; done = rest.done ∙ first.done; failed = rest.failed ∙ first.failed; store = rest.store ∙ first.store; left = λ none. rest.left (first.left none) }
+pub waits_then : (a b c : Core) → Waits a b → Waits b c → Waits a c
+waits_then a b c first rest = record { room = rest.room ∙ first.room; events = rest.events ∙ first.events; store = rest.store ∙ first.store; left = λ none. rest.left (first.left none) }
 
 -- at the end of a report
-pub waits_at_end : (a b c : Run) → WaitsAtEnd a b → Waits b c → WaitsAtEnd a c
-waits_at_end a b c first rest = record { room = rest.room ∙ first.room; events = rest.events ∙ first.events; done = rest.done ∙ first.done; failed = rest.failed ∙ first.failed; store = rest.store ∙ first.store }
+pub waits_at_end : (a b c : Core) → WaitsAtEnd a b → Waits b c → WaitsAtEnd a c
+waits_at_end a b c first rest = record { room = rest.room ∙ first.room; events = rest.events ∙ first.events; store = rest.store ∙ first.store }
 
-pub ends_then : (a b c : Run) → WaitsAtEnd a b → WaitsAtEnd b c → WaitsAtEnd a c
-ends_then a b c first rest = record { room = rest.room ∙ first.room; events = rest.events ∙ first.events; done = rest.done ∙ first.done; failed = rest.failed ∙ first.failed; store = rest.store ∙ first.store }
+pub ends_then : (a b c : Core) → WaitsAtEnd a b → WaitsAtEnd b c → WaitsAtEnd a c
+ends_then a b c first rest = record { room = rest.room ∙ first.room; events = rest.events ∙ first.events; store = rest.store ∙ first.store }
 
 -- what came before an undo
 pub why_before : {Own : Type 0} {Tells : Type 0} (a b c : Seen Own) (end : Served) → Continues Tells a b → Continues Tells b c → IsWhy Tells a b 0 0 end → IsWhy Tells a c 0 0 end

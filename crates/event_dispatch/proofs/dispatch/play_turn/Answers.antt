@@ -83,19 +83,19 @@ pub returns-in-Err-clause-later : goal.returns-in-Err-clause-later
 returns-in-Err-clause-later g c = later_links c.turn.ensures.later c.abort-in-Err.ensures.links
 
 pub returns-in_ok-out-in-Ok-Done-clause-places : goal.returns-in_ok-out-in-Ok-Done-clause-places
-returns-in_ok-out-in-Ok-Done-clause-places g c = played_places _ _ _ (later_own c.args.app.now.index c.requires.index (returns-in_ok-out-in-Ok-Done-clause-later g c)) (returns-in_ok-out-in-Ok-Done-clause-plays g c).plays
+returns-in_ok-out-in-Ok-Done-clause-places g c = played_places _ _ _ (later_own c.args.app.now.index c.requires.place (returns-in_ok-out-in-Ok-Done-clause-later g c)) (returns-in_ok-out-in-Ok-Done-clause-plays g c).plays
 
 pub returns-in_ok-abort-in-Ok-Failed-clause-places : goal.returns-in_ok-abort-in-Ok-Failed-clause-places
-returns-in_ok-abort-in-Ok-Failed-clause-places g c = played_places _ _ _ (later_own c.args.app.now.index c.requires.index (returns-in_ok-abort-in-Ok-Failed-clause-later g c)) (returns-in_ok-abort-in-Ok-Failed-clause-plays g c).plays
+returns-in_ok-abort-in-Ok-Failed-clause-places g c = played_places _ _ _ (later_own c.args.app.now.index c.requires.place (returns-in_ok-abort-in-Ok-Failed-clause-later g c)) (returns-in_ok-abort-in-Ok-Failed-clause-plays g c).plays
 
 pub returns-in_err-out-in-Ok-Done-clause-places : goal.returns-in_err-out-in-Ok-Done-clause-places
-returns-in_err-out-in-Ok-Done-clause-places g c = turn_committed c.args.net.now c.begin-txn.ensures.net (later_own c.args.app.now.index c.requires.index (returns-in_err-out-in-Ok-Done-clause-later g c)) c.in-Ok-Done.ensures.ok.turns c.in_err-out-in-Ok-Done.ensures
+returns-in_err-out-in-Ok-Done-clause-places g c = turn_committed c.args.net.now c.begin-txn.ensures.net (later_own c.args.app.now.index c.requires.place (returns-in_err-out-in-Ok-Done-clause-later g c)) c.in-Ok-Done.ensures.ok.turns c.in_err-out-in-Ok-Done.ensures
 
 pub returns-in_err-abort-in-Ok-Failed-clause-places : goal.returns-in_err-abort-in-Ok-Failed-clause-places
-returns-in_err-abort-in-Ok-Failed-clause-places g c = turn_undone c.args.net.now c.begin-txn.ensures.net (later_own c.args.app.now.index c.requires.index (returns-in_err-abort-in-Ok-Failed-clause-later g c)) c.in-Ok-Failed.ensures.ok.turns c.abort.ensures
+returns-in_err-abort-in-Ok-Failed-clause-places g c = turn_undone c.args.net.now c.begin-txn.ensures.net (later_own c.args.app.now.index c.requires.place (returns-in_err-abort-in-Ok-Failed-clause-later g c)) c.in-Ok-Failed.ensures.ok.turns c.abort.ensures
 
 pub returns-in-Err-clause-places : goal.returns-in-Err-clause-places
-returns-in-Err-clause-places g c = stop_undone c.args.net.now c.begin-txn.ensures.net (later_own c.args.app.now.index c.requires.index (returns-in-Err-clause-later g c)) c.in-Err.ensures.err c.abort-in-Err.ensures
+returns-in-Err-clause-places g c = stop_undone c.args.net.now c.begin-txn.ensures.net (later_own c.args.app.now.index c.requires.place (returns-in-Err-clause-later g c)) c.in-Err.ensures.err c.abort-in-Err.ensures
 
 pub returns-in_ok-out-in-Ok-Done-clause-reads : goal.returns-in_ok-out-in-Ok-Done-clause-reads
 returns-in_ok-out-in-Ok-Done-clause-reads g c = played_reads _ _ _ (returns-in_ok-out-in-Ok-Done-clause-plays g c).plays
@@ -105,13 +105,13 @@ returns-in_ok-abort-in-Ok-Failed-clause-reads g c = played_reads _ _ _ (returns-
 
 pub returns-in_err-out-in-Ok-Done-clause-left : goal.returns-in_err-out-in-Ok-Done-clause-left
 returns-in_err-out-in-Ok-Done-clause-left g c =
-    if_err (λ (fault : Fault). TurnLeft g.W.World.Tells (IsShort fault) c.args.occasion.budget c.args.app.now.rest (g.W.World.seen c.args.world.now) (g.W.World.seen c.commit.new.world) c.args.net.now) (fault_of c.in_err-out-in-Ok-Done.field-0.0) c.from_residual.result c.from_residual.ensures.1
-    (left_committed c.args.net.now c.in_err-out-in-Ok-Done.field-0.0 c.requires.index c.begin-txn.ensures.net c.begin-txn.ensures.start c.turn.ensures.start c.in-Ok-Done.field-0-is (event_is c.args.occasion.number c.begin-txn.result.net.now.moment c.args.occasion.event.now)
+    if_err (λ (fault : Fault). TurnLeft g.W.World.Tells (IsShort fault) c.args.app.now.index c.args.occasion.budget c.args.app.now.rest (g.W.World.seen c.args.world.now) (g.W.World.seen c.commit.new.world) c.args.net.now) (fault_of c.in_err-out-in-Ok-Done.field-0.0) c.from_residual.result c.from_residual.ensures.1
+    (left_committed c.args.net.now c.in_err-out-in-Ok-Done.field-0.0 c.begin-txn.ensures.net c.begin-txn.ensures.start c.turn.ensures.start c.in-Ok-Done.field-0-is (event_is c.args.occasion.number c.begin-txn.result.net.now.moment c.args.occasion.event.now)
     c.in-Ok-Done.ensures.ok.turns c.in_err-out-in-Ok-Done.ensures)
 
 pub returns-in_err-abort-in-Ok-Failed-clause-left : goal.returns-in_err-abort-in-Ok-Failed-clause-left
 returns-in_err-abort-in-Ok-Failed-clause-left g c =
-    if_err (λ (fault : Fault). TurnLeft g.W.World.Tells (IsShort fault) c.args.occasion.budget c.args.app.now.rest (g.W.World.seen c.args.world.now) (g.W.World.seen c.abort.new.world) c.args.net.now) (fault_of c.in_err-abort-in-Ok-Failed.field-0.0) c.from_residual-in_err-abort-in-Ok-Failed.result c.from_residual-in_err-abort-in-Ok-Failed.ensures.1
+    if_err (λ (fault : Fault). TurnLeft g.W.World.Tells (IsShort fault) c.args.app.now.index c.args.occasion.budget c.args.app.now.rest (g.W.World.seen c.args.world.now) (g.W.World.seen c.abort.new.world) c.args.net.now) (fault_of c.in_err-abort-in-Ok-Failed.field-0.0) c.from_residual-in_err-abort-in-Ok-Failed.result c.from_residual-in_err-abort-in-Ok-Failed.ensures.1
     (left_failed c.args.app.now.rest c.args.net.now c.begin-txn.ensures.net c.begin-txn.ensures.start c.turn.ensures.start c.in-Ok-Failed.ensures.ok.turns c.abort.ensures)
 
 pub returns-in-Err-clause-left : goal.returns-in-Err-clause-left
