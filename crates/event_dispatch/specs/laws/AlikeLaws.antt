@@ -45,11 +45,10 @@ use Rattle.event_dispatch.specs.Why.{served_by}
 use Rattle.event_dispatch.specs.Shows.{engine_of}
 use Rattle.event_dispatch.specs.laws.RoundLaws.{writes_then}
 use Rattle.event_dispatch.specs.Talking.{KeepsTalking}
-use Rattle.event_dispatch.specs.Steady.{Reads, NoPoint, NoneReleased, NoneMoves}
+use Rattle.event_dispatch.specs.Steady.{Reads, NoPoint, NoneMoves}
 use Rattle.event_dispatch.specs.Undone.{IsShort}
-use Rattle.event_dispatch.specs.laws.LeftLaws.{tables_then, tables_for}
-use Rattle.lego_model.specs.AfterFault.{NoEventSince, SwitchesStay, TablesBehind}
-use Rattle.event_dispatch.specs.laws.NoEventLaws.{no_event_then}
+use Rattle.event_dispatch.specs.laws.LeftLaws.{behind_then, behind_for}
+use Rattle.lego_model.specs.AfterFault.{TablesBehind}
 use Rattle.event_dispatch.specs.laws.CutLaws.{PartlyGone, partly_gone}
 use Rattle.event_dispatch.specs.laws.SteadyLaws.{reads_then}
 use Rattle.event_dispatch.specs.laws.FrontLaws.{keeps_first, keeps_to, calm_rest}
@@ -198,15 +197,6 @@ calls_behind {number = number} first last seen told before later calls =
     let same : calls.steps ≡ front.0 ++ more.0 = append_cancel_left first.history calls.steps (front.0 ++ more.0) (sym calls.history ∙ more.1 ∙ ap (λ (h : List WorldStep). h ++ more.0) front.1 ∙ append_assoc first.history front.0 more.0) in
     record { steps = more.0; history = more.1; all = later_among number front.0 more.0 (subst (λ (steps : List WorldStep). AllByRecursion (IsCallAmong number) steps) same calls.all) }
 
--- what is left of the tables is so whatever comes behind it that moves no switch
-behind_then : {Own : Type 0} {Tells Short : Type 0} (rules : List AppValue) (old mid new : Seen Own) → Tells → Continues Tells old mid → Continues Tells mid new → NoEventSince mid new → NoneReleased mid new → SwitchesStay mid new → TablesBehind rules Short old mid → TablesBehind rules Short old new
-behind_then rules old mid new told first later none released_none stay (inl before) = inl (no_event_then before none)
-behind_then rules old mid new told first later none released_none stay (inr t) = inr (record { app = t.app; rule = t.rule; rule_is = t.rule_is; tables = tables_then old mid new told first later none released_none stay t.tables })
-
-behind_for : {Own : Type 0} {Short Other : Type 0} {rules : List AppValue} {old new : Seen Own} → (Short → Other) → TablesBehind rules Short old new → TablesBehind rules Other old new
-behind_for short (inl before) = inl before
-behind_for short (inr t) = inr (record { app = t.app; rule = t.rule; rule_is = t.rule_is; tables = tables_for short t.tables })
-
 -- up to such a point
 cut_at : {Own : Type 0} {Tells Short : Type 0} {accepts : List TableView → Bool} {allows : List Place → Bool} {most : ℕ} (rules : List AppValue) (Alike : Seen Own → Type 0) (first stop seen : Seen Own) (p : Supposed rules Tells accepts allows most first stop seen) (last : Seen Own) → IsStop rules Tells Short first last stop
     → (Conforming last → (i : ℕ) → i < length rules → AtOnce i (journal stop.history)) → (Conforming last → Alike last) → CutAt rules Short Alike seen
@@ -222,7 +212,7 @@ cut_at {Tells = Tells} rules Alike first stop seen p last is said so =
       last_point = λ order. last_quiescent-then (is.quiet (is.keeps (InOrder-before p.told later order)) (InOrder-before p.told p.later order)) p.quiet;
       no_other_called = calls_behind first last seen p.told is.before later p.own;
       tables = λ order.
-          behind_then rules last stop seen p.told is.on p.later (p.talks.no_event p.told) (p.none_moves.releases p.told) (p.none_moves.stay p.told) (is.left (is.keeps (InOrder-before p.told later order)) (InOrder-before p.told p.later order));
+          behind_then last stop seen p.told is.on p.later (p.talks.no_event p.told) (p.none_moves.releases p.told) (p.none_moves.stay p.told) (is.left (is.keeps (InOrder-before p.told later order)) (InOrder-before p.told p.later order));
     }
 
 -- up to where it stopped

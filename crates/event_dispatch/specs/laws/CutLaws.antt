@@ -39,7 +39,8 @@ use Rattle.event_dispatch.specs.Steady.{Reads, NoPoint, NoneMoves}
 use Rattle.event_dispatch.specs.laws.SteadyLaws.{quietly_none, quietly_then, none_move, none_move_then}
 use Rattle.event_dispatch.specs.laws.TalkingLaws.{keeps_none, keeps_then}
 use Rattle.event_dispatch.specs.Serves.{Writes, AllStarted, IsDispatched, Begins}
-use Rattle.event_dispatch.specs.laws.RoundLaws.{first_event, number_is, reads_stay, batch_is, batch_written, all_begun}
+use Rattle.event_dispatch.specs.laws.ReadLaws.{reads_engine}
+use Rattle.event_dispatch.specs.laws.RoundLaws.{first_event, number_is, batch_is, batch_written, all_begun}
 use Rattle.event_dispatch.specs.Cut.{IsStill, FailsIn, FailsNext, CutOne, CutSome, CutRound, CutRounds, CutStart, CutEnd, CutFinish, CutFinishAs, WentToEnd, CutGoes, CutRun, CutAs}
 
 -- what a `?` answers is the fault
@@ -147,7 +148,7 @@ round_behind Tells accepts rest fault contents held now_contents old mid new r t
   first = first;
   batch = batch_written Tells rest old mid r then_c mid_c first none waits batch same;
   written = writes.written;
-  reads = reads_stay old mid r.core.net then_c mid_c same reads;
+  reads = reads_engine old mid then_c mid_c same reads;
   later = later;
   some = some;
 }))
@@ -213,10 +214,10 @@ finish_cut Tells faults.NoMemory contents now_contents last new e none ends = re
 
 pub goes_cut : {Own : Type 0} (Tells : Type 0) (accepts : List TableView → Bool) (most : ℕ) (fault : Fault) (contents now_contents : Option (List ℕ)) (old new : Seen Own) (e : Engine) → Continues Tells old new → CutGoes Tells accepts most fault contents now_contents old new e
     → CutAs Tells accepts most (served_by fault) contents now_contents old new e
-goes_cut Tells accepts most faults.Write contents now_contents old new e on goes = record { fault = faults.Write; end_is = refl; stop = new; before = on; later = Continues-refl Tells new; talks = keeps_none Tells new; no_point = quietly_none Tells (length e.apps) new; none_moves = none_move Tells new; goes = goes }
-goes_cut Tells accepts most faults.Next contents now_contents old new e on goes = record { fault = faults.Next; end_is = refl; stop = new; before = on; later = Continues-refl Tells new; talks = keeps_none Tells new; no_point = quietly_none Tells (length e.apps) new; none_moves = none_move Tells new; goes = goes }
-goes_cut Tells accepts most (faults.Txn fault) contents now_contents old new e on goes = record { fault = faults.Txn fault; end_is = refl; stop = new; before = on; later = Continues-refl Tells new; talks = keeps_none Tells new; no_point = quietly_none Tells (length e.apps) new; none_moves = none_move Tells new; goes = goes }
-goes_cut Tells accepts most faults.NoMemory contents now_contents old new e on goes = record { fault = faults.NoMemory; end_is = refl; stop = new; before = on; later = Continues-refl Tells new; talks = keeps_none Tells new; no_point = quietly_none Tells (length e.apps) new; none_moves = none_move Tells new; goes = goes }
+goes_cut Tells accepts most faults.Write contents now_contents old new e on goes = record { fault = faults.Write; end_is = refl; stop = new; before = on; later = Continues-refl Tells new; talks = keeps_none Tells new; no_point = quietly_none Tells new; none_moves = none_move Tells new; goes = goes }
+goes_cut Tells accepts most faults.Next contents now_contents old new e on goes = record { fault = faults.Next; end_is = refl; stop = new; before = on; later = Continues-refl Tells new; talks = keeps_none Tells new; no_point = quietly_none Tells new; none_moves = none_move Tells new; goes = goes }
+goes_cut Tells accepts most (faults.Txn fault) contents now_contents old new e on goes = record { fault = faults.Txn fault; end_is = refl; stop = new; before = on; later = Continues-refl Tells new; talks = keeps_none Tells new; no_point = quietly_none Tells new; none_moves = none_move Tells new; goes = goes }
+goes_cut Tells accepts most faults.NoMemory contents now_contents old new e on goes = record { fault = faults.NoMemory; end_is = refl; stop = new; before = on; later = Continues-refl Tells new; talks = keeps_none Tells new; no_point = quietly_none Tells new; none_moves = none_move Tells new; goes = goes }
 
 -- a fault ended the rounds
 pub rounds_cut : {Own : Type 0} (Tells : Type 0) (accepts : List TableView → Bool) (most : ℕ) (fault : Fault) (a b c : Option (List ℕ)) (old begun new : Seen Own) (r begun_r : Run) → Continues Tells old begun → Begins Tells a b old begun r begun_r → Reads Tells old begun r.core.net begun_r.core.net → Continues Tells begun new
@@ -278,7 +279,7 @@ on_cut Tells accepts most end a b old mid new e later talks no_point none_moves 
   before = cut.before;
   later = Continues-trans Tells cut.stop mid new cut.later later;
   talks = keeps_then Tells cut.stop mid new cut.talks talks;
-  no_point = quietly_then Tells (length e.apps) cut.stop mid new cut.no_point no_point;
+  no_point = quietly_then Tells cut.stop mid new cut.no_point no_point;
   none_moves = none_move_then cut.none_moves none_moves;
   goes = cut.goes;
 }
@@ -296,4 +297,4 @@ goes_on_cut Tells accepts most (Err served.NoMemory) a b old mid new e later tal
 
 -- memory ran out before anything was done
 pub short_cut : {Own : Type 0} (Tells : Type 0) (accepts : List TableView → Bool) (most : ℕ) (contents : Option (List ℕ)) (seen : Seen Own) (e : Engine) → CutAs Tells accepts most served.NoMemory contents contents seen seen e
-short_cut Tells accepts most contents seen e = goes_cut Tells accepts most faults.NoMemory contents contents seen seen e (Continues-refl Tells seen) (inl (refl, keeps_none Tells seen, quietly_none Tells (length e.apps) seen))
+short_cut Tells accepts most contents seen e = goes_cut Tells accepts most faults.NoMemory contents contents seen seen e (Continues-refl Tells seen) (inl (refl, keeps_none Tells seen, quietly_none Tells seen))

@@ -40,7 +40,7 @@ use Rattle.lego_model.specs.Application.{names}
 use Rattle.event_dispatch.specs.Serves.{Notes, Writes, AllStarted, IsDispatched, DispatchesOldest, DispatchesSome, DispatchesWaiting, IsBatch, GoesRound, GoesRounds, GoesToEnd, Begins}
 use Rattle.run_laws.specs.laws.EndingLaws.{known-append}
 use Rattle.event_dispatch.specs.Steady.{NoStray, Reads}
-use Rattle.event_dispatch.specs.laws.SteadyLaws.{reads_as, places_then}
+use Rattle.event_dispatch.specs.laws.SteadyLaws.{places_number, places_then}
 
 -- ---- What is written
 
@@ -77,13 +77,9 @@ stays_engine r c now_c stays =
     ap₂ (λ (net : NetState) (queue : List Event). record { net = net; queue = queue; events = now_c.events; apps = map (application_of now_c.store) r.apps.items }) stays.net stays.queue
     ∙ ap₂ (λ (events : ℕ) (slots : List Slot). record { net = c.net; queue = c.queue; events = events; apps = map (application_of slots) r.apps.items }) stays.events stays.store
 
--- and what is kept of switches
-pub reads_stay : {Own : Type 0} {Tells : Type 0} (old new : Seen Own) (net : NetState) (c now_c : Core) → Stays c now_c → Reads Tells old new net c.net → Reads Tells old new net now_c.net
-reads_stay {Tells = Tells} old new net c now_c stays reads = reads_as Tells old new net c.net now_c.net (ap (λ (n : NetState). n.views) stays.net) reads
-
 -- no stray call behind a part that left as many places for checkpoints
 pub places_on : {Own : Type 0} {Tells : Type 0} {n m : ℕ} (old mid new : Seen Own) (net mid_net : NetState) → m ≡ n → Continues Tells old mid → Continues Tells mid new → NoStray Tells n old mid net → Reads Tells old mid net mid_net → NoStray Tells m mid new mid_net → NoStray Tells n old new net
-places_on {Tells = Tells} old mid new net mid_net same before later first reads second = places_then old mid new net mid_net before later first reads (subst (λ (k : ℕ). NoStray Tells k mid new mid_net) same second)
+places_on {n = n} {m = m} old mid new net mid_net same before later first reads second = places_then old mid new net mid_net before later first reads (places_number n m same second)
 
 -- as many applications as places for checkpoints
 pub number_is : (r : Run) → Going r → length r.core.store ≡ length (engine_of r).apps

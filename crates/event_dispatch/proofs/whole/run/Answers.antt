@@ -58,10 +58,10 @@ returns-in_err-run_then_end-clause-cut g c =
     (subst (λ (e : Engine). CutAs g.W.World.Tells (g.J.Judge.accepts c.args.judge.now) c.args.rounds c.in_err-run_then_end.field-0.0 (g.K.Sink.contents c.args.sink.now) (g.K.Sink.contents c.run_then_end.new.sink) (g.W.World.seen c.args.world.now) (g.W.World.seen c.run_then_end.new.world) e) c.in_ok-run.ensures.first c.in_err-run_then_end.ensures.cut)
 
 pub returns-in_err-run-clause-none_runs : goal.returns-in_err-run-clause-none_runs
-returns-in_err-run-clause-none_runs g c = none_runs_none g.W.World.Tells (length c.args.rules.now) (g.W.World.seen c.args.world.now) net_at_first
+returns-in_err-run-clause-none_runs g c = none_runs_none g.W.World.Tells (g.W.World.seen c.args.world.now) net_at_first
 
 pub returns-in_err-buf-clause-none_runs : goal.returns-in_err-buf-clause-none_runs
-returns-in_err-buf-clause-none_runs g c = none_runs_none g.W.World.Tells (length c.args.rules.now) (g.W.World.seen c.args.world.now) net_at_first
+returns-in_err-buf-clause-none_runs g c = none_runs_none g.W.World.Tells (g.W.World.seen c.args.world.now) net_at_first
 
 pub returns-in_err-run_then_end-clause-none_runs : goal.returns-in_err-run_then_end-clause-none_runs
 returns-in_err-run_then_end-clause-none_runs g c =

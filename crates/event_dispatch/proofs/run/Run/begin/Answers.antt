@@ -1,10 +1,11 @@
 use Rattle.event_dispatch.specs.declared.fault.Fault.TheVariants as faults
-use Rattle.event_dispatch.specs.laws.RoundLaws.{reads_stay, going_stays, begins_is}
+use Rattle.event_dispatch.specs.laws.RoundLaws.{going_stays, begins_is}
 use Rattle.event_dispatch.specs.laws.CutLaws.{if_err, start_short, start_unwritten}
 use Rattle.event_dispatch.specs.Plain.{IsPlainEnd}
 use Rattle.event_dispatch.specs.declared.fault.Fault.{Fault}
 use Rattle.event_dispatch.specs.Shows.{engine_of}
 use Rattle.event_dispatch.specs.Cut.{CutStart}
+use Rattle.event_dispatch.specs.laws.ReadLaws.{reads_engine}
 use Rattle.event_dispatch.proofs.run.Run.begin.Goals as goal
 
 pub returns-clause-begins : goal.returns-clause-begins
@@ -30,7 +31,7 @@ returns-in_err-write-clause-cut g c =
     (start_unwritten g.W.World.Tells (g.K.Sink.contents c.args.sink.now) (g.K.Sink.contents c.write.new.sink) (g.W.World.seen c.args.world.now) (g.W.World.seen c.start_all.new.world) c.args.self.now (record c.args.self.now { core = c.start_all.new.core; apps = c.start_all.new.apps }) c.requires.none_waits c.in_ok-start_all.ensures.started c.in_ok-start_all.ensures.reads c.in_err-write.ensures.part)
 
 pub returns-clause-reads : goal.returns-clause-reads
-returns-clause-reads g c = reads_stay (g.W.World.seen c.args.world.now) (g.W.World.seen c.start_all.new.world) c.args.self.now.core.net c.start_all.new.core c.write.new.self c.write.ensures.stays c.in_ok-start_all.ensures.reads
+returns-clause-reads g c = reads_engine (g.W.World.seen c.args.world.now) (g.W.World.seen c.start_all.new.world) c.start_all.new.core c.write.new.self c.write.ensures.stays c.in_ok-start_all.ensures.reads
 
 pub returns-clause-going : goal.returns-clause-going
 returns-clause-going g c = going_stays (record c.args.self.now { core = c.start_all.new.core; apps = c.start_all.new.apps }) c.write.new.self c.in_ok-start_all.ensures.going c.in_ok-write.ensures.waits c.write.ensures.stays

@@ -1,6 +1,6 @@
 use Rattle.event_dispatch.specs.declared.fault.Fault.TheVariants as faults
 use Rattle.std.proofs.Common.{length, rules, refl}
-use Rattle.event_dispatch.specs.laws.RoundLaws.{one_settled, none_settled, reads_stay, going_stays}
+use Rattle.event_dispatch.specs.laws.RoundLaws.{one_settled, none_settled, going_stays}
 use Rattle.event_dispatch.specs.laws.PlainLaws.{run_anyway, run_fails}
 use Rattle.event_dispatch.specs.laws.CutLaws.{if_err, still_is, fails_next, one_still, one_unwritten}
 use Rattle.event_dispatch.specs.Plain.{PlainRun}
@@ -9,6 +9,7 @@ use Rattle.event_dispatch.specs.Why.{served_by}
 use Rattle.event_dispatch.specs.declared.fault.Fault.{Fault}
 use Rattle.event_dispatch.specs.Cut.{CutOne}
 use Rattle.event_dispatch.specs.laws.SteadyLaws.{places_none, reads_none}
+use Rattle.event_dispatch.specs.laws.ReadLaws.{reads_engine}
 use Rattle.event_dispatch.proofs.run.Run.dispatch_oldest.Goals as goal
 
 pub returns-in_default-clause-dispatches : goal.returns-in_default-clause-dispatches
@@ -46,10 +47,10 @@ returns-in_err-write-clause-cut g c =
     c.in_ok-dispatch.ensures.continues c.requires.few c.in-Some.ensures.first c.in-Some.ensures.rest c.requires.none_waits c.in_ok-dispatch.ensures.dispatched c.in_ok-dispatch.ensures.reads c.in_err-write.ensures.part)
 
 pub returns-in_default-clause-places : goal.returns-in_default-clause-places
-returns-in_default-clause-places g c = places_none g.W.World.Tells (length c.args.self.now.core.store) (g.W.World.seen c.args.world.now) c.args.self.now.core.net
+returns-in_default-clause-places g c = places_none g.W.World.Tells (g.W.World.seen c.args.world.now) c.args.self.now.core.net
 
 pub returns-in_default-clause-reads : goal.returns-in_default-clause-reads
 returns-in_default-clause-reads g c = reads_none g.W.World.Tells (g.W.World.seen c.args.world.now) c.args.self.now.core.net c.args.self.now.core.net refl
 
 pub returns-clause-reads : goal.returns-clause-reads
-returns-clause-reads g c = reads_stay (g.W.World.seen c.args.world.now) (g.W.World.seen c.dispatch.new.world) c.args.self.now.core.net c.dispatch.new.self.core c.write.new.self c.write.ensures.stays c.in_ok-dispatch.ensures.reads
+returns-clause-reads g c = reads_engine (g.W.World.seen c.args.world.now) (g.W.World.seen c.dispatch.new.world) c.dispatch.new.self.core c.write.new.self c.write.ensures.stays c.in_ok-dispatch.ensures.reads

@@ -8,7 +8,7 @@ use Rattle.event_dispatch.specs.declared.fault.Fault.{Fault}
 use Rattle.event_dispatch.specs.Shows.{engine_of}
 use Rattle.event_dispatch.specs.Cut.{CutEnd}
 use Rattle.std.proofs.Common.{refl}
-use Rattle.event_dispatch.specs.laws.RoundLaws.{reads_stay}
+use Rattle.event_dispatch.specs.laws.ReadLaws.{reads_engine}
 use Rattle.event_dispatch.proofs.run.Run.end_report.Goals as goal
 
 pub returns-clause-ends : goal.returns-clause-ends
@@ -36,4 +36,4 @@ returns-in_err-write-clause-cut g c =
     (end_unwritten g.W.World.Tells (g.K.Sink.contents c.args.sink.now) (g.K.Sink.contents c.write.new.sink) (g.W.World.seen c.args.world.now) (g.W.World.seen c.note_last.new.world) c.args.self.now c.note_last.new.self c.requires.none_waits c.in_ok-note_last.ensures.shown c.in_ok-note_last.ensures.reads c.in_err-write.ensures.part)
 
 pub returns-clause-reads : goal.returns-clause-reads
-returns-clause-reads g c = reads_stay (g.W.World.seen c.args.world.now) (g.W.World.seen c.note_last.new.world) c.args.self.now.core.net c.note_last.new.self.core c.write.new.self c.write.ensures.stays c.in_ok-note_last.ensures.reads
+returns-clause-reads g c = reads_engine (g.W.World.seen c.args.world.now) (g.W.World.seen c.note_last.new.world) c.note_last.new.self.core c.write.new.self c.write.ensures.stays c.in_ok-note_last.ensures.reads

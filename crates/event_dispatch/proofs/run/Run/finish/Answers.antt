@@ -35,7 +35,7 @@ returns-in_err-end_report-clause-cut g c =
     (finish_cut g.W.World.Tells c.in_err-end_report.field-0.0 (g.K.Sink.contents c.args.sink.now) (g.K.Sink.contents c.end_report.new.sink) (g.W.World.seen c.args.world.now) (g.W.World.seen c.end_report.new.world) (engine_of c.args.self.now) (search rules) c.in_err-end_report.ensures.cut)
 
 pub returns-then-not-is_empty-clause-places : goal.returns-then-not-is_empty-clause-places
-returns-then-not-is_empty-clause-places g c = places_none g.W.World.Tells (length c.args.self.now.core.store) (g.W.World.seen c.args.world.now) c.args.self.now.core.net
+returns-then-not-is_empty-clause-places g c = places_none g.W.World.Tells (g.W.World.seen c.args.world.now) c.args.self.now.core.net
 
 pub returns-then-not-is_empty-clause-reads : goal.returns-then-not-is_empty-clause-reads
 returns-then-not-is_empty-clause-reads g c = read_none g.W.World.Tells (g.W.World.seen c.args.world.now) c.args.self.now.core.net

@@ -1,7 +1,7 @@
 use Rattle.std.proofs.Common.{List, length, refl, ap, ◌∙◌, inl, arith}
 use Rattle.checkpoint_store.specs.Slots.{Slot}
 use Rattle.event_dispatch.specs.declared.fault.Fault.TheVariants as faults
-use Rattle.event_dispatch.specs.laws.RoundLaws.{places_on, reads_stay, round_is, going_written}
+use Rattle.event_dispatch.specs.laws.RoundLaws.{places_on, round_is, going_written}
 use Rattle.event_dispatch.specs.laws.PlainLaws.{run_anyway, run_calm, run_batch}
 use Rattle.event_dispatch.specs.laws.CutLaws.{if_err, still_is, round_behind, round_unwritten}
 use Rattle.event_dispatch.specs.Plain.{PlainRun}
@@ -10,6 +10,7 @@ use Rattle.event_dispatch.specs.Why.{served_by}
 use Rattle.event_dispatch.specs.declared.fault.Fault.{Fault}
 use Rattle.event_dispatch.specs.Cut.{CutRound}
 use Rattle.event_dispatch.specs.laws.SteadyLaws.{reads_then}
+use Rattle.event_dispatch.specs.laws.ReadLaws.{reads_engine}
 use Rattle.event_dispatch.proofs.run.Run.run_round.Goals as goal
 
 pub returns-clause-round : goal.returns-clause-round
@@ -39,15 +40,15 @@ returns-in_err-dispatch_waiting-clause-cut g c =
 
 pub returns-in_err-dispatch_waiting-clause-places : goal.returns-in_err-dispatch_waiting-clause-places
 returns-in_err-dispatch_waiting-clause-places g c =
-    places_on (g.W.World.seen c.args.world.now) (g.W.World.seen c.take_batch.new.world) (g.W.World.seen c.dispatch_waiting.new.world) c.args.self.now.core.net c.write_noted.new.self.net (ap (λ (slots : List Slot). length slots) (c.in_ok-write_noted.ensures.waits.store ∙ c.in_ok-rest.ensures.waits.store)) c.in_ok-rest.ensures.continues c.in_err-dispatch_waiting.ensures.continues c.in_ok-rest.ensures.places (reads_stay (g.W.World.seen c.args.world.now) (g.W.World.seen c.take_batch.new.world) c.args.self.now.core.net c.take_batch.new.self c.write_noted.new.self c.write_noted.ensures.stays c.in_ok-rest.ensures.reads) c.in_err-dispatch_waiting.ensures.places
+    places_on (g.W.World.seen c.args.world.now) (g.W.World.seen c.take_batch.new.world) (g.W.World.seen c.dispatch_waiting.new.world) c.args.self.now.core.net c.write_noted.new.self.net (ap (λ (slots : List Slot). length slots) (c.in_ok-write_noted.ensures.waits.store ∙ c.in_ok-rest.ensures.waits.store)) c.in_ok-rest.ensures.continues c.in_err-dispatch_waiting.ensures.continues c.in_ok-rest.ensures.places (reads_engine (g.W.World.seen c.args.world.now) (g.W.World.seen c.take_batch.new.world) c.take_batch.new.self c.write_noted.new.self c.write_noted.ensures.stays c.in_ok-rest.ensures.reads) c.in_err-dispatch_waiting.ensures.places
 
 pub returns-clause-places : goal.returns-clause-places
 returns-clause-places g c =
-    places_on (g.W.World.seen c.args.world.now) (g.W.World.seen c.take_batch.new.world) (g.W.World.seen c.dispatch_waiting.new.world) c.args.self.now.core.net c.write_noted.new.self.net (ap (λ (slots : List Slot). length slots) (c.in_ok-write_noted.ensures.waits.store ∙ c.in_ok-rest.ensures.waits.store)) c.in_ok-rest.ensures.continues c.in_ok-dispatch_waiting.ensures.continues c.in_ok-rest.ensures.places (reads_stay (g.W.World.seen c.args.world.now) (g.W.World.seen c.take_batch.new.world) c.args.self.now.core.net c.take_batch.new.self c.write_noted.new.self c.write_noted.ensures.stays c.in_ok-rest.ensures.reads) c.in_ok-dispatch_waiting.ensures.places
+    places_on (g.W.World.seen c.args.world.now) (g.W.World.seen c.take_batch.new.world) (g.W.World.seen c.dispatch_waiting.new.world) c.args.self.now.core.net c.write_noted.new.self.net (ap (λ (slots : List Slot). length slots) (c.in_ok-write_noted.ensures.waits.store ∙ c.in_ok-rest.ensures.waits.store)) c.in_ok-rest.ensures.continues c.in_ok-dispatch_waiting.ensures.continues c.in_ok-rest.ensures.places (reads_engine (g.W.World.seen c.args.world.now) (g.W.World.seen c.take_batch.new.world) c.take_batch.new.self c.write_noted.new.self c.write_noted.ensures.stays c.in_ok-rest.ensures.reads) c.in_ok-dispatch_waiting.ensures.places
 
 pub returns-clause-reads : goal.returns-clause-reads
 returns-clause-reads g c =
-    reads_then (g.W.World.seen c.args.world.now) (g.W.World.seen c.take_batch.new.world) (g.W.World.seen c.dispatch_waiting.new.world) c.args.self.now.core.net c.write_noted.new.self.net c.dispatch_waiting.new.self.core.net c.in_ok-rest.ensures.continues c.in_ok-dispatch_waiting.ensures.continues (reads_stay (g.W.World.seen c.args.world.now) (g.W.World.seen c.take_batch.new.world) c.args.self.now.core.net c.take_batch.new.self c.write_noted.new.self c.write_noted.ensures.stays c.in_ok-rest.ensures.reads) c.in_ok-dispatch_waiting.ensures.reads
+    reads_then (g.W.World.seen c.args.world.now) (g.W.World.seen c.take_batch.new.world) (g.W.World.seen c.dispatch_waiting.new.world) c.args.self.now.core.net c.write_noted.new.self.net c.dispatch_waiting.new.self.core.net c.in_ok-rest.ensures.continues c.in_ok-dispatch_waiting.ensures.continues (reads_engine (g.W.World.seen c.args.world.now) (g.W.World.seen c.take_batch.new.world) c.take_batch.new.self c.write_noted.new.self c.write_noted.ensures.stays c.in_ok-rest.ensures.reads) c.in_ok-dispatch_waiting.ensures.reads
 
 pub dispatch_waiting-requires-clause-going : goal.dispatch_waiting-requires-clause-going
 dispatch_waiting-requires-clause-going g c =
