@@ -89,7 +89,7 @@ none_gone : {Own : Type 0} (Tells : Type 0) (accepts : List TableView → Bool) 
 none_gone {Own} Tells accepts allows event queue old mid e mid_e given settled =
     let here : mid ≡ old = ap (λ (b : Between Own). b.seen) given.offers.0 in
     let net : mid_e.net ≡ e.net = ap (λ (b : Between Own). b.net) given.offers.0 in
-    let apps : mid_e.apps ≡ e.apps = given.apps_is ∙ ap (λ (front : List Application). front ++ e.apps) given.offers.2.0 in
+    let apps : mid_e.apps ≡ e.apps = given.apps_is ∙ ap (λ (front : List Application). front ++ e.apps) given.offers.2 in
     record {
       given = 0;
       more = [];
