@@ -1,6 +1,6 @@
 -- A run that a fault ends, in the words of what is seen and kept: the parts that were done, and what was written of the one that was not,
 -- which goes on with the dialogue with the application and leaves no quiescent point behind it. All of this is our own.
-use Rattle.std.specs.Prelude.{◌≡◌, ℕ, ◌≤◌, ◌⊎◌, Bool, true, false, List, [], ◌∷◌, ◌++◌, length, take, drop, map, Option, Result, Ok, Err}
+use Rattle.std.specs.Prelude.{◌≡◌, ℕ, ◌+◌, ◌^◌, ◌<◌, ◌≤◌, ◌⊎◌, Bool, true, false, List, [], ◌∷◌, ◌++◌, length, take, drop, map, Option, Result, Ok, Err}
 use Rattle.std.specs.List.{list_any}
 use Rattle.app_frames.specs.declared.frame.Event.{Event}
 use Rattle.lego_io.specs.Sink.{TookPart}
@@ -110,6 +110,7 @@ pub record FailsNext {Own : Type 0} (Tells : Type 0) (accepts : List TableView �
   pub event : Event
   pub queue : List Event
   pub waits : e.queue ≡ event ∷ queue
+  pub few : e.events + 1 < 2 ^ 64
   pub fails : FailsIn Tells accepts fault event old new (record e { queue = queue })
 
 -- a fault ended its dispatch, or it was that

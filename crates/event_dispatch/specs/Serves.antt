@@ -230,12 +230,14 @@ Finishes Tells (Err other) contents now_contents last new r now_r = Unit {0}
 pub record RunsOut {Own : Type 0} (Tells : Type 0) (accepts : List TableView → Bool) (most events : ℕ) (contents now_contents : Option (List ℕ)) (old new : Seen Own) (e : Engine) : Type 0 where
   pub last : Engine
   pub out : RanOut Tells accepts most contents now_contents old new e last
+  pub number : length last.apps ≡ length e.apps
   pub events_is : events ≡ last.events
   pub none_to_come : NoneToCome Tells accepts most old new e
 
 -- so many were left
 pub record RunsFull {Own : Type 0} (Tells : Type 0) (accepts : List TableView → Bool) (most left : ℕ) (contents now_contents : Option (List ℕ)) (old new : Seen Own) (e : Engine) : Type 0 where
   pub full : RanFull Tells accepts most left contents now_contents old new e
+  pub number : length full.now_engine.apps ≡ length e.apps
   pub none_to_come : NoneToCome Tells accepts most old new e
 
 abbrev pub GoesAs : {Own : Type 0} → Type 0 → (List TableView → Bool) → ℕ → Result (Unit {0}) Served → Option (List ℕ) → Option (List ℕ) → Seen Own → Seen Own → Run → Run → Type 0

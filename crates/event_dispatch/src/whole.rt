@@ -124,6 +124,8 @@ impl Run<'_> {
         requires going { Going self.old }
         requires none { self.old.core.events ≡ 0 }
         requires none_waits { self.old.core.lines.items ≡ [] }
+        ensures going { OnOk result (Going self.new) }
+        ensures number { OnOk result (length self.new.core.store ≡ length self.old.core.store) }
         ensures to_end { OnOk result (GoesToEnd W.Tells (J.accepts judge.now) rounds (K.contents sink.old) (K.contents sink.new)
             (W.seen world.old) (W.seen world.new) self.old self.new) }
         ensures cut { IfErr result (λ fault. CutRounds W.Tells (J.accepts judge.now) fault (K.contents sink.old) (K.contents sink.new)
@@ -170,6 +172,7 @@ impl Run<'_> {
     /// Writes the end of the report.
     #[tactic(auto, using(crate::specs::laws::WhyLaws::why_sink))]
     fn end_report<W: World, K: Sink>(&mut self, world: &mut W, sink: &mut K) -> Result<(), Fault>
+        requires going { Going self.old }
         requires none_waits { self.old.core.lines.items ≡ [] }
         ensures ends { OnOk result (EndsReport W.Tells (K.contents sink.old) (K.contents sink.new) (W.seen world.old) (W.seen world.new) self.old self.new) }
         ensures cut { IfErr result (λ fault. CutEnd W.Tells fault (K.contents sink.old) (K.contents sink.new) (W.seen world.old) (W.seen world.new) (engine_of self.old)) }
@@ -188,6 +191,7 @@ impl Run<'_> {
     /// Writes the end of the report, where no event is left.
     #[tactic(auto, using(crate::specs::laws::WhyLaws::why_sink))]
     fn finish<W: World, K: Sink>(&mut self, world: &mut W, sink: &mut K) -> Result<(), Served>
+        requires going { Going self.old }
         requires none_waits { self.old.core.lines.items ≡ [] }
         ensures finishes { Finishes W.Tells result (K.contents sink.old) (K.contents sink.new) (W.seen world.old) (W.seen world.new) self.old self.new }
         ensures cut { IfErr result (λ end. CutFinishAs W.Tells end (K.contents sink.old) (K.contents sink.new) (W.seen world.old) (W.seen world.new) (engine_of self.old)) }

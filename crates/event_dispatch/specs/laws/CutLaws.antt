@@ -1,41 +1,47 @@
 -- Laws of parts of a run that a fault ended.
-use Rattle.std.proofs.Common.{◌≡◌, ℕ, ◌^◌, ◌<◌, Bool, true, List, [], ◌∷◌, ◌++◌, drop, Option, Some, Result, Ok, Err, IfErr, OnErr, IsErrAnd, refl, sym, ap, ◌∙◌, subst, arith, inl, inr}
+use Rattle.std.proofs.Common.{◌≡◌, ℕ, zero, suc, ◌+◌, ◌^◌, ◌<◌, Bool, List, [], ◌∷◌, ◌++◌, length, map, drop, Option, Some, Result, Ok, Err, IfErr, IsErrAnd, refl, sym, ap, ◌∙◌, subst, arith, inl, inr}
 use Rattle.std.specs.Prelude.{slice_get}
+use Rattle.std.specs.List.{AllByRecursion}
 use Rattle.lego_io.specs.Sink.{TookPart}
 use Rattle.flow_table.specs.View.{TableView}
 use Rattle.app_frames.specs.declared.frame.Event.{Event}
+use Rattle.lego_model.specs.Places.{Place}
+use Rattle.lego_model.specs.RunReport.{event_line}
+use Rattle.lego_model.specs.OrderlySteps.{IsOrderly}
+use Rattle.lego_model.specs.CutRun.{dispatch_partly}
 use Rattle.outside.specs.Seen.{Seen, Continues}
+use Rattle.outside.specs.Conforming.{Conforming}
 use Rattle.outside.specs.laws.SeenLaws.{Continues-refl, Continues-trans}
-use Rattle.run_laws.specs.Engine.{Engine}
-use Rattle.run_laws.specs.Facts.{takes_event, takes_next}
+use Rattle.net_txn.specs.Net.{NetState}
+use Rattle.batch_laws.specs.Calm.{Calm}
+use Rattle.run_laws.specs.Engine.{Application, Engine, EachFrom, rules_of}
+use Rattle.run_laws.specs.Facts.{Between, DispatchesTo}
+use Rattle.run_laws.specs.Readings.{JudgesAlike}
+use Rattle.run_laws.specs.Moves.{IsAtRest, AtRest, Moved}
 use Rattle.run_laws.specs.LastReport.{last_text}
-use Rattle.run_laws.specs.laws.StartShownLaws.{start-shown}
-use Rattle.run_laws.specs.laws.EventLaws.{next-shown}
-use Rattle.run_laws.specs.laws.DialogueLaws.{takes_alive}
+use Rattle.run_laws.specs.laws.MoveLaws.{moved-none}
+use Rattle.run_laws.specs.laws.EventLaws.{next-shown, partly-moved}
 use Rattle.event_dispatch.specs.declared.batch.Rest.{Rest}
 use Rattle.event_dispatch.specs.declared.fault.Fault.{Fault}
 use Rattle.event_dispatch.specs.declared.fault.Fault.TheVariants as faults
+use Rattle.event_dispatch.specs.declared.core.Core.{Core}
 use Rattle.event_dispatch.specs.declared.run.Run.{Run}
 use Rattle.event_dispatch.specs.declared.served.Served.{Served}
 use Rattle.event_dispatch.specs.declared.served.Served.TheVariants as served
 use Rattle.event_dispatch.specs.Why.{IsReason, served_by}
-use Rattle.event_dispatch.specs.Runs.{Waits}
+use Rattle.event_dispatch.specs.Runs.{Going, Waits}
 use Rattle.event_dispatch.specs.Batch.{BatchShown}
-use Rattle.event_dispatch.specs.Shows.{engine_of, queued_run}
+use Rattle.event_dispatch.specs.Shows.{Stays, engine_of, queued_run}
 use Rattle.event_dispatch.specs.ReportEnd.{LastShown}
-use Rattle.event_dispatch.specs.laws.LastLaws.{says_leaves}
-use Rattle.lego_model.specs.Application.{index}
-use Rattle.event_dispatch.specs.Talking.{KeepsTalking, TurnTalks}
-use Rattle.event_dispatch.specs.Steady.{Reads, NoPoint, AtMostThisPoint, NoneMoves}
-use Rattle.event_dispatch.specs.Undone.{IsShort, TurnLeft}
-use Rattle.event_dispatch.specs.laws.LeftLaws.{left_none, left_turn, left_as}
-use Rattle.net_txn.specs.Net.{NetState}
+use Rattle.run_laws.specs.laws.LeaveLaws.{asked-leaves}
+use Rattle.event_dispatch.specs.Talking.{KeepsTalking}
+use Rattle.event_dispatch.specs.Steady.{Reads, NoPoint, NoneMoves}
 use Rattle.event_dispatch.specs.laws.SteadyLaws.{quietly_none, quietly_then, none_move, none_move_then}
-use Rattle.event_dispatch.specs.laws.TalkingLaws.{keeps_none, keeps_then, goes_none, goes_turn, goes_as}
-use Rattle.event_dispatch.specs.Serves.{Writes, Starts, IsDispatched, IsBatch, Begins}
+use Rattle.event_dispatch.specs.laws.TalkingLaws.{keeps_none, keeps_then}
+use Rattle.event_dispatch.specs.Serves.{Writes, AllStarted, IsDispatched, Begins}
 use Rattle.event_dispatch.specs.laws.ReadLaws.{reads_engine}
-use Rattle.event_dispatch.specs.laws.RoundLaws.{first_event, batch_is}
-use Rattle.event_dispatch.specs.Cut.{IsStill, IsOfTurn, FailsIn, CutOne, CutSome, CutRound, CutRounds, CutStart, CutEnd, CutFinish, CutFinishAs, WentToEnd, CutGoes, CutRun, CutAs}
+use Rattle.event_dispatch.specs.laws.RoundLaws.{first_event, number_is, batch_is, batch_written, all_begun}
+use Rattle.event_dispatch.specs.Cut.{IsStill, FailsIn, FailsNext, CutOne, CutSome, CutRound, CutRounds, CutStart, CutEnd, CutFinish, CutFinishAs, WentToEnd, CutGoes, CutRun, CutAs}
 
 -- what a `?` answers is the fault
 pub if_err : {T E : Type 0} (P : E → Type 0) (fault : E) (result : Result T E) → IsErrAnd result (λ e. e ≡ fault) → P fault → IfErr result P
@@ -52,52 +58,78 @@ still_is Tells a b faults.NoMemory contents now_contents why same = same
 
 -- ---- Events
 
-pub one_still : {Own : Type 0} (Tells : Type 0) (accepts : List TableView → Bool) (fault : Fault) (contents now_contents : Option (List ℕ)) (old new : Seen Own) (e : Engine) → IsStill fault contents now_contents → FailsIn Tells fault (takes_next e e.queue) old new e → AtMostThisPoint Tells old new → CutOne Tells accepts fault contents now_contents old new e
-one_still Tells accepts faults.Write contents now_contents old new e still talks here = absurd still
-one_still Tells accepts faults.Next contents now_contents old new e still talks here = (still, talks, here)
-one_still Tells accepts (faults.Txn fault) contents now_contents old new e still talks here = (still, talks, here)
-one_still Tells accepts faults.NoMemory contents now_contents old new e still talks here = (still, talks, here)
+pub one_still : {Own : Type 0} (Tells : Type 0) (accepts : List TableView → Bool) (fault : Fault) (contents now_contents : Option (List ℕ)) (old new : Seen Own) (e : Engine) → IsStill fault contents now_contents → FailsNext Tells accepts fault old new e → CutOne Tells accepts fault contents now_contents old new e
+one_still Tells accepts faults.Write contents now_contents old new e still fails = absurd still
+one_still Tells accepts faults.Next contents now_contents old new e still fails = (still, fails)
+one_still Tells accepts (faults.Txn fault) contents now_contents old new e still fails = (still, fails)
+one_still Tells accepts faults.NoMemory contents now_contents old new e still fails = (still, fails)
 
--- memory ran out before the event was given to the application
-pub fails_short : {Own : Type 0} (Tells : Type 0) (takes : Bool) (seen : Seen Own) (e : Engine) → FailsIn Tells faults.NoMemory takes seen seen e
-fails_short Tells takes seen e = record { talks = goes_none Tells seen e; of_turn = tt; left = left_none Tells (IsShort faults.NoMemory) seen e }
-
-of_takes : (fault : Fault) (takes : Bool) → takes ≡ true → IsOfTurn fault takes
-of_takes faults.Write takes is = tt
-of_takes faults.Next takes is = is
-of_takes (faults.Txn fault) takes is = is
-of_takes faults.NoMemory takes is = tt
-
--- or its turn stopped
-pub fails_turn : {Own T : Type 0} (Tells : Type 0) (event : Event) (budget : ℕ) (rest : List ℕ) (old new : Seen Own) (e : Engine) (net : NetState) (result : Result T Fault) → takes_event e event ≡ true → budget ≡ e.rule.budget → rest ≡ e.rest → net ≡ e.net → OnErr result (TurnTalks Tells index rest old new)
-    → IfErr result (λ fault. TurnLeft Tells (IsShort fault) budget rest old new net) → IfErr result (λ fault. FailsIn Tells fault (takes_event e event) old new e)
-fails_turn Tells event budget rest old new e net (Ok x) takes frames same stands talks left = tt
-fails_turn Tells event budget rest old new e net (Err fault) takes frames same stands talks left = record {
-  talks = goes_turn Tells rest old new e (takes_alive e event takes) same talks;
-  of_turn = of_takes fault (takes_event e event) takes;
-  left = left_turn Tells (IsShort fault) budget rest old new net e (takes_alive e event takes) frames same stands left;
+-- it is the oldest of those that wait
+pub fails_next : {Own : Type 0} (Tells : Type 0) (accepts : List TableView → Bool) (fault : Fault) (event : Event) (old new : Seen Own) (r : Run) (queue : List Event) → r.core.events < 2 ^ 63 → Some event ≡ slice_get r.core.queue 0 → queue ≡ drop 1 r.core.queue
+    → FailsIn Tells accepts fault event old new (engine_of (queued_run queue r)) → FailsNext Tells accepts fault old new (engine_of r)
+fails_next Tells accepts fault event old new r queue few waits left fails = record {
+  event = event;
+  queue = queue;
+  waits = first_event r.core.queue event waits ∙ ap (λ (q : List Event). event ∷ q) (sym left);
+  few = omega (arith, few);
+  fails = fails;
 }
 
--- the engine had other events that wait
-pub fails_as : {Own : Type 0} (Tells : Type 0) (fault : Fault) (takes now_takes : Bool) (old new : Seen Own) (e now_e : Engine) → takes ≡ now_takes → now_e.rule ≡ e.rule → now_e.alive ≡ e.alive → now_e.rest ≡ e.rest → now_e.net ≡ e.net → FailsIn Tells fault takes old new e
-    → FailsIn Tells fault now_takes old new now_e
-fails_as Tells fault takes now_takes old new e now_e same rule alive rest net fails = record {
-  talks = goes_as Tells old new e now_e (sym alive) (sym rest) fails.talks;
-  of_turn = subst (IsOfTurn fault) same fails.of_turn;
-  left = left_as Tells (IsShort fault) old new e now_e rule alive rest net fails.left;
-}
+-- Up to there the reference controller gives the event to as many: the first of them where it was given to some, and else nothing is done.
+pub record PartlyGone {Own : Type 0} (allows : List Place → Bool) (old mid : Seen Own) (e mid_e : Engine) : Type 0 where
+  pub given : ℕ
+  pub more : List ℕ
+  pub now_engine : Engine
+  pub partly : Moved [] (dispatch_partly allows given) more old mid e now_engine
+  pub rest : AtRest mid mid_e
+  pub rules : rules_of mid_e ≡ rules_of e
 
--- it is the oldest of those that wait, or was
-pub takes_oldest : (e now_e : Engine) (event : Event) (queue : List Event) → takes_event now_e event ≡ takes_event e event → Some event ≡ slice_get queue 0 → takes_event now_e event ≡ takes_next e queue
-takes_oldest e now_e event queue same waits = same ∙ ap (λ (q : List Event). takes_next e q) (sym (first_event queue event waits))
+-- it was given to none
+none_gone : {Own : Type 0} (Tells : Type 0) (accepts : List TableView → Bool) (allows : List Place → Bool) (event : Event) (queue : List Event) (old mid : Seen Own) (e mid_e : Engine) → DispatchesTo Tells accepts event 0 old mid (record e { queue = queue }) mid_e → AtRest old e → PartlyGone allows old mid e mid_e
+none_gone {Own} Tells accepts allows event queue old mid e mid_e given settled =
+    let here : mid ≡ old = ap (λ (b : Between Own). b.seen) given.offers.0 in
+    let net : mid_e.net ≡ e.net = ap (λ (b : Between Own). b.net) given.offers.0 in
+    let apps : mid_e.apps ≡ e.apps = given.apps_is ∙ ap (λ (front : List Application). front ++ e.apps) given.offers.2 in
+    record {
+      given = 0;
+      more = [];
+      now_engine = e;
+      partly = subst (λ (m : Seen Own). Moved [] (dispatch_partly allows 0) [] old m e e) (sym here) (moved-none old e settled);
+      rest = record {
+        calm = subst (λ (m : Seen Own). Calm m mid_e.net) (sym here) (subst (λ (n : NetState). Calm old n) (sym net) settled.calm);
+        each = subst (λ (m : Seen Own). EachFrom (IsAtRest m) 0 mid_e.apps) (sym here) (subst (λ (xs : List Application). EachFrom (IsAtRest old) 0 xs) (sym apps) settled.each);
+        orderly = subst (λ (m : Seen Own). AllByRecursion (IsOrderly (length mid_e.apps)) m.history) (sym here) (subst (λ (xs : List Application). AllByRecursion (IsOrderly (length xs)) old.history) (sym apps) settled.orderly);
+      };
+      rules = ap (λ (xs : List Application). map (λ a. a.rule) xs) apps;
+    }
+
+-- to some
+to_gone : {Own : Type 0} (Tells : Type 0) (accepts : List TableView → Bool) (allows : List Place → Bool) (number : ℕ) (event : Event) (queue : List Event) (old mid : Seen Own) (e mid_e : Engine) → Tells → Conforming mid → Continues Tells old mid → JudgesAlike Own allows accepts → e.events + 1 < 2 ^ 64 → e.queue ≡ event ∷ queue
+    → DispatchesTo Tells accepts event number old mid (record e { queue = queue }) mid_e → AtRest old e → PartlyGone allows old mid e mid_e
+to_gone Tells accepts allows zero event queue old mid e mid_e told keeps on judges few waits given settled = none_gone Tells accepts allows event queue old mid e mid_e given settled
+to_gone Tells accepts allows (suc n) event queue old mid e mid_e told keeps on judges few waits given settled =
+    let moved = partly-moved Tells accepts allows n event queue old mid e mid_e told keeps on judges few waits given settled in
+    record {
+      given = suc n;
+      more = event_line (e.events + 1) event.kind event.dpid ++ given.text;
+      now_engine = mid_e;
+      partly = moved;
+      rest = moved.settled;
+      rules = moved.moves.rules;
+    }
+
+pub partly_gone : {Own : Type 0} (Tells : Type 0) (accepts : List TableView → Bool) (allows : List Place → Bool) (fault : Fault) (old new : Seen Own) (e : Engine) (next : FailsNext Tells accepts fault old new e) → Tells → Conforming next.fails.mid → JudgesAlike Own allows accepts → AtRest old e
+    → PartlyGone allows old next.fails.mid e next.fails.mid_engine
+partly_gone Tells accepts allows fault old new e next told keeps judges settled =
+    to_gone Tells accepts allows next.fails.number next.event next.queue old next.fails.mid e next.fails.mid_engine told keeps next.fails.on judges next.few next.waits next.fails.given settled
 
 -- it was dispatched, and the sink failed
-pub one_unwritten : {Own : Type 0} (Tells : Type 0) (accepts : List TableView → Bool) (event : Event) (contents now_contents : Option (List ℕ)) (old new : Seen Own) (r : Run) (queue : List Event) (mid : Run) → Continues Tells old new → r.events < 2 ^ 63 → Some event ≡ slice_get r.queue 0
-    → queue ≡ drop 1 r.queue → r.lines.items ≡ [] → IsDispatched Tells accepts event old new (queued_run queue r) mid → Reads Tells old new r.net mid.net → TookPart contents now_contents mid.lines.items → CutOne Tells accepts faults.Write contents now_contents old new (engine_of r)
+pub one_unwritten : {Own : Type 0} (Tells : Type 0) (accepts : List TableView → Bool) (event : Event) (contents now_contents : Option (List ℕ)) (old new : Seen Own) (r : Run) (queue : List Event) (mid : Run) → Continues Tells old new → r.core.events < 2 ^ 63 → Some event ≡ slice_get r.core.queue 0
+    → queue ≡ drop 1 r.core.queue → r.core.lines.items ≡ [] → IsDispatched Tells accepts event old new (queued_run queue r) mid → Reads Tells old new r.core.net mid.core.net → TookPart contents now_contents mid.core.lines.items → CutOne Tells accepts faults.Write contents now_contents old new (engine_of r)
 one_unwritten Tells accepts event contents now_contents old new r queue mid continues few waits left none is reads part = record {
   more = is.text;
   now_engine = engine_of mid;
-  shown = next-shown Tells accepts event queue is.text old new (engine_of r) (engine_of mid) continues (omega (arith, few)) (first_event r.queue event waits ∙ ap (λ (q : List Event). event ∷ q) (sym left)) is.dispatches;
+  shown = next-shown Tells accepts event queue is.text old new (engine_of r) (engine_of mid) continues (omega (arith, few)) (first_event r.core.queue event waits ∙ ap (λ (q : List Event). event ∷ q) (sym left)) is.dispatches;
   reads = reads;
   part = subst (λ (text : List ℕ). TookPart contents now_contents text) (is.notes ∙ ap (λ (xs : List ℕ). xs ++ is.text) none) part;
 }
@@ -105,30 +137,30 @@ one_unwritten Tells accepts event contents now_contents old new r queue mid cont
 -- ---- Rounds
 
 -- a batch was done, and a fault ended what came behind it
-pub round_behind : {Own : Type 0} (Tells : Type 0) (accepts : List TableView → Bool) (rest : Rest) (fault : Fault) (contents held now_contents : Option (List ℕ)) (old mid new : Seen Own) (r then_r mid_r : Run) → Continues Tells old mid → r.lines.items ≡ [] → then_r.app ≡ r.app → Waits r then_r
-    → BatchShown Tells rest old mid r then_r → Reads Tells old mid r.net then_r.net → engine_of mid_r ≡ engine_of then_r → Writes then_r.lines.items contents held mid_r → Continues Tells mid new → CutSome Tells accepts fault held now_contents mid new mid_r → CutRound Tells accepts fault contents now_contents old new r
-round_behind Tells accepts rest fault contents held now_contents old mid new r then_r mid_r first none app waits batch reads same writes later some = inr (inl (record {
+pub round_behind : {Own : Type 0} (Tells : Type 0) (accepts : List TableView → Bool) (rest : Rest) (fault : Fault) (contents held now_contents : Option (List ℕ)) (old mid new : Seen Own) (r : Run) (then_c mid_c : Core) → Continues Tells old mid → r.core.lines.items ≡ [] → Waits r.core then_c
+    → BatchShown Tells rest old mid r.core then_c → Reads Tells old mid r.core.net then_c.net → Stays then_c mid_c → Writes then_c.lines.items contents held mid_c → Continues Tells mid new → CutSome Tells accepts fault held now_contents mid new (record r { core = mid_c }) → CutRound Tells accepts fault contents now_contents old new r
+round_behind Tells accepts rest fault contents held now_contents old mid new r then_c mid_c first none waits batch reads same writes later some = inr (inl (record {
   rest = rest;
   mid = mid;
-  mid_run = mid_r;
-  noted = then_r.lines.items;
+  mid_run = record r { core = mid_c };
+  noted = then_c.lines.items;
   held = held;
   first = first;
-  batch = subst (λ (e : Engine). IsBatch Tells rest then_r.lines.items old mid (engine_of r) e) (sym same) (batch_is Tells rest old mid r then_r first none app waits batch);
+  batch = batch_written Tells rest old mid r then_c mid_c first none waits batch same;
   written = writes.written;
-  reads = reads_engine old mid then_r mid_r same reads;
+  reads = reads_engine old mid then_c mid_c same reads;
   later = later;
   some = some;
 }))
 
 -- or the sink failed at what it noted
-pub round_unwritten : {Own : Type 0} (Tells : Type 0) (accepts : List TableView → Bool) (rest : Rest) (contents now_contents : Option (List ℕ)) (old new : Seen Own) (r then_r : Run) → Continues Tells old new → r.lines.items ≡ [] → then_r.app ≡ r.app → Waits r then_r
-    → BatchShown Tells rest old new r then_r → Reads Tells old new r.net then_r.net → (then_r.lines.items ≡ [] → ⊥) → TookPart contents now_contents then_r.lines.items → CutRound Tells accepts faults.Write contents now_contents old new r
-round_unwritten Tells accepts rest contents now_contents old new r then_r first none app waits batch reads some part = inr (inr (record {
+pub round_unwritten : {Own : Type 0} (Tells : Type 0) (accepts : List TableView → Bool) (rest : Rest) (contents now_contents : Option (List ℕ)) (old new : Seen Own) (r : Run) (then_c : Core) → Continues Tells old new → r.core.lines.items ≡ [] → Waits r.core then_c
+    → BatchShown Tells rest old new r.core then_c → Reads Tells old new r.core.net then_c.net → (then_c.lines.items ≡ [] → ⊥) → TookPart contents now_contents then_c.lines.items → CutRound Tells accepts faults.Write contents now_contents old new r
+round_unwritten Tells accepts rest contents now_contents old new r then_c first none waits batch reads some part = inr (inr (record {
   rest = rest;
-  noted = then_r.lines.items;
-  now_run = then_r;
-  batch = batch_is Tells rest old new r then_r first none app waits batch;
+  noted = then_c.lines.items;
+  now_run = record r { core = then_c };
+  batch = batch_is Tells rest old new r then_c first none waits batch;
   some = some;
   reads = reads;
   part = part;
@@ -136,30 +168,38 @@ round_unwritten Tells accepts rest contents now_contents old new r then_r first 
 
 -- ---- The start, and the end
 
--- it was started, and the sink failed
-pub start_unwritten : {Own : Type 0} (Tells : Type 0) (contents now_contents : Option (List ℕ)) (old new : Seen Own) (r mid : Run) → r.lines.items ≡ [] → Starts Tells old new r mid → Reads Tells old new r.net mid.net → TookPart contents now_contents mid.lines.items → CutStart Tells faults.Write contents now_contents old new (engine_of r)
+-- memory ran out
+pub start_short : {Own : Type 0} (Tells : Type 0) (contents : Option (List ℕ)) (old new : Seen Own) (r : Run) → Going r → KeepsTalking Tells old new → NoPoint Tells (length r.core.store) old new → CutStart Tells faults.NoMemory contents contents old new (engine_of r)
+start_short Tells contents old new r going talks no_point = (refl, talks, subst (λ (n : ℕ). NoPoint Tells n old new) (number_is r going) no_point)
+
+-- they were started, and the sink failed
+pub start_unwritten : {Own : Type 0} (Tells : Type 0) (contents now_contents : Option (List ℕ)) (old new : Seen Own) (r mid : Run) → r.core.lines.items ≡ [] → AllStarted Tells old new r.core mid.core r.apps.items mid.apps.items → Reads Tells old new r.core.net mid.core.net → TookPart contents now_contents mid.core.lines.items → CutStart Tells faults.Write contents now_contents old new (engine_of r)
 start_unwritten Tells contents now_contents old new r mid none starts reads part = record {
   more = starts.text;
   now_engine = engine_of mid;
-  shown = start-shown Tells starts.text old new (engine_of r) (engine_of mid) starts.starts;
+  shown = all_begun Tells old new r mid starts;
   reads = reads;
   part = subst (λ (text : List ℕ). TookPart contents now_contents text) (starts.notes ∙ ap (λ (xs : List ℕ). xs ++ starts.text) none) part;
 }
 
-pub end_still : {Own : Type 0} (Tells : Type 0) (fault : Fault) (contents now_contents : Option (List ℕ)) (last new : Seen Own) (e : Engine) → IsStill fault contents now_contents → KeepsTalking Tells last new → NoPoint Tells last new → CutEnd Tells fault contents now_contents last new e
+end_still : {Own : Type 0} (Tells : Type 0) (fault : Fault) (contents now_contents : Option (List ℕ)) (last new : Seen Own) (e : Engine) → IsStill fault contents now_contents → KeepsTalking Tells last new → NoPoint Tells (length e.apps) last new → CutEnd Tells fault contents now_contents last new e
 end_still Tells faults.Write contents now_contents last new e still talks no_point = absurd still
 end_still Tells faults.Next contents now_contents last new e still talks no_point = (still, talks, no_point)
 end_still Tells (faults.Txn fault) contents now_contents last new e still talks no_point = (still, talks, no_point)
 end_still Tells faults.NoMemory contents now_contents last new e still talks no_point = (still, talks, no_point)
 
+pub end_stopped : {Own : Type 0} (Tells : Type 0) (fault : Fault) (contents now_contents : Option (List ℕ)) (last new : Seen Own) (r : Run) → Going r → IsStill fault contents now_contents → KeepsTalking Tells last new → NoPoint Tells (length r.core.store) last new → CutEnd Tells fault contents now_contents last new (engine_of r)
+end_stopped Tells fault contents now_contents last new r going still talks no_point =
+    end_still Tells fault contents now_contents last new (engine_of r) still talks (subst (λ (n : ℕ). NoPoint Tells n last new) (number_is r going) no_point)
+
 -- the lines of the end are known, and the sink failed
-pub end_unwritten : {Own : Type 0} (Tells : Type 0) (contents now_contents : Option (List ℕ)) (last new : Seen Own) (r mid : Run) → r.lines.items ≡ [] → LastShown Tells last new r mid → Reads Tells last new r.net mid.net → TookPart contents now_contents mid.lines.items → CutEnd Tells faults.Write contents now_contents last new (engine_of r)
+pub end_unwritten : {Own : Type 0} (Tells : Type 0) (contents now_contents : Option (List ℕ)) (last new : Seen Own) (r mid : Run) → r.core.lines.items ≡ [] → LastShown Tells last new r mid → Reads Tells last new r.core.net mid.core.net → TookPart contents now_contents mid.core.lines.items → CutEnd Tells faults.Write contents now_contents last new (engine_of r)
 end_unwritten Tells contents now_contents last new r mid none shown reads part = record {
-  more = mid.lines.items;
-  now_net = mid.net;
+  more = mid.core.lines.items;
+  now_net = mid.core.net;
   shown = λ told keeps calm.
       let says = shown.shown told keeps calm in
-      record { lost = says.lost; text_is = says.says.lines ∙ ap (λ (xs : List ℕ). xs ++ last_text says.lost last (engine_of r)) none; leaves = says_leaves says.says };
+      record { lost = says.lost; text_is = says.says.lines ∙ ap (λ (xs : List ℕ). xs ++ last_text says.lost last (engine_of r)) none; leaves = asked-leaves (length (engine_of r).apps) says.lost last new says.says.asked says.says.switches };
   reads = reads;
   part = part;
 }
@@ -180,7 +220,7 @@ goes_cut Tells accepts most (faults.Txn fault) contents now_contents old new e o
 goes_cut Tells accepts most faults.NoMemory contents now_contents old new e on goes = record { fault = faults.NoMemory; end_is = refl; stop = new; before = on; later = Continues-refl Tells new; talks = keeps_none Tells new; no_point = quietly_none Tells new; none_moves = none_move Tells new; goes = goes }
 
 -- a fault ended the rounds
-pub rounds_cut : {Own : Type 0} (Tells : Type 0) (accepts : List TableView → Bool) (most : ℕ) (fault : Fault) (a b c : Option (List ℕ)) (old begun new : Seen Own) (r begun_r : Run) → Continues Tells old begun → Begins Tells a b old begun r begun_r → Reads Tells old begun r.net begun_r.net → Continues Tells begun new
+pub rounds_cut : {Own : Type 0} (Tells : Type 0) (accepts : List TableView → Bool) (most : ℕ) (fault : Fault) (a b c : Option (List ℕ)) (old begun new : Seen Own) (r begun_r : Run) → Continues Tells old begun → Begins Tells a b old begun r begun_r → Reads Tells old begun r.core.net begun_r.core.net → Continues Tells begun new
     → CutRounds Tells accepts fault b c begun new begun_r → CutAs Tells accepts most (served_by fault) a c old new (engine_of r)
 rounds_cut Tells accepts most fault a b c old begun new r begun_r first begins reads later rounds = goes_cut Tells accepts most fault a c old new (engine_of r) (Continues-trans Tells old begun new first later) (inr (inl (record {
   text = begins.text;
@@ -231,7 +271,7 @@ went_cut Tells accepts most (Err (served.Txn fault)) a b c d old begun last new 
 went_cut Tells accepts most (Err served.NoMemory) a b c d old begun last new r r1 r2 w later cut = end_cut Tells accepts most served.NoMemory a b c d old begun last new r r1 r2 w later cut
 
 -- the run goes on, as with the end of the application
-on_cut : {Own : Type 0} (Tells : Type 0) (accepts : List TableView → Bool) (most : ℕ) (end : Served) (a b : Option (List ℕ)) (old mid new : Seen Own) (e : Engine) → Continues Tells mid new → KeepsTalking Tells mid new → NoPoint Tells mid new → NoneMoves Tells mid new → CutRun Tells accepts most end a b old mid e → CutRun Tells accepts most end a b old new e
+on_cut : {Own : Type 0} (Tells : Type 0) (accepts : List TableView → Bool) (most : ℕ) (end : Served) (a b : Option (List ℕ)) (old mid new : Seen Own) (e : Engine) → Continues Tells mid new → KeepsTalking Tells mid new → NoPoint Tells (length e.apps) mid new → NoneMoves Tells mid new → CutRun Tells accepts most end a b old mid e → CutRun Tells accepts most end a b old new e
 on_cut Tells accepts most end a b old mid new e later talks no_point none_moves cut = record {
   fault = cut.fault;
   end_is = cut.end_is;
@@ -244,7 +284,7 @@ on_cut Tells accepts most end a b old mid new e later talks no_point none_moves 
   goes = cut.goes;
 }
 
-pub goes_on_cut : {Own : Type 0} (Tells : Type 0) (accepts : List TableView → Bool) (most : ℕ) (result : Result (Unit {0}) Served) (a b : Option (List ℕ)) (old mid new : Seen Own) (e : Engine) → Continues Tells mid new → KeepsTalking Tells mid new → NoPoint Tells mid new → NoneMoves Tells mid new → IfErr result (λ end. CutAs Tells accepts most end a b old mid e)
+pub goes_on_cut : {Own : Type 0} (Tells : Type 0) (accepts : List TableView → Bool) (most : ℕ) (result : Result (Unit {0}) Served) (a b : Option (List ℕ)) (old mid new : Seen Own) (e : Engine) → Continues Tells mid new → KeepsTalking Tells mid new → NoPoint Tells (length e.apps) mid new → NoneMoves Tells mid new → IfErr result (λ end. CutAs Tells accepts most end a b old mid e)
     → IfErr result (λ end. CutAs Tells accepts most end a b old new e)
 goes_on_cut Tells accepts most (Ok x) a b old mid new e later talks no_point none_moves cut = tt
 goes_on_cut Tells accepts most (Err (served.EventsLeft left)) a b old mid new e later talks no_point none_moves cut = tt

@@ -48,18 +48,21 @@ use Rattle.event_dispatch.specs.declared.fault.Fault.{Fault}
 use Rattle.event_dispatch.specs.declared.fault.Fault.TheVariants as faults
 use Rattle.event_dispatch.specs.declared.batch.Rest.{Rest}
 use Rattle.event_dispatch.specs.declared.batch.Rest.TheVariants as rests
+use Rattle.event_dispatch.specs.declared.core.Core.{Core}
 use Rattle.event_dispatch.specs.declared.run.Run.{Run}
 use Rattle.event_dispatch.specs.declared.served.Served.{Served}
 use Rattle.event_dispatch.specs.declared.served.Served.TheVariants as ends
 use Rattle.event_dispatch.specs.Why.{fault_of, served_by, ended_by}
 use Rattle.event_dispatch.specs.Runs.{Waits}
-use Rattle.event_dispatch.specs.Shows.{engine_of}
+use Rattle.event_dispatch.specs.Shows.{Stays, engine_of}
 use Rattle.event_dispatch.specs.Batch.{standing_of, KeptSoFar, BatchGoes, BatchShown}
 use Rattle.event_dispatch.specs.laws.BatchLaws.{some_kept}
 use Rattle.event_dispatch.specs.ReportEnd.{TablesShown}
 use Rattle.event_dispatch.specs.laws.LastLaws.{some_is, says_ready, says_sound, distinct-views, distinct-take}
 use Rattle.event_dispatch.specs.Serves.{DispatchesSome, IsBatch, GoesRounds, GoesToEnd, Begins, IsUnopened}
-use Rattle.event_dispatch.specs.laws.RoundLaws.{batch_is}
+use Rattle.event_dispatch.specs.laws.RoundLaws.{stays_engine, batch_is}
+use Rattle.event_dispatch.specs.laws.CutLaws.{partly_gone}
+use Rattle.event_dispatch.specs.Cut.{FailsNext}
 use Rattle.event_dispatch.specs.laws.WholeLaws.{opened_is}
 use Rattle.event_dispatch.specs.Plain.{IsPlainServed, IsPlainEnd, PlainRead, PlainJoin, PlainItem, PlainNext, PlainKept, PlainCalm, PlainTurn, PlainTable, PlainRun, PlainWhole, EndsPlain}
 
@@ -148,7 +151,7 @@ next_taken item buf old mid new fault call later taken = record { plain = λ tol
 pub kept_memory : (net : NetState) → PlainKept net faults.NoMemory
 kept_memory net = record { plain = λ none. tt }
 
-pub kept_none : {Own : Type 0} {n : ℕ} {old now : Seen Own} (run mid : Run) (m : ℕ × List ℕ) (fault : Fault) → KeptSoFar n old now run mid → Some m ≡ slice_get mid.net.kept 0 → PlainKept run.net fault
+pub kept_none : {Own : Type 0} {n : ℕ} {old now : Seen Own} (run mid : Core) (m : ℕ × List ℕ) (fault : Fault) → KeptSoFar n old now run mid → Some m ≡ slice_get mid.net.kept 0 → PlainKept run.net fault
 kept_none run mid m fault so_far is = record { plain = λ none. absurd (some_kept m mid.net.kept is (ap (λ (s : NetState). s.kept) (so_far.none none).1.1 ∙ none)) }
 
 -- a batch
@@ -158,7 +161,7 @@ calm_anyway old new net end plain = record { plain = λ told keeps calm. plain }
 pub batch_kept : {Own : Type 0} {Tells : Type 0} (old new : Seen Own) (net : NetState) (fault : Fault) → PlainKept net fault → PlainCalm Tells old new net (served_by fault)
 batch_kept old new net fault kept = record { plain = λ told keeps calm. kept.plain calm.kept }
 
-pub batch_next : {Own : Type 0} {Tells : Type 0} (n : ℕ) (old now new : Seen Own) (run mid : Run) (fault : Fault) → BatchGoes Tells n old now run mid → Continues Tells now new → PlainNext Tells now new fault → PlainCalm Tells old new run.net (served_by fault)
+pub batch_next : {Own : Type 0} {Tells : Type 0} (n : ℕ) (old now new : Seen Own) (run mid : Core) (fault : Fault) → BatchGoes Tells n old now run mid → Continues Tells now new → PlainNext Tells now new fault → PlainCalm Tells old new run.net (served_by fault)
 batch_next n old now new run mid fault goes later next = record {
   plain = λ told keeps calm. next.plain told keeps (next_can n (standing_of old run) (standing_of now mid) told calm (goes.so_far told (Conforming-before told later keeps) calm));
 }
@@ -224,7 +227,7 @@ table_asked {Tells = Tells} {old = old} {new = new} {net = net} d kept now_kept 
 pub table_memory : {Own : Type 0} {Tells : Type 0} (old new : Seen Own) (net : NetState) → PlainTable Tells old new net faults.NoMemory
 table_memory old new net = record { plain = λ told keeps ready sound. tt }
 
-pub tables_then : {Own : Type 0} {Tells : Type 0} (all : List ℕ) (i : ℕ) (old mid new : Seen Own) (r then_r : Run) (fault : Fault) → all ≡ map (λ v. v.dpid) r.net.views → TablesShown Tells (take i all) old mid r then_r → Continues Tells mid new
+pub tables_then : {Own : Type 0} {Tells : Type 0} (all : List ℕ) (i : ℕ) (old mid new : Seen Own) (r then_r : Core) (fault : Fault) → all ≡ map (λ v. v.dpid) r.net.views → TablesShown Tells (take i all) old mid r then_r → Continues Tells mid new
     → PlainTable Tells mid new then_r.net fault → PlainCalm Tells old new r.net (served_by fault)
 tables_then all i old mid new r then_r fault is tables later table = record {
   plain = λ told keeps calm.
@@ -238,9 +241,14 @@ tables_then all i old mid new r then_r fault is tables later table = record {
 pub run_anyway : {Own : Type 0} {Tells : Type 0} {accepts : List TableView → Bool} (old new : Seen Own) (e : Engine) (end : Served) → IsPlainServed end → PlainRun Tells accepts old new e end
 run_anyway old new e end plain = record { plain = λ allows told keeps judges settled. inl plain }
 
--- one event
-pub run_turn : {Own : Type 0} {Tells : Type 0} {accepts : List TableView → Bool} (old new : Seen Own) (r : Run) (fault : Fault) → PlainTurn Tells old new r.net fault → PlainRun Tells accepts old new (engine_of r) (served_by fault)
-run_turn old new r fault turn = record { plain = λ allows told keeps judges settled. turn.plain told keeps settled.calm.ready }
+-- a fault ended an event, behind some turns at it
+pub run_fails : {Own : Type 0} {Tells : Type 0} {accepts : List TableView → Bool} (old new : Seen Own) (r : Run) (fault : Fault) → FailsNext Tells accepts fault old new (engine_of r) → PlainRun Tells accepts old new (engine_of r) (served_by fault)
+run_fails {Own} {Tells} {accepts} old new r fault next = record {
+  plain = λ allows told keeps judges settled.
+      let f = next.fails in
+      let gone = partly_gone Tells accepts allows fault old new (engine_of r) next told (Conforming-before told f.later keeps) judges settled in
+      ends_behind old f.mid new (served_by fault) (f.on.told told) (f.within.plain.plain told keeps gone.rest.calm.ready);
+}
 
 -- events, one after the other
 pub run_settled : {Own : Type 0} {Tells : Type 0} {accepts : List TableView → Bool} {n : ℕ} {a b : Option (List ℕ)} (old mid new : Seen Own) (r then_r : Run) (end : Served) → Continues Tells old mid → DispatchesSome Tells accepts n a b old mid r then_r → Continues Tells mid new
@@ -251,21 +259,21 @@ run_settled old mid new r then_r end first some later rest = record {
 }
 
 -- a batch, and then the events that wait
-pub run_calm : {Own : Type 0} {Tells : Type 0} {accepts : List TableView → Bool} (old new : Seen Own) (r : Run) (end : Served) → PlainCalm Tells old new r.net end → PlainRun Tells accepts old new (engine_of r) end
+pub run_calm : {Own : Type 0} {Tells : Type 0} {accepts : List TableView → Bool} (old new : Seen Own) (r : Run) (end : Served) → PlainCalm Tells old new r.core.net end → PlainRun Tells accepts old new (engine_of r) end
 run_calm old new r end calm = record { plain = λ allows told keeps judges settled. inl (calm.plain told keeps settled.calm) }
 
 batch_settled : {Own : Type 0} {Tells : Type 0} (rest : Rest) (noted : List ℕ) (old new : Seen Own) (e now_e : Engine) → IsBatch Tells rest noted old new e now_e → Tells → Conforming new → AtRest old e → AtRest new now_e
 batch_settled rests.Idle noted old new e now_e batch told keeps settled = (batch.happens told keeps settled).moved.settled
 batch_settled rests.End noted old new e now_e batch told keeps settled = (batch.over.moved told keeps settled).settled
 
-pub run_batch : {Own : Type 0} {Tells : Type 0} {accepts : List TableView → Bool} (rest : Rest) (old mid new : Seen Own) (r then_r mid_r : Run) (end : Served) → Continues Tells old mid → r.lines.items ≡ [] → then_r.app ≡ r.app → Waits r then_r → BatchShown Tells rest old mid r then_r
-    → engine_of mid_r ≡ engine_of then_r → Continues Tells mid new → PlainRun Tells accepts mid new (engine_of mid_r) end → PlainRun Tells accepts old new (engine_of r) end
-run_batch {Tells = Tells} rest old mid new r then_r mid_r end first none app waits batch same later settle = record {
+pub run_batch : {Own : Type 0} {Tells : Type 0} {accepts : List TableView → Bool} (rest : Rest) (old mid new : Seen Own) (r : Run) (then_c mid_c : Core) (end : Served) → Continues Tells old mid → r.core.lines.items ≡ [] → Waits r.core then_c → BatchShown Tells rest old mid r.core then_c
+    → Stays then_c mid_c → Continues Tells mid new → PlainRun Tells accepts mid new (engine_of (record r { core = mid_c })) end → PlainRun Tells accepts old new (engine_of r) end
+run_batch {Tells = Tells} rest old mid new r then_c mid_c end first none waits batch same later settle = record {
   plain = λ allows told keeps judges settled.
       ends_behind old mid new end (first.told told)
       (settle.plain allows told keeps judges
-      (subst (AtRest mid) (sym same)
-      (batch_settled rest then_r.lines.items old mid (engine_of r) (engine_of then_r) (batch_is Tells rest old mid r then_r first none app waits batch) told (Conforming-before told later keeps) settled)));
+      (subst (AtRest mid) (sym (stays_engine r then_c mid_c same))
+      (batch_settled rest then_c.lines.items old mid (engine_of r) (engine_of (record r { core = then_c })) (batch_is Tells rest old mid r then_c first none waits batch) told (Conforming-before told later keeps) settled)));
 }
 
 -- rounds
@@ -292,7 +300,7 @@ whole_rounds old mid new r then_r end first begins later rest = record {
 }
 
 pub whole_finish : {Own : Type 0} {Tells : Type 0} {accepts : List TableView → Bool} {most : ℕ} {a b c : Option (List ℕ)} (old mid last new : Seen Own) (r then_r last_r : Run) (result : Result (Unit {0}) Served) → Begins Tells a b old mid r then_r → Continues Tells mid last
-    → GoesToEnd Tells accepts most b c mid last then_r last_r → Continues Tells last new → IfErr result (PlainCalm Tells last new last_r.net) → IfErr result (PlainWhole Tells accepts most old new (engine_of r))
+    → GoesToEnd Tells accepts most b c mid last then_r last_r → Continues Tells last new → IfErr result (PlainCalm Tells last new last_r.core.net) → IfErr result (PlainWhole Tells accepts most old new (engine_of r))
 whole_finish old mid last new r then_r last_r (Ok x) begins on rounds later ends = tt
 whole_finish {Tells = Tells} old mid last new r then_r last_r (Err end) begins on rounds later ends = record {
   plain = λ allows told keeps judges settled few.
@@ -319,10 +327,10 @@ unopened_plain Tells old new (ends.Txn fault) is = absurd is
 unopened_plain Tells old new (ends.EventsLeft left) is = tt
 unopened_plain Tells old new ends.NoMemory is = tt
 
-pub served_plain : {Own : Type 0} (rule : AppValue) (Tells : Type 0) (accepts : List TableView → Bool) (most : ℕ) (end : Served) (old mid new : Seen Own) → (Tells → mid.history ≡ old.history ++ Opened ∷ []) → PlainWhole Tells accepts most mid new (engine_at_first rule) end
+pub served_plain : {Own : Type 0} (rules : List AppValue) (Tells : Type 0) (accepts : List TableView → Bool) (most : ℕ) (end : Served) (old mid new : Seen Own) → (Tells → mid.history ≡ old.history ++ Opened ∷ []) → PlainWhole Tells accepts most mid new (engine_at_first rules) end
     → (allows : List Place → Bool) → Premise Tells accepts allows most old new → EndsPlain old new end
-served_plain rule Tells accepts most end old mid new opened whole allows p =
-    ends_behind old mid new end (Opened ∷ [], opened p.told) (whole.plain allows p.told p.keeps p.judges (settled-first rule mid (opened_is old mid p.untouched (opened p.told))) p.few)
+served_plain rules Tells accepts most end old mid new opened whole allows p =
+    ends_behind old mid new end (Opened ∷ [], opened p.told) (whole.plain allows p.told p.keeps p.judges (settled-first rules mid (opened_is old mid p.untouched (opened p.told))) p.few)
 
 pub on_err : {T E : Type 0} {P Q : E → Type 0} (r : Result T E) → ((e : E) → P e → Q e) → IfErr r P → IfErr r Q
 on_err (Ok x) f p = tt

@@ -1,13 +1,12 @@
 -- Laws of a whole run: events one after the other, batches, the start and the end, and what a run of them promises.
-use Rattle.std.proofs.Common.{◌≡◌, ℕ, ◌+◌, ◌-◌, ◌^◌, ◌<◌, ◌≤◌, Bool, true, false, List, [], ◌∷◌, ◌++◌, length, drop, Option, Some, None, refl, sym, ap, ap₂, ◌∙◌, subst, arith}
+use Rattle.std.proofs.Common.{◌≡◌, ℕ, ◌+◌, ◌-◌, ◌^◌, ◌<◌, ◌≤◌, Bool, true, false, List, [], ◌∷◌, ◌++◌, length, map, drop, Option, Some, None, refl, sym, ap, ap₂, ◌∙◌, subst, arith}
 use Rattle.std.specs.Prelude.{slice_get}
 use Rattle.std.specs.Io.KnownBytes.{append_known}
-use Rattle.std.proofs.lemmas.List.{append-nil, length-append}
+use Rattle.std.specs.List.{AllByRecursion}
+use Rattle.std.proofs.lemmas.List.{append-nil, length-append, length-map}
 use Rattle.of_types.specs.declared.journal.WorldStim.{WorldStim}
 use Rattle.flow_table.specs.View.{TableView}
 use Rattle.app_frames.specs.declared.frame.Event.{Event}
-use Rattle.crash_policy.specs.Policies.{app_value}
-use Rattle.lego_model.specs.Journal.{Reply, Start}
 use Rattle.lego_model.specs.Places.{Place}
 use Rattle.lego_model.specs.Losses.{Losses}
 use Rattle.lego_model.specs.Controller.{Run as ModelRun, settle, per_batch}
@@ -15,10 +14,11 @@ use Rattle.outside.specs.Seen.{Seen, Continues}
 use Rattle.outside.specs.laws.SeenLaws.{Continues-trans}
 use Rattle.outside.specs.laws.StateLaws.{Conforming-before}
 use Rattle.outside.specs.Conforming.{Conforming}
-use Rattle.run_laws.specs.Engine.{Engine, Stands, engine_then}
+use Rattle.net_txn.specs.Net.{NetState}
+use Rattle.run_laws.specs.Engine.{Engine, Stands, engine_then, behind, rules_of}
 use Rattle.lego_model.specs.History.{stimuli_in}
-use Rattle.lego_model.specs.ReferenceRun.{text_of, dispatch_next, times}
-use Rattle.run_laws.specs.Facts.{StartsAgain}
+use Rattle.lego_model.specs.ReferenceRun.{Said, text_of, dispatch_next, times}
+use Rattle.run_laws.specs.Endings.{ShownStart}
 use Rattle.run_laws.specs.Moves.{AtRest, Moved, Shown, OneHappens}
 use Rattle.run_laws.specs.laws.BatchMoveLaws.{batch-happens, batch-over}
 use Rattle.run_laws.specs.Readings.{JudgesAlike}
@@ -30,16 +30,17 @@ use Rattle.run_laws.specs.laws.StartShownLaws.{start-shown}
 use Rattle.run_laws.specs.laws.EventLaws.{next-shown, rest-shown}
 use Rattle.event_dispatch.specs.declared.batch.Rest.{Rest}
 use Rattle.event_dispatch.specs.declared.batch.Rest.TheVariants as rests
-use Rattle.event_dispatch.specs.declared.run.Managed.{Managed}
+use Rattle.event_dispatch.specs.declared.core.Core.{Core}
 use Rattle.event_dispatch.specs.declared.run.Run.{Run}
-use Rattle.event_dispatch.specs.Runs.{AreRead, StoreRests, Going, Waits}
+use Rattle.event_dispatch.specs.Runs.{AreRead, StoreRests, IsCountedTo, Going, Waits}
 use Rattle.event_dispatch.specs.Batch.{standing_of, BatchShown}
-use Rattle.event_dispatch.specs.Shows.{engine_of, queued_run}
-use Rattle.app_visor.specs.Attempts.{kept_of}
+use Rattle.event_dispatch.specs.Shows.{Stays, application_of, engine_of, queued_run}
 use Rattle.checkpoint_store.specs.Slots.{Slot}
-use Rattle.lego_model.specs.Application.{index, names}
-use Rattle.event_dispatch.specs.Serves.{Writes, Starts, IsDispatched, DispatchesOldest, DispatchesSome, DispatchesWaiting, IsBatch, GoesRound, GoesRounds, GoesToEnd, Begins}
+use Rattle.lego_model.specs.Application.{names}
+use Rattle.event_dispatch.specs.Serves.{Notes, Writes, AllStarted, IsDispatched, DispatchesOldest, DispatchesSome, DispatchesWaiting, IsBatch, GoesRound, GoesRounds, GoesToEnd, Begins}
 use Rattle.run_laws.specs.laws.EndingLaws.{known-append}
+use Rattle.event_dispatch.specs.Steady.{NoStray, Reads}
+use Rattle.event_dispatch.specs.laws.SteadyLaws.{places_number, places_then}
 
 -- ---- What is written
 
@@ -47,10 +48,10 @@ nothing_written : (o : Option (List ℕ)) → o ≡ append_known o []
 nothing_written None = refl
 nothing_written (Some xs) = ap (λ (l : List ℕ). Some l) (sym (append-nil xs))
 
-writes_none : (contents : Option (List ℕ)) (r : Run) → r.lines.items ≡ [] → Writes [] contents contents r
-writes_none contents r none = record { written = nothing_written contents; none_waits = none }
+writes_none : (contents : Option (List ℕ)) (c : Core) → c.lines.items ≡ [] → Writes [] contents contents c
+writes_none contents c none = record { written = nothing_written contents; none_waits = none }
 
-pub writes_then : (first second : List ℕ) (a b c : Option (List ℕ)) (r later : Run) → Writes first a b r → Writes second b c later → Writes (first ++ second) a c later
+pub writes_then : (first second : List ℕ) (a b c : Option (List ℕ)) (r later : Core) → Writes first a b r → Writes second b c later → Writes (first ++ second) a c later
 writes_then first second a b c r later one two = record {
   written = two.written ∙ ap (λ (o : Option (List ℕ)). append_known o second) one.written ∙ known-append a first second;
   none_waits = two.none_waits;
@@ -66,21 +67,39 @@ no_event : (queue : List Event) → None ≡ slice_get queue 0 → queue ≡ []
 no_event [] is = refl
 no_event (first ∷ queue) is = absurd cc
 
-pub one_settled : {Own : Type 0} (Tells : Type 0) (accepts : List TableView → Bool) (event : Event) (contents now_contents : Option (List ℕ)) (old new : Seen Own) (r : Run) (queue : List Event) (mid now_r : Run) → Continues Tells old new → r.events < 2 ^ 63 → Some event ≡ slice_get r.queue 0
-    → queue ≡ drop 1 r.queue → r.lines.items ≡ [] → IsDispatched Tells accepts event old new (queued_run queue r) mid → engine_of now_r ≡ engine_of mid → Writes mid.lines.items contents now_contents now_r → DispatchesOldest Tells accepts true contents now_contents old new r now_r
-one_settled Tells accepts event contents now_contents old new r queue mid now_r continues few waits left none is same writes = record {
+-- the lines that a part noted are all that are written, where none waited before
+pub all_noted : (contents now_contents : Option (List ℕ)) (text : List ℕ) (c mid now_c : Core) → c.lines.items ≡ [] → Notes text c mid → Writes mid.lines.items contents now_contents now_c → Writes text contents now_contents now_c
+all_noted contents now_contents text c mid now_c none notes writes = subst (λ (xs : List ℕ). Writes xs contents now_contents now_c) (notes ∙ ap (λ (xs : List ℕ). xs ++ text) none) writes
+
+-- the engine stands as it stood, where nothing happened but to the lines
+pub stays_engine : (r : Run) (c now_c : Core) → Stays c now_c → engine_of (record r { core = now_c }) ≡ engine_of (record r { core = c })
+stays_engine r c now_c stays =
+    ap₂ (λ (net : NetState) (queue : List Event). record { net = net; queue = queue; events = now_c.events; apps = map (application_of now_c.store) r.apps.items }) stays.net stays.queue
+    ∙ ap₂ (λ (events : ℕ) (slots : List Slot). record { net = c.net; queue = c.queue; events = events; apps = map (application_of slots) r.apps.items }) stays.events stays.store
+
+-- no stray call behind a part that left as many places for checkpoints
+pub places_on : {Own : Type 0} {Tells : Type 0} {n m : ℕ} (old mid new : Seen Own) (net mid_net : NetState) → m ≡ n → Continues Tells old mid → Continues Tells mid new → NoStray Tells n old mid net → Reads Tells old mid net mid_net → NoStray Tells m mid new mid_net → NoStray Tells n old new net
+places_on {n = n} {m = m} old mid new net mid_net same before later first reads second = places_then old mid new net mid_net before later first reads (places_number n m same second)
+
+-- as many applications as places for checkpoints
+pub number_is : (r : Run) → Going r → length r.core.store ≡ length (engine_of r).apps
+number_is r going = going.number ∙ sym (length-map r.apps.items (application_of r.core.store))
+
+pub one_settled : {Own : Type 0} (Tells : Type 0) (accepts : List TableView → Bool) (event : Event) (contents now_contents : Option (List ℕ)) (old new : Seen Own) (r : Run) (queue : List Event) (mid : Run) (now_c : Core) → Continues Tells old new → r.core.events < 2 ^ 63 → Some event ≡ slice_get r.core.queue 0
+    → queue ≡ drop 1 r.core.queue → r.core.lines.items ≡ [] → IsDispatched Tells accepts event old new (queued_run queue r) mid → Stays mid.core now_c → Writes mid.core.lines.items contents now_contents now_c → DispatchesOldest Tells accepts true contents now_contents old new r (record mid { core = now_c })
+one_settled Tells accepts event contents now_contents old new r queue mid now_c continues few waits left none is same writes = record {
   text = is.text;
-  shown = subst (λ (e : Engine). Shown Tells accepts [] dispatch_next is.text old new (engine_of r) e) (sym same)
-      (next-shown Tells accepts event queue is.text old new (engine_of r) (engine_of mid) continues (omega (arith, few)) (first_event r.queue event waits ∙ ap (λ (q : List Event). event ∷ q) (sym left)) is.dispatches);
-  writes = subst (λ (text : List ℕ). Writes text contents now_contents now_r) (is.notes ∙ ap (λ (xs : List ℕ). xs ++ is.text) none) writes;
+  shown = subst (λ (e : Engine). Shown Tells accepts [] dispatch_next is.text old new (engine_of r) e) (sym (stays_engine mid mid.core now_c same))
+      (next-shown Tells accepts event queue is.text old new (engine_of r) (engine_of mid) continues (omega (arith, few)) (first_event r.core.queue event waits ∙ ap (λ (q : List Event). event ∷ q) (sym left)) is.dispatches);
+  writes = all_noted contents now_contents is.text r.core mid.core now_c none is.notes writes;
   none = λ h. absurd cc;
 }
 
-pub none_settled : {Own : Type 0} (Tells : Type 0) (accepts : List TableView → Bool) (contents : Option (List ℕ)) (seen : Seen Own) (r : Run) (queue : List Event) → queue ≡ drop 1 r.queue → None ≡ slice_get r.queue 0 → r.lines.items ≡ []
+pub none_settled : {Own : Type 0} (Tells : Type 0) (accepts : List TableView → Bool) (contents : Option (List ℕ)) (seen : Seen Own) (r : Run) (queue : List Event) → queue ≡ drop 1 r.core.queue → None ≡ slice_get r.core.queue 0 → r.core.lines.items ≡ []
     → DispatchesOldest Tells accepts false contents contents seen seen r (queued_run queue r)
 none_settled Tells accepts contents seen r queue left waits none =
-    let empty : r.queue ≡ [] = no_event r.queue waits in
-    let same : queue ≡ r.queue = left ∙ ap (drop 1) empty ∙ sym empty in
+    let empty : r.core.queue ≡ [] = no_event r.core.queue waits in
+    let same : queue ≡ r.core.queue = left ∙ ap (drop 1) empty ∙ sym empty in
     record {
       text = [];
       shown = subst (λ (q : List Event). Shown Tells accepts [] dispatch_next [] seen seen (engine_of r) (record (engine_of r) { queue = q })) (sym same) (rest-shown Tells accepts seen (engine_of r) empty);
@@ -90,8 +109,8 @@ none_settled Tells accepts contents seen r queue left waits none =
 
 -- ---- Events, one after the other
 
-pub some_none : {Own : Type 0} (Tells : Type 0) (accepts : List TableView → Bool) (contents : Option (List ℕ)) (seen : Seen Own) (r : Run) → r.lines.items ≡ [] → DispatchesSome Tells accepts 0 contents contents seen seen r r
-some_none Tells accepts contents seen r none = record { text = []; shown = shown-none Tells accepts seen (engine_of r); writes = writes_none contents r none }
+pub some_none : {Own : Type 0} (Tells : Type 0) (accepts : List TableView → Bool) (contents : Option (List ℕ)) (seen : Seen Own) (r : Run) → r.core.lines.items ≡ [] → DispatchesSome Tells accepts 0 contents contents seen seen r r
+some_none Tells accepts contents seen r none = record { text = []; shown = shown-none Tells accepts seen (engine_of r); writes = writes_none contents r.core none }
 
 pub some_more : {Own : Type 0} (Tells : Type 0) (accepts : List TableView → Bool) (n : ℕ) (found : Bool) (a b c : Option (List ℕ)) (old mid new : Seen Own) (r then_r now_r : Run) → Continues Tells mid new → DispatchesSome Tells accepts n a b old mid r then_r
     → DispatchesOldest Tells accepts found b c mid new then_r now_r → DispatchesSome Tells accepts (n + 1) a c old new r now_r
@@ -100,7 +119,7 @@ some_more Tells accepts n found a b c old mid new r then_r now_r continues some 
   shown = shown-as Tells accepts [] (λ allows q. dispatch_next allows (times n (dispatch_next allows) q)) (λ allows q. times (n + 1) (dispatch_next allows) q) (some.text ++ one.text) old new (engine_of r) (engine_of now_r)
       (λ allows q is. sym (times-more n 1 (dispatch_next allows) q))
       (shown-then Tells accepts [] [] (λ allows q. times n (dispatch_next allows) q) dispatch_next some.text one.text old mid new (engine_of r) (engine_of then_r) (engine_of now_r) continues some.shown one.shown);
-  writes = writes_then some.text one.text a b c then_r now_r some.writes one.writes;
+  writes = writes_then some.text one.text a b c then_r.core now_r.core some.writes one.writes;
 }
 
 -- where none is left after so many, all were dispatched
@@ -111,32 +130,29 @@ settled_early {Own} Tells accepts n m text old new e now_e sum none shown = reco
       let m = shown.moved allows told keeps judges settled in
       record {
         moves = record {
-          starts = m.moves.starts;
-          replies = m.moves.replies;
+          told = m.moves.told;
           batches = m.moves.batches;
           turns = m.moves.turns;
           given = m.moves.given;
-          rule = m.moves.rule;
-          read_starts = m.moves.read_starts;
-          read_replies = m.moves.read_replies;
+          rules = m.moves.rules;
+          read = m.moves.read;
           read_stimuli = m.moves.read_stimuli;
-          stands = λ ss rs later q starts_is replies_is s.
-              let later_starts = drop (length m.moves.starts) ss in
-              let later_replies = drop (length m.moves.replies) rs in
-              let t = m.moves.stands ss rs later q starts_is replies_is s in
-              subst (Stands new now_e later_starts later_replies later) (same allows later_starts later_replies later q t) t;
-          says = λ ss rs later q starts_is replies_is s.
-              let t = m.moves.stands ss rs later q starts_is replies_is s in
-              subst (λ (p : ModelRun). text_of (names e.rule) p ≡ text_of (names e.rule) q ++ text) (same allows (drop (length m.moves.starts) ss) (drop (length m.moves.replies) rs) later q t) (m.moves.says ss rs later q starts_is replies_is s);
+          stands = λ said later q fronts s.
+              let left = behind m.moves.told said in
+              let t = m.moves.stands said later q fronts s in
+              subst (Stands new now_e left later) (same allows left later q t) t;
+          says = λ said later q fronts s.
+              let t = m.moves.stands said later q fronts s in
+              subst (λ (p : ModelRun). text_of (names (rules_of e)) p ≡ text_of (names (rules_of e)) q ++ text) (same allows (behind m.moves.told said) later q t) (m.moves.says said later q fronts s);
         };
         settled = m.settled;
       };
 }
   where
-    same : (allows : List Place → Bool) (ss : List Start) (rs : List Reply) (later : Losses) (q : ModelRun) → Stands new now_e ss rs later (times n (dispatch_next allows) q) → times n (dispatch_next allows) q ≡ settle allows q
-    same allows ss rs later q t = sym (times-stop allows n m q (t.queue ∙ none)) ∙ ap (λ (k : ℕ). times k (dispatch_next allows) q) sum ∙ settle-times allows q
+    same : (allows : List Place → Bool) (said : ℕ → Said) (later : Losses) (q : ModelRun) → Stands new now_e said later (times n (dispatch_next allows) q) → times n (dispatch_next allows) q ≡ settle allows q
+    same allows said later q t = sym (times-stop allows n m q (t.queue ∙ none)) ∙ ap (λ (k : ℕ). times k (dispatch_next allows) q) sum ∙ settle-times allows q
 
-pub settles_early : {Own : Type 0} (Tells : Type 0) (accepts : List TableView → Bool) (n : ℕ) (a b : Option (List ℕ)) (old new : Seen Own) (r now_r : Run) → n ≤ 1000 → now_r.queue ≡ [] → DispatchesSome Tells accepts n a b old new r now_r → DispatchesWaiting Tells accepts a b old new r now_r
+pub settles_early : {Own : Type 0} (Tells : Type 0) (accepts : List TableView → Bool) (n : ℕ) (a b : Option (List ℕ)) (old new : Seen Own) (r now_r : Run) → n ≤ 1000 → now_r.core.queue ≡ [] → DispatchesSome Tells accepts n a b old new r now_r → DispatchesWaiting Tells accepts a b old new r now_r
 settles_early Tells accepts n a b old new r now_r few none some =
     let rest : (m : ℕ) × (n + m ≡ 1000) = (1000 - n, omega (arith, few)) in
     record { text = some.text; shown = settled_early Tells accepts n rest.0 some.text old new (engine_of r) (engine_of now_r) rest.1 none some.shown; writes = some.writes }
@@ -152,73 +168,80 @@ settles_all Tells accepts n a b old new r now_r all some = record {
 -- ---- Rounds
 
 -- the engine with the network and the queue that a batch leaves
-engine_behind : (r now_r : Run) → now_r.app ≡ r.app → Waits r now_r → engine_then (engine_of r) now_r.net now_r.queue ≡ engine_of now_r
-engine_behind r now_r app waits =
-    ap₂ (λ (n : ℕ) (a : Managed). record { net = now_r.net; queue = now_r.queue; events = n; rule = app_value a.rule.now; alive = a.state.alive; rest = a.state.rest; kept = kept_of index r.store; done = a.done; failed = a.failed }) (sym waits.events) (sym app)
-    ∙ ap (λ (slots : List Slot). record (engine_of now_r) { kept = kept_of index slots }) (sym waits.store)
+engine_behind : (r : Run) (now_c : Core) → Waits r.core now_c → engine_then (engine_of r) now_c.net now_c.queue ≡ engine_of (record r { core = now_c })
+engine_behind r now_c waits =
+    ap₂ (λ (n : ℕ) (slots : List Slot). record { net = now_c.net; queue = now_c.queue; events = n; apps = map (application_of slots) r.apps.items }) (sym waits.events) (sym waits.store)
 
 -- its lines are all that it noted
-pub batch_is : {Own : Type 0} (Tells : Type 0) (rest : Rest) (old new : Seen Own) (r now_r : Run) → Continues Tells old new → r.lines.items ≡ [] → now_r.app ≡ r.app → Waits r now_r → BatchShown Tells rest old new r now_r
-    → IsBatch Tells rest now_r.lines.items old new (engine_of r) (engine_of now_r)
-batch_is Tells rests.Idle old new r now_r continues none app waits shown = record {
+pub batch_is : {Own : Type 0} (Tells : Type 0) (rest : Rest) (old new : Seen Own) (r : Run) (now_c : Core) → Continues Tells old new → r.core.lines.items ≡ [] → Waits r.core now_c → BatchShown Tells rest old new r.core now_c
+    → IsBatch Tells rest now_c.lines.items old new (engine_of r) (engine_of (record r { core = now_c }))
+batch_is Tells rests.Idle old new r now_c continues none waits shown = record {
   happens = λ told keeps settled.
       let done = shown.shown told keeps settled.calm in
-      subst (OneHappens now_r.lines.items old new (engine_of r)) (engine_behind r now_r app waits)
-      (batch-happens Tells done.0 now_r.lines.items (standing_of old r) (standing_of new now_r) (engine_of r) told continues (Conforming-before told continues keeps) settled refl refl done.1 (ap (λ (xs : List ℕ). xs ++ now_r.lines.items) (sym none)));
+      subst (OneHappens now_c.lines.items old new (engine_of r)) (engine_behind r now_c waits)
+      (batch-happens Tells done.0 now_c.lines.items (standing_of old r.core) (standing_of new now_c) (engine_of r) told continues (Conforming-before told continues keeps) settled refl refl done.1 (ap (λ (xs : List ℕ). xs ++ now_c.lines.items) (sym none)));
 }
-batch_is Tells rests.End old new r now_r continues none app waits shown = record {
+batch_is Tells rests.End old new r now_c continues none waits shown = record {
   over = record {
     moved = λ told keeps settled.
-        subst (Moved [] (λ (q : ModelRun). q) now_r.lines.items old new (engine_of r)) (engine_behind r now_r app waits)
-        (batch-over now_r.lines.items (standing_of old r) (standing_of new now_r) (engine_of r) settled refl refl (shown.shown told keeps settled.calm) (ap (λ (xs : List ℕ). xs ++ now_r.lines.items) (sym none)));
+        subst (Moved [] (λ (q : ModelRun). q) now_c.lines.items old new (engine_of r)) (engine_behind r now_c waits)
+        (batch-over now_c.lines.items (standing_of old r.core) (standing_of new now_c) (engine_of r) settled refl refl (shown.shown told keeps settled.calm) (ap (λ (xs : List ℕ). xs ++ now_c.lines.items) (sym none)));
   };
   none_noted = λ told keeps settled. (shown.shown told keeps settled.calm).text ∙ none;
   none_to_come = λ told keeps settled. (shown.shown told keeps settled.calm).to_come;
 }
 
+-- the same, where they were written
+pub batch_written : {Own : Type 0} (Tells : Type 0) (rest : Rest) (old new : Seen Own) (r : Run) (then_c mid_c : Core) → Continues Tells old new → r.core.lines.items ≡ [] → Waits r.core then_c → BatchShown Tells rest old new r.core then_c → Stays then_c mid_c
+    → IsBatch Tells rest then_c.lines.items old new (engine_of r) (engine_of (record r { core = mid_c }))
+batch_written Tells rest old new r then_c mid_c continues none waits shown same =
+    subst (λ (e : Engine). IsBatch Tells rest then_c.lines.items old new (engine_of r) e) (sym (stays_engine r then_c mid_c same)) (batch_is Tells rest old new r then_c continues none waits shown)
+
 -- and were written
-pub round_is : {Own : Type 0} {Tells : Type 0} {accepts : List TableView → Bool} {rest : Rest} {contents held now_contents : Option (List ℕ)} {old mid new : Seen Own} {r then_r mid_r now_r : Run} → Continues Tells old mid → r.lines.items ≡ [] → then_r.app ≡ r.app → Waits r then_r
-    → BatchShown Tells rest old mid r then_r → engine_of mid_r ≡ engine_of then_r → Writes then_r.lines.items contents held mid_r → Continues Tells mid new → DispatchesWaiting Tells accepts held now_contents mid new mid_r now_r → GoesRound Tells accepts rest contents now_contents old new r now_r
-round_is {Tells = Tells} {rest = rest} {held = held} {old = old} {mid = mid} {r = r} {then_r = then_r} {mid_r = mid_r} first none app waits batch same writes later dispatches = record {
+pub round_is : {Own : Type 0} {Tells : Type 0} {accepts : List TableView → Bool} {rest : Rest} {contents held now_contents : Option (List ℕ)} {old mid new : Seen Own} {r now_r : Run} {then_c mid_c : Core} → Continues Tells old mid → r.core.lines.items ≡ [] → Waits r.core then_c
+    → BatchShown Tells rest old mid r.core then_c → Stays then_c mid_c → Writes then_c.lines.items contents held mid_c → Continues Tells mid new → DispatchesWaiting Tells accepts held now_contents mid new (record r { core = mid_c }) now_r → GoesRound Tells accepts rest contents now_contents old new r now_r
+round_is {Tells = Tells} {rest = rest} {held = held} {old = old} {mid = mid} {r = r} {then_c = then_c} {mid_c = mid_c} first none waits batch same writes later dispatches = record {
   mid = mid;
-  mid_run = mid_r;
+  mid_run = record r { core = mid_c };
   first = first;
-  noted = then_r.lines.items;
+  noted = then_c.lines.items;
   held = held;
-  batch = subst (λ (e : Engine). IsBatch Tells rest then_r.lines.items old mid (engine_of r) e) (sym same) (batch_is Tells rest old mid r then_r first none app waits batch);
+  batch = batch_written Tells rest old mid r then_c mid_c first none waits batch same;
   written = writes.written;
   later = later;
   dispatches = dispatches;
 }
 
 -- and the run goes on
-pub going_written : (r then_r mid_r : Run) → Going r → Waits r then_r → then_r.app ≡ r.app → AreRead then_r.net.kept → Waits then_r mid_r → engine_of mid_r ≡ engine_of then_r → mid_r.app.state.index ≡ then_r.app.state.index → Going mid_r
-going_written r then_r mid_r going first app read second same named = record {
-  room = subst (λ (n : ℕ). 1 ≤ n) (sym (second.room ∙ first.room)) going.room;
-  done = omega (arith, going.done, first.done, first.events, second.done, second.events);
-  failed = omega (arith, going.failed, first.failed, first.events, second.failed, second.events);
-  index = named ∙ ap (λ (a : Managed). a.state.index) app ∙ going.index;
-  read = subst (λ (e : Engine). AreRead e.net.kept) (sym same) read;
-  store = subst StoreRests (sym (second.store ∙ first.store)) going.store;
-  left = second.left (first.left going.left);
+pub going_written : (r : Run) (then_c mid_c : Core) → Going r → Waits r.core then_c → AreRead then_c.net.kept → Waits then_c mid_c → Stays then_c mid_c → Going (record r { core = mid_c })
+going_written r then_c mid_c going first read second same = record {
+  core = record {
+    room = subst (λ (n : ℕ). 1 ≤ n) (sym (second.room ∙ first.room)) going.core.room;
+    read = subst (λ (n : NetState). AreRead n.kept) (sym same.net) read;
+    store = subst StoreRests (sym (second.store ∙ first.store)) going.core.store;
+    left = second.left (first.left going.core.left);
+  };
+  counted = subst (λ (n : ℕ). AllByRecursion (IsCountedTo n) r.apps.items) (sym (second.events ∙ first.events)) going.counted;
+  numbered = going.numbered;
+  number = ap (λ (slots : List Slot). length slots) (second.store ∙ first.store) ∙ going.number;
 }
 
 -- what a round wrote, behind what was written before
-round_written : (first noted second : List ℕ) (a b held c : Option (List ℕ)) (r later : Run) → Writes first a b r → held ≡ append_known b noted → Writes second held c later → Writes ((first ++ noted) ++ second) a c later
+round_written : (first noted second : List ℕ) (a b held c : Option (List ℕ)) (r later : Core) → Writes first a b r → held ≡ append_known b noted → Writes second held c later → Writes ((first ++ noted) ++ second) a c later
 round_written first noted second a b held c r later one written two = record {
   written = two.written ∙ ap (λ (o : Option (List ℕ)). append_known o second) (written ∙ ap (λ (o : Option (List ℕ)). append_known o noted) one.written ∙ known-append a first noted) ∙ known-append a (first ++ noted) second;
   none_waits = two.none_waits;
 }
 
-pub rounds_none : {Own : Type 0} (Tells : Type 0) (accepts : List TableView → Bool) (contents : Option (List ℕ)) (seen : Seen Own) (r : Run) → r.lines.items ≡ [] → GoesRounds Tells accepts 0 contents contents seen seen r r
-rounds_none Tells accepts contents seen r none = record { text = []; shown = rounds-none Tells accepts seen (engine_of r); writes = writes_none contents r none }
+pub rounds_none : {Own : Type 0} (Tells : Type 0) (accepts : List TableView → Bool) (contents : Option (List ℕ)) (seen : Seen Own) (r : Run) → r.core.lines.items ≡ [] → GoesRounds Tells accepts 0 contents contents seen seen r r
+rounds_none Tells accepts contents seen r none = record { text = []; shown = rounds-none Tells accepts seen (engine_of r); writes = writes_none contents r.core none }
 
 pub rounds_next : {Own : Type 0} (Tells : Type 0) (accepts : List TableView → Bool) (n : ℕ) (a b c : Option (List ℕ)) (old mid new : Seen Own) (r then_r now_r : Run) → GoesRounds Tells accepts n a b old mid r then_r → GoesRound Tells accepts rests.Idle b c mid new then_r now_r
     → GoesRounds Tells accepts (n + 1) a c old new r now_r
 rounds_next Tells accepts n a b c old mid new r then_r now_r rounds one = record {
   text = (rounds.text ++ one.noted) ++ one.dispatches.text;
   shown = rounds-more Tells accepts n rounds.text one.noted one.dispatches.text old mid one.mid new (engine_of r) (engine_of then_r) (engine_of one.mid_run) (engine_of now_r) one.first one.later rounds.shown one.batch one.dispatches.shown;
-  writes = round_written rounds.text one.noted one.dispatches.text a b one.held c then_r now_r rounds.writes one.written one.dispatches.writes;
+  writes = round_written rounds.text one.noted one.dispatches.text a b one.held c then_r.core now_r.core rounds.writes one.written one.dispatches.writes;
 }
 
 pub rounds_last : {Own : Type 0} (Tells : Type 0) (accepts : List TableView → Bool) (most n : ℕ) (a b c : Option (List ℕ)) (old mid new : Seen Own) (r then_r now_r : Run) → GoesRounds Tells accepts n a b old mid r then_r → GoesRound Tells accepts rests.End b c mid new then_r now_r
@@ -232,7 +255,7 @@ rounds_last Tells accepts most n a b c old mid new r then_r now_r rounds one = r
         let then_settled = (rounds.shown.rounds_is allows told (Conforming-before told one.first keeps_mid) judges settled).moved.settled in
         none-later Tells mid new told (Continues-trans Tells mid one.mid new one.first one.later) keeps (one.batch.none_to_come told keeps_mid then_settled);
   };
-  writes = round_written rounds.text one.noted one.dispatches.text a b one.held c then_r now_r rounds.writes one.written one.dispatches.writes;
+  writes = round_written rounds.text one.noted one.dispatches.text a b one.held c then_r.core now_r.core rounds.writes one.written one.dispatches.writes;
 }
 
 -- so many rounds that there are not so many stimuli
@@ -253,10 +276,28 @@ rounds_out {Own} Tells accepts most n a b old new r now_r many rounds = record {
 
 -- ---- The start
 
-pub begins_is : {Own : Type 0} (Tells : Type 0) (contents now_contents : Option (List ℕ)) (old new : Seen Own) (r mid now_r : Run) → r.lines.items ≡ [] → Starts Tells old new r mid → engine_of now_r ≡ engine_of mid → Writes mid.lines.items contents now_contents now_r
-    → Begins Tells contents now_contents old new r now_r
-begins_is Tells contents now_contents old new r mid now_r none starts same writes = record {
+-- all were started
+pub all_begun : {Own : Type 0} (Tells : Type 0) (old new : Seen Own) (r : Run) (mid : Run) → (s : AllStarted Tells old new r.core mid.core r.apps.items mid.apps.items) → ShownStart Tells s.text old new (engine_of r) (engine_of mid)
+all_begun Tells old new r mid s = start-shown Tells s.text old new (engine_of r) (engine_of mid) (record { all = s.started; net = s.stays.net; queue = s.stays.queue; events = s.stays.events })
+
+pub begins_is : {Own : Type 0} (Tells : Type 0) (contents now_contents : Option (List ℕ)) (old new : Seen Own) (r mid : Run) (now_c : Core) → r.core.lines.items ≡ [] → AllStarted Tells old new r.core mid.core r.apps.items mid.apps.items → Stays mid.core now_c → Writes mid.core.lines.items contents now_contents now_c
+    → Begins Tells contents now_contents old new r (record mid { core = now_c })
+begins_is Tells contents now_contents old new r mid now_c none starts same writes = record {
   text = starts.text;
-  shown = start-shown Tells starts.text old new (engine_of r) (engine_of now_r) (subst (λ (e : Engine). StartsAgain Tells starts.text old new (engine_of r) e) (sym same) starts.starts);
-  writes = subst (λ (text : List ℕ). Writes text contents now_contents now_r) (starts.notes ∙ ap (λ (xs : List ℕ). xs ++ starts.text) none) writes;
+  shown = subst (λ (e : Engine). ShownStart Tells starts.text old new (engine_of r) e) (sym (stays_engine mid mid.core now_c same)) (all_begun Tells old new r mid starts);
+  writes = all_noted contents now_contents starts.text r.core mid.core now_c none starts.notes writes;
+}
+
+-- the same run, with its lines written
+pub going_stays : (r : Run) (now_c : Core) → Going r → Waits r.core now_c → Stays r.core now_c → Going (record r { core = now_c })
+going_stays r now_c going waits same = record {
+  core = record {
+    room = subst (λ (n : ℕ). 1 ≤ n) (sym waits.room) going.core.room;
+    read = subst (λ (n : NetState). AreRead n.kept) (sym same.net) going.core.read;
+    store = subst StoreRests (sym waits.store) going.core.store;
+    left = waits.left going.core.left;
+  };
+  counted = subst (λ (n : ℕ). AllByRecursion (IsCountedTo n) r.apps.items) (sym waits.events) going.counted;
+  numbered = going.numbered;
+  number = ap (λ (slots : List Slot). length slots) waits.store ∙ going.number;
 }

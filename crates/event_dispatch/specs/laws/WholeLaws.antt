@@ -1,9 +1,10 @@
 -- Laws of a whole run: its start, its rounds and its end are the run that is promised.
-use Rattle.std.proofs.Common.{◌≡◌, ℕ, Bool, List, [], ◌∷◌, ◌++◌, Option, Result, Ok, Err, IsErrAnd, refl, sym, ap, ◌∙◌, subst, inr}
+use Rattle.std.proofs.Common.{◌≡◌, ℕ, ◌^◌, ◌<◌, Bool, List, [], ◌∷◌, ◌++◌, length, map, Option, Result, Ok, Err, IsErrAnd, refl, sym, ap, ◌∙◌, subst, inr}
 use Rattle.std.specs.Io.KnownBytes.{append_known}
-use Rattle.std.proofs.lemmas.List.{append-nil}
+use Rattle.std.proofs.lemmas.List.{append-nil, length-map}
 use Rattle.flow_table.specs.View.{TableView}
-use Rattle.crash_policy.specs.Policies.{AppValue}
+use Rattle.crash_policy.specs.Policies.{AppValue, app_value}
+use Rattle.crash_policy.specs.declared.policy_file.AppRule.{AppRule}
 use Rattle.lego_model.specs.Places.{Place}
 use Rattle.lego_model.specs.History.{lost_of}
 use Rattle.outside.specs.declared.step.WorldStep.{WorldStep}
@@ -16,43 +17,46 @@ use Rattle.outside.specs.laws.SeenLaws.{Continues-trans}
 use Rattle.outside.specs.laws.StateLaws.{Conforming-before}
 use Rattle.switch_laws.specs.laws.OrderlyLaws.{orderly-none}
 use Rattle.run_laws.specs.Engine.{Engine}
-use Rattle.lego_model.specs.Application.{index}
 use Rattle.run_laws.specs.laws.FirstLaws.{settled-first}
-use Rattle.run_laws.specs.First.{IsOpened, engine_at_first}
+use Rattle.run_laws.specs.First.{IsOpened, app_at_first, engine_at_first}
 use Rattle.run_laws.specs.laws.StimuliLaws.{none-later, fewer-front, fewer-before}
 use Rattle.run_laws.specs.LastReport.{last_text}
 use Rattle.run_laws.specs.Endings.{Leaves, ShownStart, ShownFinish, ShownLeaves}
+use Rattle.run_laws.specs.Cut.{CallsAmong}
+use Rattle.run_laws.specs.laws.LeaveLaws.{asked-leaves}
 use Rattle.run_laws.specs.laws.EndingLaws.{whole-of, leaves-then, ran-out, ran-full}
 use Rattle.run_laws.specs.Promise.{PremiseSoFar, Premise}
 use Rattle.event_dispatch.specs.declared.fault.Fault.{Fault}
 use Rattle.event_dispatch.specs.declared.fault.Fault.TheVariants as faults
+use Rattle.event_dispatch.specs.declared.core.Core.{Core}
 use Rattle.event_dispatch.specs.declared.run.Run.{Run}
 use Rattle.event_dispatch.specs.declared.served.Served.{Served}
 use Rattle.event_dispatch.specs.declared.served.Served.TheVariants as served
 use Rattle.event_dispatch.specs.Why.{served_by}
-use Rattle.event_dispatch.specs.Shows.{engine_of}
+use Rattle.event_dispatch.specs.Shows.{Stays, application_of, engine_of}
+use Rattle.event_dispatch.specs.Steady.{NoPoint, IsEnded}
 use Rattle.event_dispatch.specs.ReportEnd.{LastShown}
-use Rattle.event_dispatch.specs.laws.LastLaws.{says_leaves}
-use Rattle.event_dispatch.specs.laws.RoundLaws.{writes_then}
+use Rattle.event_dispatch.specs.Runs.{Going}
+use Rattle.event_dispatch.specs.laws.RoundLaws.{writes_then, number_is}
 use Rattle.event_dispatch.specs.Serves.{Writes, NoneToCome, GoesToEnd, Begins, EndsReport, Finishes, RunsOut, RunsFull, GoesAs, RunsAs, IsUnopened, IsCut, IsAlike}
 use Rattle.event_dispatch.specs.Cut.{CutAs}
 use Rattle.event_dispatch.specs.laws.AlikeLaws.{so_cut}
 
 -- ---- The end of the report
 
-pub ends_is : {Own : Type 0} (Tells : Type 0) (contents now_contents : Option (List ℕ)) (last new : Seen Own) (r mid now_r : Run) → r.lines.items ≡ [] → LastShown Tells last new r mid → mid.events ≡ r.events → Writes mid.lines.items contents now_contents now_r
-    → engine_of now_r ≡ engine_of mid → EndsReport Tells contents now_contents last new r now_r
-ends_is Tells contents now_contents last new r mid now_r none shown counted writes same = record {
+pub ends_is : {Own : Type 0} (Tells : Type 0) (contents now_contents : Option (List ℕ)) (last new : Seen Own) (r mid : Run) (now_c : Core) → r.core.lines.items ≡ [] → LastShown Tells last new r mid → mid.core.events ≡ r.core.events → Writes mid.core.lines.items contents now_contents now_c
+    → Stays mid.core now_c → EndsReport Tells contents now_contents last new r (record mid { core = now_c })
+ends_is Tells contents now_contents last new r mid now_c none shown counted writes same = record {
   finish = record {
     shown = λ told keeps calm.
         let says = shown.shown told keeps calm in
         record {
           lost = says.lost;
           written = writes.written ∙ ap (append_known contents) (says.says.lines ∙ ap (λ (xs : List ℕ). xs ++ last_text says.lost last (engine_of r)) none);
-          leaves = says_leaves says.says;
+          leaves = asked-leaves (length (engine_of r).apps) says.lost last new says.says.asked says.says.switches;
         };
   };
-  events = ap (λ (e : Engine). e.events) same ∙ counted;
+  events = same.events ∙ counted;
 }
 
 -- ---- From the start to the end
@@ -66,9 +70,9 @@ none_then Tells accepts most old begun last new e b c r1 r2 on later begins roun
       none-later Tells last new told later keeps (rounds.none_to_come.none allows told keeps_last judges one.settled (fewer-before Tells last new told later few));
 }
 
-pub went_out : {Own : Type 0} (Tells : Type 0) (accepts : List TableView → Bool) (most : ℕ) (a b c d : Option (List ℕ)) (old begun last new : Seen Own) (r r1 r2 now_r : Run) → Continues Tells begun last → Continues Tells last new → Begins Tells a b old begun r r1
-    → GoesToEnd Tells accepts most b c begun last r1 r2 → Finishes Tells (Ok tt) c d last new r2 now_r → RunsOut Tells accepts most now_r.events a d old new (engine_of r)
-went_out Tells accepts most a b c d old begun last new r r1 r2 now_r on later begins rounds ends = record {
+pub went_out : {Own : Type 0} (Tells : Type 0) (accepts : List TableView → Bool) (most : ℕ) (a b c d : Option (List ℕ)) (old begun last new : Seen Own) (r r1 r2 now_r : Run) → Continues Tells begun last → Continues Tells last new → length (engine_of r2).apps ≡ length (engine_of r).apps → Begins Tells a b old begun r r1
+    → GoesToEnd Tells accepts most b c begun last r1 r2 → Finishes Tells (Ok tt) c d last new r2 now_r → RunsOut Tells accepts most now_r.core.events a d old new (engine_of r)
+went_out Tells accepts most a b c d old begun last new r r1 r2 now_r on later number begins rounds ends = record {
   last = engine_of r2;
   out = record {
     last = last;
@@ -76,15 +80,16 @@ went_out Tells accepts most a b c d old begun last new r r1 r2 now_r on later be
     later = later;
     whole_is = whole-of Tells accepts most begins.text rounds.text old begun last (engine_of r) (engine_of r1) (engine_of r2) on begins.shown rounds.shown;
     none_left = ends.0;
-    finish = subst (λ (held : Option (List ℕ)). ShownFinish Tells held d last new (engine_of r2)) (writes_then begins.text rounds.text a b c r1 r2 begins.writes rounds.writes).written ends.1.finish;
+    finish = subst (λ (held : Option (List ℕ)). ShownFinish Tells held d last new (engine_of r2)) (writes_then begins.text rounds.text a b c r1.core r2.core begins.writes rounds.writes).written ends.1.finish;
   };
+  number = number;
   events_is = ends.1.events;
   none_to_come = none_then Tells accepts most old begun last new (engine_of r) b c r1 r2 on later begins.shown rounds;
 }
 
-pub went_full : {Own : Type 0} (Tells : Type 0) (accepts : List TableView → Bool) (most left : ℕ) (a b c d : Option (List ℕ)) (old begun last new : Seen Own) (r r1 r2 now_r : Run) → Continues Tells begun last → Continues Tells last new → Begins Tells a b old begun r r1
+pub went_full : {Own : Type 0} (Tells : Type 0) (accepts : List TableView → Bool) (most left : ℕ) (a b c d : Option (List ℕ)) (old begun last new : Seen Own) (r r1 r2 now_r : Run) → Continues Tells begun last → Continues Tells last new → length (engine_of r2).apps ≡ length (engine_of r).apps → Begins Tells a b old begun r r1
     → GoesToEnd Tells accepts most b c begun last r1 r2 → Finishes Tells (Err (served.EventsLeft left)) c d last new r2 now_r → RunsFull Tells accepts most left a d old new (engine_of r)
-went_full {Own} Tells accepts most left a b c d old begun last new r r1 r2 now_r on later begins rounds ends = record {
+went_full {Own} Tells accepts most left a b c d old begun last new r r1 r2 now_r on later number begins rounds ends = record {
   full = record {
     last = last;
     now_engine = engine_of r2;
@@ -92,34 +97,49 @@ went_full {Own} Tells accepts most left a b c d old begun last new r r1 r2 now_r
     later = later;
     whole_is = whole-of Tells accepts most begins.text rounds.text old begun last (engine_of r) (engine_of r1) (engine_of r2) on begins.shown rounds.shown;
     left_is = ends.0;
-    contents_is = ends.1 ∙ (writes_then begins.text rounds.text a b c r1 r2 begins.writes rounds.writes).written;
-    leaves = record { shown = λ told keeps. subst (Leaves [] last) (sym ends.2) (leaves-nothing last) };
+    contents_is = ends.1 ∙ (writes_then begins.text rounds.text a b c r1.core r2.core begins.writes rounds.writes).written;
+    leaves = record { shown = λ told keeps. subst (Leaves (length (engine_of r2).apps) [] last) (sym ends.2) (leaves-nothing (length (engine_of r2).apps) last) };
   };
+  number = number;
   none_to_come = none_then Tells accepts most old begun last new (engine_of r) b c r1 r2 on later begins.shown rounds;
 }
   where
-    leaves-nothing : (seen : Seen Own) → Leaves [] seen seen
-    leaves-nothing seen = record { given = refl; starts = refl; replies = refl; inputs = refl; stimuli = refl; released = refl; lost_is = sym (append-nil (lost_of seen)); marks = refl; switches = λ d. refl; at_once = λ said. said; orderly = orderly-none index seen }
+    leaves-nothing : (n : ℕ) (seen : Seen Own) → Leaves n [] seen seen
+    leaves-nothing n seen = record {
+      given = refl;
+      told = λ app. record { starts = refl; replies = refl; inputs = refl };
+      stimuli = refl;
+      released = refl;
+      lost_is = sym (append-nil (lost_of seen));
+      marks = refl;
+      switches = λ d. refl;
+      at_once = λ app said. said;
+      orderly = orderly-none n seen;
+    }
 
-pub went_as : {Own : Type 0} (Tells : Type 0) (accepts : List TableView → Bool) (most : ℕ) (result : Result (Unit {0}) Served) (a b c d : Option (List ℕ)) (old begun last new : Seen Own) (r r1 r2 now_r : Run) → Continues Tells begun last → Continues Tells last new → Begins Tells a b old begun r r1
+-- as many applications at the end as at first
+pub number_then : (r r2 : Run) → Going r → Going r2 → length r2.core.store ≡ length r.core.store → length (engine_of r2).apps ≡ length (engine_of r).apps
+number_then r r2 going going_then same = sym (number_is r2 going_then) ∙ same ∙ number_is r going
+
+pub went_as : {Own : Type 0} (Tells : Type 0) (accepts : List TableView → Bool) (most : ℕ) (result : Result (Unit {0}) Served) (a b c d : Option (List ℕ)) (old begun last new : Seen Own) (r r1 r2 now_r : Run) → Continues Tells begun last → Continues Tells last new → length (engine_of r2).apps ≡ length (engine_of r).apps → Begins Tells a b old begun r r1
     → GoesToEnd Tells accepts most b c begun last r1 r2 → Finishes Tells result c d last new r2 now_r → GoesAs Tells accepts most result a d old new r now_r
-went_as Tells accepts most (Ok x) a b c d old begun last new r r1 r2 now_r on later begins rounds ends = went_out Tells accepts most a b c d old begun last new r r1 r2 now_r on later begins rounds ends
-went_as Tells accepts most (Err (served.EventsLeft left)) a b c d old begun last new r r1 r2 now_r on later begins rounds ends = went_full Tells accepts most left a b c d old begun last new r r1 r2 now_r on later begins rounds ends
-went_as Tells accepts most (Err (served.Ended events)) a b c d old begun last new r r1 r2 now_r on later begins rounds ends = absurd ends
-went_as Tells accepts most (Err served.WriteFault) a b c d old begun last new r r1 r2 now_r on later begins rounds ends = tt
-went_as Tells accepts most (Err served.Shut) a b c d old begun last new r r1 r2 now_r on later begins rounds ends = tt
-went_as Tells accepts most (Err served.NextFault) a b c d old begun last new r r1 r2 now_r on later begins rounds ends = tt
-went_as Tells accepts most (Err (served.Txn fault)) a b c d old begun last new r r1 r2 now_r on later begins rounds ends = tt
-went_as Tells accepts most (Err served.NoMemory) a b c d old begun last new r r1 r2 now_r on later begins rounds ends = tt
+went_as Tells accepts most (Ok x) a b c d old begun last new r r1 r2 now_r on later number begins rounds ends = went_out Tells accepts most a b c d old begun last new r r1 r2 now_r on later number begins rounds ends
+went_as Tells accepts most (Err (served.EventsLeft left)) a b c d old begun last new r r1 r2 now_r on later number begins rounds ends = went_full Tells accepts most left a b c d old begun last new r r1 r2 now_r on later number begins rounds ends
+went_as Tells accepts most (Err (served.Ended events)) a b c d old begun last new r r1 r2 now_r on later number begins rounds ends = absurd ends
+went_as Tells accepts most (Err served.WriteFault) a b c d old begun last new r r1 r2 now_r on later number begins rounds ends = tt
+went_as Tells accepts most (Err served.Shut) a b c d old begun last new r r1 r2 now_r on later number begins rounds ends = tt
+went_as Tells accepts most (Err served.NextFault) a b c d old begun last new r r1 r2 now_r on later number begins rounds ends = tt
+went_as Tells accepts most (Err (served.Txn fault)) a b c d old begun last new r r1 r2 now_r on later number begins rounds ends = tt
+went_as Tells accepts most (Err served.NoMemory) a b c d old begun last new r r1 r2 now_r on later number begins rounds ends = tt
 
--- ---- The application is ended at last
+-- ---- The applications are ended at last
 
 none_later_then : {Own : Type 0} (Tells : Type 0) (accepts : List TableView → Bool) (most : ℕ) (old mid new : Seen Own) (e : Engine) → Continues Tells mid new → NoneToCome Tells accepts most old mid e → NoneToCome Tells accepts most old new e
 none_later_then Tells accepts most old mid new e later none = record {
   none = λ allows told keeps judges settled few. none-later Tells mid new told later keeps (none.none allows told (Conforming-before told later keeps) judges settled (fewer-before Tells mid new told later few));
 }
 
-out_then : {Own : Type 0} (Tells : Type 0) (accepts : List TableView → Bool) (most events : ℕ) (a b : Option (List ℕ)) (old mid new : Seen Own) (e : Engine) → Continues Tells mid new → ShownLeaves Tells mid new → RunsOut Tells accepts most events a b old mid e → RunsOut Tells accepts most events a b old new e
+out_then : {Own : Type 0} (Tells : Type 0) (accepts : List TableView → Bool) (most events : ℕ) (a b : Option (List ℕ)) (old mid new : Seen Own) (e : Engine) → Continues Tells mid new → ShownLeaves Tells (length e.apps) mid new → RunsOut Tells accepts most events a b old mid e → RunsOut Tells accepts most events a b old new e
 out_then Tells accepts most events a b old mid new e later leaves runs = record {
   last = runs.last;
   out = record {
@@ -131,14 +151,15 @@ out_then Tells accepts most events a b old mid new e later leaves runs = record 
     finish = record {
       shown = λ told keeps calm.
           let done = runs.out.finish.shown told (Conforming-before told later keeps) calm in
-          record { lost = done.lost; written = done.written; leaves = leaves-then done.lost runs.out.last mid new done.leaves (leaves.shown told keeps) };
+          record { lost = done.lost; written = done.written; leaves = leaves-then (length runs.last.apps) done.lost runs.out.last mid new done.leaves (subst (λ (n : ℕ). Leaves n [] mid new) (sym runs.number) (leaves.shown told keeps)) };
     };
   };
+  number = runs.number;
   events_is = runs.events_is;
   none_to_come = none_later_then Tells accepts most old mid new e later runs.none_to_come;
 }
 
-full_then : {Own : Type 0} (Tells : Type 0) (accepts : List TableView → Bool) (most left : ℕ) (a b : Option (List ℕ)) (old mid new : Seen Own) (e : Engine) → Continues Tells mid new → ShownLeaves Tells mid new → RunsFull Tells accepts most left a b old mid e
+full_then : {Own : Type 0} (Tells : Type 0) (accepts : List TableView → Bool) (most left : ℕ) (a b : Option (List ℕ)) (old mid new : Seen Own) (e : Engine) → Continues Tells mid new → ShownLeaves Tells (length e.apps) mid new → RunsFull Tells accepts most left a b old mid e
     → RunsFull Tells accepts most left a b old new e
 full_then Tells accepts most left a b old mid new e later leaves runs = record {
   full = record {
@@ -149,14 +170,18 @@ full_then Tells accepts most left a b old mid new e later leaves runs = record {
     whole_is = runs.full.whole_is;
     left_is = runs.full.left_is;
     contents_is = runs.full.contents_is;
-    leaves = record { shown = λ told keeps. leaves-then [] runs.full.last mid new (runs.full.leaves.shown told (Conforming-before told later keeps)) (leaves.shown told keeps) };
+    leaves = record {
+      shown = λ told keeps.
+          leaves-then (length runs.full.now_engine.apps) [] runs.full.last mid new (runs.full.leaves.shown told (Conforming-before told later keeps)) (subst (λ (n : ℕ). Leaves n [] mid new) (sym runs.number) (leaves.shown told keeps));
+    };
   };
+  number = runs.number;
   none_to_come = none_later_then Tells accepts most old mid new e later runs.none_to_come;
 }
 
-pub goes_then : {Own : Type 0} (Tells : Type 0) (accepts : List TableView → Bool) (most : ℕ) (result : Result (Unit {0}) Served) (a b : Option (List ℕ)) (old mid new : Seen Own) (r now_r : Run) → Continues Tells mid new → ShownLeaves Tells mid new → GoesAs Tells accepts most result a b old mid r now_r
+pub goes_then : {Own : Type 0} (Tells : Type 0) (accepts : List TableView → Bool) (most : ℕ) (result : Result (Unit {0}) Served) (a b : Option (List ℕ)) (old mid new : Seen Own) (r now_r : Run) → Continues Tells mid new → ShownLeaves Tells (length (engine_of r).apps) mid new → GoesAs Tells accepts most result a b old mid r now_r
     → GoesAs Tells accepts most result a b old new r now_r
-goes_then Tells accepts most (Ok x) a b old mid new r now_r later leaves goes = out_then Tells accepts most now_r.events a b old mid new (engine_of r) later leaves goes
+goes_then Tells accepts most (Ok x) a b old mid new r now_r later leaves goes = out_then Tells accepts most now_r.core.events a b old mid new (engine_of r) later leaves goes
 goes_then Tells accepts most (Err (served.EventsLeft left)) a b old mid new r now_r later leaves goes = full_then Tells accepts most left a b old mid new (engine_of r) later leaves goes
 goes_then Tells accepts most (Err (served.Ended events)) a b old mid new r now_r later leaves goes = absurd goes
 goes_then Tells accepts most (Err served.WriteFault) a b old mid new r now_r later leaves goes = tt
@@ -165,30 +190,54 @@ goes_then Tells accepts most (Err served.NextFault) a b old mid new r now_r late
 goes_then Tells accepts most (Err (served.Txn fault)) a b old mid new r now_r later leaves goes = tt
 goes_then Tells accepts most (Err served.NoMemory) a b old mid new r now_r later leaves goes = tt
 
+-- the applications of the run were ended
+ended_apps : (r : Run) → length r.apps.items ≡ length (engine_of r).apps
+ended_apps r = sym (length-map r.apps.items (application_of r.core.store))
+
+pub ended_leaves : {Own : Type 0} (Tells : Type 0) (mid new : Seen Own) (r : Run) → ShownLeaves Tells (length r.apps.items) mid new → ShownLeaves Tells (length (engine_of r).apps) mid new
+ended_leaves Tells mid new r leaves = subst (λ (n : ℕ). ShownLeaves Tells n mid new) (ended_apps r) leaves
+
+pub ended_point : {Own : Type 0} (Tells : Type 0) (mid new : Seen Own) (r : Run) → IsEnded Tells (length r.apps.items) mid new → NoPoint Tells (length (engine_of r).apps) mid new
+ended_point Tells mid new r ended = subst (λ (n : ℕ). NoPoint Tells n mid new) (ended_apps r) ended.no_point
+
+pub ended_number : {Own : Type 0} (Tells : Type 0) (mid new : Seen Own) (r : Run) → Going r → IsEnded Tells (length r.apps.items) mid new → IsEnded Tells (length r.core.store) mid new
+ended_number Tells mid new r going ended = subst (λ (n : ℕ). IsEnded Tells n mid new) (sym going.number) ended
+
 -- ---- From an engine before anything happened
 
-pub runs_done : {Own : Type 0} (rule : AppValue) (Tells : Type 0) (accepts : List TableView → Bool) (most : ℕ) (a b : Option (List ℕ)) (old new : Seen Own) (r now_r : Run) → engine_of r ≡ engine_at_first rule → GoesAs Tells accepts most (Ok tt) a b old new r now_r → RunsAs rule Tells accepts most (Ok now_r.events) a b old new
-runs_done rule Tells accepts most a b old new r now_r first goes = subst (RunsOut Tells accepts most now_r.events a b old new) first goes
+-- as many places and applications as rules
+first_number : (rules : List AppRule) (r : Run) → engine_of r ≡ engine_at_first (map app_value rules) → length r.apps.items ≡ length rules
+first_number rules r first =
+    sym (length-map r.apps.items (application_of r.core.store)) ∙ ap (λ (e : Engine). length e.apps) first ∙ length-map (map app_value rules) app_at_first ∙ length-map rules app_value
 
-runs_failed : {Own : Type 0} (rule : AppValue) (Tells : Type 0) (accepts : List TableView → Bool) (most : ℕ) (end : Served) (a b : Option (List ℕ)) (old new : Seen Own) (r now_r : Run) → engine_of r ≡ engine_at_first rule → GoesAs Tells accepts most (Err end) a b old new r now_r → RunsAs rule Tells accepts most (Err end) a b old new
-runs_failed rule Tells accepts most (served.EventsLeft left) a b old new r now_r first goes = subst (RunsFull Tells accepts most left a b old new) first goes
-runs_failed rule Tells accepts most (served.Ended events) a b old new r now_r first goes = absurd goes
-runs_failed rule Tells accepts most served.WriteFault a b old new r now_r first goes = tt
-runs_failed rule Tells accepts most served.Shut a b old new r now_r first goes = tt
-runs_failed rule Tells accepts most served.NextFault a b old new r now_r first goes = tt
-runs_failed rule Tells accepts most (served.Txn fault) a b old new r now_r first goes = tt
-runs_failed rule Tells accepts most served.NoMemory a b old new r now_r first goes = tt
+pub first_places : (rules : List AppRule) (r : Run) → Going r → engine_of r ≡ engine_at_first (map app_value rules) → length r.core.store ≡ length rules
+first_places rules r going first = going.number ∙ first_number rules r first
+
+pub first_few : (rules : List AppRule) (r : Run) → engine_of r ≡ engine_at_first (map app_value rules) → length rules < 2 ^ 32 → length r.apps.items < 2 ^ 32
+first_few rules r first few = subst (λ (n : ℕ). n < 2 ^ 32) (sym (first_number rules r first)) few
+
+pub runs_done : {Own : Type 0} (rules : List AppValue) (Tells : Type 0) (accepts : List TableView → Bool) (most : ℕ) (a b : Option (List ℕ)) (old new : Seen Own) (r now_r : Run) → engine_of r ≡ engine_at_first rules → GoesAs Tells accepts most (Ok tt) a b old new r now_r → RunsAs rules Tells accepts most (Ok now_r.core.events) a b old new
+runs_done rules Tells accepts most a b old new r now_r first goes = subst (RunsOut Tells accepts most now_r.core.events a b old new) first goes
+
+runs_failed : {Own : Type 0} (rules : List AppValue) (Tells : Type 0) (accepts : List TableView → Bool) (most : ℕ) (end : Served) (a b : Option (List ℕ)) (old new : Seen Own) (r now_r : Run) → engine_of r ≡ engine_at_first rules → GoesAs Tells accepts most (Err end) a b old new r now_r → RunsAs rules Tells accepts most (Err end) a b old new
+runs_failed rules Tells accepts most (served.EventsLeft left) a b old new r now_r first goes = subst (RunsFull Tells accepts most left a b old new) first goes
+runs_failed rules Tells accepts most (served.Ended events) a b old new r now_r first goes = absurd goes
+runs_failed rules Tells accepts most served.WriteFault a b old new r now_r first goes = tt
+runs_failed rules Tells accepts most served.Shut a b old new r now_r first goes = tt
+runs_failed rules Tells accepts most served.NextFault a b old new r now_r first goes = tt
+runs_failed rules Tells accepts most (served.Txn fault) a b old new r now_r first goes = tt
+runs_failed rules Tells accepts most served.NoMemory a b old new r now_r first goes = tt
 
 -- what a `?` answers
-pub runs_by : {Own : Type 0} (rule : AppValue) (Tells : Type 0) (accepts : List TableView → Bool) (most : ℕ) (a b : Option (List ℕ)) (old new : Seen Own) (r now_r : Run) (end : Served) (result : Result ℕ Served) → IsErrAnd result (λ s. s ≡ end) → engine_of r ≡ engine_at_first rule
-    → GoesAs Tells accepts most (Err end) a b old new r now_r → RunsAs rule Tells accepts most result a b old new
-runs_by rule Tells accepts most a b old new r now_r end (Ok x) is first goes = absurd is
-runs_by rule Tells accepts most a b old new r now_r end (Err s) is first goes = subst (λ (e : Served). RunsAs rule Tells accepts most (Err e) a b old new) (sym is) (runs_failed rule Tells accepts most end a b old new r now_r first goes)
+pub runs_by : {Own : Type 0} (rules : List AppValue) (Tells : Type 0) (accepts : List TableView → Bool) (most : ℕ) (a b : Option (List ℕ)) (old new : Seen Own) (r now_r : Run) (end : Served) (result : Result ℕ Served) → IsErrAnd result (λ s. s ≡ end) → engine_of r ≡ engine_at_first rules
+    → GoesAs Tells accepts most (Err end) a b old new r now_r → RunsAs rules Tells accepts most result a b old new
+runs_by rules Tells accepts most a b old new r now_r end (Ok x) is first goes = absurd is
+runs_by rules Tells accepts most a b old new r now_r end (Err s) is first goes = subst (λ (e : Served). RunsAs rules Tells accepts most (Err e) a b old new) (sym is) (runs_failed rules Tells accepts most end a b old new r now_r first goes)
 
 -- memory ran out before anything was done
-pub runs_short : {Own : Type 0} (rule : AppValue) (Tells : Type 0) (accepts : List TableView → Bool) (most : ℕ) (a b : Option (List ℕ)) (old new : Seen Own) (result : Result ℕ Served) → IsErrAnd result (λ s. s ≡ served.NoMemory) → RunsAs rule Tells accepts most result a b old new
-runs_short rule Tells accepts most a b old new (Ok x) is = absurd is
-runs_short rule Tells accepts most a b old new (Err s) is = subst (λ (e : Served). RunsAs rule Tells accepts most (Err e) a b old new) (sym is) tt
+pub runs_short : {Own : Type 0} (rules : List AppValue) (Tells : Type 0) (accepts : List TableView → Bool) (most : ℕ) (a b : Option (List ℕ)) (old new : Seen Own) (result : Result ℕ Served) → IsErrAnd result (λ s. s ≡ served.NoMemory) → RunsAs rules Tells accepts most result a b old new
+runs_short rules Tells accepts most a b old new (Ok x) is = absurd is
+runs_short rules Tells accepts most a b old new (Err s) is = subst (λ (e : Served). RunsAs rules Tells accepts most (Err e) a b old new) (sym is) tt
 
 -- ---- Of a world on which no call was made
 
@@ -214,62 +263,66 @@ short_by Tells old new opening.Shut is told = absurd cc
 short_by Tells old new opening.Short is told = λ tells. (told tells).history ∙ append-nil old.history
 
 -- it could not be opened
-pub cut_unopened : {Own : Type 0} (rule : AppValue) (Tells : Type 0) (contents : Option (List ℕ)) (old new : Seen Own) (end : Served) → IsUnopened Tells old new end → (allows : List Place → Bool) → Tells → old.history ≡ [] → IsCut rule allows new contents contents end
-cut_unopened rule Tells contents old new served.Shut left allows told none = record { history = left told ∙ ap (λ (h : List WorldStep). h ++ NotOpened ∷ []) none; still = refl }
-cut_unopened rule Tells contents old new served.NoMemory left allows told none = inr (record { history = left told ∙ none; still = refl })
-cut_unopened rule Tells contents old new (served.EventsLeft n) left allows told none = absurd left
-cut_unopened rule Tells contents old new (served.Ended events) left allows told none = absurd left
-cut_unopened rule Tells contents old new served.WriteFault left allows told none = absurd left
-cut_unopened rule Tells contents old new served.NextFault left allows told none = absurd left
-cut_unopened rule Tells contents old new (served.Txn fault) left allows told none = absurd left
+pub cut_unopened : {Own : Type 0} (rules : List AppValue) (Tells : Type 0) (contents : Option (List ℕ)) (old new : Seen Own) (end : Served) → IsUnopened Tells old new end → (allows : List Place → Bool) → Tells → old.history ≡ [] → IsCut rules allows new contents contents end
+cut_unopened rules Tells contents old new served.Shut left allows told none = record { history = left told ∙ ap (λ (h : List WorldStep). h ++ NotOpened ∷ []) none; still = refl }
+cut_unopened rules Tells contents old new served.NoMemory left allows told none = inr (record { history = left told ∙ none; still = refl })
+cut_unopened rules Tells contents old new (served.EventsLeft n) left allows told none = absurd left
+cut_unopened rules Tells contents old new (served.Ended events) left allows told none = absurd left
+cut_unopened rules Tells contents old new served.WriteFault left allows told none = absurd left
+cut_unopened rules Tells contents old new served.NextFault left allows told none = absurd left
+cut_unopened rules Tells contents old new (served.Txn fault) left allows told none = absurd left
 
-pub alike_unopened : {Own : Type 0} (rule : AppValue) (Tells : Type 0) (accepts : List TableView → Bool) (most : ℕ) (contents : Option (List ℕ)) (old new : Seen Own) (end : Served) → IsUnopened Tells old new end → (allows : List Place → Bool) → Premise Tells accepts allows most old new → IsAlike rule allows new contents contents end
-alike_unopened rule Tells accepts most contents old new served.Shut left allows p = cut_unopened rule Tells contents old new served.Shut left allows p.told p.untouched
-alike_unopened rule Tells accepts most contents old new served.NoMemory left allows p = cut_unopened rule Tells contents old new served.NoMemory left allows p.told p.untouched
-alike_unopened rule Tells accepts most contents old new (served.EventsLeft n) left allows p = absurd left
-alike_unopened rule Tells accepts most contents old new (served.Ended events) left allows p = absurd left
-alike_unopened rule Tells accepts most contents old new served.WriteFault left allows p = absurd left
-alike_unopened rule Tells accepts most contents old new served.NextFault left allows p = absurd left
-alike_unopened rule Tells accepts most contents old new (served.Txn fault) left allows p = absurd left
+pub alike_unopened : {Own : Type 0} (rules : List AppValue) (Tells : Type 0) (accepts : List TableView → Bool) (most : ℕ) (contents : Option (List ℕ)) (old new : Seen Own) (end : Served) → IsUnopened Tells old new end → (allows : List Place → Bool) → Premise Tells accepts allows most old new → IsAlike rules allows new contents contents end
+alike_unopened rules Tells accepts most contents old new served.Shut left allows p = cut_unopened rules Tells contents old new served.Shut left allows p.told p.untouched
+alike_unopened rules Tells accepts most contents old new served.NoMemory left allows p = cut_unopened rules Tells contents old new served.NoMemory left allows p.told p.untouched
+alike_unopened rules Tells accepts most contents old new (served.EventsLeft n) left allows p = absurd left
+alike_unopened rules Tells accepts most contents old new (served.Ended events) left allows p = absurd left
+alike_unopened rules Tells accepts most contents old new served.WriteFault left allows p = absurd left
+alike_unopened rules Tells accepts most contents old new served.NextFault left allows p = absurd left
+alike_unopened rules Tells accepts most contents old new (served.Txn fault) left allows p = absurd left
 
-pub alike_done : {Own : Type 0} (rule : AppValue) (Tells : Type 0) (accepts : List TableView → Bool) (most events : ℕ) (a b : Option (List ℕ)) (old mid new : Seen Own) → (Tells → mid.history ≡ old.history ++ Opened ∷ []) → RunsAs rule Tells accepts most (Ok events) a b mid new
-    → (allows : List Place → Bool) → Premise Tells accepts allows most old new → IsAlike rule allows new a b (served.Ended events)
-alike_done rule Tells accepts most events a b old mid new opened runs allows p =
+pub alike_done : {Own : Type 0} (rules : List AppValue) (Tells : Type 0) (accepts : List TableView → Bool) (most events : ℕ) (a b : Option (List ℕ)) (old mid new : Seen Own) → (Tells → mid.history ≡ old.history ++ Opened ∷ []) → RunsAs rules Tells accepts most (Ok events) a b mid new
+    → (allows : List Place → Bool) → Premise Tells accepts allows most old new → IsAlike rules allows new a b (served.Ended events)
+alike_done rules Tells accepts most events a b old mid new opened runs allows p =
     let is = opened_is old mid p.untouched (opened p.told) in
-    subst (λ (n : ℕ). IsAlike rule allows new a b (served.Ended n)) (sym runs.events_is) (record {
-      alike = ran-out rule Tells accepts allows most a b mid new runs.last p.told p.keeps p.judges is p.few runs.out;
-      none_to_come = runs.none_to_come.none allows p.told p.keeps p.judges (settled-first rule mid is) p.few;
+    subst (λ (n : ℕ). IsAlike rules allows new a b (served.Ended n)) (sym runs.events_is) (record {
+      alike = ran-out rules Tells accepts allows most a b mid new runs.last p.told p.keeps p.judges is p.few runs.out;
+      none_to_come = runs.none_to_come.none allows p.told p.keeps p.judges (settled-first rules mid is) p.few;
     })
 
+-- no other application was called than those of the policy
+pub rules_own : {Own : Type 0} {Tells : Type 0} {old new : Seen Own} (rules : List AppRule) → (Tells → CallsAmong (length rules) old new) → Tells → CallsAmong (length (map app_value rules)) old new
+rules_own {old = old} {new = new} rules own told = subst (λ (n : ℕ). CallsAmong n old new) (sym (length-map rules app_value)) (own told)
+
 -- a fault ended it
-pub cut_failed : {Own : Type 0} (rule : AppValue) (Tells : Type 0) (accepts : List TableView → Bool) (most : ℕ) (end : Served) (a b : Option (List ℕ)) (old mid new : Seen Own) → (Tells → mid.history ≡ old.history ++ Opened ∷ []) → Continues Tells mid new → RunsAs rule Tells accepts most (Err end) a b mid new
-    → CutAs Tells accepts most end a b mid new (engine_at_first rule) → (allows : List Place → Bool) → PremiseSoFar Tells accepts allows most old new → IsCut rule allows new a b end
-cut_failed rule Tells accepts most (served.EventsLeft left) a b old mid new opened on runs cut allows p = tt
-cut_failed rule Tells accepts most (served.Ended events) a b old mid new opened on runs cut allows p = absurd runs
-cut_failed rule Tells accepts most served.WriteFault a b old mid new opened on runs cut allows p = so_cut rule Tells accepts allows most served.WriteFault a b old mid new p (opened_is old mid p.untouched (opened p.told)) on cut
-cut_failed rule Tells accepts most served.Shut a b old mid new opened on runs cut allows p = so_cut rule Tells accepts allows most served.Shut a b old mid new p (opened_is old mid p.untouched (opened p.told)) on cut
-cut_failed rule Tells accepts most served.NextFault a b old mid new opened on runs cut allows p = so_cut rule Tells accepts allows most served.NextFault a b old mid new p (opened_is old mid p.untouched (opened p.told)) on cut
-cut_failed rule Tells accepts most (served.Txn fault) a b old mid new opened on runs cut allows p = so_cut rule Tells accepts allows most (served.Txn fault) a b old mid new p (opened_is old mid p.untouched (opened p.told)) on cut
-cut_failed rule Tells accepts most served.NoMemory a b old mid new opened on runs cut allows p = so_cut rule Tells accepts allows most served.NoMemory a b old mid new p (opened_is old mid p.untouched (opened p.told)) on cut
+pub cut_failed : {Own : Type 0} (rules : List AppValue) (Tells : Type 0) (accepts : List TableView → Bool) (most : ℕ) (end : Served) (a b : Option (List ℕ)) (old mid new : Seen Own) → (Tells → mid.history ≡ old.history ++ Opened ∷ []) → Continues Tells mid new → (Tells → CallsAmong (length rules) mid new) → RunsAs rules Tells accepts most (Err end) a b mid new
+    → CutAs Tells accepts most end a b mid new (engine_at_first rules) → (allows : List Place → Bool) → PremiseSoFar Tells accepts allows most old new → IsCut rules allows new a b end
+cut_failed rules Tells accepts most (served.EventsLeft left) a b old mid new opened on own runs cut allows p = tt
+cut_failed rules Tells accepts most (served.Ended events) a b old mid new opened on own runs cut allows p = absurd runs
+cut_failed rules Tells accepts most served.WriteFault a b old mid new opened on own runs cut allows p = so_cut rules Tells accepts allows most served.WriteFault a b old mid new p (opened_is old mid p.untouched (opened p.told)) on (own p.told) cut
+cut_failed rules Tells accepts most served.Shut a b old mid new opened on own runs cut allows p = so_cut rules Tells accepts allows most served.Shut a b old mid new p (opened_is old mid p.untouched (opened p.told)) on (own p.told) cut
+cut_failed rules Tells accepts most served.NextFault a b old mid new opened on own runs cut allows p = so_cut rules Tells accepts allows most served.NextFault a b old mid new p (opened_is old mid p.untouched (opened p.told)) on (own p.told) cut
+cut_failed rules Tells accepts most (served.Txn fault) a b old mid new opened on own runs cut allows p = so_cut rules Tells accepts allows most (served.Txn fault) a b old mid new p (opened_is old mid p.untouched (opened p.told)) on (own p.told) cut
+cut_failed rules Tells accepts most served.NoMemory a b old mid new opened on own runs cut allows p = so_cut rules Tells accepts allows most served.NoMemory a b old mid new p (opened_is old mid p.untouched (opened p.told)) on (own p.told) cut
 
 -- one that keeps its word to the end does so up to every point
 premise_so_far : {Own : Type 0} (Tells : Type 0) (accepts : List TableView → Bool) (allows : List Place → Bool) (most : ℕ) (old new : Seen Own) → Premise Tells accepts allows most old new → PremiseSoFar Tells accepts allows most old new
 premise_so_far Tells accepts allows most old new p = record { told = p.told; judges = p.judges; untouched = p.untouched; few = λ front keeps given later. fewer-front front new later p.few }
 
-pub alike_failed : {Own : Type 0} (rule : AppValue) (Tells : Type 0) (accepts : List TableView → Bool) (most : ℕ) (end : Served) (a b : Option (List ℕ)) (old mid new : Seen Own) → (Tells → mid.history ≡ old.history ++ Opened ∷ []) → Continues Tells mid new → RunsAs rule Tells accepts most (Err end) a b mid new
-    → CutAs Tells accepts most end a b mid new (engine_at_first rule) → (allows : List Place → Bool) → Premise Tells accepts allows most old new → IsAlike rule allows new a b end
-alike_failed rule Tells accepts most (served.EventsLeft left) a b old mid new opened on runs cut allows p =
+pub alike_failed : {Own : Type 0} (rules : List AppValue) (Tells : Type 0) (accepts : List TableView → Bool) (most : ℕ) (end : Served) (a b : Option (List ℕ)) (old mid new : Seen Own) → (Tells → mid.history ≡ old.history ++ Opened ∷ []) → Continues Tells mid new → (Tells → CallsAmong (length rules) mid new) → RunsAs rules Tells accepts most (Err end) a b mid new
+    → CutAs Tells accepts most end a b mid new (engine_at_first rules) → (allows : List Place → Bool) → Premise Tells accepts allows most old new → IsAlike rules allows new a b end
+alike_failed rules Tells accepts most (served.EventsLeft left) a b old mid new opened on own runs cut allows p =
     let is = opened_is old mid p.untouched (opened p.told) in
     record {
-      alike = ran-full rule Tells accepts allows most left a b mid new p.told p.keeps p.judges is p.few runs.full;
-      none_to_come = runs.none_to_come.none allows p.told p.keeps p.judges (settled-first rule mid is) p.few;
+      alike = ran-full rules Tells accepts allows most left a b mid new p.told p.keeps p.judges is p.few runs.full;
+      none_to_come = runs.none_to_come.none allows p.told p.keeps p.judges (settled-first rules mid is) p.few;
     }
-alike_failed rule Tells accepts most (served.Ended events) a b old mid new opened on runs cut allows p = absurd runs
-alike_failed rule Tells accepts most served.WriteFault a b old mid new opened on runs cut allows p = cut_failed rule Tells accepts most served.WriteFault a b old mid new opened on runs cut allows (premise_so_far Tells accepts allows most old new p)
-alike_failed rule Tells accepts most served.Shut a b old mid new opened on runs cut allows p = cut_failed rule Tells accepts most served.Shut a b old mid new opened on runs cut allows (premise_so_far Tells accepts allows most old new p)
-alike_failed rule Tells accepts most served.NextFault a b old mid new opened on runs cut allows p = cut_failed rule Tells accepts most served.NextFault a b old mid new opened on runs cut allows (premise_so_far Tells accepts allows most old new p)
-alike_failed rule Tells accepts most (served.Txn fault) a b old mid new opened on runs cut allows p = cut_failed rule Tells accepts most (served.Txn fault) a b old mid new opened on runs cut allows (premise_so_far Tells accepts allows most old new p)
-alike_failed rule Tells accepts most served.NoMemory a b old mid new opened on runs cut allows p = cut_failed rule Tells accepts most served.NoMemory a b old mid new opened on runs cut allows (premise_so_far Tells accepts allows most old new p)
+alike_failed rules Tells accepts most (served.Ended events) a b old mid new opened on own runs cut allows p = absurd runs
+alike_failed rules Tells accepts most served.WriteFault a b old mid new opened on own runs cut allows p = cut_failed rules Tells accepts most served.WriteFault a b old mid new opened on own runs cut allows (premise_so_far Tells accepts allows most old new p)
+alike_failed rules Tells accepts most served.Shut a b old mid new opened on own runs cut allows p = cut_failed rules Tells accepts most served.Shut a b old mid new opened on own runs cut allows (premise_so_far Tells accepts allows most old new p)
+alike_failed rules Tells accepts most served.NextFault a b old mid new opened on own runs cut allows p = cut_failed rules Tells accepts most served.NextFault a b old mid new opened on own runs cut allows (premise_so_far Tells accepts allows most old new p)
+alike_failed rules Tells accepts most (served.Txn fault) a b old mid new opened on own runs cut allows p = cut_failed rules Tells accepts most (served.Txn fault) a b old mid new opened on own runs cut allows (premise_so_far Tells accepts allows most old new p)
+alike_failed rules Tells accepts most served.NoMemory a b old mid new opened on own runs cut allows p = cut_failed rules Tells accepts most served.NoMemory a b old mid new opened on own runs cut allows (premise_so_far Tells accepts allows most old new p)
 
 -- what ends a run before its end promises nothing of it
 fault_finishes : {Own : Type 0} (Tells : Type 0) (fault : Fault) (a b : Option (List ℕ)) (old new : Seen Own) (r now_r : Run) → Finishes Tells (Err (served_by fault)) a b old new r now_r

@@ -1,6 +1,6 @@
-use Rattle.std.proofs.Common.{inl}
+use Rattle.std.proofs.Common.{map, inl}
 use Rattle.crash_policy.specs.Policies.{app_value}
-use Rattle.event_dispatch.specs.laws.WholeLaws.{cut_unopened, cut_failed, alike_unopened, alike_done, alike_failed}
+use Rattle.event_dispatch.specs.laws.WholeLaws.{rules_own, cut_unopened, cut_failed, alike_unopened, alike_done, alike_failed}
 use Rattle.event_dispatch.specs.laws.PlainLaws.{unopened_plain, served_plain}
 use Rattle.event_dispatch.specs.laws.ReadLaws.{unopened_places, opened_places, unopened_read, all_read, failed_read}
 use Rattle.run_laws.specs.First.{net_at_first}
@@ -9,19 +9,19 @@ use Rattle.event_dispatch.proofs.whole.serve.Goals as goal
 
 pub returns-in-Err-clause-reference_run : goal.returns-in-Err-clause-reference_run
 returns-in-Err-clause-reference_run g c =
-    alike_unopened (app_value c.args.app.now) g.W.World.Tells (g.J.Judge.accepts c.args.judge.now) c.args.rounds (g.K.Sink.contents c.args.sink.now) (g.W.World.seen c.args.world.now) (g.W.World.seen c.open.new.world) c.in-Err.served c.in-Err.ensures.unopened
+    alike_unopened (map app_value c.args.rules.now) g.W.World.Tells (g.J.Judge.accepts c.args.judge.now) c.args.rounds (g.K.Sink.contents c.args.sink.now) (g.W.World.seen c.args.world.now) (g.W.World.seen c.open.new.world) c.in-Err.served c.in-Err.ensures.unopened
 
 pub returns-in-Ok-clause-reference_run : goal.returns-in-Ok-clause-reference_run
 returns-in-Ok-clause-reference_run g c =
-    alike_done (app_value c.args.app.now) g.W.World.Tells (g.J.Judge.accepts c.args.judge.now) c.args.rounds c.in-Ok.events (g.K.Sink.contents c.args.sink.now) (g.K.Sink.contents c.run.new.sink) (g.W.World.seen c.args.world.now) (g.W.World.seen c.open.new.world) (g.W.World.seen c.run.new.world) c.in_default.ensures.opened c.in-Ok.ensures.runs
+    alike_done (map app_value c.args.rules.now) g.W.World.Tells (g.J.Judge.accepts c.args.judge.now) c.args.rounds c.in-Ok.events (g.K.Sink.contents c.args.sink.now) (g.K.Sink.contents c.run.new.sink) (g.W.World.seen c.args.world.now) (g.W.World.seen c.open.new.world) (g.W.World.seen c.run.new.world) c.in_default.ensures.opened c.in-Ok.ensures.runs
 
 pub returns-in-Err-run-clause-reference_run : goal.returns-in-Err-run-clause-reference_run
 returns-in-Err-run-clause-reference_run g c =
-    alike_failed (app_value c.args.app.now) g.W.World.Tells (g.J.Judge.accepts c.args.judge.now) c.args.rounds c.in-Err-run.served (g.K.Sink.contents c.args.sink.now) (g.K.Sink.contents c.run.new.sink) (g.W.World.seen c.args.world.now) (g.W.World.seen c.open.new.world) (g.W.World.seen c.run.new.world) c.in_default.ensures.opened c.in-Err-run.ensures.continues c.in-Err-run.ensures.runs c.in-Err-run.ensures.cut
+    alike_failed (map app_value c.args.rules.now) g.W.World.Tells (g.J.Judge.accepts c.args.judge.now) c.args.rounds c.in-Err-run.served (g.K.Sink.contents c.args.sink.now) (g.K.Sink.contents c.run.new.sink) (g.W.World.seen c.args.world.now) (g.W.World.seen c.open.new.world) (g.W.World.seen c.run.new.world) c.in_default.ensures.opened c.in-Err-run.ensures.continues (rules_own c.args.rules.now c.in-Err-run.ensures.none_runs.no_stray.own) c.in-Err-run.ensures.runs c.in-Err-run.ensures.cut
 
 pub returns-in-Err-clause-reference_run_until_fault : goal.returns-in-Err-clause-reference_run_until_fault
 returns-in-Err-clause-reference_run_until_fault g c =
-    λ allows p. cut_unopened (app_value c.args.app.now) g.W.World.Tells (g.K.Sink.contents c.args.sink.now) (g.W.World.seen c.args.world.now) (g.W.World.seen c.open.new.world) c.in-Err.served c.in-Err.ensures.unopened allows p.told p.untouched
+    λ allows p. cut_unopened (map app_value c.args.rules.now) g.W.World.Tells (g.K.Sink.contents c.args.sink.now) (g.W.World.seen c.args.world.now) (g.W.World.seen c.open.new.world) c.in-Err.served c.in-Err.ensures.unopened allows p.told p.untouched
 
 pub returns-in-Ok-clause-reference_run_until_fault : goal.returns-in-Ok-clause-reference_run_until_fault
 returns-in-Ok-clause-reference_run_until_fault g c =
@@ -29,7 +29,7 @@ returns-in-Ok-clause-reference_run_until_fault g c =
 
 pub returns-in-Err-run-clause-reference_run_until_fault : goal.returns-in-Err-run-clause-reference_run_until_fault
 returns-in-Err-run-clause-reference_run_until_fault g c =
-    cut_failed (app_value c.args.app.now) g.W.World.Tells (g.J.Judge.accepts c.args.judge.now) c.args.rounds c.in-Err-run.served (g.K.Sink.contents c.args.sink.now) (g.K.Sink.contents c.run.new.sink) (g.W.World.seen c.args.world.now) (g.W.World.seen c.open.new.world) (g.W.World.seen c.run.new.world) c.in_default.ensures.opened c.in-Err-run.ensures.continues c.in-Err-run.ensures.runs c.in-Err-run.ensures.cut
+    cut_failed (map app_value c.args.rules.now) g.W.World.Tells (g.J.Judge.accepts c.args.judge.now) c.args.rounds c.in-Err-run.served (g.K.Sink.contents c.args.sink.now) (g.K.Sink.contents c.run.new.sink) (g.W.World.seen c.args.world.now) (g.W.World.seen c.open.new.world) (g.W.World.seen c.run.new.world) c.in_default.ensures.opened c.in-Err-run.ensures.continues (rules_own c.args.rules.now c.in-Err-run.ensures.none_runs.no_stray.own) c.in-Err-run.ensures.runs c.in-Err-run.ensures.cut
 
 pub returns-in-Err-clause-no_switch_at_fault : goal.returns-in-Err-clause-no_switch_at_fault
 returns-in-Err-clause-no_switch_at_fault g c =
@@ -41,7 +41,7 @@ returns-in-Ok-clause-no_switch_at_fault g c =
 
 pub returns-in-Err-run-clause-no_switch_at_fault : goal.returns-in-Err-run-clause-no_switch_at_fault
 returns-in-Err-run-clause-no_switch_at_fault g c =
-    served_plain (app_value c.args.app.now) g.W.World.Tells (g.J.Judge.accepts c.args.judge.now) c.args.rounds c.in-Err-run.served (g.W.World.seen c.args.world.now) (g.W.World.seen c.open.new.world) (g.W.World.seen c.run.new.world) c.in_default.ensures.opened c.in-Err-run.ensures.plain
+    served_plain (map app_value c.args.rules.now) g.W.World.Tells (g.J.Judge.accepts c.args.judge.now) c.args.rounds c.in-Err-run.served (g.W.World.seen c.args.world.now) (g.W.World.seen c.open.new.world) (g.W.World.seen c.run.new.world) c.in_default.ensures.opened c.in-Err-run.ensures.plain
 
 pub returns-in-Err-clause-no_stray_call : goal.returns-in-Err-clause-no_stray_call
 returns-in-Err-clause-no_stray_call g c =
@@ -65,7 +65,7 @@ returns-in-Ok-clause-all_bytes_are_messages g c =
 
 pub returns-in-Err-run-clause-all_bytes_are_messages : goal.returns-in-Err-run-clause-all_bytes_are_messages
 returns-in-Err-run-clause-all_bytes_are_messages g c =
-    failed_read (app_value c.args.app.now) g.W.World.Tells (g.J.Judge.accepts c.args.judge.now) c.args.rounds c.in-Err-run.served (g.K.Sink.contents c.args.sink.now) (g.K.Sink.contents c.run.new.sink) (g.W.World.seen c.args.world.now) (g.W.World.seen c.open.new.world) (g.W.World.seen c.run.new.world) c.in-Err-run.ensures.continues c.in_default.ensures.opened c.in-Err-run.ensures.runs c.in-Err-run.ensures.reads
+    failed_read (map app_value c.args.rules.now) g.W.World.Tells (g.J.Judge.accepts c.args.judge.now) c.args.rounds c.in-Err-run.served (g.K.Sink.contents c.args.sink.now) (g.K.Sink.contents c.run.new.sink) (g.W.World.seen c.args.world.now) (g.W.World.seen c.open.new.world) (g.W.World.seen c.run.new.world) c.in-Err-run.ensures.continues c.in_default.ensures.opened c.in-Err-run.ensures.runs c.in-Err-run.ensures.reads
 
 pub returns-in-Err-clause-every_application_ended : goal.returns-in-Err-clause-every_application_ended
 returns-in-Err-clause-every_application_ended g c =

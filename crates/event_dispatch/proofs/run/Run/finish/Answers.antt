@@ -1,4 +1,4 @@
-use Rattle.std.proofs.Common.{rules, refl}
+use Rattle.std.proofs.Common.{length, rules, refl}
 use Rattle.event_dispatch.specs.laws.WholeLaws.{finishes_by}
 use Rattle.event_dispatch.specs.laws.PlainLaws.{calm_anyway}
 use Rattle.event_dispatch.specs.laws.CutLaws.{if_err, finish_cut}
@@ -23,11 +23,11 @@ returns-clause-finishes g c = ((search rules), c.in_ok-end_report.ensures.ends)
 
 pub returns-then-not-is_empty-clause-plain : goal.returns-then-not-is_empty-clause-plain
 returns-then-not-is_empty-clause-plain g c =
-    calm_anyway (g.W.World.seen c.args.world.now) (g.W.World.seen c.args.world.now) c.args.self.now.net _ tt
+    calm_anyway (g.W.World.seen c.args.world.now) (g.W.World.seen c.args.world.now) c.args.self.now.core.net _ tt
 
 pub returns-in_err-end_report-clause-plain : goal.returns-in_err-end_report-clause-plain
 returns-in_err-end_report-clause-plain g c =
-    if_err (PlainCalm g.W.World.Tells (g.W.World.seen c.args.world.now) (g.W.World.seen c.end_report.new.world) c.args.self.now.net) (served_by c.in_err-end_report.field-0.0) c.from_residual.result c.from_residual.ensures.1 c.in_err-end_report.ensures.plain
+    if_err (PlainCalm g.W.World.Tells (g.W.World.seen c.args.world.now) (g.W.World.seen c.end_report.new.world) c.args.self.now.core.net) (served_by c.in_err-end_report.field-0.0) c.from_residual.result c.from_residual.ensures.1 c.in_err-end_report.ensures.plain
 
 pub returns-in_err-end_report-clause-cut : goal.returns-in_err-end_report-clause-cut
 returns-in_err-end_report-clause-cut g c =
@@ -35,13 +35,13 @@ returns-in_err-end_report-clause-cut g c =
     (finish_cut g.W.World.Tells c.in_err-end_report.field-0.0 (g.K.Sink.contents c.args.sink.now) (g.K.Sink.contents c.end_report.new.sink) (g.W.World.seen c.args.world.now) (g.W.World.seen c.end_report.new.world) (engine_of c.args.self.now) (search rules) c.in_err-end_report.ensures.cut)
 
 pub returns-then-not-is_empty-clause-places : goal.returns-then-not-is_empty-clause-places
-returns-then-not-is_empty-clause-places g c = places_none g.W.World.Tells (g.W.World.seen c.args.world.now) c.args.self.now.net
+returns-then-not-is_empty-clause-places g c = places_none g.W.World.Tells (g.W.World.seen c.args.world.now) c.args.self.now.core.net
 
 pub returns-then-not-is_empty-clause-reads : goal.returns-then-not-is_empty-clause-reads
-returns-then-not-is_empty-clause-reads g c = read_none g.W.World.Tells (g.W.World.seen c.args.world.now) c.args.self.now.net
+returns-then-not-is_empty-clause-reads g c = read_none g.W.World.Tells (g.W.World.seen c.args.world.now) c.args.self.now.core.net
 
 pub returns-in_err-end_report-clause-reads : goal.returns-in_err-end_report-clause-reads
-returns-in_err-end_report-clause-reads g c = reads_by g.W.World.Tells c.in_err-end_report.field-0.0 c.from_residual.result (g.W.World.seen c.args.world.now) (g.W.World.seen c.end_report.new.world) c.args.self.now.net c.from_residual.ensures.1
+returns-in_err-end_report-clause-reads g c = reads_by g.W.World.Tells c.in_err-end_report.field-0.0 c.from_residual.result (g.W.World.seen c.args.world.now) (g.W.World.seen c.end_report.new.world) c.args.self.now.core.net c.from_residual.ensures.1
 
 pub returns-clause-reads : goal.returns-clause-reads
 returns-clause-reads g c = read_of c.in_ok-end_report.ensures.reads

@@ -1,8 +1,8 @@
-use Rattle.std.proofs.Common.{rules, arith, refl, subst, ◌∙◌}
+use Rattle.std.proofs.Common.{length, rules, arith, refl, subst, ◌∙◌}
 use Rattle.event_dispatch.specs.declared.batch.Rest.{Rest}
 use Rattle.event_dispatch.specs.Serves.{GoesRound}
 use Rattle.event_dispatch.specs.laws.WhyLaws.{continues_then, fell_then}
-use Rattle.event_dispatch.specs.laws.RoundLaws.{rounds_none, rounds_next, rounds_last, rounds_out}
+use Rattle.event_dispatch.specs.laws.RoundLaws.{places_on, rounds_none, rounds_next, rounds_last, rounds_out}
 use Rattle.event_dispatch.specs.laws.PlainLaws.{run_rounds}
 use Rattle.event_dispatch.specs.laws.CutLaws.{if_err}
 use Rattle.event_dispatch.specs.Plain.{PlainRun}
@@ -10,7 +10,7 @@ use Rattle.event_dispatch.specs.Shows.{engine_of}
 use Rattle.event_dispatch.specs.Why.{served_by}
 use Rattle.event_dispatch.specs.declared.fault.Fault.{Fault}
 use Rattle.event_dispatch.specs.Cut.{CutRounds}
-use Rattle.event_dispatch.specs.laws.SteadyLaws.{places_none, reads_none, places_then, reads_then}
+use Rattle.event_dispatch.specs.laws.SteadyLaws.{places_none, reads_none, reads_then}
 use Rattle.event_dispatch.proofs.run.Run.run_rounds.Goals as goal
 
 pub loop-round-init : goal.loop-round-init
@@ -19,8 +19,9 @@ loop-round-init g c = record {
   going = c.requires.going;
   events = (search rules);
   continues = (search rules);
-  places = places_none g.W.World.Tells (g.W.World.seen c.args.world.now) c.args.self.now.net;
-  reads = reads_none g.W.World.Tells (g.W.World.seen c.args.world.now) c.args.self.now.net c.args.self.now.net refl;
+  number = refl;
+  places = places_none g.W.World.Tells (g.W.World.seen c.args.world.now) c.args.self.now.core.net;
+  reads = reads_none g.W.World.Tells (g.W.World.seen c.args.world.now) c.args.self.now.core.net c.args.self.now.core.net refl;
   rounds = rounds_none g.W.World.Tells (g.J.Judge.accepts c.args.judge.now) (g.K.Sink.contents c.args.sink.now) (g.W.World.seen c.args.world.now) c.args.self.now c.requires.none_waits;
   never_fell = (search rules);
 }
@@ -37,8 +38,9 @@ loop-round-preserved g c = record {
   going = c.in_ok-run_round.ensures.going;
   events = omega (arith, c.loop-round.invariant.events, c.in_ok-run_round.ensures.events);
   continues = continues_then g.W.World.Tells (g.W.World.seen c.args.world.now) (g.W.World.seen c.loop-round.world) (g.W.World.seen c.run_round.new.world) c.loop-round.invariant.continues c.in_ok-run_round.ensures.continues;
-  places = places_then (g.W.World.seen c.args.world.now) (g.W.World.seen c.loop-round.world) (g.W.World.seen c.run_round.new.world) c.args.self.now.net c.loop-round.self.net c.loop-round.invariant.continues c.run_round.ensures.continues c.loop-round.invariant.places c.loop-round.invariant.reads c.run_round.ensures.places;
-  reads = reads_then (g.W.World.seen c.args.world.now) (g.W.World.seen c.loop-round.world) (g.W.World.seen c.run_round.new.world) c.args.self.now.net c.loop-round.self.net c.run_round.new.self.net c.loop-round.invariant.continues c.run_round.ensures.continues c.loop-round.invariant.reads c.in_ok-run_round.ensures.reads;
+  number = c.in_ok-run_round.ensures.number ∙ c.loop-round.invariant.number;
+  places = places_on (g.W.World.seen c.args.world.now) (g.W.World.seen c.loop-round.world) (g.W.World.seen c.run_round.new.world) c.args.self.now.core.net c.loop-round.self.core.net c.loop-round.invariant.number c.loop-round.invariant.continues c.run_round.ensures.continues c.loop-round.invariant.places c.loop-round.invariant.reads c.run_round.ensures.places;
+  reads = reads_then (g.W.World.seen c.args.world.now) (g.W.World.seen c.loop-round.world) (g.W.World.seen c.run_round.new.world) c.args.self.now.core.net c.loop-round.self.core.net c.run_round.new.self.core.net c.loop-round.invariant.continues c.run_round.ensures.continues c.loop-round.invariant.reads c.in_ok-run_round.ensures.reads;
   rounds = rounds_next g.W.World.Tells (g.J.Judge.accepts c.args.judge.now) c.loop-round._round (g.K.Sink.contents c.args.sink.now) (g.K.Sink.contents c.loop-round.sink) (g.K.Sink.contents c.run_round.new.sink) (g.W.World.seen c.args.world.now) (g.W.World.seen c.loop-round.world) (g.W.World.seen c.run_round.new.world) c.args.self.now c.loop-round.self c.run_round.new.self c.loop-round.invariant.rounds (subst (λ (rest : Rest). GoesRound g.W.World.Tells (g.J.Judge.accepts c.args.judge.now) rest (g.K.Sink.contents c.loop-round.sink) (g.K.Sink.contents c.run_round.new.sink) (g.W.World.seen c.loop-round.world) (g.W.World.seen c.run_round.new.world) c.loop-round.self c.run_round.new.self) c.in-Idle.is c.in_ok-run_round.ensures.round);
   never_fell = fell_then (g.K.Sink.faults c.args.sink.now) (g.K.Sink.faults c.loop-round.sink) (g.K.Sink.faults c.run_round.new.sink) c.loop-round.invariant.never_fell c.in_ok-run_round.ensures.never_fell;
 }
@@ -67,10 +69,13 @@ returns-in_err-run_round-clause-cut g c =
     })
 
 pub returns-in_err-run_round-clause-places : goal.returns-in_err-run_round-clause-places
-returns-in_err-run_round-clause-places g c = places_then (g.W.World.seen c.args.world.now) (g.W.World.seen c.loop-round.world) (g.W.World.seen c.run_round.new.world) c.args.self.now.net c.loop-round.self.net c.loop-round.invariant.continues c.run_round.ensures.continues c.loop-round.invariant.places c.loop-round.invariant.reads c.run_round.ensures.places
+returns-in_err-run_round-clause-places g c = places_on (g.W.World.seen c.args.world.now) (g.W.World.seen c.loop-round.world) (g.W.World.seen c.run_round.new.world) c.args.self.now.core.net c.loop-round.self.core.net c.loop-round.invariant.number c.loop-round.invariant.continues c.run_round.ensures.continues c.loop-round.invariant.places c.loop-round.invariant.reads c.run_round.ensures.places
 
 pub returns-in-End-clause-places : goal.returns-in-End-clause-places
-returns-in-End-clause-places g c = places_then (g.W.World.seen c.args.world.now) (g.W.World.seen c.loop-round.world) (g.W.World.seen c.run_round.new.world) c.args.self.now.net c.loop-round.self.net c.loop-round.invariant.continues c.run_round.ensures.continues c.loop-round.invariant.places c.loop-round.invariant.reads c.run_round.ensures.places
+returns-in-End-clause-places g c = places_on (g.W.World.seen c.args.world.now) (g.W.World.seen c.loop-round.world) (g.W.World.seen c.run_round.new.world) c.args.self.now.core.net c.loop-round.self.core.net c.loop-round.invariant.number c.loop-round.invariant.continues c.run_round.ensures.continues c.loop-round.invariant.places c.loop-round.invariant.reads c.run_round.ensures.places
 
 pub returns-in-End-clause-reads : goal.returns-in-End-clause-reads
-returns-in-End-clause-reads g c = reads_then (g.W.World.seen c.args.world.now) (g.W.World.seen c.loop-round.world) (g.W.World.seen c.run_round.new.world) c.args.self.now.net c.loop-round.self.net c.run_round.new.self.net c.loop-round.invariant.continues c.run_round.ensures.continues c.loop-round.invariant.reads c.in_ok-run_round.ensures.reads
+returns-in-End-clause-reads g c = reads_then (g.W.World.seen c.args.world.now) (g.W.World.seen c.loop-round.world) (g.W.World.seen c.run_round.new.world) c.args.self.now.core.net c.loop-round.self.core.net c.run_round.new.self.core.net c.loop-round.invariant.continues c.run_round.ensures.continues c.loop-round.invariant.reads c.in_ok-run_round.ensures.reads
+
+pub returns-in-End-clause-number : goal.returns-in-End-clause-number
+returns-in-End-clause-number g c = c.in_ok-run_round.ensures.number ∙ c.loop-round.invariant.number

@@ -10,10 +10,11 @@ abbrev pub invariant-loop-round : goal.invariant-loop-round
 invariant-loop-round g l = record {
   buffer : length l.buf ≡ length l.fn.buf;
   going : Going l.self;
-  events : l.self.events ≤ 1000 * l._round;
+  events : l.self.core.events ≤ 1000 * l._round;
+  number : length l.self.core.store ≡ length l.fn.self.core.store;
   continues : Continues g.W.World.Tells (g.W.World.seen l.fn.world) (g.W.World.seen l.world);
-  places : NoStray g.W.World.Tells (g.W.World.seen l.fn.world) (g.W.World.seen l.world) l.fn.self.net;
-  reads : Reads g.W.World.Tells (g.W.World.seen l.fn.world) (g.W.World.seen l.world) l.fn.self.net l.self.net;
+  places : NoStray g.W.World.Tells (length l.fn.self.core.store) (g.W.World.seen l.fn.world) (g.W.World.seen l.world) l.fn.self.core.net;
+  reads : Reads g.W.World.Tells (g.W.World.seen l.fn.world) (g.W.World.seen l.world) l.fn.self.core.net l.self.core.net;
   rounds : GoesRounds g.W.World.Tells (g.J.Judge.accepts l.fn.judge) l._round (g.K.Sink.contents l.fn.sink) (g.K.Sink.contents l.sink) (g.W.World.seen l.fn.world) (g.W.World.seen l.world) l.fn.self l.self;
   never_fell : NeverFell (g.K.Sink.faults l.fn.sink) (g.K.Sink.faults l.sink);
 }
