@@ -21,6 +21,7 @@ pub mod TellLaws
 pub mod LineLaws
 pub mod StartMoveLaws
 pub mod TurnMoveLaws
+pub mod OfferLaws
 pub mod DispatchLaws
 pub mod EventLaws
 pub mod StimuliLaws

@@ -323,7 +323,7 @@ batch-over {Own} text first now e settled same_net same_queue over noted =
           lost = s.lost ∙ sym (ap (λ (js : List Act). losses js) journal_same);
           losses_is = s.losses_is;
           marks = subst (λ (t : State). AgreeMarks t.marks r.marks) (sym over.state_is) s.marks;
-            };
+        };
         says = λ said more r fronts s. sym (append-nil (text_of (names (rules_of e)) r));
       };
     })

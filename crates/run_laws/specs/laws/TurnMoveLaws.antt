@@ -21,7 +21,7 @@ use Rattle.lego_model.specs.Turns.{Outcome, Completed, Failed, turn_of}
 use Rattle.lego_model.specs.Scripted.{IsFront, is_heard}
 use Rattle.lego_model.specs.laws.ScriptedLaws.{turn-front}
 use Rattle.lego_model.specs.Losses.{PacketLoss, TurnLosses}
-use Rattle.lego_model.specs.Controller.{table_of, App, Turned, Started, after_failure, gone_line, event_frame, answer_frame, given_in as given_by_turn, Release, release, undoing, undone_release, out_lines, lost_lines, leavers, turn}
+use Rattle.lego_model.specs.Controller.{table_of, App, Turned, Started, after_failure, gone_line, event_frame, answer_frame, given_in as given_by_turn, Release, release, undoing, undone_release, out_lines, lost_lines, leavers, turn, says_stop as outcome_stops}
 use Rattle.lego_model.specs.RunReport.{turn_line, lost_line, outcome_word, line_text}
 use Rattle.outside.specs.Seen.{Given, Seen}
 use Rattle.outside.specs.State.{State, Mark, state, marks_at_event}
@@ -53,7 +53,7 @@ use Rattle.journal_laws.specs.Readings.{LastStands}
 use Rattle.lego_model.specs.History.{starts_in, replies_in, own_acts, given_in, released_of, lost_of}
 use Rattle.run_laws.specs.Engine.{Focus, app_at}
 use Rattle.batch_laws.specs.Knowledge.{left_events, lost_text}
-use Rattle.run_laws.specs.Facts.{turn_word, out_text, all_told, IsClosed, TakesTurn}
+use Rattle.run_laws.specs.Facts.{turn_word, out_text, all_told, IsClosed, TakesTurn, says_stop}
 use Rattle.run_laws.specs.Readings.{AreRead, JudgesAlike}
 use Rattle.run_laws.specs.laws.FrameLaws.{event_numbered}
 use Rattle.run_laws.specs.laws.ReferenceLaws.{turn_is}
@@ -71,9 +71,10 @@ use Rattle.run_laws.specs.EventMoves.{StartsAlike, TurnAlike, TurnMoves}
 -- ---- How all stands when the application is done or failed
 
 -- the turn of the reference controller leaves the same, with these losses
-record AlikeBy {Own : Type 0} (allows : List Place → Bool) (event : Event) (text : List ℕ) (old new : Seen Own) (e now_e : Focus) (starts : List Start) (reply : Reply) : Type 0 where
+record AlikeBy {Own : Type 0} (allows : List Place → Bool) (event : Event) (stops : Bool) (text : List ℕ) (old new : Seen Own) (e now_e : Focus) (starts : List Start) (reply : Reply) : Type 0 where
   losses : TurnLosses
   alike : TurnAlike allows event text old new e now_e starts reply losses
+  stops_is : outcome_stops alike.outcome ≡ stops
 
 abbrev marks_by : Bool → ℕ → State → List Mark
 marks_by given n s = if given then marks_at_event (Some n) s else s.marks
@@ -202,7 +203,7 @@ released_since {Own} old mid new start sent mid_net net queue now_queue given sh
 done_alike : {Own : Type 0} (Tells : Type 0) (allows : List Place → Bool) (event : Event) (stop : Bool) (unread text : List ℕ) (old mid new : Seen Own) (e : Focus) (mid_net net : NetState) (queue : List Event) (sent : List (ℕ × ℕ)) (given : Bool) (trace : List (Beat Own)) (answers : List Answer) (outcome : Outcome)
     → Tells → Conforming new → mid.given ≡ old.given → Commits Tells (length e.net.log) mid new mid_net net e.queue queue (Ok sent) → IsEnd (ends.Done stop) unread outcome → text ≡ turn_line e.rule.name (turn_word (ends.Done stop)) ++ (out_text sent ++ lost_text net.left)
     → given_in e.index mid ≡ given_in e.index old ++ given_by_turn given (event_frame e.events e.net.moment event) answers → Calm old e.net
-    → AtEnd allows event old mid e mid_net given (reply_by given trace) answers outcome → AlikeBy allows event text old new e (done_engine (handed outcome) unread net queue e) [] (reply_by given trace)
+    → AtEnd allows event old mid e mid_net given (reply_by given trace) answers outcome → AlikeBy allows event stop text old new e (done_engine (handed outcome) unread net queue e) [] (reply_by given trace)
 done_alike Tells allows event stop unread text old mid new e mid_net net queue sent given trace answers (Failed cause) told keeps given_stays commits is text_is inputs_are calm at = absurd is
 done_alike Tells allows event stop unread text old mid new e mid_net net queue sent given trace answers (Completed stops checkpoint rest) told keeps given_stays commits is text_is inputs_are calm at =
     let frame = event_frame e.events e.net.moment event in
@@ -247,6 +248,7 @@ done_alike Tells allows event stop unread text old mid new e mid_net net queue s
             ∙ ap (lines_text names) (sym (append-nil (out_lines there_is.packets ++ lost_lines (leavers left)))))
             ∙ ap (λ (n : List ℕ). turn_line n (outcome_word outcome) ++ lines_text names ((out_lines there_is.packets ++ lost_lines (leavers left)) ++ [])) (sym known);
       };
+      stops_is = sym is.0;
     }
 
 -- ---- A turn that failed
@@ -273,7 +275,7 @@ failed_engine undone_net e = all_told undone_net e.queue (record e { rest = []; 
 failed_alike : {Own : Type 0} (Tells : Type 0) (allows : List Place → Bool) (event : Event) (cause : Cause) (unread text later_text : List ℕ) (old mid undone new : Seen Own) (e now_e : Focus) (mid_net undone_net : NetState) (given : Bool) (trace : List (Beat Own)) (answers : List Answer) (outcome : Outcome)
     → Tells → Conforming undone → mid.given ≡ old.given → Undoes Tells (length e.net.log) mid undone mid_net undone_net (Ok tt) → (again : StartsAlike Tells (rule_at e.rule event.kind) later_text undone new (failed_engine undone_net e) now_e)
     → IsEnd (ends.Failed cause) unread outcome → text ≡ turn_line e.rule.name (turn_word (ends.Failed cause)) ++ (lost_text undone_net.left ++ later_text) → given_in e.index mid ≡ given_in e.index old ++ given_by_turn given (event_frame e.events e.net.moment event) answers → Calm old e.net
-    → AtEnd allows event old mid e mid_net given (reply_by given trace) answers outcome → AlikeBy allows event text old new e now_e again.starts (reply_by given trace)
+    → AtEnd allows event old mid e mid_net given (reply_by given trace) answers outcome → AlikeBy allows event false text old new e now_e again.starts (reply_by given trace)
 failed_alike Tells allows event cause unread text later_text old mid undone new e now_e mid_net undone_net given trace answers (Completed stops checkpoint rest) told keeps given_stays undoes again is text_is inputs_are calm at = absurd is
 failed_alike {Own} Tells allows event cause unread text later_text old mid undone new e now_e mid_net undone_net given trace answers (Failed why) told keeps given_stays undoes again is text_is inputs_are calm at =
     let frame = event_frame e.events e.net.moment event in
@@ -322,6 +324,7 @@ failed_alike {Own} Tells allows event cause unread text later_text old mid undon
             ∙ sym (flat_map-append (line_text names) (lost_lines (leavers left)) (map (Started e.index) again.tries ++ gone_line e.index now_e.alive)))
             ∙ ap (λ (n : List ℕ). turn_line n (outcome_word outcome) ++ lines_text names (lost_lines (leavers left) ++ (map (Started e.index) again.tries ++ gone_line e.index now_e.alive))) (sym known);
       };
+      stops_is = refl;
     }
 
 -- ---- The whole
@@ -335,7 +338,7 @@ turn_tells Tells accepts event old mid e mid_net end unread told t =
 closed_moves : {Own : Type 0} (Tells : Type 0) (accepts : List TableView → Bool) (allows : List Place → Bool) (event : Event) (text : List ℕ) (old mid new : Seen Own) (e now_e : Focus) (mid_net : NetState) (end : TurnEnd) (unread : List ℕ)
     → Tells → Conforming new → JudgesAlike Own allows accepts → AreRead Own e.index Tells accepts → e.events < 2 ^ 64 → LastStands (own_acts e.index old) → Calm old e.net
     → (t : Turns Tells accepts e.index e.rule.budget e.rest (event_frame e.events e.net.moment event) old mid e.net mid_net end unread) → IsClosed Tells event.kind end (handed t.outcome) unread text (length e.net.log) mid new mid_net e now_e
-    → TurnMoves allows event text old new e now_e
+    → TurnMoves allows event (says_stop end) text old new e now_e
 closed_moves Tells accepts allows event text old mid new e now_e mid_net (ends.Done stop) unread told keeps judges reads few stands calm t closed =
     let read = reads.turn e.rule.budget e.events e.net.moment event e.rest old mid e.net mid_net (ends.Done stop) unread told t stands in
     let commits = closed.commits in
@@ -345,7 +348,7 @@ closed_moves Tells accepts allows event text old mid new e now_e mid_net (ends.D
     let tells = links_tell e.index mid new (commits.links told) in
     let by = done_alike Tells allows event stop unread text old mid new e mid_net closed.net closed.queue closed.sent t.given t.trace t.answers t.outcome told keeps given_stays commits t.ends closed.text_is told_is.given calm
     (at_end Tells accepts allows event old mid e mid_net (ends.Done stop) unread told keeps_mid judges few calm t read.heard) in
-    subst (λ (x : Focus). TurnMoves allows event text old new e x) (sym closed.engine) (record {
+    subst (λ (x : Focus). TurnMoves allows event stop text old new e x) (sym closed.engine) (record {
       starts = [];
       reply = reply_by t.given t.trace;
       tells = record {
@@ -357,6 +360,7 @@ closed_moves Tells accepts allows event text old mid new e now_e mid_net (ends.D
       };
       losses = by.losses;
       alike = by.alike;
+      stops_is = by.stops_is;
     })
 closed_moves Tells accepts allows event text old mid new e now_e mid_net (ends.Failed cause) unread told keeps judges reads few stands calm t closed =
     let read = reads.turn e.rule.budget e.events e.net.moment event e.rest old mid e.net mid_net (ends.Failed cause) unread told t stands in
@@ -382,10 +386,11 @@ closed_moves Tells accepts allows event text old mid new e now_e mid_net (ends.F
       };
       losses = by.losses;
       alike = by.alike;
+      stops_is = by.stops_is;
     }
 
 pub turn_moves : {Own : Type 0} (Tells : Type 0) (accepts : List TableView → Bool) (allows : List Place → Bool) (event : Event) (text : List ℕ) (old new : Seen Own) (e now_e : Focus)
-    → Tells → Conforming new → JudgesAlike Own allows accepts → AreRead Own e.index Tells accepts → e.events < 2 ^ 64 → LastStands (own_acts e.index old) → Calm old e.net → TakesTurn Tells accepts event text old new e now_e
-    → TurnMoves allows event text old new e now_e
+    → Tells → Conforming new → JudgesAlike Own allows accepts → AreRead Own e.index Tells accepts → e.events < 2 ^ 64 → LastStands (own_acts e.index old) → Calm old e.net → (taken : TakesTurn Tells accepts event text old new e now_e)
+    → TurnMoves allows event (says_stop taken.end) text old new e now_e
 turn_moves Tells accepts allows event text old new e now_e told keeps judges reads few stands calm turn =
     closed_moves Tells accepts allows event text old turn.mid new e now_e turn.mid_net turn.end turn.unread told keeps judges reads few stands calm turn.turns turn.closed
