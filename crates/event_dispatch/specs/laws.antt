@@ -26,4 +26,6 @@ pub mod EndedLaws
 pub mod NoEventLaws
 pub mod LeftLaws
 pub mod StoreLaws
+pub mod OfferLaws
+pub mod BeginLaws
 pub mod JoinLaws

@@ -130,8 +130,8 @@ stop_undone {number = number} {Tells = Tells} {old = old} {mid = mid} {new = new
   own = own;
 })
 
-pub played_places : {Own : Type 0} {number : ℕ} {Tells : Type 0} {accepts : List TableView → Bool} {app budget number : ℕ} {event : Event} {old new : Seen Own} {queue now_queue : List Event} {rest unread : List ℕ} (closing : Closing) (net now_net : NetState) → (Tells → CallsAmong number old new)
-    → PlaysTurn Tells accepts app budget number event closing old new net now_net queue now_queue rest unread → NoStray Tells number old new net
+pub played_places : {Own : Type 0} {count : ℕ} {Tells : Type 0} {accepts : List TableView → Bool} {app budget number : ℕ} {event : Event} {old new : Seen Own} {queue now_queue : List Event} {rest unread : List ℕ} (closing : Closing) (net now_net : NetState) → (Tells → CallsAmong count old new)
+    → PlaysTurn Tells accepts app budget number event closing old new net now_net queue now_queue rest unread → NoStray Tells count old new net
 played_places (closings.Done stop out) net now_net own plays = turn_committed net refl own plays.turns plays.played
 played_places (closings.Failed cause) net now_net own plays = turn_undone net refl own plays.turns plays.played.0
 

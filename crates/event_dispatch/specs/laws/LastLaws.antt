@@ -150,13 +150,13 @@ asks_as Tells d old new r net (Some rows) asks steps = record {
   in_step = steps;
   asked = λ told. rows-asked Tells d r.net.xid old new r.net.kept net.kept rows told asks.asks.answer;
   net = net_stays r.net net _ asks.asks.stays;
-  same = besides_none r;
+  same = record { queue = refl; events = refl; store = refl };
   lines = refl;
 }
 asks_as Tells d old new r net None asks steps = record {
   lost = asks.asks;
   asked = λ told keeps joined. lost-asked Tells d old new r.net net told keeps joined asks.continues asks.links asks.no_strays asks.asks;
-  same = besides_none r;
+  same = record { queue = refl; events = refl; store = refl };
   lines = refl;
 }
 

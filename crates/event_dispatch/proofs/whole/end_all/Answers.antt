@@ -1,0 +1,23 @@
+use Rattle.std.proofs.Common.{arith}
+use Rattle.outside.specs.laws.SeenLaws.{Continues-refl}
+use Rattle.event_dispatch.specs.laws.WhyLaws.{continues_then}
+use Rattle.event_dispatch.specs.laws.EndedLaws.{ended_none, ended_next, are_ended}
+use Rattle.event_dispatch.proofs.whole.end_all.Goals as goal
+
+pub loop-app-init : goal.loop-app-init
+loop-app-init g c = record { continues = Continues-refl g.W.World.Tells (g.W.World.seen c.args.world.now); so_far = ended_none g.W.World.Tells (g.W.World.seen c.args.world.now) }
+
+pub loop-app-preserved : goal.loop-app-preserved
+loop-app-preserved g c = record {
+  continues = continues_then g.W.World.Tells (g.W.World.seen c.args.world.now) (g.W.World.seen c.loop-app.world) (g.W.World.seen c.end_one.new.world) c.loop-app.invariant.continues c.end_one.ensures.continues;
+  so_far = ended_next c.loop-app.app (g.W.World.seen c.args.world.now) (g.W.World.seen c.loop-app.world) (g.W.World.seen c.end_one.new.world) c.loop-app-test.true c.loop-app.invariant.continues c.loop-app.invariant.so_far c.end_one.ensures.ends;
+}
+
+pub returns-clause-ended : goal.returns-clause-ended
+returns-clause-ended g c = are_ended c.loop-app.app (g.W.World.seen c.args.world.now) (g.W.World.seen c.loop-app.world) c.loop-app-test.false c.loop-app.invariant.so_far
+
+pub returns-clause-leaves : goal.returns-clause-leaves
+returns-clause-leaves g c = record { shown = λ told keeps. c.loop-app.invariant.so_far.leaves told }
+
+pub returns-clause-talks : goal.returns-clause-talks
+returns-clause-talks g c = c.loop-app.invariant.so_far.talks

@@ -1,0 +1,715 @@
+-- Laws of an event that is offered to one application after the other: what was offered so far, up to one that stopped the event there, to the
+-- last one, or to a fault.
+use Rattle.std.specs.Prelude.{◌≡◌, ℕ, zero, suc, ◌+◌, ◌<◌, ◌≤◌, Bool, true, false, List, [], ◌∷◌, ◌++◌, length, take, drop, map, get_or, set, slice_get, Some, refl}
+use Rattle.std.specs.List.{AllByRecursion, list_any}
+use Rattle.std.proofs.Common.{sym, ap, ap₂, ◌∙◌, subst, append_assoc, add-one, arith, inl, inr, true≢false}
+use Rattle.std.proofs.lemmas.Bool.{and_parts, cases_Bool, cases_eq}
+use Rattle.std.proofs.lemmas.List.{append-nil, take_all}
+use Rattle.flow_table.specs.View.{TableView}
+use Rattle.app_frames.specs.declared.frame.Event.{Event}
+use Rattle.crash_policy.specs.Policies.{AppValue, app_value}
+use Rattle.lego_model.specs.AtOnce.{AtOnce}
+use Rattle.lego_model.specs.RunReport.{event_line}
+use Rattle.outside.specs.Seen.{Seen, Continues, journal}
+use Rattle.outside.specs.laws.SeenLaws.{Continues-refl, Continues-trans}
+use Rattle.net_txn.specs.Net.{NetState}
+use Rattle.net_txn.specs.laws.SaidLaws.{all_two}
+use Rattle.checkpoint_store.specs.Slots.{Slot}
+use Rattle.app_visor.specs.CallsFor.{CallsFor, CalmLater}
+use Rattle.app_visor.specs.laws.CalmLaws.{calm_none, calm_later}
+use Rattle.crash_policy.specs.Asking.{is_given}
+use Rattle.run_laws.specs.Engine.{Application, Engine, EachFrom, focus}
+use Rattle.run_laws.specs.Moves.{IsAtRest}
+use Rattle.run_laws.specs.Facts.{is_taking, says_stop, TakesTurn, Between, HasItsTurn, IsOffered, AreLeftOut, if_stopped, Offers}
+use Rattle.run_laws.specs.laws.OtherLaws.{calls-silent, silent-at-once}
+use Rattle.event_dispatch.specs.declared.fault.Fault.{Fault}
+use Rattle.event_dispatch.specs.declared.fault.Fault.TheVariants as faults
+use Rattle.event_dispatch.specs.declared.core.Core.{Core}
+use Rattle.event_dispatch.specs.declared.run.Managed.{Managed}
+use Rattle.event_dispatch.specs.declared.run.Run.{Run}
+use Rattle.event_dispatch.specs.Runs.{AreRead, StoreRests, CoreGoes, IsCountedTo, IsCountedBefore, AreBefore, AreNumbered, AreGoing}
+use Rattle.event_dispatch.specs.Stored.{KeepsOthers}
+use Rattle.event_dispatch.specs.Shows.{application_of, focus_of, engine_with, engine_of, Adds}
+use Rattle.event_dispatch.specs.Serves.{Notes, TurnNoted, stand, OfferNoted, AllOffered, IsDispatched}
+use Rattle.event_dispatch.specs.Steady.{NoStray, Reads}
+use Rattle.event_dispatch.specs.Plain.{PlainTurn}
+use Rattle.event_dispatch.specs.Undone.{IsShort, TurnLeft}
+use Rattle.event_dispatch.specs.Talking.{TurnTalks}
+use Rattle.event_dispatch.specs.Cut.{IsOfTurn, OfferFails, StopsWithin, OffersFail, FailsIn}
+use Rattle.event_dispatch.specs.laws.SteadyLaws.{places_none, reads_none, quietly_none, quietly_here, places_number, places_then, reads_then}
+use Rattle.event_dispatch.specs.laws.DispatchStrayLaws.{reads_over, later_here}
+use Rattle.event_dispatch.specs.laws.NoEventLaws.{no_event_none}
+use Rattle.event_dispatch.specs.laws.TalkingLaws.{rests_at_once, goes_none}
+use Rattle.event_dispatch.specs.laws.LeftLaws.{left_none}
+
+-- ---- Lists
+
+pub map_both : {A B : Type 0} (f : A → B) (xs ys : List A) → map f (xs ++ ys) ≡ map f xs ++ map f ys
+map_both f [] ys = refl
+map_both f (x ∷ xs) ys = ap (λ (zs : List _). f x ∷ zs) (map_both f xs ys)
+
+pub map_take : {A B : Type 0} (f : A → B) (n : ℕ) (xs : List A) → map f (take n xs) ≡ take n (map f xs)
+map_take f zero xs = refl
+map_take f (suc n) [] = refl
+map_take f (suc n) (x ∷ xs) = ap (λ (zs : List _). f x ∷ zs) (map_take f n xs)
+
+pub map_drop : {A B : Type 0} (f : A → B) (n : ℕ) (xs : List A) → map f (drop n xs) ≡ drop n (map f xs)
+map_drop f zero xs = refl
+map_drop f (suc n) [] = refl
+map_drop f (suc n) (x ∷ xs) = map_drop f n xs
+
+pub map_length : {A B : Type 0} (f : A → B) (xs : List A) → length (map f xs) ≡ length xs
+map_length f [] = refl
+map_length f (x ∷ xs) = ap suc (map_length f xs)
+
+any_map : {A B : Type 0} (p : B → Bool) (f : A → B) (xs : List A) → list_any p (map f xs) ≡ list_any (λ x. p (f x)) xs
+any_map p f [] = refl
+any_map p f (x ∷ xs) = elim (cases_Bool (p (f x))) [
+  | inl is ↦ rw is refl
+  | inr is ↦ rw is (any_map p f xs)
+]
+
+cons_head : {A : Type 0} (x y : A) (xs ys : List A) → x ∷ xs ≡ y ∷ ys → x ≡ y
+cons_head x y xs ys is = cc
+
+cons_tail : {A : Type 0} (x y : A) (xs ys : List A) → x ∷ xs ≡ y ∷ ys → xs ≡ ys
+cons_tail x y xs ys is = cc
+
+-- the item at a place
+pub split_at : {A : Type 0} (front back : List A) (n : ℕ) (m : A) → length front ≡ n → n < length (front ++ back) → m ≡ get_or (front ++ back) n m → back ≡ m ∷ drop 1 back
+split_at [] [] n m here less is = absurd (omega (arith, less))
+split_at {A = A} [] (x ∷ back) n m here less is = ap (λ (y : A). y ∷ back) (sym (subst (λ (k : ℕ). m ≡ get_or (x ∷ back) k m) (sym here) is))
+split_at (f ∷ front) back zero m here less is = absurd (omega (arith, here))
+split_at (f ∷ front) back (suc n) m here less is = split_at front back n m (omega (arith, here)) (omega (arith, less)) is
+
+-- it is another then
+pub set_at : {A : Type 0} (front back : List A) (n : ℕ) (m now_m : A) → length front ≡ n → set (front ++ m ∷ back) n now_m ≡ front ++ now_m ∷ back
+set_at [] back n m now_m here = subst (λ (k : ℕ). set (m ∷ back) k now_m ≡ now_m ∷ back) here refl
+set_at (f ∷ front) back zero m now_m here = absurd (omega (arith, here))
+set_at (f ∷ front) back (suc n) m now_m here = ap (λ (xs : List _). f ∷ xs) (set_at front back n m now_m (omega (arith, here)))
+
+pub drop_one : {A : Type 0} (n : ℕ) (xs : List A) → drop 1 (drop n xs) ≡ drop (suc n) xs
+drop_one zero xs = refl
+drop_one (suc n) [] = refl
+drop_one (suc n) (x ∷ xs) = drop_one n xs
+
+pub take_next : {A : Type 0} (n : ℕ) (xs : List A) (m : A) (rest : List A) → drop n xs ≡ m ∷ rest → take (suc n) xs ≡ take n xs ++ m ∷ []
+take_next zero [] m rest is = absurd cc
+take_next zero (x ∷ xs) m rest is = ap (λ (y : _). y ∷ []) (cons_head x m xs rest is)
+take_next (suc n) [] m rest is = absurd cc
+take_next (suc n) (x ∷ xs) m rest is = ap (λ (ys : List _). x ∷ ys) (take_next n xs m rest is)
+
+pub taken_length : {A B : Type 0} (f : A → B) (n : ℕ) (xs : List A) (m : A) (rest : List A) → drop n xs ≡ m ∷ rest → length (map f (take n xs)) ≡ n
+taken_length f zero xs m rest is = refl
+taken_length f (suc n) [] m rest is = absurd cc
+taken_length f (suc n) (x ∷ xs) m rest is = ap suc (taken_length f n xs m rest is)
+
+pub taken_whole : {A : Type 0} (n : ℕ) (xs : List A) → take n xs ++ drop n xs ≡ xs
+taken_whole zero xs = refl
+taken_whole (suc n) [] = refl
+taken_whole (suc n) (x ∷ xs) = ap (λ (ys : List _). x ∷ ys) (taken_whole n xs)
+
+pub drop_none : {A : Type 0} (n : ℕ) (xs : List A) → length xs ≤ n → drop n xs ≡ []
+drop_none zero [] le = refl
+drop_none zero (x ∷ xs) le = absurd (omega (arith, le))
+drop_none (suc n) [] le = refl
+drop_none (suc n) (x ∷ xs) le = drop_none n xs (omega (arith, le))
+
+any_at : {A : Type 0} (p : A → Bool) (n : ℕ) (xs : List A) (m : A) (rest : List A) → drop n xs ≡ m ∷ rest → p m ≡ true → list_any p xs ≡ true
+any_at p zero [] m rest is yes = absurd cc
+any_at p zero (x ∷ xs) m rest is yes = let here : p x ≡ true = ap p (cons_head x m xs rest is) ∙ yes in rw here refl
+any_at p (suc n) [] m rest is yes = absurd cc
+any_at p (suc n) (x ∷ xs) m rest is yes = elim (cases_Bool (p x)) [
+  | inl here ↦ rw here refl
+  | inr other ↦ rw other (any_at p n xs m rest is yes)
+]
+
+-- ---- Applications and their places
+
+pub numbered_at : (i : ℕ) (front : List Managed) (m : Managed) (back : List Managed) → AreNumbered i (front ++ m ∷ back) → m.state.index ≡ i + length front
+numbered_at i [] m back numbered = omega (arith, numbered.0)
+numbered_at i (f ∷ front) m back numbered = omega (arith, numbered_at (i + 1) front m back numbered.1)
+
+pub numbered_set : (i : ℕ) (front : List Managed) (m now_m : Managed) (back : List Managed) → now_m.state.index ≡ m.state.index → AreNumbered i (front ++ m ∷ back) → AreNumbered i (front ++ now_m ∷ back)
+numbered_set i [] m now_m back same numbered = (same ∙ numbered.0, numbered.1)
+numbered_set i (f ∷ front) m now_m back same numbered = (numbered.0, numbered_set (i + 1) front m now_m back same numbered.1)
+
+numbered_back : (i k : ℕ) (front back : List Managed) → k ≡ i + length front → AreNumbered i (front ++ back) → AreNumbered k back
+numbered_back i k [] back is numbered = let same : i ≡ k = omega (arith, is) in subst (λ (n : ℕ). AreNumbered n back) same numbered
+numbered_back i k (f ∷ front) back is numbered = numbered_back (i + 1) k front back (omega (arith, is)) numbered.1
+
+abbrev AreApart : ℕ → List Managed → Type 0
+AreApart k apps = AllByRecursion (λ m. m.state.index ≡ k → ⊥) apps
+
+apart_back : (i k : ℕ) (back : List Managed) → k < i → AreNumbered i back → AreApart k back
+apart_back i k [] less numbered = tt
+apart_back i k (m ∷ back) less numbered = ((λ same. omega (arith, same, numbered.0, less)), apart_back (i + 1) k back (omega (arith, less)) numbered.1)
+
+apart_front : (i k : ℕ) (front back : List Managed) → i + length front ≤ k → AreNumbered i (front ++ back) → AreApart k front
+apart_front i k [] back le numbered = tt
+apart_front i k (m ∷ front) back le numbered = ((λ same. omega (arith, same, numbered.0, le)), apart_front (i + 1) k front back (omega (arith, le)) numbered.1)
+
+-- what the engine keeps of others stays
+same_kept : (k : ℕ) (slots now_slots : List Slot) (m : Managed) → KeepsOthers k slots now_slots → (m.state.index ≡ k → ⊥) → application_of now_slots m ≡ application_of slots m
+same_kept k slots now_slots m keeps other = ap (λ (x : Slot). record (application_of slots m) { kept = x.kept.checkpoint }) (keeps.others m.state.index other)
+
+others_kept : (k : ℕ) (slots now_slots : List Slot) (apps : List Managed) → KeepsOthers k slots now_slots → AreApart k apps → map (application_of now_slots) apps ≡ map (application_of slots) apps
+others_kept k slots now_slots [] keeps apart = refl
+others_kept k slots now_slots (m ∷ apps) keeps apart = ap₂ (λ (a : Application) (as : List Application). a ∷ as) (same_kept k slots now_slots m keeps apart.0) (others_kept k slots now_slots apps keeps apart.1)
+
+counted_before : (events : ℕ) (apps : List Managed) → AreBefore events apps → AllByRecursion (IsCountedTo events) apps
+counted_before events [] all = tt
+counted_before events (m ∷ apps) all = (record { done = omega (arith, all.0.done); failed = omega (arith, all.0.failed) }, counted_before events apps all.1)
+
+-- none ended more turns than events before this one
+pub before_of : (events now_events : ℕ) (apps : List Managed) → now_events ≡ events + 1 → AllByRecursion (IsCountedTo events) apps → AreBefore now_events apps
+before_of events now_events [] is all = tt
+before_of events now_events (m ∷ apps) is all = (record { done = omega (arith, is, all.0.done); failed = omega (arith, is, all.0.failed) }, before_of events now_events apps is all.1)
+
+pub before_at : (events : ℕ) (front : List Managed) (m : Managed) (back : List Managed) → AreBefore events (m ∷ back) → IsCountedBefore events m
+before_at events front m back all = all.0
+
+-- ---- Offers behind one another
+
+no_stop : (stops : Bool) (Stopped Goes : Type 0) → (Stopped → true ≡ false) → if_stopped stops Stopped Goes → (stops ≡ false) × Goes
+no_stop true Stopped Goes never both = absurd (true≢false (never both))
+no_stop false Stopped Goes never both = (refl, both)
+
+goes_so : (stops : Bool) (Stopped Goes : Type 0) → stops ≡ false → Goes → if_stopped stops Stopped Goes
+goes_so true Stopped Goes is goes = absurd (true≢false is)
+goes_so false Stopped Goes is goes = goes
+
+stops_so : (stops : Bool) (Stopped Goes : Type 0) → stops ≡ true → Stopped → if_stopped stops Stopped Goes
+stops_so true Stopped Goes is stopped = stopped
+stops_so false Stopped Goes is stopped = absurd (true≢false (sym is))
+
+module _ {Own : Type 0} (Tells : Type 0) (accepts : List TableView → Bool) (event : Event) (number : ℕ) where
+  pub offers_then : (i k : ℕ) (xs ys : List Application) (text more : List ℕ) (from mid to : Between Own) (front back : List Application) (stopped : Bool) → k ≡ i + length xs
+      → Offers Tells accepts event number i xs text from mid front false → Offers Tells accepts event number k ys more mid to back stopped → Offers Tells accepts event number i (xs ++ ys) (text ++ more) from to (front ++ back) stopped
+  offers_then i k [] ys text more from mid to front back stopped is first later =
+      let here : k ≡ i = omega (arith, is) in
+      subst (λ (t : List ℕ). Offers Tells accepts event number i ys t from to (front ++ back) stopped) (ap (λ (t : List ℕ). t ++ more) (sym first.1))
+      (subst (λ (as : List Application). Offers Tells accepts event number i ys more from to as stopped) (ap (λ (as : List Application). as ++ back) (sym first.2))
+      (subst (λ (b : Between Own). Offers Tells accepts event number i ys more b to back stopped) first.0 (subst (λ (n : ℕ). Offers Tells accepts event number n ys more mid to back stopped) here later)))
+  offers_then i k (x ∷ xs) ys text more from mid to front back stopped is first later =
+      let one = first.0 in
+      let goes = no_stop one.stops (AreLeftOut xs one.mid mid one.later_text one.later_apps false) (Offers Tells accepts event number (i + 1) xs one.later_text one.mid mid one.later_apps false) (λ left. sym left.3) first.1 in (
+        record {
+          mid = one.mid;
+          now_app = one.now_app;
+          stops = one.stops;
+          front_text = one.front_text;
+          later_text = one.later_text ++ more;
+          later_apps = one.later_apps ++ back;
+          offered = one.offered;
+          apps_is = ap (λ (as : List Application). as ++ back) one.apps_is;
+          text_is = ap (λ (t : List ℕ). t ++ more) one.text_is ∙ append_assoc one.front_text one.later_text more;
+        },
+        goes_so one.stops (AreLeftOut (xs ++ ys) one.mid to (one.later_text ++ more) (one.later_apps ++ back) stopped) (Offers Tells accepts event number (i + 1) (xs ++ ys) (one.later_text ++ more) one.mid to (one.later_apps ++ back) stopped) goes.0
+            (offers_then (i + 1) k xs ys one.later_text more one.mid mid to one.later_apps back stopped (omega (arith, is)) goes.1 later),
+      )
+
+  -- one goes on
+  pub offers_one : (i : ℕ) (text : List ℕ) (from to : Between Own) (a now_a : Application) → IsOffered Tells accepts event number i (is_taking event a) false text from to a now_a → Offers Tells accepts event number i (a ∷ []) text from to (now_a ∷ []) false
+  offers_one i text from to a now_a offered = (
+    record { mid = to; now_app = now_a; stops = false; front_text = text; later_text = []; later_apps = []; offered = offered; apps_is = refl; text_is = sym (append-nil text) },
+    (refl, refl, refl, refl),
+  )
+
+  -- one stops it there
+  pub offers_stop : (i : ℕ) (text : List ℕ) (from to : Between Own) (a now_a : Application) (more : List Application) → IsOffered Tells accepts event number i (is_taking event a) true text from to a now_a → Offers Tells accepts event number i (a ∷ more) text from to (now_a ∷ more) true
+  offers_stop i text from to a now_a more offered = (
+    record { mid = to; now_app = now_a; stops = true; front_text = text; later_text = []; later_apps = more; offered = offered; apps_is = refl; text_is = sym (append-nil text) },
+    (refl, refl, refl, refl),
+  )
+
+-- ---- What was offered so far
+
+pub record OffersSoFar {Own : Type 0} (Tells : Type 0) (accepts : List TableView → Bool) (event : Event) (n : ℕ) (old now : Seen Own) (c now_c : Core) (apps now_apps : List Managed) : Type 0 where
+  pub front : List Managed
+  pub now_is : now_apps ≡ front ++ drop n apps
+  pub here : length front ≡ n
+  pub goes : CoreGoes now_c
+  pub events : now_c.events ≡ c.events
+  pub number : length now_c.store ≡ length c.store
+  pub number_is : length c.store ≡ length now_apps
+  pub counted : AllByRecursion (IsCountedTo c.events) front
+  pub before : AreBefore c.events (drop n apps)
+  pub numbered : AreNumbered 0 (front ++ drop n apps)
+  pub kept : map (application_of now_c.store) (drop n apps) ≡ map (application_of c.store) (drop n apps)
+  pub text : List ℕ
+  pub offers : Offers Tells accepts event c.events 0 (map (application_of c.store) (take n apps)) text (stand old c) (stand now now_c) (map (application_of now_c.store) front) false
+  pub notes : Notes text c now_c
+  pub continues : Continues Tells old now
+  pub places : NoStray Tells (length c.store) old now c.net
+  pub reads : Reads Tells old now c.net now_c.net
+
+-- one more was offered it
+pub record OfferDone {Own : Type 0} (Tells : Type 0) (accepts : List TableView → Bool) (event : Event) (stops : Bool) (now new : Seen Own) (c now_c : Core) (m now_m : Managed) : Type 0 where
+  pub goes : CoreGoes now_c
+  pub events : now_c.events ≡ c.events
+  pub others : KeepsOthers m.state.index c.store now_c.store
+  pub counted : IsCountedTo c.events now_m
+  pub index : now_m.state.index ≡ m.state.index
+  pub offered : OfferNoted Tells accepts event stops now new c now_c m now_m
+  pub continues : Continues Tells now new
+  pub places : NoStray Tells (length c.store) now new c.net
+  pub reads : Reads Tells now new c.net now_c.net
+
+pub offers_first : {Own : Type 0} (Tells : Type 0) (accepts : List TableView → Bool) (event : Event) (seen : Seen Own) (c : Core) (apps : List Managed) → AreGoing c apps → AreBefore c.events apps → OffersSoFar Tells accepts event 0 seen seen c c apps apps
+offers_first Tells accepts event seen c apps going before = record {
+  front = [];
+  now_is = refl;
+  here = refl;
+  goes = going.core;
+  events = refl;
+  number = refl;
+  number_is = going.number;
+  counted = tt;
+  before = before;
+  numbered = going.numbered;
+  kept = refl;
+  text = [];
+  offers = (refl, refl, refl, refl);
+  notes = sym (append-nil c.lines.items);
+  continues = Continues-refl Tells seen;
+  places = places_none Tells seen c.net;
+  reads = reads_none Tells seen c.net c.net refl;
+}
+
+-- the one that is next
+pub next_split : {Own Tells : Type 0} {accepts : List TableView → Bool} {event : Event} {old now : Seen Own} {c now_c : Core} {apps now_apps : List Managed} (n : ℕ) (m : Managed) → OffersSoFar Tells accepts event n old now c now_c apps now_apps → n < length now_apps → m ≡ get_or now_apps n m
+    → drop n apps ≡ m ∷ drop (suc n) apps
+next_split {apps = apps} n m so_far less is =
+    split_at so_far.front (drop n apps) n m so_far.here (subst (λ (ms : List Managed). n < length ms) so_far.now_is less) (is ∙ ap (λ (ms : List Managed). get_or ms n m) so_far.now_is)
+    ∙ ap (λ (ms : List Managed). m ∷ ms) (drop_one n apps)
+
+pub next_index : {Own Tells : Type 0} {accepts : List TableView → Bool} {event : Event} {old now : Seen Own} {c now_c : Core} {apps now_apps : List Managed} (n : ℕ) (m : Managed) → OffersSoFar Tells accepts event n old now c now_c apps now_apps → drop n apps ≡ m ∷ drop (suc n) apps → m.state.index ≡ n
+next_index {apps = apps} n m so_far split =
+    let at = numbered_at 0 so_far.front m (drop (suc n) apps) (subst (λ (ms : List Managed). AreNumbered 0 (so_far.front ++ ms)) split so_far.numbered) in
+    omega (arith, at, so_far.here)
+
+pub next_before : {Own Tells : Type 0} {accepts : List TableView → Bool} {event : Event} {old now : Seen Own} {c now_c : Core} {apps now_apps : List Managed} (n : ℕ) (m : Managed) → OffersSoFar Tells accepts event n old now c now_c apps now_apps → drop n apps ≡ m ∷ drop (suc n) apps → IsCountedBefore now_c.events m
+next_before {c = c} n m so_far split = subst (λ (k : ℕ). IsCountedBefore k m) (sym so_far.events) (subst (λ (ms : List Managed). AreBefore c.events ms) split so_far.before).0
+
+pub next_place : {Own Tells : Type 0} {accepts : List TableView → Bool} {event : Event} {old now : Seen Own} {c now_c : Core} {apps now_apps : List Managed} (n : ℕ) (m : Managed) → OffersSoFar Tells accepts event n old now c now_c apps now_apps → n < length now_apps → m ≡ get_or now_apps n m → m.state.index < length now_c.store
+next_place n m so_far less is =
+    let at = next_index n m so_far (next_split n m so_far less is) in
+    omega (arith, at, less, so_far.number, so_far.number_is)
+
+module _ {Own : Type 0} {Tells : Type 0} {accepts : List TableView → Bool} {event : Event} (n : ℕ) (old now new : Seen Own) (c now_c later_c : Core) (apps now_apps : List Managed) (m now_m : Managed) (stops : Bool)
+    (so_far : OffersSoFar Tells accepts event n old now c now_c apps now_apps) (split : drop n apps ≡ m ∷ drop (suc n) apps) (done : OfferDone Tells accepts event stops now new now_c later_c m now_m) where
+  abbrev rest : List Managed
+  rest = drop (suc n) apps
+
+  at_place : m.state.index ≡ n
+  at_place = next_index n m so_far split
+
+  numbered_now : AreNumbered 0 (so_far.front ++ m ∷ rest)
+  numbered_now = subst (λ (ms : List Managed). AreNumbered 0 (so_far.front ++ ms)) split so_far.numbered
+
+  kept_split : map (application_of now_c.store) (m ∷ rest) ≡ map (application_of c.store) (m ∷ rest)
+  kept_split = subst (λ (ms : List Managed). map (application_of now_c.store) ms ≡ map (application_of c.store) ms) split so_far.kept
+
+  same_before : application_of now_c.store m ≡ application_of c.store m
+  same_before = cons_head (application_of now_c.store m) (application_of c.store m) (map (application_of now_c.store) rest) (map (application_of c.store) rest) kept_split
+
+  -- those behind are as they were
+  kept_later : map (application_of later_c.store) rest ≡ map (application_of c.store) rest
+  kept_later =
+      others_kept m.state.index now_c.store later_c.store rest done.others
+      (apart_back (suc n) m.state.index rest (omega (arith, at_place)) (numbered_back 0 (suc n) (so_far.front ++ m ∷ []) rest (omega (arith, length_last so_far.front m, so_far.here)) (subst (λ (ms : List Managed). AreNumbered 0 ms) (sym (append_assoc so_far.front (m ∷ []) rest)) numbered_now)))
+      ∙ cons_tail (application_of now_c.store m) (application_of c.store m) (map (application_of now_c.store) rest) (map (application_of c.store) rest) kept_split
+    where
+      length_last : (xs : List Managed) (x : Managed) → length (xs ++ x ∷ []) ≡ length xs + 1
+      length_last [] x = refl
+      length_last (y ∷ ys) x = omega (arith, length_last ys x)
+
+  -- and those in front
+  kept_front : map (application_of later_c.store) so_far.front ≡ map (application_of now_c.store) so_far.front
+  kept_front = others_kept m.state.index now_c.store later_c.store so_far.front done.others (apart_front 0 m.state.index so_far.front (m ∷ rest) (omega (arith, so_far.here, at_place)) numbered_now)
+
+  offered_here : IsOffered Tells accepts event c.events n (is_taking event (application_of c.store m)) stops done.offered.text (stand now now_c) (stand new later_c) (application_of c.store m) (application_of later_c.store now_m)
+  offered_here =
+      subst (λ (a : Application). IsOffered Tells accepts event c.events n (is_taking event a) stops done.offered.text (stand now now_c) (stand new later_c) a (application_of later_c.store now_m)) same_before
+      (subst (λ (i : ℕ). IsOffered Tells accepts event c.events i (is_taking event (application_of now_c.store m)) stops done.offered.text (stand now now_c) (stand new later_c) (application_of now_c.store m) (application_of later_c.store now_m)) at_place
+      (subst (λ (k : ℕ). IsOffered Tells accepts event k m.state.index (is_taking event (application_of now_c.store m)) stops done.offered.text (stand now now_c) (stand new later_c) (application_of now_c.store m) (application_of later_c.store now_m)) so_far.events done.offered.offered))
+
+  offers_before : Offers Tells accepts event c.events 0 (map (application_of c.store) (take n apps)) so_far.text (stand old c) (stand now now_c) (map (application_of later_c.store) so_far.front) false
+  offers_before = subst (λ (as : List Application). Offers Tells accepts event c.events 0 (map (application_of c.store) (take n apps)) so_far.text (stand old c) (stand now now_c) as false) (sym kept_front) so_far.offers
+
+  now_apps_are : set now_apps n now_m ≡ so_far.front ++ now_m ∷ rest
+  now_apps_are = ap (λ (ms : List Managed). set ms n now_m) (so_far.now_is ∙ ap (λ (ms : List Managed). so_far.front ++ ms) split) ∙ set_at so_far.front (drop (suc n) apps) n m now_m so_far.here
+
+  counted_now : IsCountedTo c.events now_m
+  counted_now = subst (λ (k : ℕ). IsCountedTo k now_m) so_far.events done.counted
+
+  before_rest : AreBefore c.events rest
+  before_rest = (subst (λ (ms : List Managed). AreBefore c.events ms) split so_far.before).1
+
+  notes_now : Notes (so_far.text ++ done.offered.text) c later_c
+  notes_now = done.offered.notes ∙ ap (λ (xs : List ℕ). xs ++ done.offered.text) so_far.notes ∙ append_assoc c.lines.items so_far.text done.offered.text
+
+  number_now : length later_c.store ≡ length c.store
+  number_now = done.others.number ∙ so_far.number
+
+  length_now : length c.store ≡ length (set now_apps n now_m)
+  length_now = so_far.number_is ∙ ap (λ (ms : List Managed). length ms) (so_far.now_is ∙ ap (λ (ms : List Managed). so_far.front ++ ms) split) ∙ same_length so_far.front rest m now_m ∙ ap (λ (ms : List Managed). length ms) (sym now_apps_are)
+    where
+      same_length : (xs ys : List Managed) (x y : Managed) → length (xs ++ x ∷ ys) ≡ length (xs ++ y ∷ ys)
+      same_length [] ys x y = refl
+      same_length (z ∷ xs) ys x y = ap suc (same_length xs ys x y)
+
+  places_now : NoStray Tells (length c.store) old new c.net
+  places_now = places_then old now new c.net now_c.net so_far.continues done.continues so_far.places so_far.reads (places_number (length c.store) (length now_c.store) so_far.number done.places)
+
+  reads_now : Reads Tells old new c.net later_c.net
+  reads_now = reads_then old now new c.net now_c.net later_c.net so_far.continues done.continues so_far.reads done.reads
+
+  going_now : AreGoing later_c (set now_apps n now_m)
+  going_now = record {
+    core = done.goes;
+    counted = subst (λ (ms : List Managed). AllByRecursion (IsCountedTo later_c.events) ms) (sym now_apps_are)
+        (subst (λ (k : ℕ). AllByRecursion (IsCountedTo k) (so_far.front ++ now_m ∷ rest)) (sym (done.events ∙ so_far.events))
+        (all_two (IsCountedTo c.events) so_far.front (now_m ∷ rest) so_far.counted (counted_now, counted_before c.events rest before_rest)));
+    numbered = subst (λ (ms : List Managed). AreNumbered 0 ms) (sym now_apps_are) (numbered_set 0 so_far.front m now_m rest done.index numbered_now);
+    number = number_now ∙ length_now;
+  }
+
+  -- it goes on
+  pub offers_on : stops ≡ false → OffersSoFar Tells accepts event (n + 1) old new c later_c apps (set now_apps n now_m)
+  offers_on go = subst (λ (k : ℕ). OffersSoFar Tells accepts event k old new c later_c apps (set now_apps n now_m)) (sym (add-one n)) (record {
+    front = so_far.front ++ now_m ∷ [];
+    now_is = now_apps_are ∙ sym (append_assoc so_far.front (now_m ∷ []) rest);
+    here = omega (arith, length_last so_far.front now_m, so_far.here);
+    goes = done.goes;
+    events = done.events ∙ so_far.events;
+    number = number_now;
+    number_is = length_now;
+    counted = all_two (IsCountedTo c.events) so_far.front (now_m ∷ []) so_far.counted (counted_now, tt);
+    before = before_rest;
+    numbered = subst (λ (ms : List Managed). AreNumbered 0 ms) (sym (append_assoc so_far.front (now_m ∷ []) rest)) (numbered_set 0 so_far.front m now_m rest done.index numbered_now);
+    kept = kept_later;
+    text = so_far.text ++ done.offered.text;
+    offers = subst (λ (as : List Application). Offers Tells accepts event c.events 0 as (so_far.text ++ done.offered.text) (stand old c) (stand new later_c) (map (application_of later_c.store) (so_far.front ++ now_m ∷ [])) false)
+        (sym (ap (λ (ms : List Managed). map (application_of c.store) ms) (take_next n apps m rest split) ∙ map_both (application_of c.store) (take n apps) (m ∷ [])))
+        (subst (λ (as : List Application). Offers Tells accepts event c.events 0 (map (application_of c.store) (take n apps) ++ application_of c.store m ∷ []) (so_far.text ++ done.offered.text) (stand old c) (stand new later_c) as false)
+        (sym (map_both (application_of later_c.store) so_far.front (now_m ∷ [])))
+        (offers_then Tells accepts event c.events 0 n (map (application_of c.store) (take n apps)) (application_of c.store m ∷ []) so_far.text done.offered.text (stand old c) (stand now now_c) (stand new later_c) (map (application_of later_c.store) so_far.front) (application_of later_c.store now_m ∷ []) false
+        (omega (arith, taken_length (application_of c.store) n apps m rest split)) offers_before
+        (offers_one Tells accepts event c.events n done.offered.text (stand now now_c) (stand new later_c) (application_of c.store m) (application_of later_c.store now_m)
+        (subst (λ (b : Bool). IsOffered Tells accepts event c.events n (is_taking event (application_of c.store m)) b done.offered.text (stand now now_c) (stand new later_c) (application_of c.store m) (application_of later_c.store now_m)) go offered_here))));
+    notes = notes_now;
+    continues = Continues-trans Tells old now new so_far.continues done.continues;
+    places = places_now;
+    reads = reads_now;
+  })
+    where
+      length_last : (xs : List Managed) (x : Managed) → length (xs ++ x ∷ []) ≡ length xs + 1
+      length_last [] x = refl
+      length_last (y ∷ ys) x = omega (arith, length_last ys x)
+
+  -- it stops there
+  pub offers_end : stops ≡ true → AllOffered Tells accepts event old new c later_c apps (set now_apps n now_m)
+  offers_end stop = record {
+    text = so_far.text ++ done.offered.text;
+    stopped = true;
+    offers = subst (λ (as : List Application). Offers Tells accepts event c.events 0 as (so_far.text ++ done.offered.text) (stand old c) (stand new later_c) (map (application_of later_c.store) (set now_apps n now_m)) true)
+        (sym (map_both (application_of c.store) (take n apps) (m ∷ rest)) ∙ ap (λ (ms : List Managed). map (application_of c.store) (take n apps ++ ms)) (sym split) ∙ ap (λ (ms : List Managed). map (application_of c.store) ms) (taken_whole n apps))
+        (subst (λ (as : List Application). Offers Tells accepts event c.events 0 (map (application_of c.store) (take n apps) ++ application_of c.store m ∷ map (application_of c.store) rest) (so_far.text ++ done.offered.text) (stand old c) (stand new later_c) as true)
+        (ap (λ (as : List Application). map (application_of later_c.store) so_far.front ++ application_of later_c.store now_m ∷ as) (sym kept_later)
+        ∙ sym (map_both (application_of later_c.store) so_far.front (now_m ∷ rest)) ∙ ap (λ (ms : List Managed). map (application_of later_c.store) ms) (sym now_apps_are))
+        (offers_then Tells accepts event c.events 0 n (map (application_of c.store) (take n apps)) (application_of c.store m ∷ map (application_of c.store) rest) so_far.text done.offered.text (stand old c) (stand now now_c) (stand new later_c) (map (application_of later_c.store) so_far.front)
+        (application_of later_c.store now_m ∷ map (application_of c.store) rest) true (omega (arith, taken_length (application_of c.store) n apps m rest split)) offers_before
+        (offers_stop Tells accepts event c.events n done.offered.text (stand now now_c) (stand new later_c) (application_of c.store m) (application_of later_c.store now_m) (map (application_of c.store) rest)
+        (subst (λ (b : Bool). IsOffered Tells accepts event c.events n (is_taking event (application_of c.store m)) b done.offered.text (stand now now_c) (stand new later_c) (application_of c.store m) (application_of later_c.store now_m)) stop offered_here))));
+    notes = notes_now;
+  }
+
+  pub offers_going : AreGoing later_c (set now_apps n now_m)
+  offers_going = going_now
+
+  pub offers_number : length later_c.store ≡ length c.store
+  offers_number = number_now
+
+  pub offers_places : NoStray Tells (length c.store) old new c.net
+  offers_places = places_now
+
+  pub offers_reads : Reads Tells old new c.net later_c.net
+  offers_reads = reads_now
+
+-- all were offered it
+module _ {Own : Type 0} {Tells : Type 0} {accepts : List TableView → Bool} {event : Event} (n : ℕ) (old now : Seen Own) (c now_c : Core) (apps now_apps : List Managed) (so_far : OffersSoFar Tells accepts event n old now c now_c apps now_apps) (all : length now_apps ≤ n) where
+  none_behind : drop n apps ≡ []
+  none_behind = nothing so_far.front (drop n apps) so_far.here (subst (λ (ms : List Managed). length ms ≤ n) so_far.now_is all)
+    where
+      longer : (xs ys : List Managed) (y : Managed) → length xs < length (xs ++ y ∷ ys)
+      longer [] ys y = omega arith
+      longer (x ∷ xs) ys y = omega (arith, longer xs ys y)
+
+      nothing : (xs ys : List Managed) → length xs ≡ n → length (xs ++ ys) ≤ n → ys ≡ []
+      nothing xs [] is le = refl
+      nothing xs (y ∷ ys) is le = absurd (omega (arith, is, le, longer xs ys y))
+
+  front_is : now_apps ≡ so_far.front
+  front_is = so_far.now_is ∙ ap (λ (ms : List Managed). so_far.front ++ ms) none_behind ∙ append-nil so_far.front
+
+  taken_is : take n apps ≡ apps
+  taken_is = sym (append-nil (take n apps)) ∙ ap (λ (ms : List Managed). take n apps ++ ms) (sym none_behind) ∙ taken_whole n apps
+
+  pub all_offered : AllOffered Tells accepts event old now c now_c apps now_apps
+  all_offered = record {
+    text = so_far.text;
+    stopped = false;
+    offers = subst (λ (as : List Application). Offers Tells accepts event c.events 0 as so_far.text (stand old c) (stand now now_c) (map (application_of now_c.store) now_apps) false) (ap (λ (ms : List Managed). map (application_of c.store) ms) taken_is)
+        (subst (λ (ms : List Managed). Offers Tells accepts event c.events 0 (map (application_of c.store) (take n apps)) so_far.text (stand old c) (stand now now_c) (map (application_of now_c.store) ms) false) (sym front_is) so_far.offers);
+    notes = so_far.notes;
+  }
+
+  pub all_going : AreGoing now_c now_apps
+  all_going = record {
+    core = so_far.goes;
+    counted = subst (λ (ms : List Managed). AllByRecursion (IsCountedTo now_c.events) ms) (sym front_is) (subst (λ (k : ℕ). AllByRecursion (IsCountedTo k) so_far.front) (sym so_far.events) so_far.counted);
+    numbered = subst (λ (ms : List Managed). AreNumbered 0 ms) (sym so_far.now_is) so_far.numbered;
+    number = so_far.number ∙ so_far.number_is;
+  }
+
+-- ---- A fault ended it
+
+each_of : (P : ℕ → Application → Type 0) (f : Managed → Application) (i k : ℕ) (front : List Managed) (m : Managed) (rest : List Managed) → k ≡ i + length front → EachFrom P i (map f (front ++ m ∷ rest)) → P k (f m)
+each_of P f i k [] m rest is each = let here : i ≡ k = omega (arith, is) in subst (λ (n : ℕ). P n (f m)) here each.0
+each_of P f i k (x ∷ front) m rest is each = each_of P f (i + 1) k front m rest (omega (arith, is)) each.1
+
+rule_at_place : (f : Managed → Application) (k : ℕ) (front : List Managed) (m : Managed) (rest : List Managed) → k ≡ length front → slice_get (map (λ (a : Application). a.rule) (map f (front ++ m ∷ rest))) k ≡ Some (f m).rule
+rule_at_place f k [] m rest is = subst (λ (n : ℕ). slice_get (map (λ (a : Application). a.rule) (map f (m ∷ rest))) n ≡ Some (f m).rule) (sym is) refl
+rule_at_place f zero (x ∷ front) m rest is = absurd (omega (arith, is))
+rule_at_place f (suc k) (x ∷ front) m rest is = rule_at_place f k front m rest (omega (arith, is))
+
+of_turn_at : (fault : Fault) (p : Managed → Bool) (n : ℕ) (apps : List Managed) (m : Managed) (rest : List Managed) → drop n apps ≡ m ∷ rest → IsOfTurn fault (p m) → IsOfTurn fault (list_any p apps)
+of_turn_at faults.Next p n apps m rest split yes = any_at p n apps m rest split yes
+of_turn_at (faults.Txn fault) p n apps m rest split yes = any_at p n apps m rest split yes
+of_turn_at faults.Write p n apps m rest split yes = tt
+of_turn_at faults.NoMemory p n apps m rest split yes = tt
+
+module _ {Own : Type 0} {Tells : Type 0} {accepts : List TableView → Bool} {event : Event} (n : ℕ) (old now new : Seen Own) (c now_c : Core) (apps now_apps : List Managed) (m : Managed) (fault : Fault)
+    (so_far : OffersSoFar Tells accepts event n old now c now_c apps now_apps) (split : drop n apps ≡ m ∷ drop (suc n) apps) (later : Continues Tells now new) (fails : OfferFails Tells fault event now new now_c m) where
+  abbrev behind : List Managed
+  behind = drop (suc n) apps
+
+  abbrev engine_now : Engine
+  engine_now = engine_with now_c now_apps
+
+  now_split : now_apps ≡ so_far.front ++ m ∷ behind
+  now_split = so_far.now_is ∙ ap (λ (ms : List Managed). so_far.front ++ ms) split
+
+  place_is : m.state.index ≡ n
+  place_is = next_index n m so_far split
+
+  is_at_rest : EachFrom (IsAtRest now) 0 engine_now.apps → IsAtRest now m.state.index (application_of now_c.store m)
+  is_at_rest each = each_of (IsAtRest now) (application_of now_c.store) 0 m.state.index so_far.front m behind (omega (arith, place_is, so_far.here)) (subst (λ (ms : List Managed). EachFrom (IsAtRest now) 0 (map (application_of now_c.store) ms)) now_split each)
+
+  place_within : m.state.index < length engine_now.apps
+  place_within =
+      let long : length engine_now.apps ≡ length now_apps = map_length (application_of now_c.store) now_apps in
+      let split_long : length now_apps ≡ length (so_far.front ++ m ∷ behind) = ap (λ (ms : List Managed). length ms) now_split in
+      omega (arith, long, split_long, place_is, so_far.here, longer so_far.front behind m)
+    where
+      longer : (xs ys : List Managed) (y : Managed) → length xs < length (xs ++ y ∷ ys)
+      longer [] ys y = omega arith
+      longer (x ∷ xs) ys y = omega (arith, longer xs ys y)
+
+  same_taking : is_taking event (application_of now_c.store m) ≡ is_taking event (application_of c.store m)
+  same_taking = refl
+
+  within_stops : StopsWithin Tells fault now new engine_now
+  within_stops = record {
+    talks = record {
+      talks = λ told each app less. elim (cases_eq app m.state.index) [
+        | inl same ↦ subst (λ (i : ℕ). AtOnce i (journal new.history)) (sym same) (fails.talks told (is_at_rest each))
+        | inr other ↦ silent-at-once app now new (calls-silent m.state.index app now new (fails.later told).own other) (rests_at_once now engine_now.apps app each less)
+      ];
+    };
+    left = record {
+      left = λ told keeps order ready each. inr (record {
+        app = m.state.index;
+        rule = app_value m.rule.now;
+        rule_is = subst (λ (ms : List Managed). slice_get (map (λ (a : Application). a.rule) (map (application_of now_c.store) ms)) m.state.index ≡ Some (app_value m.rule.now)) (sym now_split)
+            (rule_at_place (application_of now_c.store) m.state.index so_far.front m behind (omega (arith, place_is, so_far.here)));
+        tables = fails.left told keeps order ready (is_at_rest each);
+      });
+    };
+    here = later_here m.state.index place_within fails.later;
+    plain = fails.plain;
+  }
+
+  pub offers_fail : OffersFail Tells accepts fault event old new c apps
+  offers_fail = record {
+    number = n;
+    mid = now;
+    mid_core = now_c;
+    mid_apps = now_apps;
+    on = so_far.continues;
+    text = so_far.text;
+    front = so_far.front;
+    offers = so_far.offers;
+    apps_are = ap (λ (ms : List Managed). map (application_of now_c.store) ms) so_far.now_is ∙ map_both (application_of now_c.store) so_far.front (drop n apps)
+        ∙ ap (λ (as : List Application). map (application_of now_c.store) so_far.front ++ as) so_far.kept;
+    events_is = so_far.events;
+    of_turn = of_turn_at fault (λ x. is_taking event (application_of c.store x)) n apps m behind split (subst (λ (b : Bool). IsOfTurn fault b) same_taking fails.of_turn);
+    reads = so_far.reads;
+    later = later;
+    within = within_stops;
+  }
+
+  pub fails_places : NoStray Tells (length now_c.store) now new now_c.net → NoStray Tells (length c.store) old new c.net
+  fails_places places = places_then old now new c.net now_c.net so_far.continues later so_far.places so_far.reads (places_number (length c.store) (length now_c.store) so_far.number places)
+
+-- ---- What one application was to have
+
+-- it is passed over
+pub offer_passed : {Own : Type 0} (Tells : Type 0) (accepts : List TableView → Bool) (event : Event) (seen : Seen Own) (c : Core) (m : Managed) → is_taking event (application_of c.store m) ≡ false → OfferNoted Tells accepts event false seen seen c c m m
+offer_passed Tells accepts event seen c m passed = record {
+  text = [];
+  offered = subst (λ (b : Bool). IsOffered Tells accepts event c.events m.state.index b false [] (stand seen c) (stand seen c) (application_of c.store m) (application_of c.store m)) (sym passed) (refl, refl, refl, refl);
+  notes = sym (append-nil c.lines.items);
+}
+
+-- it had its turn
+pub offer_taken : {Own : Type 0} {Tells : Type 0} {accepts : List TableView → Bool} {event : Event} {stops : Bool} (old new : Seen Own) (c now_c : Core) (m now_m : Managed) → is_taking event (application_of c.store m) ≡ true → now_c.events ≡ c.events → now_m.state.index ≡ m.state.index → (Tells → CallsFor m.state.index old new)
+    → TurnNoted Tells accepts event stops old new c now_c m now_m → OfferNoted Tells accepts event stops old new c now_c m now_m
+offer_taken {Tells = Tells} {accepts = accepts} {event = event} {stops = stops} old new c now_c m now_m takes events index own noted = record {
+  text = noted.text;
+  offered = subst (λ (b : Bool). IsOffered Tells accepts event c.events m.state.index b stops noted.text (stand old c) (stand new now_c) (application_of c.store m) (application_of now_c.store now_m)) (sym takes) (has_turn now_m.state.index now_c.events index events noted.takes noted.stops_is);
+  notes = noted.notes;
+}
+  where
+    has_turn : (i k : ℕ) → i ≡ m.state.index → k ≡ c.events → (t : TakesTurn Tells accepts event noted.text old new (focus m.state.index (application_of c.store m) c.net c.queue c.events) (focus i (application_of now_c.store now_m) now_c.net now_c.queue k)) → stops ≡ says_stop t.end
+        → HasItsTurn Tells accepts event c.events m.state.index stops noted.text (stand old c) (stand new now_c) (application_of c.store m) (application_of now_c.store now_m)
+    has_turn i k at same t stopped =
+        let both : (x : TakesTurn Tells accepts event noted.text old new (focus m.state.index (application_of c.store m) c.net c.queue c.events) (focus m.state.index (application_of now_c.store now_m) now_c.net now_c.queue c.events)) × (stops ≡ says_stop x.end) =
+        subst (λ (q : ℕ × ℕ). (x : TakesTurn Tells accepts event noted.text old new (focus m.state.index (application_of c.store m) c.net c.queue c.events) (focus q.0 (application_of now_c.store now_m) now_c.net now_c.queue q.1)) × (stops ≡ says_stop x.end))
+        (ap₂ (λ (x y : ℕ). (x, y)) at same) (t, stopped) in
+        record { takes = both.0; own = own; stops_is = both.1 }
+
+-- it has none, or memory was wanting before it
+pub offer_none : {Own : Type 0} (Tells : Type 0) (event : Event) (seen : Seen Own) (c : Core) (m : Managed) → OfferFails Tells faults.NoMemory event seen seen c m
+offer_none Tells event seen c m = record {
+  talks = λ told rests. rests.at_once;
+  of_turn = tt;
+  left = λ told keeps order ready rests. inl (no_event_none seen);
+  later = λ told. calm_later (calm_none m.state.index seen);
+  plain = record { plain = λ told keeps ready. inl tt };
+}
+
+-- a fault ended its turn
+pub offer_fails : {Own : Type 0} {Tells : Type 0} {event : Event} (fault : Fault) (old new : Seen Own) (c : Core) (m : Managed) → is_taking event (application_of c.store m) ≡ true → TurnTalks Tells m.state.index m.state.rest old new → (Tells → CalmLater m.state.index old new)
+    → TurnLeft Tells (IsShort fault) m.state.index m.rule.now.budget m.state.rest old new c.net → PlainTurn Tells old new c.net fault → OfferFails Tells fault event old new c m
+offer_fails {event = event} fault old new c m takes talks later left plain =
+    let alive = taking_alive event (application_of c.store m) takes in
+    record {
+      talks = λ told rests. talks.talks told rests.at_once (rests.rest_is alive).0 (rests.rest_is alive).1;
+      of_turn = takes_of fault takes;
+      left = λ told keeps order ready rests. left.left told keeps order ready rests.at_once (rests.rest_is alive).1;
+      later = later;
+      plain = plain;
+    }
+  where
+    taking_alive : (event : Event) (a : Application) → is_taking event a ≡ true → a.alive ≡ true
+    taking_alive event a is = (and_parts a.alive (is_given a.rule event.kind) is).0
+
+    takes_of : (fault : Fault) {b : Bool} → b ≡ true → IsOfTurn fault b
+    takes_of faults.Next yes = yes
+    takes_of (faults.Txn fault) yes = yes
+    takes_of faults.Write yes = tt
+    takes_of faults.NoMemory yes = tt
+
+-- ---- The event, with its line
+
+module _ {Own : Type 0} {Tells : Type 0} {accepts : List TableView → Bool} {event : Event} (r : Run) (c : Core) (adds : Adds (event_line (r.core.events + 1) event.kind event.dpid) (record r.core { events = r.core.events + 1 }) c) where
+  apps_noted : map (application_of c.store) r.apps.items ≡ map (application_of r.core.store) r.apps.items
+  apps_noted = ap (λ (slots : List Slot). map (application_of slots) r.apps.items) adds.stays.store
+
+  stand_noted : (seen : Seen Own) → stand seen c ≡ stand seen r.core
+  stand_noted seen = ap₂ (λ (net : NetState) (queue : List Event). record { seen = seen; net = net; queue = queue }) adds.stays.net adds.stays.queue
+
+  pub noted_going : AreGoing r.core r.apps.items → AreGoing c r.apps.items
+  noted_going going = record {
+    core = record {
+      room = subst (λ (net : NetState). 1 ≤ net.room) (sym adds.stays.net) going.core.room;
+      read = subst (λ (net : NetState). AreRead net.kept) (sym adds.stays.net) going.core.read;
+      store = subst (λ (slots : List Slot). StoreRests slots) (sym adds.stays.store) going.core.store;
+      left = ap (λ (net : NetState). net.left) adds.stays.net ∙ going.core.left;
+    };
+    counted = counted_before c.events r.apps.items (before_of r.core.events c.events r.apps.items adds.stays.events going.counted);
+    numbered = going.numbered;
+    number = ap (λ (slots : List Slot). length slots) adds.stays.store ∙ going.number;
+  }
+
+  pub noted_before : AreGoing r.core r.apps.items → AreBefore c.events r.apps.items
+  noted_before going = before_of r.core.events c.events r.apps.items adds.stays.events going.counted
+
+  pub noted_number : length c.store ≡ length r.core.store
+  noted_number = ap (λ (slots : List Slot). length slots) adds.stays.store
+
+  pub noted_views : c.net.views ≡ r.core.net.views
+  noted_views = ap (λ (net : NetState). net.views) adds.stays.net
+
+  pub dispatched_is : (old new : Seen Own) (now_r : Run) → now_r.core.events ≡ c.events → AllOffered Tells accepts event old new c now_r.core r.apps.items now_r.apps.items → IsDispatched Tells accepts event old new r now_r
+  dispatched_is old new now_r events all = record {
+    text = event_line (r.core.events + 1) event.kind event.dpid ++ all.text;
+    dispatches = record {
+      turn_text = all.text;
+      stopped = all.stopped;
+      offers = subst (λ (as : List Application). Offers Tells accepts event (r.core.events + 1) 0 as all.text (stand old r.core) (stand new now_r.core) (map (application_of now_r.core.store) now_r.apps.items) all.stopped) apps_noted
+          (subst (λ (b : Between Own). Offers Tells accepts event (r.core.events + 1) 0 (map (application_of c.store) r.apps.items) all.text b (stand new now_r.core) (map (application_of now_r.core.store) now_r.apps.items) all.stopped) (stand_noted old)
+          (subst (λ (k : ℕ). Offers Tells accepts event k 0 (map (application_of c.store) r.apps.items) all.text (stand old c) (stand new now_r.core) (map (application_of now_r.core.store) now_r.apps.items) all.stopped) adds.stays.events all.offers));
+      events_is = events ∙ adds.stays.events;
+      text_is = refl;
+    };
+    notes = all.notes ∙ ap (λ (xs : List ℕ). xs ++ all.text) adds.lines ∙ append_assoc r.core.lines.items (event_line (r.core.events + 1) event.kind event.dpid) all.text;
+  }
+
+  pub fails_is : (fault : Fault) (old new : Seen Own) → OffersFail Tells accepts fault event old new c r.apps.items → FailsIn Tells accepts fault event old new (engine_of r)
+  fails_is fault old new f = record {
+    number = f.number;
+    mid = f.mid;
+    mid_engine = engine_with f.mid_core f.mid_apps;
+    on = f.on;
+    given = record {
+      text = f.text;
+      front = map (application_of f.mid_core.store) f.front;
+      offers = subst (λ (as : List Application). Offers Tells accepts event (r.core.events + 1) 0 as f.text (stand old r.core) (stand f.mid f.mid_core) (map (application_of f.mid_core.store) f.front) false)
+          (ap (λ (slots : List Slot). map (application_of slots) (take f.number r.apps.items)) adds.stays.store ∙ map_take (application_of r.core.store) f.number r.apps.items)
+          (subst (λ (b : Between Own). Offers Tells accepts event (r.core.events + 1) 0 (map (application_of c.store) (take f.number r.apps.items)) f.text b (stand f.mid f.mid_core) (map (application_of f.mid_core.store) f.front) false) (stand_noted old)
+          (subst (λ (k : ℕ). Offers Tells accepts event k 0 (map (application_of c.store) (take f.number r.apps.items)) f.text (stand old c) (stand f.mid f.mid_core) (map (application_of f.mid_core.store) f.front) false) adds.stays.events f.offers));
+      apps_is = f.apps_are ∙ ap (λ (as : List Application). map (application_of f.mid_core.store) f.front ++ as)
+          (ap (λ (slots : List Slot). map (application_of slots) (drop f.number r.apps.items)) adds.stays.store ∙ map_drop (application_of r.core.store) f.number r.apps.items);
+      events_is = f.events_is ∙ adds.stays.events;
+    };
+    of_turn = subst (λ (b : Bool). IsOfTurn fault b)
+        (ap (λ (slots : List Slot). list_any (λ m. is_taking event (application_of slots m)) r.apps.items) adds.stays.store ∙ sym (any_map (is_taking event) (application_of r.core.store) r.apps.items)) f.of_turn;
+    reads = reads_over r.core.net c.net f.mid_core.net f.mid_core.net noted_views refl f.reads;
+    later = f.later;
+    within = f.within;
+  }
+
+-- memory was wanting for its line
+pub fails_short : {Own : Type 0} (Tells : Type 0) (accepts : List TableView → Bool) (event : Event) (seen : Seen Own) (r : Run) → FailsIn Tells accepts faults.NoMemory event seen seen (engine_of r)
+fails_short Tells accepts event seen r =
+    let e : Engine = record (engine_of r) { events = r.core.events + 1 } in
+    record {
+      number = 0;
+      mid = seen;
+      mid_engine = e;
+      on = Continues-refl Tells seen;
+      given = record { text = []; front = []; offers = (refl, refl, refl, refl); apps_is = refl; events_is = refl };
+      of_turn = tt;
+      reads = reads_none Tells seen r.core.net r.core.net refl;
+      later = Continues-refl Tells seen;
+      within = record {
+        talks = goes_none Tells seen e;
+        left = left_none Tells (IsShort faults.NoMemory) seen e;
+        here = quietly_here (quietly_none Tells seen);
+        plain = record { plain = λ told keeps ready. inl tt };
+      };
+    }
