@@ -1,7 +1,7 @@
 -- What follows of the end of a report: its parts, one after the other, say what the whole says.
 use Rattle.std.proofs.Common.{◌≡◌, ◌≢◌, ◌==◌, ℕ, zero, suc, ◌+◌, ◌^◌, ◌<◌, ◌≤◌, Bool, true, false, ◌&&◌, ◌||◌, nat_eq, List, [], ◌∷◌, ◌++◌, length, map, filter, get_or, take, drop, Option, Some, None, Ok, IsSome, if◌then◌else◌, refl, sym, ap, ap₂, ◌∙◌, subst, append_assoc, inl, inr, arith, add-one, true≢false}
 use Rattle.std.proofs.lemmas.Bool.{cases_Bool, cases_eq, eq-eqb, ne_eqb, or_parts}
-use Rattle.std.proofs.lemmas.List.{take_all}
+use Rattle.std.proofs.lemmas.List.{take_all, take_more}
 use Rattle.std.specs.Cmp.Lexicographic.{pointwise}
 use Rattle.std.specs.List.{flat_map}
 use Rattle.std.specs.Option.{is_some, option_map}
@@ -12,7 +12,9 @@ use Rattle.flow_table.specs.View.{TableView}
 use Rattle.flow_table.specs.Switch.{SwitchState}
 use Rattle.undo_laws.specs.Owned.{owned_switch}
 use Rattle.lego_model.specs.Answers.{rows_of_table, rows_of_view}
-use Rattle.lego_model.specs.RunReport.{lost_line, flow_line, end_line, switch_text}
+use Rattle.lego_model.specs.RunReport.{lost_line, flow_line, app_line, end_line, switch_text}
+use Rattle.run_laws.specs.Engine.{Application}
+use Rattle.event_dispatch.specs.laws.OfferLaws.{map_both}
 use Rattle.net_txn.specs.declared.ports.KnownPorts.{KnownPorts}
 use Rattle.net_txn.specs.Losing.{is_among, lost_net, lose_all}
 use Rattle.net_txn.specs.Net.{NetState}
@@ -425,6 +427,21 @@ tables_next Tells ds d old mid new a b c first continues next = record {
       let one = first.shown n.0 told (Conforming-before told continues keeps) ready sound in
       says_more ds d old mid new a b c n.1 one (next.shown told keeps (says_ready one.says ready) (says_sound one.says sound));
 }
+
+-- ---- The lines of applications, one after the other
+
+lines_both : (xs ys : List Application) → app_lines (xs ++ ys) ≡ app_lines xs ++ app_lines ys
+lines_both [] ys = refl
+lines_both (a ∷ xs) ys = ap (λ (text : List ℕ). app_line a.rule.name a.alive a.done a.failed ++ text) (lines_both xs ys) ∙ sym (append_assoc (app_line a.rule.name a.alive a.done a.failed) (app_lines xs) (app_lines ys))
+
+pub lines_next : (r a b : Core) (apps : List Managed) (i : ℕ) (m : Managed) → i < length apps → m ≡ get_or apps i m → Adds (app_lines (map (application_of r.store) (take i apps))) r a → Adds (app_lines (application_of a.store m ∷ [])) a b → Adds (app_lines (map (application_of r.store) (take (i + 1) apps))) r b
+lines_next r a b apps i m less is first one =
+    subst (λ (t : List ℕ). Adds t r b)
+    (ap (λ (slots : List Slot). app_lines (map (application_of r.store) (take i apps)) ++ app_lines (application_of slots m ∷ [])) first.stays.store
+    ∙ sym (lines_both (map (application_of r.store) (take i apps)) (application_of r.store m ∷ []))
+    ∙ ap (λ (as : List Application). app_lines as) (sym (map_both (application_of r.store) (take i apps) (m ∷ [])))
+    ∙ ap (λ (ms : List Managed). app_lines (map (application_of r.store) ms)) (ap (λ (x : Managed). take i apps ++ x ∷ []) is ∙ sym (take_more apps i m less)))
+    (adds_then first one)
 
 -- ---- The end
 

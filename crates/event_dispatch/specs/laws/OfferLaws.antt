@@ -1,6 +1,6 @@
 -- Laws of an event that is offered to one application after the other: what was offered so far, up to one that stopped the event there, to the
 -- last one, or to a fault.
-use Rattle.std.specs.Prelude.{◌≡◌, ℕ, zero, suc, ◌+◌, ◌<◌, ◌≤◌, Bool, true, false, List, [], ◌∷◌, ◌++◌, length, take, drop, map, get_or, set, slice_get, Some, refl}
+use Rattle.std.specs.Prelude.{◌≡◌, ℕ, zero, suc, ◌+◌, ◌<◌, ◌≤◌, Bool, true, false, List, [], ◌∷◌, ◌++◌, length, take, drop, map, get_or, set, slice_get, Some, Result, Ok, Err, OnOk, OnErr, IfOk, IfErr, refl}
 use Rattle.std.specs.List.{AllByRecursion, list_any}
 use Rattle.std.proofs.Common.{sym, ap, ap₂, ◌∙◌, subst, append_assoc, add-one, arith, inl, inr, true≢false}
 use Rattle.std.proofs.lemmas.Bool.{and_parts, cases_Bool, cases_eq}
@@ -622,6 +622,23 @@ offer_fails {event = event} fault old new c m takes talks later left plain =
     takes_of (faults.Txn fault) yes = yes
     takes_of faults.Write yes = tt
     takes_of faults.NoMemory yes = tt
+
+-- however it ended
+pub offer_failed : {Own : Type 0} {Tells : Type 0} {event : Event} (result : Result Bool Fault) (old new : Seen Own) (c : Core) (m : Managed) → is_taking event (application_of c.store m) ≡ true → OnErr result (TurnTalks Tells m.state.index m.state.rest old new) → (Tells → CalmLater m.state.index old new)
+    → IfErr result (λ fault. TurnLeft Tells (IsShort fault) m.state.index m.rule.now.budget m.state.rest old new c.net) → IfErr result (PlainTurn Tells old new c.net) → IfErr result (λ fault. OfferFails Tells fault event old new c m)
+offer_failed (Ok stops) old new c m takes talks later left plain = tt
+offer_failed (Err fault) old new c m takes talks later left plain = offer_fails fault old new c m takes talks later left plain
+
+pub offer_noted : {Own : Type 0} {Tells : Type 0} {accepts : List TableView → Bool} {event : Event} (result : Result Bool Fault) (old new : Seen Own) (c now_c : Core) (m now_m : Managed) → is_taking event (application_of c.store m) ≡ true → OnOk result (now_c.events ≡ c.events) → OnOk result (now_m.state.index ≡ m.state.index)
+    → (Tells → CalmLater m.state.index old new) → IfOk result (λ stops. TurnNoted Tells accepts event stops old new c now_c m now_m) → IfOk result (λ stops. OfferNoted Tells accepts event stops old new c now_c m now_m)
+offer_noted (Ok stops) old new c now_c m now_m takes events index later noted = offer_taken old new c now_c m now_m takes events index (λ told. (later told).own) noted
+offer_noted (Err fault) old new c now_c m now_m takes events index later noted = tt
+
+pub keeps_all : (app : ℕ) (slots : List Slot) → KeepsOthers app slots slots
+keeps_all app slots = record { number = refl; others = λ i other. refl }
+
+pub counted_still : (events : ℕ) (m : Managed) → m.done < events → m.failed < events → IsCountedTo events m
+counted_still events m done failed = record { done = omega (arith, done); failed = omega (arith, failed) }
 
 -- ---- The event, with its line
 
