@@ -19,7 +19,7 @@ ghost use Rattle.run_laws.specs.Endings.{ShownLeaves};
 ghost use Rattle.run_laws.specs.First.{net_at_first, engine_at_first};
 ghost use Rattle.run_laws.specs.Promise.{PremiseSoFar, Premise};
 ghost use Rattle.event_dispatch.specs.Talking.{KeepsTalking};
-ghost use Rattle.event_dispatch.specs.Steady.{NoStray, Reads, IsEnded, NoneRuns};
+ghost use Rattle.event_dispatch.specs.Steady.{NoStray, Reads, NoPoint, IsEnded, NoneRuns};
 ghost use Rattle.event_dispatch.specs.Cut.{CutRound, CutRounds, CutStart, CutEnd, CutFinishAs, CutAs, ReadsAs, IsReadServed};
 ghost use Rattle.event_dispatch.specs.Serves.{AllStarted, Writes, GoesRound, GoesToEnd, Begins, EndsReport, Finishes, GoesAs, RunsAs, IsUnopened, IsCut, IsAlike};
 

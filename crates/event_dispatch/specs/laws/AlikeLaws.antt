@@ -31,6 +31,8 @@ use Rattle.run_laws.specs.laws.FinishLaws.{each-at-once, count-of}
 use Rattle.run_laws.specs.laws.FirstLaws.{rules-first, settled-first}
 use Rattle.run_laws.specs.First.{IsOpened, net_at_first, engine_at_first}
 use Rattle.run_laws.specs.laws.EndingLaws.{whole-of}
+use Rattle.run_laws.specs.laws.StimuliLaws.{none-happened}
+use Rattle.run_laws.specs.laws.WholeLaws.{no-stimuli}
 use Rattle.lego_model.specs.ReferenceRun.{all_started}
 use Rattle.run_laws.specs.Promise.{PremiseSoFar}
 use Rattle.lego_model.specs.AllLines.{CutBehindLines, CutInLines, CutForMemory}
@@ -252,7 +254,7 @@ start_alike : {Own : Type 0} {Tells : Type 0} {accepts : List TableView → Bool
 start_alike {Tells = Tells} {allows = allows} {a = a} {b = b} {first = first} {stop = stop} {seen = seen} rules p same talks no_point =
     let is : IsStop rules Tells (Unit {0}) first first stop = record { before = Continues-refl Tells first; on = p.before; keeps = keeps_first first p.opened; quiet = λ keeps order. last_quiescent-of (no_point.none_quiescent p.told); left = λ keeps order. inl (talks.no_event p.told) } in
     cut_at rules (λ (last : Seen _). CutForMemory rules allows seen last a b) first stop seen p first is (λ keeps. speaks_on rules first stop (engine_at_first rules) p.told talks (settled-first rules first p.opened) (rules-first rules)) (λ keeps.
-    none-so rules allows a b first seen p.opened (settled-first rules first p.opened) (none_since-then (no_point.none_quiescent p.told) p.quiet) keeps same)
+    none-so rules allows a b first seen p.opened (settled-first rules first p.opened) keeps (none-happened first seen (none_since-then (no_point.none_quiescent p.told) p.quiet) ∙ no-stimuli first p.opened) same)
 
 start_writing : {Own : Type 0} {rules : List AppValue} {Tells : Type 0} {accepts : List TableView → Bool} {allows : List Place → Bool} {most : ℕ} {a b : Option (List ℕ)} {first stop seen : Seen Own} (p : Supposed rules Tells accepts allows most first stop seen) → StartPart Tells a b first stop (engine_at_first rules) → CutWriting rules allows seen a b
 start_writing {rules = rules} {allows = allows} {a = a} {b = b} {first = first} {stop = stop} {seen = seen} p cut =

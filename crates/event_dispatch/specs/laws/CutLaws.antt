@@ -104,11 +104,11 @@ none_gone {Own} Tells accepts allows event queue old mid e mid_e given settled =
     }
 
 -- to some
-to_gone : {Own : Type 0} (Tells : Type 0) (accepts : List TableView → Bool) (allows : List Place → Bool) (number : ℕ) (event : Event) (queue : List Event) (old mid : Seen Own) (e mid_e : Engine) → Tells → Conforming mid → Continues Tells old mid → JudgesAlike Own allows accepts → e.events + 1 < 2 ^ 64 → e.queue ≡ event ∷ queue
+to_gone : {Own : Type 0} (Tells : Type 0) (accepts : List TableView → Bool) (allows : List Place → Bool) (number : ℕ) (event : Event) (queue : List Event) (old mid : Seen Own) (e mid_e : Engine) → Tells → Conforming mid → JudgesAlike Own allows accepts → e.events + 1 < 2 ^ 64 → e.queue ≡ event ∷ queue
     → DispatchesTo Tells accepts event number old mid (record e { queue = queue }) mid_e → AtRest old e → PartlyGone allows old mid e mid_e
-to_gone Tells accepts allows zero event queue old mid e mid_e told keeps on judges few waits given settled = none_gone Tells accepts allows event queue old mid e mid_e given settled
-to_gone Tells accepts allows (suc n) event queue old mid e mid_e told keeps on judges few waits given settled =
-    let moved = partly-moved Tells accepts allows n event queue old mid e mid_e told keeps on judges few waits given settled in
+to_gone Tells accepts allows zero event queue old mid e mid_e told keeps judges few waits given settled = none_gone Tells accepts allows event queue old mid e mid_e given settled
+to_gone Tells accepts allows (suc n) event queue old mid e mid_e told keeps judges few waits given settled =
+    let moved = partly-moved Tells accepts allows n event queue old mid e mid_e told keeps judges few settled waits given in
     record {
       given = suc n;
       more = event_line (e.events + 1) event.kind event.dpid ++ given.text;
@@ -121,7 +121,7 @@ to_gone Tells accepts allows (suc n) event queue old mid e mid_e told keeps on j
 pub partly_gone : {Own : Type 0} (Tells : Type 0) (accepts : List TableView → Bool) (allows : List Place → Bool) (fault : Fault) (old new : Seen Own) (e : Engine) (next : FailsNext Tells accepts fault old new e) → Tells → Conforming next.fails.mid → JudgesAlike Own allows accepts → AtRest old e
     → PartlyGone allows old next.fails.mid e next.fails.mid_engine
 partly_gone Tells accepts allows fault old new e next told keeps judges settled =
-    to_gone Tells accepts allows next.fails.number next.event next.queue old next.fails.mid e next.fails.mid_engine told keeps next.fails.on judges next.few next.waits next.fails.given settled
+    to_gone Tells accepts allows next.fails.number next.event next.queue old next.fails.mid e next.fails.mid_engine told keeps judges next.few next.waits next.fails.given settled
 
 -- it was dispatched, and the sink failed
 pub one_unwritten : {Own : Type 0} (Tells : Type 0) (accepts : List TableView → Bool) (event : Event) (contents now_contents : Option (List ℕ)) (old new : Seen Own) (r : Run) (queue : List Event) (mid : Run) → Continues Tells old new → r.core.events < 2 ^ 63 → Some event ≡ slice_get r.core.queue 0

@@ -190,18 +190,18 @@ goes_then Tells accepts most (Err served.NextFault) a b old mid new r now_r late
 goes_then Tells accepts most (Err (served.Txn fault)) a b old mid new r now_r later leaves goes = tt
 goes_then Tells accepts most (Err served.NoMemory) a b old mid new r now_r later leaves goes = tt
 
--- the applications of the run were ended
-ended_apps : (r : Run) → length r.apps.items ≡ length (engine_of r).apps
-ended_apps r = sym (length-map r.apps.items (application_of r.core.store))
+-- all applications of the run were ended
+ended_apps : (n : ℕ) (r : Run) → n ≡ length r.apps.items → n ≡ length (engine_of r).apps
+ended_apps n r is = is ∙ sym (length-map r.apps.items (application_of r.core.store))
 
-pub ended_leaves : {Own : Type 0} (Tells : Type 0) (mid new : Seen Own) (r : Run) → ShownLeaves Tells (length r.apps.items) mid new → ShownLeaves Tells (length (engine_of r).apps) mid new
-ended_leaves Tells mid new r leaves = subst (λ (n : ℕ). ShownLeaves Tells n mid new) (ended_apps r) leaves
+pub ended_leaves : {Own : Type 0} {n : ℕ} (Tells : Type 0) (mid new : Seen Own) (r : Run) → n ≡ length r.apps.items → ShownLeaves Tells n mid new → ShownLeaves Tells (length (engine_of r).apps) mid new
+ended_leaves {n = n} Tells mid new r is leaves = subst (λ (k : ℕ). ShownLeaves Tells k mid new) (ended_apps n r is) leaves
 
-pub ended_point : {Own : Type 0} (Tells : Type 0) (mid new : Seen Own) (r : Run) → IsEnded Tells (length r.apps.items) mid new → NoPoint Tells (length (engine_of r).apps) mid new
-ended_point Tells mid new r ended = subst (λ (n : ℕ). NoPoint Tells n mid new) (ended_apps r) ended.no_point
+pub ended_point : {Own : Type 0} {n : ℕ} (Tells : Type 0) (mid new : Seen Own) (r : Run) → n ≡ length r.apps.items → IsEnded Tells n mid new → NoPoint Tells (length (engine_of r).apps) mid new
+ended_point {n = n} Tells mid new r is ended = subst (λ (k : ℕ). NoPoint Tells k mid new) (ended_apps n r is) ended.no_point
 
-pub ended_number : {Own : Type 0} (Tells : Type 0) (mid new : Seen Own) (r : Run) → Going r → IsEnded Tells (length r.apps.items) mid new → IsEnded Tells (length r.core.store) mid new
-ended_number Tells mid new r going ended = subst (λ (n : ℕ). IsEnded Tells n mid new) (sym going.number) ended
+pub ended_number : {Own : Type 0} {n : ℕ} (Tells : Type 0) (mid new : Seen Own) (r : Run) → Going r → n ≡ length r.apps.items → IsEnded Tells n mid new → IsEnded Tells (length r.core.store) mid new
+ended_number Tells mid new r going is ended = subst (λ (k : ℕ). IsEnded Tells k mid new) (is ∙ sym going.number) ended
 
 -- ---- From an engine before anything happened
 
