@@ -82,7 +82,7 @@ fresh_apps : (n i : ℕ) (rules : List AppRule) (apps : List Managed) → AreFre
 fresh_apps n i [] [] fresh = refl
 fresh_apps n i [] (m ∷ apps) fresh = absurd fresh
 fresh_apps n i (rule ∷ rules) [] fresh = absurd fresh
-fresh_apps n i (rule ∷ rules) (m ∷ apps) fresh = ap₂ (λ (a : Application) (as : List Application). a ∷ as) (fresh_app n i rule m fresh.0) (fresh_apps n (i + 1) rules apps fresh.1)
+fresh_apps n i (rule ∷ rules) (m ∷ apps) fresh = ap₂ (λ (a : Application) (items : List Application). a ∷ items) (fresh_app n i rule m fresh.0) (fresh_apps n (i + 1) rules apps fresh.1)
 
 pub fresh_going : (n : ℕ) (rules : List AppRule) (c : Core) (apps : List Managed) → CoreGoes c → n ≡ length rules → c.store ≡ replicate n empty_slot → AreFresh 0 rules apps → AreGoing c apps
 fresh_going n rules c apps goes is store fresh = record {
@@ -98,7 +98,7 @@ fresh_engine n rules c apps net queue events store fresh =
     ∙ ap (λ (x : List Event). record (engine_with c apps) { net = net_at_first; queue = x }) queue
     ∙ ap (λ (x : ℕ). record (engine_with c apps) { net = net_at_first; queue = []; events = x }) events
     ∙ ap (λ (slots : List Slot). record { net = net_at_first; queue = []; events = 0; apps = map (application_of slots) apps }) store
-    ∙ ap (λ (as : List Application). record { net = net_at_first; queue = []; events = 0; apps = as }) (fresh_apps n 0 rules apps fresh)
+    ∙ ap (λ (items : List Application). record { net = net_at_first; queue = []; events = 0; apps = items }) (fresh_apps n 0 rules apps fresh)
 
 -- ---- Starts behind one another
 
@@ -113,7 +113,7 @@ module _ {Own : Type 0} (Tells : Type 0) (net : NetState) (queue : List Event) (
       later_text = [];
       later_apps = [];
       begins = subst (λ (s : Seen Own). StartsOne Tells i more s to net queue events a now_a) first.0 (subst (λ (n : ℕ). StartsOne Tells n more mid to net queue events a now_a) (same_number k i is) one);
-      apps_is = ap (λ (as : List Application). as ++ now_a ∷ []) first.2;
+      apps_is = ap (λ (items : List Application). items ++ now_a ∷ []) first.2;
       text_is = ap (λ (t : List ℕ). t ++ more) first.1 ∙ sym (append-nil more);
     },
     (refl, refl, refl),
@@ -130,7 +130,7 @@ module _ {Own : Type 0} (Tells : Type 0) (net : NetState) (queue : List Event) (
           later_text = begun.later_text ++ more;
           later_apps = begun.later_apps ++ now_a ∷ [];
           begins = begun.begins;
-          apps_is = ap (λ (as : List Application). as ++ now_a ∷ []) begun.apps_is;
+          apps_is = ap (λ (items : List Application). items ++ now_a ∷ []) begun.apps_is;
           text_is = ap (λ (t : List ℕ). t ++ more) begun.text_is ∙ append_assoc begun.front_text begun.later_text more;
         },
         starts_behind (i + 1) k xs a now_a begun.later_text more begun.mid mid to begun.later_apps (omega (arith, is)) first.1 one,
@@ -281,9 +281,9 @@ module _ {Own : Type 0} {Tells : Type 0} (n : ℕ) (old now new : Seen Own) (c n
     counted = subst (λ (ms : List Managed). AllByRecursion (IsCountedTo c.events) ms) (sym (append_assoc so_far.front (now_m ∷ []) rest)) counted_set;
     numbered = subst (λ (ms : List Managed). AreNumbered 0 ms) (sym (append_assoc so_far.front (now_m ∷ []) rest)) (numbered_set 0 so_far.front m now_m rest done.same.index numbered_now);
     text = so_far.text ++ done.starts.text;
-    started = subst (λ (as : List Application). StartsFrom Tells 0 as (so_far.text ++ done.starts.text) old new c.net c.queue c.events (map (application_of c.store) (so_far.front ++ now_m ∷ [])))
+    started = subst (λ (items : List Application). StartsFrom Tells 0 items (so_far.text ++ done.starts.text) old new c.net c.queue c.events (map (application_of c.store) (so_far.front ++ now_m ∷ [])))
         (sym (ap (λ (ms : List Managed). map (application_of c.store) ms) (take_next n apps m rest split) ∙ map_both (application_of c.store) (take n apps) (m ∷ [])))
-        (subst (λ (as : List Application). StartsFrom Tells 0 (map (application_of c.store) (take n apps) ++ application_of c.store m ∷ []) (so_far.text ++ done.starts.text) old new c.net c.queue c.events as)
+        (subst (λ (items : List Application). StartsFrom Tells 0 (map (application_of c.store) (take n apps) ++ application_of c.store m ∷ []) (so_far.text ++ done.starts.text) old new c.net c.queue c.events items)
         (sym (map_both (application_of c.store) so_far.front (now_m ∷ [])))
         (starts_behind Tells c.net c.queue c.events 0 n (map (application_of c.store) (take n apps)) (application_of c.store m) (application_of c.store now_m) so_far.text done.starts.text old now new (map (application_of c.store) so_far.front)
         (omega (arith, taken_length (application_of c.store) n apps m rest split)) so_far.started one_started));
@@ -322,8 +322,8 @@ module _ {Own : Type 0} {Tells : Type 0} (n : ℕ) (old now : Seen Own) (c now_c
   pub all_started : AllStarted Tells old now c now_c apps now_apps
   all_started = record {
     text = so_far.text;
-    started = subst (λ (as : List Application). StartsFrom Tells 0 as so_far.text old now c.net c.queue c.events (map (application_of now_c.store) now_apps)) (ap (λ (ms : List Managed). map (application_of c.store) ms) taken_is)
-        (subst (λ (as : List Application). StartsFrom Tells 0 (map (application_of c.store) (take n apps)) so_far.text old now c.net c.queue c.events as)
+    started = subst (λ (items : List Application). StartsFrom Tells 0 items so_far.text old now c.net c.queue c.events (map (application_of now_c.store) now_apps)) (ap (λ (ms : List Managed). map (application_of c.store) ms) taken_is)
+        (subst (λ (items : List Application). StartsFrom Tells 0 (map (application_of c.store) (take n apps)) so_far.text old now c.net c.queue c.events items)
         (ap (λ (ms : List Managed). map (application_of c.store) ms) (sym front_is) ∙ ap (λ (slots : List Slot). map (application_of slots) now_apps) (sym so_far.stays.store)) so_far.started);
     stays = so_far.stays;
     notes = so_far.notes;

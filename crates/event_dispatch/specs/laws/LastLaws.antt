@@ -439,7 +439,7 @@ lines_next r a b apps i m less is first one =
     subst (λ (t : List ℕ). Adds t r b)
     (ap (λ (slots : List Slot). app_lines (map (application_of r.store) (take i apps)) ++ app_lines (application_of slots m ∷ [])) first.stays.store
     ∙ sym (lines_both (map (application_of r.store) (take i apps)) (application_of r.store m ∷ []))
-    ∙ ap (λ (as : List Application). app_lines as) (sym (map_both (application_of r.store) (take i apps) (m ∷ [])))
+    ∙ ap (λ (items : List Application). app_lines items) (sym (map_both (application_of r.store) (take i apps) (m ∷ [])))
     ∙ ap (λ (ms : List Managed). app_lines (map (application_of r.store) ms)) (ap (λ (x : Managed). take i apps ++ x ∷ []) is ∙ sym (take_more apps i m less)))
     (adds_then first one)
 

@@ -155,7 +155,7 @@ same_kept k slots now_slots m keeps other = ap (λ (x : Slot). record (applicati
 
 others_kept : (k : ℕ) (slots now_slots : List Slot) (apps : List Managed) → KeepsOthers k slots now_slots → AreApart k apps → map (application_of now_slots) apps ≡ map (application_of slots) apps
 others_kept k slots now_slots [] keeps apart = refl
-others_kept k slots now_slots (m ∷ apps) keeps apart = ap₂ (λ (a : Application) (as : List Application). a ∷ as) (same_kept k slots now_slots m keeps apart.0) (others_kept k slots now_slots apps keeps apart.1)
+others_kept k slots now_slots (m ∷ apps) keeps apart = ap₂ (λ (a : Application) (items : List Application). a ∷ items) (same_kept k slots now_slots m keeps apart.0) (others_kept k slots now_slots apps keeps apart.1)
 
 counted_before : (events : ℕ) (apps : List Managed) → AreBefore events apps → AllByRecursion (IsCountedTo events) apps
 counted_before events [] all = tt
@@ -189,7 +189,7 @@ module _ {Own : Type 0} (Tells : Type 0) (accepts : List TableView → Bool) (ev
   offers_then i k [] ys text more from mid to front back stopped is first later =
       let here : k ≡ i = omega (arith, is) in
       subst (λ (t : List ℕ). Offers Tells accepts event number i ys t from to (front ++ back) stopped) (ap (λ (t : List ℕ). t ++ more) (sym first.1))
-      (subst (λ (as : List Application). Offers Tells accepts event number i ys more from to as stopped) (ap (λ (as : List Application). as ++ back) (sym first.2))
+      (subst (λ (items : List Application). Offers Tells accepts event number i ys more from to items stopped) (ap (λ (items : List Application). items ++ back) (sym first.2))
       (subst (λ (b : Between Own). Offers Tells accepts event number i ys more b to back stopped) first.0 (subst (λ (n : ℕ). Offers Tells accepts event number n ys more mid to back stopped) here later)))
   offers_then i k (x ∷ xs) ys text more from mid to front back stopped is first later =
       let one = first.0 in
@@ -202,7 +202,7 @@ module _ {Own : Type 0} (Tells : Type 0) (accepts : List TableView → Bool) (ev
           later_text = one.later_text ++ more;
           later_apps = one.later_apps ++ back;
           offered = one.offered;
-          apps_is = ap (λ (as : List Application). as ++ back) one.apps_is;
+          apps_is = ap (λ (items : List Application). items ++ back) one.apps_is;
           text_is = ap (λ (t : List ℕ). t ++ more) one.text_is ∙ append_assoc one.front_text one.later_text more;
         },
         goes_so one.stops (AreLeftOut (xs ++ ys) one.mid to (one.later_text ++ more) (one.later_apps ++ back) stopped) (Offers Tells accepts event number (i + 1) (xs ++ ys) (one.later_text ++ more) one.mid to (one.later_apps ++ back) stopped) goes.0
@@ -336,7 +336,7 @@ module _ {Own : Type 0} {Tells : Type 0} {accepts : List TableView → Bool} {ev
       (subst (λ (k : ℕ). IsOffered Tells accepts event k m.state.index (is_taking event (application_of now_c.store m)) stops done.offered.text (stand now now_c) (stand new later_c) (application_of now_c.store m) (application_of later_c.store now_m)) so_far.events done.offered.offered))
 
   offers_before : Offers Tells accepts event c.events 0 (map (application_of c.store) (take n apps)) so_far.text (stand old c) (stand now now_c) (map (application_of later_c.store) so_far.front) false
-  offers_before = subst (λ (as : List Application). Offers Tells accepts event c.events 0 (map (application_of c.store) (take n apps)) so_far.text (stand old c) (stand now now_c) as false) (sym kept_front) so_far.offers
+  offers_before = subst (λ (items : List Application). Offers Tells accepts event c.events 0 (map (application_of c.store) (take n apps)) so_far.text (stand old c) (stand now now_c) items false) (sym kept_front) so_far.offers
 
   now_apps_are : set now_apps n now_m ≡ so_far.front ++ now_m ∷ rest
   now_apps_are = ap (λ (ms : List Managed). set ms n now_m) (so_far.now_is ∙ ap (λ (ms : List Managed). so_far.front ++ ms) split) ∙ set_at so_far.front (drop (suc n) apps) n m now_m so_far.here
@@ -391,9 +391,9 @@ module _ {Own : Type 0} {Tells : Type 0} {accepts : List TableView → Bool} {ev
     numbered = subst (λ (ms : List Managed). AreNumbered 0 ms) (sym (append_assoc so_far.front (now_m ∷ []) rest)) (numbered_set 0 so_far.front m now_m rest done.index numbered_now);
     kept = kept_later;
     text = so_far.text ++ done.offered.text;
-    offers = subst (λ (as : List Application). Offers Tells accepts event c.events 0 as (so_far.text ++ done.offered.text) (stand old c) (stand new later_c) (map (application_of later_c.store) (so_far.front ++ now_m ∷ [])) false)
+    offers = subst (λ (items : List Application). Offers Tells accepts event c.events 0 items (so_far.text ++ done.offered.text) (stand old c) (stand new later_c) (map (application_of later_c.store) (so_far.front ++ now_m ∷ [])) false)
         (sym (ap (λ (ms : List Managed). map (application_of c.store) ms) (take_next n apps m rest split) ∙ map_both (application_of c.store) (take n apps) (m ∷ [])))
-        (subst (λ (as : List Application). Offers Tells accepts event c.events 0 (map (application_of c.store) (take n apps) ++ application_of c.store m ∷ []) (so_far.text ++ done.offered.text) (stand old c) (stand new later_c) as false)
+        (subst (λ (items : List Application). Offers Tells accepts event c.events 0 (map (application_of c.store) (take n apps) ++ application_of c.store m ∷ []) (so_far.text ++ done.offered.text) (stand old c) (stand new later_c) items false)
         (sym (map_both (application_of later_c.store) so_far.front (now_m ∷ [])))
         (offers_then Tells accepts event c.events 0 n (map (application_of c.store) (take n apps)) (application_of c.store m ∷ []) so_far.text done.offered.text (stand old c) (stand now now_c) (stand new later_c) (map (application_of later_c.store) so_far.front) (application_of later_c.store now_m ∷ []) false
         (omega (arith, taken_length (application_of c.store) n apps m rest split)) offers_before
@@ -414,10 +414,10 @@ module _ {Own : Type 0} {Tells : Type 0} {accepts : List TableView → Bool} {ev
   offers_end stop = record {
     text = so_far.text ++ done.offered.text;
     stopped = true;
-    offers = subst (λ (as : List Application). Offers Tells accepts event c.events 0 as (so_far.text ++ done.offered.text) (stand old c) (stand new later_c) (map (application_of later_c.store) (set now_apps n now_m)) true)
+    offers = subst (λ (items : List Application). Offers Tells accepts event c.events 0 items (so_far.text ++ done.offered.text) (stand old c) (stand new later_c) (map (application_of later_c.store) (set now_apps n now_m)) true)
         (sym (map_both (application_of c.store) (take n apps) (m ∷ rest)) ∙ ap (λ (ms : List Managed). map (application_of c.store) (take n apps ++ ms)) (sym split) ∙ ap (λ (ms : List Managed). map (application_of c.store) ms) (taken_whole n apps))
-        (subst (λ (as : List Application). Offers Tells accepts event c.events 0 (map (application_of c.store) (take n apps) ++ application_of c.store m ∷ map (application_of c.store) rest) (so_far.text ++ done.offered.text) (stand old c) (stand new later_c) as true)
-        (ap (λ (as : List Application). map (application_of later_c.store) so_far.front ++ application_of later_c.store now_m ∷ as) (sym kept_later)
+        (subst (λ (items : List Application). Offers Tells accepts event c.events 0 (map (application_of c.store) (take n apps) ++ application_of c.store m ∷ map (application_of c.store) rest) (so_far.text ++ done.offered.text) (stand old c) (stand new later_c) items true)
+        (ap (λ (items : List Application). map (application_of later_c.store) so_far.front ++ application_of later_c.store now_m ∷ items) (sym kept_later)
         ∙ sym (map_both (application_of later_c.store) so_far.front (now_m ∷ rest)) ∙ ap (λ (ms : List Managed). map (application_of later_c.store) ms) (sym now_apps_are))
         (offers_then Tells accepts event c.events 0 n (map (application_of c.store) (take n apps)) (application_of c.store m ∷ map (application_of c.store) rest) so_far.text done.offered.text (stand old c) (stand now now_c) (stand new later_c) (map (application_of later_c.store) so_far.front)
         (application_of later_c.store now_m ∷ map (application_of c.store) rest) true (omega (arith, taken_length (application_of c.store) n apps m rest split)) offers_before
@@ -461,7 +461,7 @@ module _ {Own : Type 0} {Tells : Type 0} {accepts : List TableView → Bool} {ev
   all_offered = record {
     text = so_far.text;
     stopped = false;
-    offers = subst (λ (as : List Application). Offers Tells accepts event c.events 0 as so_far.text (stand old c) (stand now now_c) (map (application_of now_c.store) now_apps) false) (ap (λ (ms : List Managed). map (application_of c.store) ms) taken_is)
+    offers = subst (λ (items : List Application). Offers Tells accepts event c.events 0 items so_far.text (stand old c) (stand now now_c) (map (application_of now_c.store) now_apps) false) (ap (λ (ms : List Managed). map (application_of c.store) ms) taken_is)
         (subst (λ (ms : List Managed). Offers Tells accepts event c.events 0 (map (application_of c.store) (take n apps)) so_far.text (stand old c) (stand now now_c) (map (application_of now_c.store) ms) false) (sym front_is) so_far.offers);
     notes = so_far.notes;
   }
@@ -553,7 +553,7 @@ module _ {Own : Type 0} {Tells : Type 0} {accepts : List TableView → Bool} {ev
     front = so_far.front;
     offers = so_far.offers;
     apps_are = ap (λ (ms : List Managed). map (application_of now_c.store) ms) so_far.now_is ∙ map_both (application_of now_c.store) so_far.front (drop n apps)
-        ∙ ap (λ (as : List Application). map (application_of now_c.store) so_far.front ++ as) so_far.kept;
+        ∙ ap (λ (items : List Application). map (application_of now_c.store) so_far.front ++ items) so_far.kept;
     events_is = so_far.events;
     of_turn = of_turn_at fault (λ x. is_taking event (application_of c.store x)) n apps m behind split (subst (λ (b : Bool). IsOfTurn fault b) same_taking fails.of_turn);
     reads = so_far.reads;
@@ -677,7 +677,7 @@ module _ {Own : Type 0} {Tells : Type 0} {accepts : List TableView → Bool} {ev
     dispatches = record {
       turn_text = all.text;
       stopped = all.stopped;
-      offers = subst (λ (as : List Application). Offers Tells accepts event (r.core.events + 1) 0 as all.text (stand old r.core) (stand new now_r.core) (map (application_of now_r.core.store) now_r.apps.items) all.stopped) apps_noted
+      offers = subst (λ (items : List Application). Offers Tells accepts event (r.core.events + 1) 0 items all.text (stand old r.core) (stand new now_r.core) (map (application_of now_r.core.store) now_r.apps.items) all.stopped) apps_noted
           (subst (λ (b : Between Own). Offers Tells accepts event (r.core.events + 1) 0 (map (application_of c.store) r.apps.items) all.text b (stand new now_r.core) (map (application_of now_r.core.store) now_r.apps.items) all.stopped) (stand_noted old)
           (subst (λ (k : ℕ). Offers Tells accepts event k 0 (map (application_of c.store) r.apps.items) all.text (stand old c) (stand new now_r.core) (map (application_of now_r.core.store) now_r.apps.items) all.stopped) adds.stays.events all.offers));
       events_is = events ∙ adds.stays.events;
@@ -695,11 +695,11 @@ module _ {Own : Type 0} {Tells : Type 0} {accepts : List TableView → Bool} {ev
     given = record {
       text = f.text;
       front = map (application_of f.mid_core.store) f.front;
-      offers = subst (λ (as : List Application). Offers Tells accepts event (r.core.events + 1) 0 as f.text (stand old r.core) (stand f.mid f.mid_core) (map (application_of f.mid_core.store) f.front) false)
+      offers = subst (λ (items : List Application). Offers Tells accepts event (r.core.events + 1) 0 items f.text (stand old r.core) (stand f.mid f.mid_core) (map (application_of f.mid_core.store) f.front) false)
           (ap (λ (slots : List Slot). map (application_of slots) (take f.number r.apps.items)) adds.stays.store ∙ map_take (application_of r.core.store) f.number r.apps.items)
           (subst (λ (b : Between Own). Offers Tells accepts event (r.core.events + 1) 0 (map (application_of c.store) (take f.number r.apps.items)) f.text b (stand f.mid f.mid_core) (map (application_of f.mid_core.store) f.front) false) (stand_noted old)
           (subst (λ (k : ℕ). Offers Tells accepts event k 0 (map (application_of c.store) (take f.number r.apps.items)) f.text (stand old c) (stand f.mid f.mid_core) (map (application_of f.mid_core.store) f.front) false) adds.stays.events f.offers));
-      apps_is = f.apps_are ∙ ap (λ (as : List Application). map (application_of f.mid_core.store) f.front ++ as)
+      apps_is = f.apps_are ∙ ap (λ (items : List Application). map (application_of f.mid_core.store) f.front ++ items)
           (ap (λ (slots : List Slot). map (application_of slots) (drop f.number r.apps.items)) adds.stays.store ∙ map_drop (application_of r.core.store) f.number r.apps.items);
       events_is = f.events_is ∙ adds.stays.events;
     };
