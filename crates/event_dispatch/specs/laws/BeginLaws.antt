@@ -2,7 +2,7 @@
 use Rattle.std.specs.Prelude.{◌≡◌, ℕ, zero, suc, ◌+◌, ◌<◌, ◌≤◌, Bool, false, List, [], ◌∷◌, ◌++◌, length, take, drop, map, get_or, set, replicate, refl}
 use Rattle.std.specs.List.{AllByRecursion}
 use Rattle.std.proofs.Common.{sym, ap, ap₂, ◌∙◌, subst, append_assoc, add-one, arith}
-use Rattle.std.proofs.lemmas.List.{append-nil}
+use Rattle.std.proofs.lemmas.List.{append-nil, take_more}
 use Rattle.app_frames.specs.declared.frame.Event.{Event}
 use Rattle.crash_policy.specs.declared.policy_file.AppRule.{AppRule}
 use Rattle.crash_policy.specs.Policies.{AppValue, app_value}
@@ -39,6 +39,16 @@ fresh_next i k [] [] rule m is fresh one = let here : k ≡ i = omega (arith, is
 fresh_next i k [] (x ∷ apps) rule m is fresh one = absurd fresh
 fresh_next i k (x ∷ rules) [] rule m is fresh one = absurd fresh
 fresh_next i k (x ∷ rules) (y ∷ apps) rule m is fresh one = (fresh.0, fresh_next (i + 1) k rules apps rule m (omega (arith, is)) fresh.1 one)
+
+taken_long : {A : Type 0} (n : ℕ) (xs : List A) → n ≤ length xs → length (take n xs) ≡ n
+taken_long zero xs le = refl
+taken_long (suc n) [] le = absurd (omega (arith, le))
+taken_long (suc n) (x ∷ xs) le = ap suc (taken_long n xs (omega (arith, le)))
+
+pub fresh_more : (rules : List AppRule) (apps : List Managed) (n : ℕ) (rule : AppRule) (m : Managed) → n < length rules → AreFresh 0 (take n rules) apps → IsFresh n (get_or rules n rule) m → AreFresh 0 (take (n + 1) rules) (apps ++ m ∷ [])
+fresh_more rules apps n rule m less fresh one =
+    subst (λ (rs : List AppRule). AreFresh 0 rs (apps ++ m ∷ [])) (sym (take_more rules n rule less))
+    (fresh_next 0 n (take n rules) apps (get_or rules n rule) m (omega (arith, taken_long n rules (omega (arith, less)))) fresh one)
 
 fresh_numbered : (i : ℕ) (rules : List AppRule) (apps : List Managed) → AreFresh i rules apps → AreNumbered i apps
 fresh_numbered i [] [] fresh = tt
@@ -210,8 +220,8 @@ start_rests so_far rests = subst (λ (slots : List Slot). StoreRests slots) (sym
 
 module _ {Own : Type 0} {Tells : Type 0} (n : ℕ) (old now new : Seen Own) (c now_c later_c : Core) (apps now_apps : List Managed) (m now_m : Managed)
     (so_far : StartsSoFar Tells n old now c now_c apps now_apps) (split : drop n apps ≡ m ∷ drop (suc n) apps) (done : StartDone Tells now new now_c later_c m now_m) where
-  abbrev rest : List Managed
-  rest = drop (suc n) apps
+  abbrev past_it : List Managed
+  past_it = drop (suc n) apps
 
   stays_now : Stays now_c later_c
   stays_now = record { net = done.net; queue = done.queue; events = done.waits.events; store = done.waits.store }
@@ -222,14 +232,14 @@ module _ {Own : Type 0} {Tells : Type 0} (n : ℕ) (old now new : Seen Own) (c n
   at_place : m.state.index ≡ n
   at_place = start_index n m so_far split
 
-  numbered_now : AreNumbered 0 (so_far.front ++ m ∷ rest)
+  numbered_now : AreNumbered 0 (so_far.front ++ m ∷ past_it)
   numbered_now = subst (λ (ms : List Managed). AreNumbered 0 (so_far.front ++ ms)) split so_far.numbered
 
-  counted_now : AllByRecursion (IsCountedTo c.events) (so_far.front ++ m ∷ rest)
+  counted_now : AllByRecursion (IsCountedTo c.events) (so_far.front ++ m ∷ past_it)
   counted_now = subst (λ (ms : List Managed). AllByRecursion (IsCountedTo c.events) (so_far.front ++ ms)) split so_far.counted
 
-  now_apps_are : set now_apps n now_m ≡ so_far.front ++ now_m ∷ rest
-  now_apps_are = ap (λ (ms : List Managed). set ms n now_m) (so_far.now_is ∙ ap (λ (ms : List Managed). so_far.front ++ ms) split) ∙ set_at so_far.front rest n m now_m so_far.here
+  now_apps_are : set now_apps n now_m ≡ so_far.front ++ now_m ∷ past_it
+  now_apps_are = ap (λ (ms : List Managed). set ms n now_m) (so_far.now_is ∙ ap (λ (ms : List Managed). so_far.front ++ ms) split) ∙ set_at so_far.front past_it n m now_m so_far.here
 
   -- over what the engine keeps as it was
   focus_before : focus_of now_c m ≡ focus n (application_of c.store m) c.net c.queue c.events
@@ -253,15 +263,15 @@ module _ {Own : Type 0} {Tells : Type 0} (n : ℕ) (old now new : Seen Own) (c n
     own = λ told. subst (λ (i : ℕ). CallsFor i now new) at_place (own_calls (done.own told));
   }
 
-  counted_set : AllByRecursion (IsCountedTo c.events) (so_far.front ++ now_m ∷ rest)
-  counted_set = set_counted so_far.front rest counted_now
+  counted_set : AllByRecursion (IsCountedTo c.events) (so_far.front ++ now_m ∷ past_it)
+  counted_set = set_counted so_far.front past_it counted_now
     where
       set_counted : (xs ys : List Managed) → AllByRecursion (IsCountedTo c.events) (xs ++ m ∷ ys) → AllByRecursion (IsCountedTo c.events) (xs ++ now_m ∷ ys)
       set_counted [] ys all = (record { done = subst (λ (k : ℕ). k ≤ c.events) (sym done.same.done) all.0.done; failed = subst (λ (k : ℕ). k ≤ c.events) (sym done.same.failed) all.0.failed }, all.1)
       set_counted (x ∷ xs) ys all = (all.0, set_counted xs ys all.1)
 
   length_now : length c.store ≡ length (set now_apps n now_m)
-  length_now = so_far.number_is ∙ ap (λ (ms : List Managed). length ms) (so_far.now_is ∙ ap (λ (ms : List Managed). so_far.front ++ ms) split) ∙ same_length so_far.front rest ∙ ap (λ (ms : List Managed). length ms) (sym now_apps_are)
+  length_now = so_far.number_is ∙ ap (λ (ms : List Managed). length ms) (so_far.now_is ∙ ap (λ (ms : List Managed). so_far.front ++ ms) split) ∙ same_length so_far.front past_it ∙ ap (λ (ms : List Managed). length ms) (sym now_apps_are)
     where
       same_length : (xs ys : List Managed) → length (xs ++ m ∷ ys) ≡ length (xs ++ now_m ∷ ys)
       same_length [] ys = refl
@@ -273,20 +283,20 @@ module _ {Own : Type 0} {Tells : Type 0} (n : ℕ) (old now new : Seen Own) (c n
   pub starts_next : StartsSoFar Tells (n + 1) old new c later_c apps (set now_apps n now_m)
   starts_next = subst (λ (k : ℕ). StartsSoFar Tells k old new c later_c apps (set now_apps n now_m)) (sym (add-one n)) (record {
     front = so_far.front ++ now_m ∷ [];
-    now_is = now_apps_are ∙ sym (append_assoc so_far.front (now_m ∷ []) rest);
+    now_is = now_apps_are ∙ sym (append_assoc so_far.front (now_m ∷ []) past_it);
     here = omega (arith, length_last so_far.front, so_far.here);
     number_is = length_now;
     waits = waits_then c now_c later_c so_far.waits done.waits;
     stays = stays_later;
-    counted = subst (λ (ms : List Managed). AllByRecursion (IsCountedTo c.events) ms) (sym (append_assoc so_far.front (now_m ∷ []) rest)) counted_set;
-    numbered = subst (λ (ms : List Managed). AreNumbered 0 ms) (sym (append_assoc so_far.front (now_m ∷ []) rest)) (numbered_set 0 so_far.front m now_m rest done.same.index numbered_now);
+    counted = subst (λ (ms : List Managed). AllByRecursion (IsCountedTo c.events) ms) (sym (append_assoc so_far.front (now_m ∷ []) past_it)) counted_set;
+    numbered = subst (λ (ms : List Managed). AreNumbered 0 ms) (sym (append_assoc so_far.front (now_m ∷ []) past_it)) (numbered_set 0 so_far.front m now_m past_it done.same.index numbered_now);
     text = so_far.text ++ done.starts.text;
     started = subst (λ (items : List Application). StartsFrom Tells 0 items (so_far.text ++ done.starts.text) old new c.net c.queue c.events (map (application_of c.store) (so_far.front ++ now_m ∷ [])))
-        (sym (ap (λ (ms : List Managed). map (application_of c.store) ms) (take_next n apps m rest split) ∙ map_both (application_of c.store) (take n apps) (m ∷ [])))
+        (sym (ap (λ (ms : List Managed). map (application_of c.store) ms) (take_next n apps m past_it split) ∙ map_both (application_of c.store) (take n apps) (m ∷ [])))
         (subst (λ (items : List Application). StartsFrom Tells 0 (map (application_of c.store) (take n apps) ++ application_of c.store m ∷ []) (so_far.text ++ done.starts.text) old new c.net c.queue c.events items)
         (sym (map_both (application_of c.store) so_far.front (now_m ∷ [])))
         (starts_behind Tells c.net c.queue c.events 0 n (map (application_of c.store) (take n apps)) (application_of c.store m) (application_of c.store now_m) so_far.text done.starts.text old now new (map (application_of c.store) so_far.front)
-        (omega (arith, taken_length (application_of c.store) n apps m rest split)) so_far.started one_started));
+        (omega (arith, taken_length (application_of c.store) n apps m past_it split)) so_far.started one_started));
     notes = done.starts.notes ∙ ap (λ (xs : List ℕ). xs ++ done.starts.text) so_far.notes ∙ append_assoc c.lines.items so_far.text done.starts.text;
     continues = Continues-trans Tells old now new so_far.continues done.continues;
     places = places_then old now new c.net now_c.net so_far.continues done.continues so_far.places so_far.reads (places_number (length c.store) (length now_c.store) same_number done.places);

@@ -116,12 +116,12 @@ drop_none (suc n) [] le = refl
 drop_none (suc n) (x ∷ xs) le = drop_none n xs (omega (arith, le))
 
 any_at : {A : Type 0} (p : A → Bool) (n : ℕ) (xs : List A) (m : A) (rest : List A) → drop n xs ≡ m ∷ rest → p m ≡ true → list_any p xs ≡ true
-any_at p zero [] m rest is yes = absurd cc
-any_at p zero (x ∷ xs) m rest is yes = let here : p x ≡ true = ap p (cons_head x m xs rest is) ∙ yes in rw here refl
-any_at p (suc n) [] m rest is yes = absurd cc
-any_at p (suc n) (x ∷ xs) m rest is yes = elim (cases_Bool (p x)) [
+any_at p zero [] m rest is holds = absurd cc
+any_at p zero (x ∷ xs) m rest is holds = let here : p x ≡ true = ap p (cons_head x m xs rest is) ∙ holds in rw here refl
+any_at p (suc n) [] m rest is holds = absurd cc
+any_at p (suc n) (x ∷ xs) m rest is holds = elim (cases_Bool (p x)) [
   | inl here ↦ rw here refl
-  | inr other ↦ rw other (any_at p n xs m rest is yes)
+  | inr other ↦ rw other (any_at p n xs m rest is holds)
 ]
 
 -- ---- Applications and their places
@@ -299,27 +299,27 @@ next_place n m so_far less is =
 
 module _ {Own : Type 0} {Tells : Type 0} {accepts : List TableView → Bool} {event : Event} (n : ℕ) (old now new : Seen Own) (c now_c later_c : Core) (apps now_apps : List Managed) (m now_m : Managed) (stops : Bool)
     (so_far : OffersSoFar Tells accepts event n old now c now_c apps now_apps) (split : drop n apps ≡ m ∷ drop (suc n) apps) (done : OfferDone Tells accepts event stops now new now_c later_c m now_m) where
-  abbrev rest : List Managed
-  rest = drop (suc n) apps
+  abbrev past_it : List Managed
+  past_it = drop (suc n) apps
 
   at_place : m.state.index ≡ n
   at_place = next_index n m so_far split
 
-  numbered_now : AreNumbered 0 (so_far.front ++ m ∷ rest)
+  numbered_now : AreNumbered 0 (so_far.front ++ m ∷ past_it)
   numbered_now = subst (λ (ms : List Managed). AreNumbered 0 (so_far.front ++ ms)) split so_far.numbered
 
-  kept_split : map (application_of now_c.store) (m ∷ rest) ≡ map (application_of c.store) (m ∷ rest)
+  kept_split : map (application_of now_c.store) (m ∷ past_it) ≡ map (application_of c.store) (m ∷ past_it)
   kept_split = subst (λ (ms : List Managed). map (application_of now_c.store) ms ≡ map (application_of c.store) ms) split so_far.kept
 
   same_before : application_of now_c.store m ≡ application_of c.store m
-  same_before = cons_head (application_of now_c.store m) (application_of c.store m) (map (application_of now_c.store) rest) (map (application_of c.store) rest) kept_split
+  same_before = cons_head (application_of now_c.store m) (application_of c.store m) (map (application_of now_c.store) past_it) (map (application_of c.store) past_it) kept_split
 
   -- those behind are as they were
-  kept_later : map (application_of later_c.store) rest ≡ map (application_of c.store) rest
+  kept_later : map (application_of later_c.store) past_it ≡ map (application_of c.store) past_it
   kept_later =
-      others_kept m.state.index now_c.store later_c.store rest done.others
-      (apart_back (suc n) m.state.index rest (omega (arith, at_place)) (numbered_back 0 (suc n) (so_far.front ++ m ∷ []) rest (omega (arith, length_last so_far.front m, so_far.here)) (subst (λ (ms : List Managed). AreNumbered 0 ms) (sym (append_assoc so_far.front (m ∷ []) rest)) numbered_now)))
-      ∙ cons_tail (application_of now_c.store m) (application_of c.store m) (map (application_of now_c.store) rest) (map (application_of c.store) rest) kept_split
+      others_kept m.state.index now_c.store later_c.store past_it done.others
+      (apart_back (suc n) m.state.index past_it (omega (arith, at_place)) (numbered_back 0 (suc n) (so_far.front ++ m ∷ []) past_it (omega (arith, length_last so_far.front m, so_far.here)) (subst (λ (ms : List Managed). AreNumbered 0 ms) (sym (append_assoc so_far.front (m ∷ []) past_it)) numbered_now)))
+      ∙ cons_tail (application_of now_c.store m) (application_of c.store m) (map (application_of now_c.store) past_it) (map (application_of c.store) past_it) kept_split
     where
       length_last : (xs : List Managed) (x : Managed) → length (xs ++ x ∷ []) ≡ length xs + 1
       length_last [] x = refl
@@ -327,7 +327,7 @@ module _ {Own : Type 0} {Tells : Type 0} {accepts : List TableView → Bool} {ev
 
   -- and those in front
   kept_front : map (application_of later_c.store) so_far.front ≡ map (application_of now_c.store) so_far.front
-  kept_front = others_kept m.state.index now_c.store later_c.store so_far.front done.others (apart_front 0 m.state.index so_far.front (m ∷ rest) (omega (arith, so_far.here, at_place)) numbered_now)
+  kept_front = others_kept m.state.index now_c.store later_c.store so_far.front done.others (apart_front 0 m.state.index so_far.front (m ∷ past_it) (omega (arith, so_far.here, at_place)) numbered_now)
 
   offered_here : IsOffered Tells accepts event c.events n (is_taking event (application_of c.store m)) stops done.offered.text (stand now now_c) (stand new later_c) (application_of c.store m) (application_of later_c.store now_m)
   offered_here =
@@ -338,13 +338,13 @@ module _ {Own : Type 0} {Tells : Type 0} {accepts : List TableView → Bool} {ev
   offers_before : Offers Tells accepts event c.events 0 (map (application_of c.store) (take n apps)) so_far.text (stand old c) (stand now now_c) (map (application_of later_c.store) so_far.front) false
   offers_before = subst (λ (items : List Application). Offers Tells accepts event c.events 0 (map (application_of c.store) (take n apps)) so_far.text (stand old c) (stand now now_c) items false) (sym kept_front) so_far.offers
 
-  now_apps_are : set now_apps n now_m ≡ so_far.front ++ now_m ∷ rest
+  now_apps_are : set now_apps n now_m ≡ so_far.front ++ now_m ∷ past_it
   now_apps_are = ap (λ (ms : List Managed). set ms n now_m) (so_far.now_is ∙ ap (λ (ms : List Managed). so_far.front ++ ms) split) ∙ set_at so_far.front (drop (suc n) apps) n m now_m so_far.here
 
   counted_now : IsCountedTo c.events now_m
   counted_now = subst (λ (k : ℕ). IsCountedTo k now_m) so_far.events done.counted
 
-  before_rest : AreBefore c.events rest
+  before_rest : AreBefore c.events past_it
   before_rest = (subst (λ (ms : List Managed). AreBefore c.events ms) split so_far.before).1
 
   notes_now : Notes (so_far.text ++ done.offered.text) c later_c
@@ -354,7 +354,7 @@ module _ {Own : Type 0} {Tells : Type 0} {accepts : List TableView → Bool} {ev
   number_now = done.others.number ∙ so_far.number
 
   length_now : length c.store ≡ length (set now_apps n now_m)
-  length_now = so_far.number_is ∙ ap (λ (ms : List Managed). length ms) (so_far.now_is ∙ ap (λ (ms : List Managed). so_far.front ++ ms) split) ∙ same_length so_far.front rest m now_m ∙ ap (λ (ms : List Managed). length ms) (sym now_apps_are)
+  length_now = so_far.number_is ∙ ap (λ (ms : List Managed). length ms) (so_far.now_is ∙ ap (λ (ms : List Managed). so_far.front ++ ms) split) ∙ same_length so_far.front past_it m now_m ∙ ap (λ (ms : List Managed). length ms) (sym now_apps_are)
     where
       same_length : (xs ys : List Managed) (x y : Managed) → length (xs ++ x ∷ ys) ≡ length (xs ++ y ∷ ys)
       same_length [] ys x y = refl
@@ -370,9 +370,9 @@ module _ {Own : Type 0} {Tells : Type 0} {accepts : List TableView → Bool} {ev
   going_now = record {
     core = done.goes;
     counted = subst (λ (ms : List Managed). AllByRecursion (IsCountedTo later_c.events) ms) (sym now_apps_are)
-        (subst (λ (k : ℕ). AllByRecursion (IsCountedTo k) (so_far.front ++ now_m ∷ rest)) (sym (done.events ∙ so_far.events))
-        (all_two (IsCountedTo c.events) so_far.front (now_m ∷ rest) so_far.counted (counted_now, counted_before c.events rest before_rest)));
-    numbered = subst (λ (ms : List Managed). AreNumbered 0 ms) (sym now_apps_are) (numbered_set 0 so_far.front m now_m rest done.index numbered_now);
+        (subst (λ (k : ℕ). AllByRecursion (IsCountedTo k) (so_far.front ++ now_m ∷ past_it)) (sym (done.events ∙ so_far.events))
+        (all_two (IsCountedTo c.events) so_far.front (now_m ∷ past_it) so_far.counted (counted_now, counted_before c.events past_it before_rest)));
+    numbered = subst (λ (ms : List Managed). AreNumbered 0 ms) (sym now_apps_are) (numbered_set 0 so_far.front m now_m past_it done.index numbered_now);
     number = number_now ∙ length_now;
   }
 
@@ -380,7 +380,7 @@ module _ {Own : Type 0} {Tells : Type 0} {accepts : List TableView → Bool} {ev
   pub offers_on : stops ≡ false → OffersSoFar Tells accepts event (n + 1) old new c later_c apps (set now_apps n now_m)
   offers_on go = subst (λ (k : ℕ). OffersSoFar Tells accepts event k old new c later_c apps (set now_apps n now_m)) (sym (add-one n)) (record {
     front = so_far.front ++ now_m ∷ [];
-    now_is = now_apps_are ∙ sym (append_assoc so_far.front (now_m ∷ []) rest);
+    now_is = now_apps_are ∙ sym (append_assoc so_far.front (now_m ∷ []) past_it);
     here = omega (arith, length_last so_far.front now_m, so_far.here);
     goes = done.goes;
     events = done.events ∙ so_far.events;
@@ -388,15 +388,15 @@ module _ {Own : Type 0} {Tells : Type 0} {accepts : List TableView → Bool} {ev
     number_is = length_now;
     counted = all_two (IsCountedTo c.events) so_far.front (now_m ∷ []) so_far.counted (counted_now, tt);
     before = before_rest;
-    numbered = subst (λ (ms : List Managed). AreNumbered 0 ms) (sym (append_assoc so_far.front (now_m ∷ []) rest)) (numbered_set 0 so_far.front m now_m rest done.index numbered_now);
+    numbered = subst (λ (ms : List Managed). AreNumbered 0 ms) (sym (append_assoc so_far.front (now_m ∷ []) past_it)) (numbered_set 0 so_far.front m now_m past_it done.index numbered_now);
     kept = kept_later;
     text = so_far.text ++ done.offered.text;
     offers = subst (λ (items : List Application). Offers Tells accepts event c.events 0 items (so_far.text ++ done.offered.text) (stand old c) (stand new later_c) (map (application_of later_c.store) (so_far.front ++ now_m ∷ [])) false)
-        (sym (ap (λ (ms : List Managed). map (application_of c.store) ms) (take_next n apps m rest split) ∙ map_both (application_of c.store) (take n apps) (m ∷ [])))
+        (sym (ap (λ (ms : List Managed). map (application_of c.store) ms) (take_next n apps m past_it split) ∙ map_both (application_of c.store) (take n apps) (m ∷ [])))
         (subst (λ (items : List Application). Offers Tells accepts event c.events 0 (map (application_of c.store) (take n apps) ++ application_of c.store m ∷ []) (so_far.text ++ done.offered.text) (stand old c) (stand new later_c) items false)
         (sym (map_both (application_of later_c.store) so_far.front (now_m ∷ [])))
         (offers_then Tells accepts event c.events 0 n (map (application_of c.store) (take n apps)) (application_of c.store m ∷ []) so_far.text done.offered.text (stand old c) (stand now now_c) (stand new later_c) (map (application_of later_c.store) so_far.front) (application_of later_c.store now_m ∷ []) false
-        (omega (arith, taken_length (application_of c.store) n apps m rest split)) offers_before
+        (omega (arith, taken_length (application_of c.store) n apps m past_it split)) offers_before
         (offers_one Tells accepts event c.events n done.offered.text (stand now now_c) (stand new later_c) (application_of c.store m) (application_of later_c.store now_m)
         (subst (λ (b : Bool). IsOffered Tells accepts event c.events n (is_taking event (application_of c.store m)) b done.offered.text (stand now now_c) (stand new later_c) (application_of c.store m) (application_of later_c.store now_m)) go offered_here))));
     notes = notes_now;
@@ -415,13 +415,13 @@ module _ {Own : Type 0} {Tells : Type 0} {accepts : List TableView → Bool} {ev
     text = so_far.text ++ done.offered.text;
     stopped = true;
     offers = subst (λ (items : List Application). Offers Tells accepts event c.events 0 items (so_far.text ++ done.offered.text) (stand old c) (stand new later_c) (map (application_of later_c.store) (set now_apps n now_m)) true)
-        (sym (map_both (application_of c.store) (take n apps) (m ∷ rest)) ∙ ap (λ (ms : List Managed). map (application_of c.store) (take n apps ++ ms)) (sym split) ∙ ap (λ (ms : List Managed). map (application_of c.store) ms) (taken_whole n apps))
-        (subst (λ (items : List Application). Offers Tells accepts event c.events 0 (map (application_of c.store) (take n apps) ++ application_of c.store m ∷ map (application_of c.store) rest) (so_far.text ++ done.offered.text) (stand old c) (stand new later_c) items true)
+        (sym (map_both (application_of c.store) (take n apps) (m ∷ past_it)) ∙ ap (λ (ms : List Managed). map (application_of c.store) (take n apps ++ ms)) (sym split) ∙ ap (λ (ms : List Managed). map (application_of c.store) ms) (taken_whole n apps))
+        (subst (λ (items : List Application). Offers Tells accepts event c.events 0 (map (application_of c.store) (take n apps) ++ application_of c.store m ∷ map (application_of c.store) past_it) (so_far.text ++ done.offered.text) (stand old c) (stand new later_c) items true)
         (ap (λ (items : List Application). map (application_of later_c.store) so_far.front ++ application_of later_c.store now_m ∷ items) (sym kept_later)
-        ∙ sym (map_both (application_of later_c.store) so_far.front (now_m ∷ rest)) ∙ ap (λ (ms : List Managed). map (application_of later_c.store) ms) (sym now_apps_are))
-        (offers_then Tells accepts event c.events 0 n (map (application_of c.store) (take n apps)) (application_of c.store m ∷ map (application_of c.store) rest) so_far.text done.offered.text (stand old c) (stand now now_c) (stand new later_c) (map (application_of later_c.store) so_far.front)
-        (application_of later_c.store now_m ∷ map (application_of c.store) rest) true (omega (arith, taken_length (application_of c.store) n apps m rest split)) offers_before
-        (offers_stop Tells accepts event c.events n done.offered.text (stand now now_c) (stand new later_c) (application_of c.store m) (application_of later_c.store now_m) (map (application_of c.store) rest)
+        ∙ sym (map_both (application_of later_c.store) so_far.front (now_m ∷ past_it)) ∙ ap (λ (ms : List Managed). map (application_of later_c.store) ms) (sym now_apps_are))
+        (offers_then Tells accepts event c.events 0 n (map (application_of c.store) (take n apps)) (application_of c.store m ∷ map (application_of c.store) past_it) so_far.text done.offered.text (stand old c) (stand now now_c) (stand new later_c) (map (application_of later_c.store) so_far.front)
+        (application_of later_c.store now_m ∷ map (application_of c.store) past_it) true (omega (arith, taken_length (application_of c.store) n apps m past_it split)) offers_before
+        (offers_stop Tells accepts event c.events n done.offered.text (stand now now_c) (stand new later_c) (application_of c.store m) (application_of later_c.store now_m) (map (application_of c.store) past_it)
         (subst (λ (b : Bool). IsOffered Tells accepts event c.events n (is_taking event (application_of c.store m)) b done.offered.text (stand now now_c) (stand new later_c) (application_of c.store m) (application_of later_c.store now_m)) stop offered_here))));
     notes = notes_now;
   }
@@ -486,10 +486,10 @@ rule_at_place f zero (x ∷ front) m rest is = absurd (omega (arith, is))
 rule_at_place f (suc k) (x ∷ front) m rest is = rule_at_place f k front m rest (omega (arith, is))
 
 of_turn_at : (fault : Fault) (p : Managed → Bool) (n : ℕ) (apps : List Managed) (m : Managed) (rest : List Managed) → drop n apps ≡ m ∷ rest → IsOfTurn fault (p m) → IsOfTurn fault (list_any p apps)
-of_turn_at faults.Next p n apps m rest split yes = any_at p n apps m rest split yes
-of_turn_at (faults.Txn fault) p n apps m rest split yes = any_at p n apps m rest split yes
-of_turn_at faults.Write p n apps m rest split yes = tt
-of_turn_at faults.NoMemory p n apps m rest split yes = tt
+of_turn_at faults.Next p n apps m rest split holds = any_at p n apps m rest split holds
+of_turn_at (faults.Txn fault) p n apps m rest split holds = any_at p n apps m rest split holds
+of_turn_at faults.Write p n apps m rest split holds = tt
+of_turn_at faults.NoMemory p n apps m rest split holds = tt
 
 module _ {Own : Type 0} {Tells : Type 0} {accepts : List TableView → Bool} {event : Event} (n : ℕ) (old now new : Seen Own) (c now_c : Core) (apps now_apps : List Managed) (m : Managed) (fault : Fault)
     (so_far : OffersSoFar Tells accepts event n old now c now_c apps now_apps) (split : drop n apps ≡ m ∷ drop (suc n) apps) (later : Continues Tells now new) (fails : OfferFails Tells fault event now new now_c m) where
@@ -618,21 +618,21 @@ offer_fails {event = event} fault old new c m takes talks later left plain =
     taking_alive event a is = (and_parts a.alive (is_given a.rule event.kind) is).0
 
     takes_of : (fault : Fault) {b : Bool} → b ≡ true → IsOfTurn fault b
-    takes_of faults.Next yes = yes
-    takes_of (faults.Txn fault) yes = yes
-    takes_of faults.Write yes = tt
-    takes_of faults.NoMemory yes = tt
+    takes_of faults.Next holds = holds
+    takes_of (faults.Txn fault) holds = holds
+    takes_of faults.Write holds = tt
+    takes_of faults.NoMemory holds = tt
 
 -- however it ended
-pub offer_failed : {Own : Type 0} {Tells : Type 0} {event : Event} (result : Result Bool Fault) (old new : Seen Own) (c : Core) (m : Managed) → is_taking event (application_of c.store m) ≡ true → OnErr result (TurnTalks Tells m.state.index m.state.rest old new) → (Tells → CalmLater m.state.index old new)
+pub offer_failed : {Own : Type 0} {Tells : Type 0} (event : Event) (result : Result Bool Fault) (old new : Seen Own) (c : Core) (m : Managed) → is_taking event (application_of c.store m) ≡ true → OnErr result (TurnTalks Tells m.state.index m.state.rest old new) → (Tells → CalmLater m.state.index old new)
     → IfErr result (λ fault. TurnLeft Tells (IsShort fault) m.state.index m.rule.now.budget m.state.rest old new c.net) → IfErr result (PlainTurn Tells old new c.net) → IfErr result (λ fault. OfferFails Tells fault event old new c m)
-offer_failed (Ok stops) old new c m takes talks later left plain = tt
-offer_failed (Err fault) old new c m takes talks later left plain = offer_fails fault old new c m takes talks later left plain
+offer_failed event (Ok stops) old new c m takes talks later left plain = tt
+offer_failed event (Err fault) old new c m takes talks later left plain = offer_fails fault old new c m takes talks later left plain
 
-pub offer_noted : {Own : Type 0} {Tells : Type 0} {accepts : List TableView → Bool} {event : Event} (result : Result Bool Fault) (old new : Seen Own) (c now_c : Core) (m now_m : Managed) → is_taking event (application_of c.store m) ≡ true → OnOk result (now_c.events ≡ c.events) → OnOk result (now_m.state.index ≡ m.state.index)
+pub offer_noted : {Own : Type 0} {Tells : Type 0} (accepts : List TableView → Bool) (event : Event) (result : Result Bool Fault) (old new : Seen Own) (c now_c : Core) (m now_m : Managed) → is_taking event (application_of c.store m) ≡ true → OnOk result (now_c.events ≡ c.events) → OnOk result (now_m.state.index ≡ m.state.index)
     → (Tells → CalmLater m.state.index old new) → IfOk result (λ stops. TurnNoted Tells accepts event stops old new c now_c m now_m) → IfOk result (λ stops. OfferNoted Tells accepts event stops old new c now_c m now_m)
-offer_noted (Ok stops) old new c now_c m now_m takes events index later noted = offer_taken old new c now_c m now_m takes events index (λ told. (later told).own) noted
-offer_noted (Err fault) old new c now_c m now_m takes events index later noted = tt
+offer_noted accepts event (Ok stops) old new c now_c m now_m takes events index later noted = offer_taken old new c now_c m now_m takes events index (λ told. (later told).own) noted
+offer_noted accepts event (Err fault) old new c now_c m now_m takes events index later noted = tt
 
 pub keeps_all : (app : ℕ) (slots : List Slot) → KeepsOthers app slots slots
 keeps_all app slots = record { number = refl; others = λ i other. refl }
@@ -642,11 +642,11 @@ counted_still events m done failed = record { done = omega (arith, done); failed
 
 -- ---- The event, with its line
 
-module _ {Own : Type 0} {Tells : Type 0} {accepts : List TableView → Bool} {event : Event} (r : Run) (c : Core) (adds : Adds (event_line (r.core.events + 1) event.kind event.dpid) (record r.core { events = r.core.events + 1 }) c) where
+module _ (event : Event) (r : Run) (c : Core) (adds : Adds (event_line (r.core.events + 1) event.kind event.dpid) (record r.core { events = r.core.events + 1 }) c) where
   apps_noted : map (application_of c.store) r.apps.items ≡ map (application_of r.core.store) r.apps.items
   apps_noted = ap (λ (slots : List Slot). map (application_of slots) r.apps.items) adds.stays.store
 
-  stand_noted : (seen : Seen Own) → stand seen c ≡ stand seen r.core
+  stand_noted : {Own : Type 0} (seen : Seen Own) → stand seen c ≡ stand seen r.core
   stand_noted seen = ap₂ (λ (net : NetState) (queue : List Event). record { seen = seen; net = net; queue = queue }) adds.stays.net adds.stays.queue
 
   pub noted_going : AreGoing r.core r.apps.items → AreGoing c r.apps.items
@@ -671,8 +671,8 @@ module _ {Own : Type 0} {Tells : Type 0} {accepts : List TableView → Bool} {ev
   pub noted_views : c.net.views ≡ r.core.net.views
   noted_views = ap (λ (net : NetState). net.views) adds.stays.net
 
-  pub dispatched_is : (old new : Seen Own) (now_r : Run) → now_r.core.events ≡ c.events → AllOffered Tells accepts event old new c now_r.core r.apps.items now_r.apps.items → IsDispatched Tells accepts event old new r now_r
-  dispatched_is old new now_r events all = record {
+  pub dispatched_is : {Own : Type 0} {Tells : Type 0} {accepts : List TableView → Bool} (old new : Seen Own) (now_r : Run) → now_r.core.events ≡ c.events → AllOffered Tells accepts event old new c now_r.core r.apps.items now_r.apps.items → IsDispatched Tells accepts event old new r now_r
+  dispatched_is {Own = Own} {Tells = Tells} {accepts = accepts} old new now_r events all = record {
     text = event_line (r.core.events + 1) event.kind event.dpid ++ all.text;
     dispatches = record {
       turn_text = all.text;
@@ -686,8 +686,8 @@ module _ {Own : Type 0} {Tells : Type 0} {accepts : List TableView → Bool} {ev
     notes = all.notes ∙ ap (λ (xs : List ℕ). xs ++ all.text) adds.lines ∙ append_assoc r.core.lines.items (event_line (r.core.events + 1) event.kind event.dpid) all.text;
   }
 
-  pub fails_is : (fault : Fault) (old new : Seen Own) → OffersFail Tells accepts fault event old new c r.apps.items → FailsIn Tells accepts fault event old new (engine_of r)
-  fails_is fault old new f = record {
+  pub fails_is : {Own : Type 0} {Tells : Type 0} {accepts : List TableView → Bool} (fault : Fault) (old new : Seen Own) → OffersFail Tells accepts fault event old new c r.apps.items → FailsIn Tells accepts fault event old new (engine_of r)
+  fails_is {Own = Own} {Tells = Tells} {accepts = accepts} fault old new f = record {
     number = f.number;
     mid = f.mid;
     mid_engine = engine_with f.mid_core f.mid_apps;

@@ -21,9 +21,9 @@ returns-then-len-gt-MOST_BODY-clause-fails g c = offer_none g.W.World.Tells c.ar
 
 pub returns-clause-offered : goal.returns-clause-offered
 returns-clause-offered g c =
-    offer_noted c.take_turn.result (g.W.World.seen c.args.world.now) (g.W.World.seen c.take_turn.new.world) c.args.core.now c.take_turn.new.self c.args.app.now c.take_turn.new.app (sym (c.if-not-takes.ensures c.args.core.now.store))
+    offer_noted (g.J.Judge.accepts c.args.judge.now) c.args.event.now c.take_turn.result (g.W.World.seen c.args.world.now) (g.W.World.seen c.take_turn.new.world) c.args.core.now c.take_turn.new.self c.args.app.now c.take_turn.new.app (sym (c.if-not-takes.ensures c.args.core.now.store))
     c.take_turn.ensures.events c.take_turn.ensures.index c.take_turn.ensures.later c.take_turn.ensures.turn
 
 pub returns-clause-fails : goal.returns-clause-fails
 returns-clause-fails g c =
-    offer_failed c.take_turn.result (g.W.World.seen c.args.world.now) (g.W.World.seen c.take_turn.new.world) c.args.core.now c.args.app.now (sym (c.if-not-takes.ensures c.args.core.now.store)) c.take_turn.ensures.talks c.take_turn.ensures.later c.take_turn.ensures.left c.take_turn.ensures.plain
+    offer_failed c.args.event.now c.take_turn.result (g.W.World.seen c.args.world.now) (g.W.World.seen c.take_turn.new.world) c.args.core.now c.args.app.now (sym (c.if-not-takes.ensures c.args.core.now.store)) c.take_turn.ensures.talks c.take_turn.ensures.later c.take_turn.ensures.left c.take_turn.ensures.plain
