@@ -686,9 +686,9 @@ module _ (event : Event) (r : Run) (c : Core) (adds : Adds (event_line (r.core.e
     notes = all.notes ∙ ap (λ (xs : List ℕ). xs ++ all.text) adds.lines ∙ append_assoc r.core.lines.items (event_line (r.core.events + 1) event.kind event.dpid) all.text;
   }
 
-  pub dispatched_if : {Own : Type 0} {Tells : Type 0} {accepts : List TableView → Bool} (result : Result (Unit {0}) Fault) (old new : Seen Own) (now_r : Run) → OnOk result (now_r.core.events ≡ c.events) → OnOk result (AllOffered Tells accepts event old new c now_r.core r.apps.items now_r.apps.items) → OnOk result (IsDispatched Tells accepts event old new r now_r)
-  dispatched_if (Ok x) old new now_r events all = dispatched_is old new now_r events all
-  dispatched_if (Err fault) old new now_r events all = tt
+  pub dispatched_if : {Own : Type 0} (Tells : Type 0) (accepts : List TableView → Bool) (result : Result (Unit {0}) Fault) (old new : Seen Own) (now_r : Run) → OnOk result (now_r.core.events ≡ c.events) → OnOk result (AllOffered Tells accepts event old new c now_r.core r.apps.items now_r.apps.items) → OnOk result (IsDispatched Tells accepts event old new r now_r)
+  dispatched_if Tells accepts (Ok x) old new now_r events all = dispatched_is old new now_r events all
+  dispatched_if Tells accepts (Err fault) old new now_r events all = tt
 
   pub fails_is : {Own : Type 0} {Tells : Type 0} {accepts : List TableView → Bool} (fault : Fault) (old new : Seen Own) → OffersFail Tells accepts fault event old new c r.apps.items → FailsIn Tells accepts fault event old new (engine_of r)
   fails_is {Own = Own} {Tells = Tells} {accepts = accepts} fault old new f = record {

@@ -47,7 +47,7 @@ returns-clause-number g c =
 
 pub returns-clause-dispatched : goal.returns-clause-dispatched
 returns-clause-dispatched g c =
-    dispatched_if c.args.event.now c.args.self.now c.note.new.self (subst (λ (t : List ℕ). Adds t (record c.args.self.now.core { events = c.args.self.now.core.events + 1 }) c.note.new.self) c.in_ok-line.ensures c.in_ok-note.ensures.adds) c.offer_all.result (g.W.World.seen c.args.world.now) (g.W.World.seen c.offer_all.new.world) _ c.offer_all.ensures.events c.offer_all.ensures.offered
+    dispatched_if c.args.event.now c.args.self.now c.note.new.self (subst (λ (t : List ℕ). Adds t (record c.args.self.now.core { events = c.args.self.now.core.events + 1 }) c.note.new.self) c.in_ok-line.ensures c.in_ok-note.ensures.adds) g.W.World.Tells (g.J.Judge.accepts c.args.judge.now) c.offer_all.result (g.W.World.seen c.args.world.now) (g.W.World.seen c.offer_all.new.world) _ c.offer_all.ensures.events c.offer_all.ensures.offered
 
 pub returns-clause-places : goal.returns-clause-places
 returns-clause-places g c =
