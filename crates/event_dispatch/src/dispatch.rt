@@ -22,9 +22,9 @@ ghost use Rattle.event_dispatch.specs.Undone.{IsShort, TurnLeft};
 ghost use Rattle.event_dispatch.specs.Cut.{OfferFails, OffersFail, FailsIn, CutOne, CutSome};
 
 use crate::closing::Closing;
+use crate::core::Core;
 use crate::fault::Fault;
 use crate::limits::{MOST_BODY, MOST_EVENTS};
-use crate::core::Core;
 use crate::run::{Managed, Run};
 use app_frames::{Event, EventKind};
 use app_visor::{AppState, Back, TurnEnd, restart, turn};
@@ -165,7 +165,11 @@ impl Core {
 
     /// Starts an application at its kept checkpoint, in at most three attempts.
     #[tactic(auto, using(crate::specs::laws::WhyLaws::waits_then))]
-    pub(crate) fn start<W: World>(&mut self, world: &mut W, app: &mut Managed<'_>) -> Result<(), AllocError>
+    pub(crate) fn start<W: World>(
+        &mut self,
+        world: &mut W,
+        app: &mut Managed<'_>,
+    ) -> Result<(), AllocError>
         requires place { app.old.state.index < length self.old.store }
         requires store { StoreRests self.old.store }
         ensures waits { OnOk result (Waits self.old self.new) }
@@ -236,7 +240,12 @@ impl Core {
 
     /// Does what the policy says of an application whose turn failed at an event of a kind: it is gone, or it is started again
     /// at its kept checkpoint.
-    fn go_on<W: World>(&mut self, world: &mut W, app: &mut Managed<'_>, kind: EventKind) -> Result<(), AllocError>
+    fn go_on<W: World>(
+        &mut self,
+        world: &mut W,
+        app: &mut Managed<'_>,
+        kind: EventKind,
+    ) -> Result<(), AllocError>
         requires place { app.old.state.index < length self.old.store }
         requires store { StoreRests self.old.store }
         ensures waits { OnOk result (Waits self.old self.new) }
@@ -271,7 +280,12 @@ impl Core {
 
     /// Appends the lines of a turn that was done: how it ended, and the packets that were released.
     #[tactic(auto, using(crate::specs::laws::WhyLaws::waits_then))]
-    fn note_done(&mut self, name: &str, word: TurnWord, out: &[(Dpid, u32)]) -> Result<(), AllocError>
+    fn note_done(
+        &mut self,
+        name: &str,
+        word: TurnWord,
+        out: &[(Dpid, u32)],
+    ) -> Result<(), AllocError>
         ensures waits { OnOk result (Waits self.old self.new) }
         ensures adds { OnOk result (Adds (turn_line_of (name.now) word ++ out_text out.now) self.old self.new) }
     {
@@ -314,7 +328,11 @@ impl Core {
         match closing {
             Closing::Done { stop, out } => {
                 app.done += 1;
-                self.note_done(name, if stop { TurnWord::Stop } else { TurnWord::Done }, &out)?;
+                self.note_done(
+                    name,
+                    if stop { TurnWord::Stop } else { TurnWord::Done },
+                    &out,
+                )?;
                 self.tell_lost()?;
                 Ok(stop)
             }
@@ -461,12 +479,7 @@ impl Run<'_> {
         ensures why { IfErr result (IsReason W.Tells (W.seen world.old) (W.seen world.new) 0 0) }
     {
         self.core.events += 1;
-        let line = event_line(
-            self.core.alloc,
-            self.core.events,
-            event.kind,
-            event.dpid,
-        )?;
+        let line = event_line(self.core.alloc, self.core.events, event.kind, event.dpid)?;
         self.core.note(&line)?;
         offer_all(&mut self.core, world, &mut self.apps, judge, event)
     }
