@@ -1,5 +1,5 @@
 -- What the end of a report says in a world that keeps its word, and what it leaves. All of this is our own.
-use Rattle.std.specs.Prelude.{◌≡◌, ℕ, ◌+◌, true, false, List, [], ◌∷◌, ◌++◌, take, drop, map, Option, Some, None}
+use Rattle.std.specs.Prelude.{◌≡◌, ℕ, ◌+◌, true, false, List, [], ◌∷◌, ◌++◌, take, drop, Option, Some, None}
 use Rattle.std.specs.List.{flat_map}
 use Rattle.of_match.specs.declared.key.Key.{Key}
 use Rattle.of_stats.specs.declared.flow_row.FlowRow.{FlowRow}

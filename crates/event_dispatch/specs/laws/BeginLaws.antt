@@ -1,28 +1,26 @@
 -- Laws of the start: applications of which nothing has happened, and that they are started, one after the other.
-use Rattle.std.specs.Prelude.{◌≡◌, ℕ, zero, suc, ◌+◌, ◌<◌, ◌≤◌, Bool, false, List, [], ◌∷◌, ◌++◌, length, take, drop, map, get_or, set, replicate, refl}
+use Rattle.std.specs.Prelude.{◌≡◌, ℕ, zero, suc, ◌+◌, ◌<◌, ◌≤◌, false, List, [], ◌∷◌, ◌++◌, length, take, drop, map, get_or, set, replicate, refl}
 use Rattle.std.specs.List.{AllByRecursion}
 use Rattle.std.proofs.Common.{sym, ap, ap₂, ◌∙◌, subst, append_assoc, add-one, arith}
 use Rattle.std.proofs.lemmas.List.{append-nil, take_more}
 use Rattle.app_frames.specs.declared.frame.Event.{Event}
 use Rattle.crash_policy.specs.declared.policy_file.AppRule.{AppRule}
-use Rattle.crash_policy.specs.Policies.{AppValue, app_value}
+use Rattle.crash_policy.specs.Policies.{app_value}
 use Rattle.outside.specs.Seen.{Seen, Continues}
 use Rattle.outside.specs.laws.SeenLaws.{Continues-refl, Continues-trans}
 use Rattle.net_txn.specs.Net.{NetState}
-use Rattle.net_txn.specs.laws.SaidLaws.{all_two}
 use Rattle.checkpoint_store.specs.Past.{after}
 use Rattle.checkpoint_store.specs.Slots.{Slot, empty_slot, slot_of}
 use Rattle.app_visor.specs.CallsFor.{CallsFor, OwnSteps}
 use Rattle.app_visor.specs.laws.OwnLaws.{own_calls}
 use Rattle.app_visor.specs.Attempts.{kept_of}
-use Rattle.run_laws.specs.Engine.{Application, Engine, Focus, focus}
-use Rattle.run_laws.specs.Facts.{StartsAgain, StartsOne, StartsThen, StartsFrom}
+use Rattle.run_laws.specs.Engine.{Application, Focus, focus}
+use Rattle.run_laws.specs.Facts.{StartsAgain, StartsOne, StartsFrom}
 use Rattle.run_laws.specs.First.{net_at_first, app_at_first, engine_at_first}
 use Rattle.event_dispatch.specs.declared.core.Core.{Core}
 use Rattle.event_dispatch.specs.declared.run.Managed.{Managed}
-use Rattle.event_dispatch.specs.declared.run.Run.{Run}
 use Rattle.event_dispatch.specs.Runs.{AreRead, StoreRests, CoreGoes, IsCountedTo, AreNumbered, AreGoing, SameManaged, IsFresh, AreFresh, Waits}
-use Rattle.event_dispatch.specs.Shows.{application_of, focus_of, engine_with, engine_of, Stays}
+use Rattle.event_dispatch.specs.Shows.{application_of, focus_of, engine_with, Stays}
 use Rattle.event_dispatch.specs.Serves.{Notes, Starts, AllStarted}
 use Rattle.event_dispatch.specs.Steady.{NoStray, Reads, NoPoint}
 use Rattle.event_dispatch.specs.Talking.{KeepsTalking}

@@ -28,14 +28,13 @@ use Rattle.net_txn.specs.Releases.{committed, Commits}
 use Rattle.lego_model.specs.AfterFault.{NoEventSince, answering, IsCompleted, HasEntriesAgain, WasLost, UndoneButFailed, TurnDone, SwitchesStay, TurnKept, after_packets, TurnReleasing, TablesLeft, TablesBehind}
 use Rattle.lego_model.specs.laws.SwitchFaultLaws.{failed_before, failed_told}
 use Rattle.switch_laws.specs.Released.{MovesOrLoses}
-use Rattle.switch_laws.specs.Since.{Ready}
 use Rattle.switch_laws.specs.laws.FaultLaws.{lost-still}
 use Rattle.switch_laws.specs.laws.ReleaseLaws.{release-moves}
 use Rattle.journal_laws.specs.laws.FrameLaws.{event_is}
 use Rattle.app_visor.specs.declared.state.TurnEnd.{TurnEnd}
 use Rattle.app_visor.specs.declared.state.TurnEnd.TheVariants as ends
 use Rattle.app_visor.specs.Talks.{give_act}
-use Rattle.app_visor.specs.Beats.{Exchange, Stops, acts_in, exchanges_in, acts_of}
+use Rattle.app_visor.specs.Beats.{Exchange, Stops, acts_in, exchanges_in}
 use Rattle.app_visor.specs.Turns.{IsEnd, Agrees, Turns}
 use Rattle.app_visor.specs.laws.TableLaws.{turn_alike}
 use Rattle.app_visor.specs.CallsFor.{OwnSteps}

@@ -4,10 +4,10 @@ use Rattle.std.specs.Prelude.{◌≡◌, ℕ, zero, suc, ◌+◌, ◌<◌, ◌�
 use Rattle.std.specs.List.{AllByRecursion, list_any}
 use Rattle.std.proofs.Common.{sym, ap, ap₂, ◌∙◌, subst, append_assoc, add-one, arith, inl, inr, true≢false}
 use Rattle.std.proofs.lemmas.Bool.{and_parts, cases_Bool, cases_eq}
-use Rattle.std.proofs.lemmas.List.{append-nil, take_all}
+use Rattle.std.proofs.lemmas.List.{append-nil}
 use Rattle.flow_table.specs.View.{TableView}
 use Rattle.app_frames.specs.declared.frame.Event.{Event}
-use Rattle.crash_policy.specs.Policies.{AppValue, app_value}
+use Rattle.crash_policy.specs.Policies.{app_value}
 use Rattle.lego_model.specs.AtOnce.{AtOnce}
 use Rattle.lego_model.specs.RunReport.{event_line}
 use Rattle.outside.specs.Seen.{Seen, Continues, journal}
@@ -29,7 +29,7 @@ use Rattle.event_dispatch.specs.declared.run.Managed.{Managed}
 use Rattle.event_dispatch.specs.declared.run.Run.{Run}
 use Rattle.event_dispatch.specs.Runs.{AreRead, StoreRests, CoreGoes, IsCountedTo, IsCountedBefore, AreBefore, AreNumbered, AreGoing}
 use Rattle.event_dispatch.specs.Stored.{KeepsOthers}
-use Rattle.event_dispatch.specs.Shows.{application_of, focus_of, engine_with, engine_of, Adds}
+use Rattle.event_dispatch.specs.Shows.{application_of, engine_with, engine_of, Adds}
 use Rattle.event_dispatch.specs.Serves.{Notes, TurnNoted, stand, OfferNoted, AllOffered, IsDispatched}
 use Rattle.event_dispatch.specs.Steady.{NoStray, Reads}
 use Rattle.event_dispatch.specs.Plain.{PlainTurn}

@@ -1,6 +1,6 @@
 use Rattle.std.proofs.Common.{refl, sym}
 use Rattle.event_dispatch.specs.laws.SteadyLaws.{places_none, reads_none}
-use Rattle.event_dispatch.specs.laws.OfferLaws.{offer_passed, offer_none, offer_failed, offer_noted, keeps_all, counted_still}
+use Rattle.event_dispatch.specs.laws.OfferLaws.{offer_passed, offer_none, offer_failed, offer_noted}
 use Rattle.event_dispatch.proofs.dispatch.offer.Goals as goal
 
 pub returns-then-not-takes-clause-offered : goal.returns-then-not-takes-clause-offered

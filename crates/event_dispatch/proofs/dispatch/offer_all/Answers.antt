@@ -1,4 +1,4 @@
-use Rattle.std.proofs.Common.{List, length, ap, arith}
+use Rattle.std.proofs.Common.{arith}
 use Rattle.event_dispatch.specs.declared.fault.Fault.{Fault}
 use Rattle.event_dispatch.specs.Why.{IsReason, served_by}
 use Rattle.event_dispatch.specs.Cut.{OffersFail}

@@ -1,4 +1,3 @@
-use Rattle.std.proofs.Common.{arith}
 use Rattle.outside.specs.laws.SeenLaws.{Continues-refl}
 use Rattle.event_dispatch.specs.laws.WhyLaws.{continues_then}
 use Rattle.event_dispatch.specs.laws.EndedLaws.{ended_none, ended_next, are_ended}

@@ -8,7 +8,7 @@ use Rattle.event_dispatch.specs.Shows.{Adds, engine_of}
 use Rattle.event_dispatch.specs.laws.PlainLaws.{on_err}
 use Rattle.event_dispatch.specs.laws.SteadyLaws.{places_none, places_number}
 use Rattle.event_dispatch.specs.laws.DispatchStrayLaws.{places_as, reads_over}
-use Rattle.event_dispatch.specs.laws.OfferLaws.{noted_going, noted_before, noted_number, noted_views, dispatched_is, dispatched_if, fails_is, fails_short}
+use Rattle.event_dispatch.specs.laws.OfferLaws.{noted_going, noted_before, noted_number, noted_views, dispatched_if, fails_is, fails_short}
 use Rattle.event_dispatch.proofs.run.Run.dispatch.Goals as goal
 
 pub returns-in_err-line-clause-fails : goal.returns-in_err-line-clause-fails

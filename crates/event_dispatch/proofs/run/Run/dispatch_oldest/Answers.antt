@@ -1,5 +1,5 @@
 use Rattle.event_dispatch.specs.declared.fault.Fault.TheVariants as faults
-use Rattle.std.proofs.Common.{length, rules, refl}
+use Rattle.std.proofs.Common.{rules, refl}
 use Rattle.event_dispatch.specs.laws.RoundLaws.{one_settled, none_settled, going_stays}
 use Rattle.event_dispatch.specs.laws.PlainLaws.{run_anyway, run_fails}
 use Rattle.event_dispatch.specs.laws.CutLaws.{if_err, still_is, fails_next, one_still, one_unwritten}

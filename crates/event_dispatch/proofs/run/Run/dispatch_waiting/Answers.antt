@@ -1,4 +1,4 @@
-use Rattle.std.proofs.Common.{◌+◌, length, rules, arith, refl, ◌∙◌}
+use Rattle.std.proofs.Common.{◌+◌, rules, arith, refl, ◌∙◌}
 use Rattle.event_dispatch.specs.laws.WhyLaws.{continues_then, fell_then}
 use Rattle.event_dispatch.specs.laws.RoundLaws.{places_on, some_none, some_more, settles_early, settles_all}
 use Rattle.event_dispatch.specs.laws.PlainLaws.{run_settled}

@@ -1,4 +1,4 @@
-use Rattle.std.proofs.Common.{length, rules, refl}
+use Rattle.std.proofs.Common.{rules, refl}
 use Rattle.event_dispatch.specs.laws.WholeLaws.{finishes_by}
 use Rattle.event_dispatch.specs.laws.PlainLaws.{calm_anyway}
 use Rattle.event_dispatch.specs.laws.CutLaws.{if_err, finish_cut}

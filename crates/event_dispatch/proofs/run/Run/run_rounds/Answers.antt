@@ -1,4 +1,4 @@
-use Rattle.std.proofs.Common.{length, rules, arith, refl, subst, ◌∙◌}
+use Rattle.std.proofs.Common.{rules, arith, refl, subst, ◌∙◌}
 use Rattle.event_dispatch.specs.declared.batch.Rest.{Rest}
 use Rattle.event_dispatch.specs.Serves.{GoesRound}
 use Rattle.event_dispatch.specs.laws.WhyLaws.{continues_then, fell_then}
