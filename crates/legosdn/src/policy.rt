@@ -92,10 +92,10 @@ fn with_commands(apps: Vec<AppRule>) -> Result<Vec<AppRule>, Refusal>
     ensures taken { IfOk result (λ same. (same ≡ apps) × (with_words (map app_value apps.items) ≡ Ok (map app_value apps.items))) }
     ensures refused { IfErr result (λ refusal. with_words (map app_value apps.items) ≡ Err (refusal_line refusal)) }
 {
-    if are_startable(&apps) {
-        return Ok(apps);
+    if !are_startable(&apps) {
+        return Err(Refusal::NoCommand);
     }
-    Err(Refusal::NoCommand)
+    Ok(apps)
 }
 
 /// Reads an input to its end, as a policy, and gives the applications that it starts, in their order.
