@@ -1,6 +1,7 @@
 //! A run so far: what the engine keeps, and its applications.
 
-ghost use Rattle.std.specs.Prelude.{◌≡◌, ◌<◌, ◌≤◌, ◌^◌, [], length, map, IfOk};
+ghost use Rattle.std.specs.Prelude.{◌≡◌, ◌<◌, ◌≤◌, ◌^◌, List, [], length, map, IfOk};
+ghost use Rattle.checkpoint_store.specs.Slots.{Slot};
 ghost use Rattle.crash_policy.specs.Policies.{app_value};
 ghost use Rattle.event_dispatch.specs.Runs.{Going, AreFresh};
 ghost use Rattle.run_laws.specs.First.{engine_at_first};
@@ -10,7 +11,6 @@ ghost use Rattle.event_dispatch.specs.Shows.{engine_of, application_of};
 use crate::core::Core;
 use app_frames::Event;
 use app_visor::AppState;
-use checkpoint_store::Slot;
 use crash_policy::{AppRule, listens};
 use std::alloc::{AllocError, Global};
 

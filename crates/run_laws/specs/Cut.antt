@@ -1,5 +1,5 @@
 -- A run that a fault ends before its end: how far it is the reference controller's, and what was written. All of this is our own.
-use Rattle.std.specs.Prelude.{◌≡◌, ℕ, ◌<◌, ◌≤◌, Bool, List, ◌++◌, [], length, Option}
+use Rattle.std.specs.Prelude.{◌≡◌, ℕ, ◌<◌, ◌≤◌, Bool, true, List, ◌++◌, [], length, Option}
 use Rattle.std.specs.List.{AllByRecursion}
 use Rattle.of_types.specs.declared.journal.Act.{Act}
 use Rattle.of_types.specs.declared.journal.Act.TheVariants.{Started, Gave, Gone, Took, Ended}
