@@ -5,7 +5,7 @@ use Rattle.app_frames.specs.declared.cause.Tried.{Tried}
 use Rattle.crash_policy.specs.declared.policy_file.Policy.{Policy}
 use Rattle.lego_model.specs.Journal.{Reply, Start}
 use Rattle.lego_model.specs.RunReport.{name_of}
-use Rattle.lego_model.specs.Controller.{Started, after_failure, gone_line, Ended, out_lines, lost_lines, leavers, restart_lines, Release, turn}
+use Rattle.lego_model.specs.Controller.{Started, after_failure, gone_line, Ended, out_lines, lost_lines, leavers, restart_lines, Release, turn, says_stop}
 use Rattle.lego_model.specs.Losses.{TurnLosses}
 use Rattle.lego_model.specs.Scripted.{AreStartFronts, IsFront}
 use Rattle.outside.specs.Seen.{Seen, Continues}
@@ -87,9 +87,11 @@ pub record TurnAlike {Own : Type 0} (allows : List Place → Bool) (event : Even
   pub text_is : (names : List (List ℕ)) → name_of e.index names ≡ e.rule.name → (later_starts : List Start) (later_replies : List Reply)
       → text ≡ lines_text names (Ended e.index outcome ∷ out_lines release.packets ++ lost_lines (leavers left) ++ restart_lines e.index outcome (app_at now_e (given_in e.index new) later_starts later_replies, tries))
 
-pub record TurnMoves {Own : Type 0} (allows : List Place → Bool) (event : Event) (text : List ℕ) (old new : Seen Own) (e now_e : Focus) : Type 0 where
+-- so it leaves an event where it stops it there, or does not
+pub record TurnMoves {Own : Type 0} (allows : List Place → Bool) (event : Event) (stops : Bool) (text : List ℕ) (old new : Seen Own) (e now_e : Focus) : Type 0 where
   pub starts : List Start
   pub reply : Reply
   pub tells : TurnTells old new e now_e starts reply
   pub losses : TurnLosses
   pub alike : TurnAlike allows event text old new e now_e starts reply losses
+  pub stops_is : says_stop alike.outcome ≡ stops

@@ -1,6 +1,6 @@
 -- A part of a run, as a batch, an event or a start, does what the reference controller does, with what the journal tells of the applications
 -- in it. All of this is our own.
-use Rattle.std.specs.Prelude.{◌≡◌, ℕ, Bool, true, List, [], ◌∷◌, ◌++◌, map, length, ◌<◌}
+use Rattle.std.specs.Prelude.{◌≡◌, ℕ, Bool, true, List, [], ◌∷◌, ◌++◌, length, ◌<◌}
 use Rattle.of_types.specs.declared.journal.WorldStim.{WorldStim}
 use Rattle.flow_table.specs.View.{TableView}
 use Rattle.of_types.specs.declared.journal.Act.{Act}

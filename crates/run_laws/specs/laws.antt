@@ -6,6 +6,8 @@ pub mod WholeLaws
 pub mod FinishLaws
 pub mod EndingLaws
 pub mod LeaveLaws
+pub mod OtherLaws
+pub mod ReadRunLaws
 pub mod BatchMoveLaws
 pub mod LastReportLaws
 pub mod FrameLaws
@@ -19,6 +21,7 @@ pub mod TellLaws
 pub mod LineLaws
 pub mod StartMoveLaws
 pub mod TurnMoveLaws
+pub mod OfferLaws
 pub mod DispatchLaws
 pub mod EventLaws
 pub mod StimuliLaws

@@ -1,5 +1,5 @@
 -- A batch in a world that keeps its word is what the reference controller makes of its stimulus.
-use Rattle.std.proofs.Common.{◌≡◌, ℕ, List, [], ◌∷◌, ◌++◌, filter, Bool, true, false, Option, Some, None, refl, sym, ap, ap₂, ◌∙◌, subst, inl, inr}
+use Rattle.std.proofs.Common.{◌≡◌, ℕ, ◌+◌, List, [], ◌∷◌, ◌++◌, length, filter, Bool, true, false, Option, Some, None, refl, sym, ap, ap₂, ◌∙◌, subst, inl, inr}
 use Rattle.std.specs.Option.{option_map}
 use Rattle.std.proofs.lemmas.List.{append-nil, append_cancel_left}
 use Rattle.std.proofs.lemmas.List.Concat.{flat_map-append}
@@ -10,7 +10,7 @@ use Rattle.of_types.specs.declared.journal.WorldStim.TheVariants.{Join, Leave, A
 use Rattle.flow_table.specs.Switch.{Declared, SwitchState}
 use Rattle.app_frames.specs.declared.frame.Event.{Event}
 use Rattle.lego_model.specs.Answers.{rows_of_table}
-use Rattle.lego_model.specs.Journal.{Reply, Start, is_of, inputs, stimuli, released, losses}
+use Rattle.lego_model.specs.Journal.{is_of, inputs, stimuli, released, losses}
 use Rattle.lego_model.specs.Places.{Place, with_place}
 use Rattle.lego_model.specs.Losses.{Losses, next_flag, batch_fewer}
 use Rattle.lego_model.specs.Controller.{Run, Lost, reference_mark, places_after, events_after, lost_at, left_at, happen_to, happen}
@@ -27,10 +27,8 @@ use Rattle.switch_laws.specs.Orderly.{OrderlySince}
 use Rattle.switch_laws.specs.Since.{ports_known}
 use Rattle.switch_laws.specs.Sound.{Sound}
 use Rattle.switch_laws.specs.laws.OrderlyLaws.{orderly-whole}
-use Rattle.journal_laws.specs.Readings.{LastStands}
 use Rattle.lego_model.specs.History.{starts_in, replies_in, own_acts, given_in, stimuli_in, points_in}
 use Rattle.journal_laws.specs.laws.CallLaws.{inputs_own}
-use Rattle.lego_model.specs.AtOnce.{at_first, Dialogue}
 use Rattle.batch_laws.specs.Knowledge.{knowledge_of}
 use Rattle.batch_laws.specs.Calm.{Calm}
 use Rattle.batch_laws.specs.Batches.{Standing}
@@ -39,11 +37,13 @@ use Rattle.batch_laws.specs.laws.HistoryLaws.{links-declared}
 use Rattle.batch_laws.specs.laws.StimulusLaws.{stimulus-handled}
 use Rattle.batch_laws.specs.laws.LossLaws.{loss-handled}
 use Rattle.batch_laws.specs.Tells.{StimulusHandled, StimulusLost}
-use Rattle.run_laws.specs.Engine.{Engine, Stands, app_at, ahead, engine_then}
-use Rattle.lego_model.specs.Application.{index, names}
-use Rattle.lego_model.specs.ReferenceRun.{text_of}
-use Rattle.run_laws.specs.Moves.{AtRest, Moved, OneHappens}
-use Rattle.run_laws.specs.laws.DialogueLaws.{others_at_once}
+use Rattle.run_laws.specs.Engine.{Application, Engine, EachFrom, Stands, apps_from, ahead, behind, told_none, rules_of, engine_then}
+use Rattle.lego_model.specs.Application.{names}
+use Rattle.lego_model.specs.ReferenceRun.{Said, text_of}
+use Rattle.run_laws.specs.LinkSteps.{Silent}
+use Rattle.run_laws.specs.Moves.{TellsMore, IsAtRest, AtRest, Moved, OneHappens}
+use Rattle.run_laws.specs.laws.MoveLaws.{apps-ext, behind-none}
+use Rattle.run_laws.specs.laws.OtherLaws.{silent-rests}
 use Rattle.run_laws.specs.laws.PointLaws.{marks_more, mark_alike}
 use Rattle.run_laws.specs.laws.FinishLaws.{shown-still}
 
@@ -112,9 +112,9 @@ calm-still old new net same calm = record {
 
 -- ---- The reference controller
 
-marks-stand : {Own : Type 0} (x : WorldStim) (first now : Standing Own) (e : Engine) (ss : List Start) (rs : List Reply) (later : Losses) (r : Run) → Conforming first.seen → e.net ≡ first.net → SameBesides (state now.seen) (after_stim x (state first.seen)) → Stands first.seen e ss rs later r
+marks-stand : {Own : Type 0} (x : WorldStim) (first now : Standing Own) (e : Engine) (said : ℕ → Said) (later : Losses) (r : Run) → Conforming first.seen → e.net ≡ first.net → SameBesides (state now.seen) (after_stim x (state first.seen)) → Stands first.seen e said later r
     → AgreeMarks (points_in now.seen) (r.marks ++ reference_mark None r.places ∷ [])
-marks-stand x first now e ss rs later r keeps same_net stays s =
+marks-stand x first now e said later r keeps same_net stays s =
     let old = first.seen in
     let before : r.places ≡ shown_places old.given.declared first.net.views (state old) = s.places ∙ ap (λ (n : NetState). shown_places old.given.declared n.views (state old)) same_net in
     subst (λ (ms : List Mark). AgreeMarks ms (r.marks ++ reference_mark None r.places ∷ [])) (sym (stays.marks ∙ marks-then x (state old)))
@@ -122,8 +122,12 @@ marks-stand x first now e ss rs later r keeps same_net stays s =
     (subst (λ (ps : List Place). AgreeMark (mark_of None (state old)) (reference_mark None ps)) (sym before) (mark_alike None old.given.declared first.net.views (state old) (links-declared old) keeps.declared)))
 
 -- what the application was given is the same
-inputs-same : {Own : Type 0} (old new : Seen Own) → own_acts new ≡ own_acts old → given_in new ≡ given_in old
-inputs-same old new own = sym (inputs_own index (journal new.history)) ∙ ap (λ (acts : List Act). inputs index acts) own ∙ inputs_own index (journal old.history)
+pub inputs-same : {Own : Type 0} (i : ℕ) (old new : Seen Own) → own_acts i new ≡ own_acts i old → given_in i new ≡ given_in i old
+inputs-same i old new own = sym (inputs_own i (journal new.history)) ∙ ap (λ (acts : List Act). inputs i acts) own ∙ inputs_own i (journal old.history)
+
+-- so it is with all of them
+apps-same : {Own : Type 0} (old new : Seen Own) (apps : List Application) (said : ℕ → Said) → ((i : ℕ) → own_acts i new ≡ own_acts i old) → apps_from 0 old apps said ≡ apps_from 0 new apps (behind told_none said)
+apps-same old new apps said own = apps-ext 0 old new apps said (behind told_none said) (λ j le. (inputs-same j old new (own j), sym (behind-none said j)))
 
 -- of the losses that are to come the first is that of a batch
 flag-so : (flag : Bool) (later : Losses) (r : Run) (x : WorldStim) → r.losses ≡ ahead (flag ∷ []) [] later → lost_at (next_flag r.losses.batches) x ≡ lost_at flag x
@@ -146,16 +150,15 @@ happen-by : (x : WorldStim) (r : Run) (o : Option ℕ) → lost_at (next_flag r.
 unfolding happen
 happen-by x r o is = ap (λ (l : Option ℕ). happened x r (happen_to l x (places_after x r.moment r.places) r)) is
 
-happens-stands : {Own : Type 0} (x : WorldStim) (first now : Standing Own) (e : Engine) (ss : List Start) (rs : List Reply) (later : Losses) (r : Run) → e.net ≡ first.net → e.queue ≡ first.queue
-    → BatchDone x first now → Conforming first.seen → StimulusHandled x first.seen first.net first.queue (knowledge_of now.net now.queue) → Stands first.seen e ss rs (ahead (false ∷ []) [] later) r
-    → Stands now.seen (engine_then e now.net now.queue) ss rs later (happen x r)
-happens-stands {Own} x first now e ss rs later r same_net same_queue done keeps_old h s =
+happens-stands : {Own : Type 0} (x : WorldStim) (first now : Standing Own) (e : Engine) (said : ℕ → Said) (later : Losses) (r : Run) → e.net ≡ first.net → e.queue ≡ first.queue
+    → BatchDone x first now → Conforming first.seen → StimulusHandled x first.seen first.net first.queue (knowledge_of now.net now.queue) → Stands first.seen e said (ahead (false ∷ []) [] later) r
+    → Stands now.seen (engine_then e now.net now.queue) (behind told_none said) later (happen x r)
+happens-stands {Own} x first now e said later r same_net same_queue done keeps_old h s =
     let old = first.seen in
     let new = now.seen in
     let declared : new.given.declared ≡ old.given.declared = ap (λ (g : Given Own). g.declared) done.given in
     let before : r.places ≡ shown_places old.given.declared first.net.views (state old) = s.places ∙ ap (λ (n : NetState). shown_places old.given.declared n.views (state old)) same_net in
-    let own : own_acts new ≡ own_acts old = done.acts index in
-    subst (Stands new (engine_then e now.net now.queue) ss rs later) (sym (happen-by x r None (flag-so false later r x s.losses_is ∙ no_flag x))) (record {
+    subst (Stands new (engine_then e now.net now.queue) (behind told_none said) later) (sym (happen-by x r None (flag-so false later r x s.losses_is ∙ no_flag x))) (record {
       calm = calm-then x first now (subst (λ (n : NetState). n.held ≡ []) same_net s.calm.held) done h;
       moment = ap (moment_after x) s.moment ∙ sym (moment-then x (state old)) ∙ sym done.stays.moment;
       places = ap₂ (λ (m : ℕ) (ps : List Place). places_after x m ps) s.moment before ∙ sym h.places
@@ -163,37 +166,34 @@ happens-stands {Own} x first now e ss rs later r same_net same_queue done keeps_
           ∙ ap (λ (ds : List Declared). shown_places ds now.net.views (state new)) (sym declared);
       queue = ap₂ (λ (q : List Event) (more : List Event). q ++ more) (s.queue ∙ same_queue) (ap₂ (λ (m : ℕ) (ps : List Place). events_after x m ps) s.moment before) ∙ sym h.queue_is;
       events = s.events;
-      apps = s.apps ∙ ap (λ (given : List (List ℕ)). app_at (engine_then e now.net now.queue) given ss rs ∷ []) (sym (inputs-same old new own));
+      apps = s.apps ∙ apps-same old new e.apps said done.acts;
       released = s.released ∙ sym done.released;
       lost = s.lost ∙ sym done.lost;
       losses_is = ap batch_fewer s.losses_is;
-      marks = marks-stand x first now e ss rs (ahead (false ∷ []) [] later) r keeps_old same_net done.stays s;
-      life = λ alive. subst LastStands (sym own) (s.life alive);
+      marks = marks-stand x first now e said (ahead (false ∷ []) [] later) r keeps_old same_net done.stays s;
     })
 
-lost-stands : {Own : Type 0} (x : WorldStim) (first now : Standing Own) (e : Engine) (ss : List Start) (rs : List Reply) (later : Losses) (r : Run) → e.net ≡ first.net → e.queue ≡ first.queue
-    → (l : BatchLost x false first now) → Conforming first.seen → StimulusLost x l.dpid first.seen now.seen first.net first.queue (knowledge_of now.net now.queue) → Stands first.seen e ss rs (ahead (true ∷ []) [] later) r
-    → Stands now.seen (engine_then e now.net now.queue) ss rs later (happen x r)
-lost-stands {Own} x first now e ss rs later r same_net same_queue l keeps_old h s =
+lost-stands : {Own : Type 0} (x : WorldStim) (first now : Standing Own) (e : Engine) (said : ℕ → Said) (later : Losses) (r : Run) → e.net ≡ first.net → e.queue ≡ first.queue
+    → (l : BatchLost x false first now) → Conforming first.seen → StimulusLost x l.dpid first.seen now.seen first.net first.queue (knowledge_of now.net now.queue) → Stands first.seen e said (ahead (true ∷ []) [] later) r
+    → Stands now.seen (engine_then e now.net now.queue) (behind told_none said) later (happen x r)
+lost-stands {Own} x first now e said later r same_net same_queue l keeps_old h s =
     let old = first.seen in
     let new = now.seen in
     let d = l.dpid in
     let declared : new.given.declared ≡ old.given.declared = ap (λ (g : Given Own). g.declared) l.given in
     let before : r.places ≡ shown_places old.given.declared first.net.views (state old) = s.places ∙ ap (λ (n : NetState). shown_places old.given.declared n.views (state old)) same_net in
     let after_is : places_after x r.moment r.places ≡ h.after = ap₂ (λ (m : ℕ) (ps : List Place). places_after x m ps) s.moment before ∙ sym h.after_is in
-    let own : own_acts new ≡ own_acts old = l.acts index in
-    subst (Stands new (engine_then e now.net now.queue) ss rs later) (sym (happen-by x r (Some d) (flag-so true later r x s.losses_is ∙ l.of_stimulus))) (record {
+    subst (Stands new (engine_then e now.net now.queue) (behind told_none said) later) (sym (happen-by x r (Some d) (flag-so true later r x s.losses_is ∙ l.of_stimulus))) (record {
       calm = calm-lost x first now (subst (λ (n : NetState). n.held ≡ []) same_net s.calm.held) l h;
       moment = ap (moment_after x) s.moment ∙ sym (moment-then x (state old)) ∙ sym l.stays.moment;
       places = ap (with_place d (λ o. None)) after_is ∙ sym h.places ∙ ap (λ (ds : List Declared). shown_places ds now.net.views (state new)) (sym declared);
       queue = ap₂ (λ (q : List Event) (ps : List Place). q ++ left_at x d ps) (s.queue ∙ same_queue) after_is ∙ sym h.queue_is;
       events = s.events;
-      apps = s.apps ∙ ap (λ (given : List (List ℕ)). app_at (engine_then e now.net now.queue) given ss rs ∷ []) (sym (inputs-same old new own));
+      apps = s.apps ∙ apps-same old new e.apps said l.acts;
       released = s.released ∙ sym l.released;
       lost = ap (λ (ds : List ℕ). ds ++ d ∷ []) s.lost ∙ sym l.lost;
       losses_is = ap batch_fewer s.losses_is;
-      marks = marks-stand x first now e ss rs (ahead (true ∷ []) [] later) r keeps_old same_net l.stays s;
-      life = λ alive. subst LastStands (sym own) (s.life alive);
+      marks = marks-stand x first now e said (ahead (true ∷ []) [] later) r keeps_old same_net l.stays s;
     })
 
 happen-text : (called : List (List ℕ)) (x : WorldStim) (later : Losses) (r : Run) → r.losses ≡ ahead (false ∷ []) [] later → text_of called (happen x r) ≡ text_of called r ++ []
@@ -206,26 +206,35 @@ lost-text called x d later r of is =
 
 -- ---- The batch
 
--- of the steps since then none is of the application
-none-own : {Own : Type 0} (old new : Seen Own) (steps : List WorldStep) → new.history ≡ old.history ++ steps → own_acts new ≡ own_acts old → filter (is_of index) (journal steps) ≡ []
-none-own old new steps longer own =
-    let more : own_acts new ≡ own_acts old ++ filter (is_of index) (journal steps) =
-    ap (λ (h : List WorldStep). filter (is_of index) (journal h)) longer ∙ ap (λ (acts : List Act). filter (is_of index) acts) (journal-append old.history steps) ∙ filter-append (is_of index) (journal old.history) (journal steps) in
-    append_cancel_left (own_acts old) (filter (is_of index) (journal steps)) [] (sym more ∙ own ∙ sym (append-nil (own_acts old)))
-
--- what is so of the application then
-talks-still : {Own : Type 0} (Tells : Type 0) (old new : Seen Own) (e : Engine) (net : NetState) (queue : List Event) → Tells → Continues Tells old new → AtRest old e → own_acts new ≡ own_acts old → Calm new net → OrderlySince index old new → AtRest new (engine_then e net queue)
-talks-still Tells old new e net queue told later settled own calm orderly =
-    let steps = (later.told told).0 in
+-- it tells nothing of an application
+silent-since : {Own : Type 0} (i number : ℕ) (old new : Seen Own) → OrderlySince number old new → own_acts i new ≡ own_acts i old → Silent i old new
+silent-since i number old new since own =
+    let more : own_acts i new ≡ own_acts i old ++ filter (is_of i) (journal since.steps) =
+    ap (λ (h : List WorldStep). filter (is_of i) (journal h)) since.history ∙ ap (λ (acts : List Act). filter (is_of i) acts) (journal-append old.history since.steps) ∙ filter-append (is_of i) (journal old.history) (journal since.steps) in
     record {
-      calm = calm;
-      life = λ alive. subst LastStands (sym own) (settled.life alive);
-      speaks = record {
-        at_once = others_at_once old new steps (later.told told).1 (none-own old new steps (later.told told).1 own) settled.speaks.at_once;
-        rest_is = settled.speaks.rest_is;
-      };
-      orderly = orderly-whole index old new settled.orderly orderly;
+      steps = since.steps;
+      history = since.history;
+      none = append_cancel_left (own_acts i old) (filter (is_of i) (journal since.steps)) [] (sym more ∙ own ∙ sym (append-nil (own_acts i old)));
     }
+
+pub each-still : {Own : Type 0} (i number : ℕ) (old new : Seen Own) (apps : List Application) → OrderlySince number old new → ((j : ℕ) → own_acts j new ≡ own_acts j old) → EachFrom (IsAtRest old) i apps → EachFrom (IsAtRest new) i apps
+each-still i number old new [] since own each = tt
+each-still i number old new (a ∷ more) since own each =
+    (silent-rests i a old new (silent-since i number old new since (own i)) each.0, each-still (i + 1) number old new more since own each.1)
+
+-- what is so of the applications then
+talks-still : {Own : Type 0} (old new : Seen Own) (e : Engine) (net : NetState) (queue : List Event) → AtRest old e → ((i : ℕ) → own_acts i new ≡ own_acts i old) → Calm new net → OrderlySince (length e.apps) old new → AtRest new (engine_then e net queue)
+talks-still old new e net queue settled own calm orderly = record {
+  calm = calm;
+  each = each-still 0 (length e.apps) old new e.apps orderly own settled.each;
+  orderly = orderly-whole (length e.apps) old new settled.orderly orderly;
+}
+
+tells-none : {Own : Type 0} (old new : Seen Own) → ((i : ℕ) → own_acts i new ≡ own_acts i old) → (i : ℕ) → TellsMore (told_none i) (own_acts i old) (own_acts i new)
+tells-none old new own i = record {
+  starts = ap (λ (acts : List Act). starts_in acts) (own i) ∙ sym (append-nil (starts_in (own_acts i old)));
+  replies = ap (λ (acts : List Act). replies_in acts) (own i) ∙ sym (append-nil (replies_in (own_acts i old)));
+}
 
 -- with a stimulus
 pub batch-happens : {Own : Type 0} (Tells : Type 0) (x : WorldStim) (text : List ℕ) (first now : Standing Own) (e : Engine) → Tells → Continues Tells first.seen now.seen → Conforming first.seen → AtRest first.seen e → e.net ≡ first.net → e.queue ≡ first.queue
@@ -235,24 +244,21 @@ batch-happens Tells x text first now e told later keeps_old settled same_net sam
     let new = now.seen in
     let calm : Calm old first.net = subst (λ (n : NetState). Calm old n) same_net settled.calm in
     let h = subst (StimulusHandled x old first.net first.queue) (sym done.knowledge) (stimulus-handled x old first.net first.queue keeps_old calm done.began.stimulus done.fits) in
-    let own : own_acts new ≡ own_acts old = done.acts index in
     let none : [] ≡ text = append_cancel_left first.text [] text (append-nil first.text ∙ sym done.text ∙ noted) in
     subst (λ (t : List ℕ). OneHappens t old new e (engine_then e now.net now.queue)) none (record {
       stimulus = x;
       moved = record {
-        settled = talks-still Tells old new e now.net now.queue told later settled own (calm-then x first now calm.held done h) (done.orderly index);
+        settled = talks-still old new e now.net now.queue settled done.acts (calm-then x first now calm.held done h) (done.orderly (length e.apps));
         moves = record {
-          starts = [];
-          replies = [];
+          told = told_none;
           batches = false ∷ [];
           turns = [];
           given = done.given;
-          rule = refl;
-          read_starts = ap (λ (acts : List Act). starts_in acts) own ∙ sym (append-nil (starts_in (own_acts old)));
-          read_replies = ap (λ (acts : List Act). replies_in acts) own ∙ sym (append-nil (replies_in (own_acts old)));
+          rules = refl;
+          read = tells-none old new done.acts;
           read_stimuli = done.stimuli_is;
-          stands = λ ss rs more r starts_is replies_is s. happens-stands x first now e ss rs more r same_net same_queue done keeps_old h s;
-          says = λ ss rs more r starts_is replies_is s. happen-text (names e.rule) x more r s.losses_is;
+          stands = λ said more r fronts s. happens-stands x first now e said more r same_net same_queue done keeps_old h s;
+          says = λ said more r fronts s. happen-text (names (rules_of e)) x more r s.losses_is;
         };
       };
     })
@@ -261,24 +267,21 @@ batch-happens Tells x text first now e told later keeps_old settled same_net sam
     let new = now.seen in
     let calm : Calm old first.net = subst (λ (n : NetState). Calm old n) same_net settled.calm in
     let h = loss-handled x false first now keeps_old calm l in
-    let own : own_acts new ≡ own_acts old = l.acts index in
     let line : lost_line l.dpid ≡ text = append_cancel_left first.text (lost_line l.dpid) text (sym l.text ∙ noted) in
     subst (λ (t : List ℕ). OneHappens t old new e (engine_then e now.net now.queue)) line (record {
       stimulus = x;
       moved = record {
-        settled = talks-still Tells old new e now.net now.queue told later settled own (calm-lost x first now calm.held l h) (l.orderly index);
+        settled = talks-still old new e now.net now.queue settled l.acts (calm-lost x first now calm.held l h) (l.orderly (length e.apps));
         moves = record {
-          starts = [];
-          replies = [];
+          told = told_none;
           batches = true ∷ [];
           turns = [];
           given = l.given;
-          rule = refl;
-          read_starts = ap (λ (acts : List Act). starts_in acts) own ∙ sym (append-nil (starts_in (own_acts old)));
-          read_replies = ap (λ (acts : List Act). replies_in acts) own ∙ sym (append-nil (replies_in (own_acts old)));
+          rules = refl;
+          read = tells-none old new l.acts;
           read_stimuli = l.stimuli_is;
-          stands = λ ss rs more r starts_is replies_is s. lost-stands x first now e ss rs more r same_net same_queue l keeps_old h s;
-          says = λ ss rs more r starts_is replies_is s. lost-text (names e.rule) x l.dpid more r l.of_stimulus s.losses_is;
+          stands = λ said more r fronts s. lost-stands x first now e said more r same_net same_queue l keeps_old h s;
+          says = λ said more r fronts s. lost-text (names (rules_of e)) x l.dpid more r l.of_stimulus s.losses_is;
         };
       };
     })
@@ -295,30 +298,19 @@ batch-over {Own} text first now e settled same_net same_queue over noted =
     let none : [] ≡ text = append_cancel_left first.text [] text (append-nil first.text ∙ sym over.text ∙ noted) in
     let calm : Calm old net = subst (λ (n : NetState). Calm old n) same_net settled.calm in
     let journal_same : journal new.history ≡ journal old.history = over.acts in
-    let own : own_acts new ≡ own_acts old = ap (λ (js : List Act). filter (is_of index) js) journal_same in
-    let said = settled.speaks.at_once in
+    let own : (i : ℕ) → own_acts i new ≡ own_acts i old = λ i. ap (λ (js : List Act). filter (is_of i) js) journal_same in
     let calm_now : Calm new now_net = subst (λ (n : NetState). Calm new n) (sym over.net) (calm-still old new net over.state_is calm) in
     subst (λ (t : List ℕ). Moved [] (λ r. r) t old new e (engine_then e now_net now_queue)) none (record {
-      settled = record {
-        calm = calm_now;
-        life = λ alive. subst LastStands (sym own) (settled.life alive);
-        speaks = record {
-          at_once = record { last = said.last; dialogue = subst (λ (acts : List Act). Dialogue index at_first acts said.last) (sym journal_same) said.dialogue };
-          rest_is = settled.speaks.rest_is;
-        };
-        orderly = orderly-whole index old new settled.orderly (over.orderly index);
-      };
+      settled = talks-still old new e now_net now_queue settled own calm_now (over.orderly (length e.apps));
       moves = record {
-        starts = [];
-        replies = [];
+        told = told_none;
         batches = [];
         turns = [];
         given = over.given;
-        rule = refl;
-        read_starts = ap (λ (acts : List Act). starts_in acts) own ∙ sym (append-nil (starts_in (own_acts old)));
-        read_replies = ap (λ (acts : List Act). replies_in acts) own ∙ sym (append-nil (replies_in (own_acts old)));
+        rules = refl;
+        read = tells-none old new own;
         read_stimuli = ap (λ (js : List Act). stimuli js) journal_same ∙ sym (append-nil (stimuli_in old));
-        stands = λ ss rs more r starts_is replies_is s. record {
+        stands = λ said more r fronts s. record {
           calm = calm_now;
           moment = s.moment ∙ sym (ap (λ (t : State). t.moment) over.state_is);
           places = s.places
@@ -326,13 +318,12 @@ batch-over {Own} text first now e settled same_net same_queue over noted =
               ∙ ap (λ (g : Given Own). shown_places g.declared now_net.views (state new)) (sym over.given);
           queue = s.queue ∙ same_queue ∙ sym over.queue;
           events = s.events;
-          apps = s.apps ∙ ap (λ (js : List Act). app_at (engine_then e now_net now_queue) (inputs index js) ss rs ∷ []) (sym journal_same);
+          apps = s.apps ∙ apps-same old new e.apps said own;
           released = s.released ∙ sym (ap (λ (js : List Act). released js) journal_same);
           lost = s.lost ∙ sym (ap (λ (js : List Act). losses js) journal_same);
           losses_is = s.losses_is;
           marks = subst (λ (t : State). AgreeMarks t.marks r.marks) (sym over.state_is) s.marks;
-          life = λ alive. subst LastStands (sym own) (s.life alive);
         };
-        says = λ ss rs more r starts_is replies_is s. sym (append-nil (text_of (names e.rule) r));
+        says = λ said more r fronts s. sym (append-nil (text_of (names (rules_of e)) r));
       };
     })

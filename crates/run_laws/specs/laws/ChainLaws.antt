@@ -21,7 +21,6 @@ use Rattle.app_visor.specs.Talks.{step_of, Told, give_act}
 use Rattle.app_visor.specs.Beats.{Beat, Talk, Asks, Chain, acts_in}
 use Rattle.app_visor.specs.Attempts.{IsTry, OneTry, AreTries}
 use Rattle.journal_laws.specs.Readings.{end_acts}
-use Rattle.lego_model.specs.Application.{index}
 use Rattle.lego_model.specs.History.{own_acts, given_in, stimuli_in}
 use Rattle.run_laws.specs.laws.FrameLaws.{answer_number, restore_number}
 use Rattle.run_laws.specs.laws.LinkStepLaws.{link_steps, link_steps-tell, talk_step, talk_steps, event_marks, gone_marks, talk_marks, talks_mark}
@@ -38,15 +37,15 @@ links_state old new given only =
 pub links_rest : {Own : Type 0} (old new : Seen Own) → OnlyLinks (state old) (state new) → Rests (state old) (state new)
 links_rest old new only = record { begun = only.begun; due = only.due; moment = only.moment }
 
-pub links_tell : {Own : Type 0} (old new : Seen Own) → LinkSteps old new → TellsSame old new
-links_tell old new only =
-    let tells = link_steps-tell index only.steps only.all in
+pub links_tell : {Own : Type 0} (app : ℕ) (old new : Seen Own) → LinkSteps old new → TellsSame app old new
+links_tell app old new only =
+    let tells = link_steps-tell app only.steps only.all in
     let longer : journal new.history ≡ journal old.history ++ journal only.steps = ap journal only.history ∙ journal-append old.history only.steps in
     record {
-      acts = ap (filter (is_of index)) longer ∙ filter-append (is_of index) (journal old.history) (journal only.steps)
-          ∙ ap (λ (acts : List Act). own_acts old ++ acts) tells.acts ∙ append-nil (own_acts old);
-      given = ap (inputs index) longer ∙ inputs-append index (journal old.history) (journal only.steps)
-          ∙ ap (λ (frames : List (List ℕ)). given_in old ++ frames) tells.given ∙ append-nil (given_in old);
+      acts = ap (filter (is_of app)) longer ∙ filter-append (is_of app) (journal old.history) (journal only.steps)
+          ∙ ap (λ (acts : List Act). own_acts app old ++ acts) tells.acts ∙ append-nil (own_acts app old);
+      given = ap (inputs app) longer ∙ inputs-append app (journal old.history) (journal only.steps)
+          ∙ ap (λ (frames : List (List ℕ)). given_in app old ++ frames) tells.given ∙ append-nil (given_in app old);
       stims = ap stimuli longer ∙ stimuli-append (journal old.history) (journal only.steps)
           ∙ ap (λ (xs : List WorldStim). stimuli_in old ++ xs) tells.stims ∙ append-nil (stimuli_in old);
     }

@@ -1,24 +1,27 @@
--- The law of an event: what the engine does at it is what the reference controller does, whether the application is given it or not.
-use Rattle.std.proofs.Common.{◌≡◌, ℕ, ◌+◌, ◌^◌, ◌<◌, Bool, true, false, List, [], ◌∷◌, ◌++◌, length, drop, if◌then◌else◌, Option, Some, Result, Ok, Err, refl, sym, ap, ap₂, ◌∙◌, subst, inl, inr}
-use Rattle.std.proofs.lemmas.List.{append-nil, append_assoc}
+-- The law of an event: what the engine does at it is what the reference controller does, whether it is offered to all applications or, so far, to
+-- the first of them; one event more was dispatched, and those that wait stay, in front of those that join them.
+use Rattle.std.proofs.Common.{◌≡◌, ℕ, zero, suc, ◌+◌, Bool, true, false, List, [], ◌∷◌, ◌++◌, length, take, drop, map, Option, Result, Ok, Err, refl, sym, ap, ap₂, ◌∙◌, subst, inl, inr, arith}
+use Rattle.std.proofs.lemmas.List.{append-nil, append_assoc, length-append, length-map, map-append, take-append-drop}
+use Rattle.std.proofs.lemmas.List.Concat.{flat_map-append}
+use Rattle.std.specs.List.{AllByRecursion}
 use Rattle.flow_table.specs.View.{TableView}
 use Rattle.app_frames.specs.declared.frame.Event.{Event}
 use Rattle.app_frames.specs.declared.frame.EventKind.{EventKind}
+use Rattle.crash_policy.specs.Policies.{AppValue}
 use Rattle.crash_policy.specs.declared.policy_file.Policy.{Policy}
 use Rattle.crash_policy.specs.declared.policy_file.Policy.TheVariants as policy
 use Rattle.crash_policy.specs.Asking.{rule_at}
-use Rattle.lego_model.specs.Journal.{Reply, Start}
 use Rattle.lego_model.specs.Places.{Place}
-use Rattle.lego_model.specs.Losses.{TurnLosses, Losses, next_turn, turn_fewer}
+use Rattle.lego_model.specs.Losses.{Losses}
 use Rattle.lego_model.specs.Packets.{Held}
-use Rattle.lego_model.specs.Scripted.{IsFront, AreFronts, AreStartFronts}
-use Rattle.lego_model.specs.Controller.{Line, Dispatched, Ended, Run, Turned, next_dispatched, dispatch_next, out_lines, lost_lines, leavers, restart_lines, turn, marked, dispatch}
-use Rattle.lego_model.specs.Agreement.{AgreeMarks}
-use Rattle.lego_model.specs.RunReport.{event_line}
-use Rattle.outside.specs.Seen.{Given, Seen, Continues}
-use Rattle.outside.specs.State.{Mark, state, marks_at_event}
-use Rattle.outside.specs.laws.StateLaws.{Conforming-before}
-use Rattle.outside.specs.Conforming.{Conforming}
+use Rattle.lego_model.specs.Application.{names}
+use Rattle.lego_model.specs.Controller.{App, Dispatched, Run, given_to, next_dispatched, dispatch_next, dispatch}
+use Rattle.lego_model.specs.RunReport.{event_line, line_text}
+use Rattle.lego_model.specs.ReferenceRun.{Said, AreFrontsOf, text_of}
+use Rattle.lego_model.specs.CutRun.{dispatch_to, next_dispatched_to, dispatch_partly}
+use Rattle.lego_model.specs.OrderlySteps.{IsOrderly}
+use Rattle.lego_model.specs.History.{stimuli_in}
+use Rattle.outside.specs.Seen.{Seen}
 use Rattle.of_wire.specs.declared.message.Envelope.{Envelope}
 use Rattle.of_wire.specs.declared.fault.WireFault.{WireFault}
 use Rattle.of_wire.specs.Reading.{reading_of}
@@ -29,185 +32,216 @@ use Rattle.net_txn.specs.Releases.{Knows, or_none, takes_read, takes_all, Releas
 use Rattle.app_visor.specs.declared.state.TurnEnd.{TurnEnd}
 use Rattle.app_visor.specs.Turns.{handed}
 use Rattle.app_visor.specs.declared.state.TurnEnd.TheVariants as ends
-use Rattle.switch_laws.specs.Shown.{shown_places}
-use Rattle.switch_laws.specs.laws.StandLaws.{state-links}
-use Rattle.batch_laws.specs.Calm.{Calm}
+use Rattle.switch_laws.specs.laws.OrderlyLaws.{orderly-whole}
 use Rattle.batch_laws.specs.Knowledge.{left_events}
-use Rattle.journal_laws.specs.Readings.{LastStands}
-use Rattle.lego_model.specs.History.{starts_in, replies_in, own_acts, given_in, stimuli_in, points_in}
-use Rattle.run_laws.specs.Engine.{Engine, app_at, Stands, ahead, with_number}
-use Rattle.lego_model.specs.Application.{names}
-use Rattle.lego_model.specs.ReferenceRun.{text_of}
-use Rattle.run_laws.specs.Facts.{Follows, all_told, IsClosed, takes_event, IsTurn, Dispatches}
-use Rattle.run_laws.specs.Moves.{Moves}
-use Rattle.run_laws.specs.Readings.{AreRead, JudgesAlike}
-use Rattle.run_laws.specs.laws.ReferenceLaws.{dispatch_alive, dispatch_dead}
-use Rattle.run_laws.specs.ReferenceTurn.{numbered, after_turn, without_turn}
-use Rattle.run_laws.specs.laws.PointLaws.{marks_at_events}
-use Rattle.run_laws.specs.laws.LineLaws.{event_lines}
+use Rattle.run_laws.specs.Engine.{Application, Engine, EachFrom, Focus, focus, apps_from, left_behind, behind, Shares, Stands, ahead, rules_of}
+use Rattle.run_laws.specs.Facts.{Between, between, Follows, all_told, IsClosed, is_taking, IsOffered, AreLeftOut, if_stopped, Offers, Dispatches}
+use Rattle.run_laws.specs.Moves.{IsAtRest, AtRest, Moves, Moved}
+use Rattle.run_laws.specs.ReferenceTurn.{numbered}
 use Rattle.run_laws.specs.LastReport.{lines_text}
-use Rattle.run_laws.specs.laws.DialogueLaws.{takes_alive}
-use Rattle.run_laws.specs.laws.TurnMoveLaws.{turn_moves}
-use Rattle.run_laws.specs.EventMoves.{Joins, TurnAlike, TurnMoves}
+use Rattle.run_laws.specs.EventMoves.{Joins}
+use Rattle.run_laws.specs.laws.MoveLaws.{apps-ext, moves-none, moves-as}
+use Rattle.run_laws.specs.laws.OtherLaws.{silent-given}
+use Rattle.run_laws.specs.laws.OfferLaws.{NamesFrom, names-from, OfferMoves, each-silent}
 
--- ---- The application is given it
+-- ---- Applications in two parts
 
-abbrev turned_of : {Own : Type 0} {allows : List Place → Bool} {event : Event} {text : List ℕ} {old new : Seen Own} {e now_e : Engine} {starts : List Start} {reply : Reply} {losses : TurnLosses} → TurnAlike allows event text old new e now_e starts reply losses → List Start → List Reply → Turned
-turned_of {old = old} {new = new} {now_e = now_e} alike later_starts later_replies = record {
-  release = alike.release;
-  left = alike.left;
-  app = (app_at now_e (given_in new) later_starts later_replies, alike.tries);
-  outcome = alike.outcome;
-  given = alike.given;
-}
+apps-both : {Own : Type 0} (i : ℕ) (seen : Seen Own) (xs ys : List Application) (said : ℕ → Said) → apps_from i seen (xs ++ ys) said ≡ apps_from i seen xs said ++ apps_from (i + length xs) seen ys said
+apps-both i seen [] ys said =
+    let here : i ≡ i + 0 = omega arith in
+    ap (λ (k : ℕ). apps_from k seen ys said) here
+apps-both {Own} i seen (a ∷ xs) ys said =
+    let next : i + 1 + length xs ≡ i + length (a ∷ xs) = omega arith in
+    ap (λ (later : List App). apps_from i seen (a ∷ []) said ++ later) (apps-both (i + 1) seen xs ys said ∙ ap (λ (k : ℕ). apps_from (i + 1) seen xs said ++ apps_from k seen ys said) next)
 
-module _ {Own : Type 0} (allows : List Place → Bool) (event : Event) (text : List ℕ) (old new : Seen Own) (e now_e : Engine) (starts : List Start) (reply : Reply) (losses : TurnLosses) where
-  dispatched_is : takes_event e event ≡ true → (alike : TurnAlike allows event text old new (with_number e) now_e starts reply losses) → (said_starts : List Start) (said : Reply) (later_replies : List Reply) (later : Losses) (r : Run) → AreStartFronts starts said_starts → IsFront reply said → Stands old e said_starts (said ∷ later_replies) (ahead [] (losses ∷ []) later) r
-      → dispatch allows event r ≡ after_turn (turned_of alike (drop (length starts) said_starts) later_replies) (numbered event r)
-  dispatched_is takes alike said_starts said later_replies later r starts_is front s =
-      let a = app_at e (given_in old) said_starts (said ∷ later_replies) in
-      dispatch_alive allows event a r (turned_of alike (drop (length starts) said_starts) later_replies) s.apps takes
-      (ap (λ (l : Losses). turn allows (r.events + 1) r.moment event (next_turn l.turns) r.places a) s.losses_is
-      ∙ ap (λ (n : ℕ). turn allows (n + 1) r.moment event losses r.places a) s.events
-      ∙ ap (λ (m : ℕ). turn allows (e.events + 1) m event losses r.places a) (s.moment ∙ sym s.calm.moment)
-      ∙ ap (λ (ps : List Place). turn allows (e.events + 1) e.net.moment event losses ps a) s.places
-      ∙ alike.turned said_starts said later_replies starts_is front)
+apps-take : {Own : Type 0} (n i : ℕ) (seen : Seen Own) (apps : List Application) (said : ℕ → Said) → take n (apps_from i seen apps said) ≡ apps_from i seen (take n apps) said
+apps-take zero i seen apps said = refl
+apps-take (suc n) i seen [] said = refl
+apps-take (suc n) i seen (a ∷ more) said = ap (λ (later : List App). apps_from i seen (a ∷ []) said ++ later) (apps-take n (i + 1) seen more said)
 
-  marks_is : Conforming old → (alike : TurnAlike allows event text old new (with_number e) now_e starts reply losses) → (r : Run) → r.events ≡ e.events → r.places ≡ shown_places old.given.declared e.net.views (state old) → AgreeMarks (points_in old) r.marks
-      → AgreeMarks (points_in new) (marked alike.given (r.events + 1) r.places r.marks)
-  marks_is keeps alike r events places marks =
-      subst (λ (ms : List Mark). AgreeMarks ms (marked alike.given (r.events + 1) r.places r.marks)) (sym alike.marks)
-      (subst (λ (n : ℕ). AgreeMarks ((if alike.given then marks_at_event (Some (e.events + 1)) (state old) else (state old).marks)) (marked alike.given (n + 1) r.places r.marks)) (sym events)
-      (subst (λ (ps : List Place). AgreeMarks ((if alike.given then marks_at_event (Some (e.events + 1)) (state old) else (state old).marks)) (marked alike.given (e.events + 1) ps r.marks)) (sym places)
-      (marks_at_events alike.given (e.events + 1) old.given.declared e.net.views (state old) r.marks (state-links old).declared_is keeps.declared marks)))
+apps-drop : {Own : Type 0} (n i : ℕ) (seen : Seen Own) (apps : List Application) (said : ℕ → Said) → drop n (apps_from i seen apps said) ≡ apps_from (i + length (take n apps)) seen (drop n apps) said
+apps-drop zero i seen apps said =
+    let here : i ≡ i + 0 = omega arith in
+    ap (λ (k : ℕ). apps_from k seen apps said) here
+apps-drop (suc n) i seen [] said = refl
+apps-drop (suc n) i seen (a ∷ more) said =
+    let next : i + 1 + length (take n more) ≡ i + length (a ∷ take n more) = omega arith in
+    apps-drop n (i + 1) seen more said ∙ ap (λ (k : ℕ). apps_from k seen (drop n more) said) next
 
-  stands_alive : Conforming old → takes_event e event ≡ true → new.given ≡ old.given → (now_e.alive ≡ true → LastStands (own_acts new)) → (alike : TurnAlike allows event text old new (with_number e) now_e starts reply losses)
-      → (said_starts : List Start) (said_replies : List Reply) (later : Losses) (r : Run) → AreStartFronts starts said_starts → AreFronts (reply ∷ []) said_replies → Stands old e said_starts said_replies (ahead [] (losses ∷ []) later) r
-      → Stands new now_e (drop (length starts) said_starts) (drop 1 said_replies) later (dispatch allows event r)
-  stands_alive keeps takes given life alike said_starts [] later r starts_is fronts s = absurd fronts
-  stands_alive keeps takes given life alike said_starts (said ∷ later_replies) later r starts_is fronts s =
-      subst (λ (x : Run). Stands new now_e (drop (length starts) said_starts) later_replies later x) (sym (dispatched_is takes alike said_starts said later_replies later r starts_is fronts.0 s)) (record {
-        calm = alike.calm;
-        moment = s.moment ∙ sym alike.moment;
-        places = alike.places ∙ ap (λ (g : Given _). shown_places g.declared now_e.net.views (state new)) (sym given);
-        queue = ap (λ (waiting : List Event). waiting ++ (alike.release.events ++ alike.left)) s.queue ∙ sym alike.queue;
-        events = ap (λ (n : ℕ). n + 1) s.events ∙ sym alike.events;
-        apps = refl;
-        released = ap (λ (packets : List Held). packets ++ alike.release.packets) s.released ∙ sym alike.released;
-        lost = ap (λ (ds : List ℕ). ds ++ leavers alike.left) s.lost ∙ sym alike.lost;
-        losses_is = ap turn_fewer s.losses_is;
-        marks = marks_is keeps alike r s.events s.places s.marks;
-        life = life;
+each-both : (P : ℕ → Application → Type 0) (i : ℕ) (xs ys : List Application) → EachFrom P i xs → EachFrom P (i + length xs) ys → EachFrom P i (xs ++ ys)
+each-both P i [] ys first later =
+    let here : i + 0 ≡ i = omega arith in
+    subst (λ (k : ℕ). EachFrom P k ys) here later
+each-both P i (a ∷ xs) ys first later =
+    let next : i + length (a ∷ xs) ≡ i + 1 + length xs = omega arith in
+    (first.0, each-both P (i + 1) xs ys first.1 (subst (λ (k : ℕ). EachFrom P k ys) next later))
+
+each-first : (P : ℕ → Application → Type 0) (i : ℕ) (xs ys : List Application) → EachFrom P i (xs ++ ys) → EachFrom P i xs
+each-first P i [] ys each = tt
+each-first P i (a ∷ xs) ys each = (each.0, each-first P (i + 1) xs ys each.1)
+
+each-later : (P : ℕ → Application → Type 0) (i : ℕ) (xs ys : List Application) → EachFrom P i (xs ++ ys) → EachFrom P (i + length xs) ys
+each-later P i [] ys each =
+    let here : i ≡ i + 0 = omega arith in
+    subst (λ (k : ℕ). EachFrom P k ys) here each
+each-later P i (a ∷ xs) ys each =
+    let next : i + 1 + length xs ≡ i + length (a ∷ xs) = omega arith in
+    subst (λ (k : ℕ). EachFrom P k ys) next (each-later P (i + 1) xs ys each.1)
+
+names-first : (i : ℕ) (known : List (List ℕ)) (xs ys : List Application) → NamesFrom i known (xs ++ ys) → NamesFrom i known xs
+names-first i known [] ys are = tt
+names-first i known (a ∷ xs) ys are = (are.0, names-first (i + 1) known xs ys are.1)
+
+-- what is said of the rules tells how many there are
+pub same-number : (xs ys : List Application) → map (λ a. a.rule) xs ≡ map (λ a. a.rule) ys → length xs ≡ length ys
+same-number xs ys same = sym (length-map xs (λ a. a.rule)) ∙ ap (λ (rules : List AppValue). length rules) same ∙ length-map ys (λ a. a.rule)
+
+-- ---- An event that is offered to the first applications
+
+abbrev with_others : List App × Run → List App → Run
+with_others done others = record done.1 { apps = done.0 ++ others }
+
+module _ {Own : Type 0} (allows : List Place → Bool) (event : Event) (f : Run → Run) (xs ys front : List Application) (turn_text text : List ℕ) (old new : Seen Own) (e now_e : Engine)
+    (apps_are : e.apps ≡ xs ++ ys) (now_apps_are : now_e.apps ≡ front ++ ys) (events_is : now_e.events ≡ e.events + 1) (text_is : text ≡ event_line (e.events + 1) event.kind event.dpid ++ turn_text)
+    (m : OfferMoves allows event (e.events + 1) 0 xs front turn_text (between old e) (between new now_e))
+    (does : (said : ℕ → Said) (r : Run) → r.apps ≡ apps_from 0 old e.apps said → f r ≡ with_others (given_to allows event 0 (apps_from 0 old xs said) (numbered event r)) (apps_from (0 + length xs) old ys said)) where
+  rules-so : rules_of now_e ≡ rules_of e
+  rules-so =
+      ap (map (λ (a : Application). a.rule)) now_apps_are ∙ map-append (λ (a : Application). a.rule) front ys ∙ ap (λ (rules : List AppValue). rules ++ map (λ (a : Application). a.rule) ys) m.rules
+      ∙ sym (map-append (λ (a : Application). a.rule) xs ys) ∙ ap (map (λ (a : Application). a.rule)) (sym apps_are)
+
+  -- all but the applications, before it
+  shared : (said : ℕ → Said) (losses : Losses) (r : Run) → Stands old e said losses r → Shares old e.net e.queue (e.events + 1) losses (numbered event r)
+  shared said losses r s = record {
+    calm = s.calm;
+    moment = s.moment;
+    places = s.places;
+    queue_is = s.queue;
+    events_is = ap (λ (n : ℕ). n + 1) s.events;
+    released = s.released;
+    lost = s.lost;
+    losses_is = s.losses_is;
+    marks = s.marks;
+  }
+
+  stands-so : (said : ℕ → Said) (later : Losses) (r : Run) → AreFrontsOf m.told said → Stands old e said (ahead [] m.turns later) r → Stands new now_e (behind m.told said) later (f r)
+  stands-so said later r fronts s =
+      let g = m.gives said later (numbered event r) fronts (shared said (ahead [] m.turns later) r s) in
+      let left = behind m.told said in
+      let same : length front ≡ length xs = same-number front xs m.rules in
+      subst (Stands new now_e left later) (sym (does said r s.apps)) (record {
+        calm = g.shares.calm;
+        moment = g.shares.moment;
+        places = g.shares.places;
+        queue = g.shares.queue_is;
+        events = g.shares.events_is ∙ sym events_is;
+        apps = ap₂ (λ (firsts others : List App). firsts ++ others) g.apps_is
+            (apps-ext (0 + length xs) old new ys said left (λ j le. (silent-given j old new (m.still j (λ least less. omega (arith, le, less))), sym (ap (λ (t : Said). left_behind t (said j)) (m.untold j (λ least less. omega (arith, le, less))))))
+            ∙ ap (λ (n : ℕ). apps_from (0 + n) new ys left) (sym same))
+            ∙ sym (apps-both 0 new front ys left) ∙ ap (λ (all : List Application). apps_from 0 new all left) (sym now_apps_are);
+        released = g.shares.released;
+        lost = g.shares.lost;
+        losses_is = g.shares.losses_is;
+        marks = g.shares.marks;
       })
 
-  says_alive : takes_event e event ≡ true → (alike : TurnAlike allows event text old new (with_number e) now_e starts reply losses) → (said_starts : List Start) (said_replies : List Reply) (later : Losses) (r : Run) → AreStartFronts starts said_starts → AreFronts (reply ∷ []) said_replies → Stands old e said_starts said_replies (ahead [] (losses ∷ []) later) r
-      → text_of (names e.rule) (dispatch allows event r) ≡ text_of (names e.rule) r ++ (event_line (e.events + 1) event.kind event.dpid ++ text)
-  says_alive takes alike said_starts [] later r starts_is fronts s = absurd fronts
-  says_alive takes alike said_starts (said ∷ later_replies) later r starts_is fronts s =
-      let later_starts = drop (length starts) said_starts in
-      let ended : List Line = Ended 0 alike.outcome ∷ out_lines alike.release.packets in
-      let lost : List Line = lost_lines (leavers alike.left) in
-      let again : List Line = restart_lines 0 alike.outcome (app_at now_e (given_in new) later_starts later_replies, alike.tries) in
-      let before : List Line = r.lines ++ Dispatched (r.events + 1) event ∷ [] in
-      ap (text_of (names e.rule)) (dispatched_is takes alike said_starts said later_replies later r starts_is fronts.0 s)
-      ∙ ap (lines_text (names e.rule)) (ap (λ (lines : List Line). lines ++ again) (append_assoc before ended lost) ∙ append_assoc before (ended ++ lost) again)
-      ∙ event_lines (names e.rule) r.lines ((ended ++ lost) ++ again) (r.events + 1) event
-      ∙ ap₂ (λ (n : ℕ) (more : List ℕ). text_of (names e.rule) r ++ (event_line (n + 1) event.kind event.dpid ++ more)) s.events (sym (alike.text_is later_starts later_replies))
+  says-so : (said : ℕ → Said) (later : Losses) (r : Run) → AreFrontsOf m.told said → Stands old e said (ahead [] m.turns later) r → text_of (names (rules_of e)) (f r) ≡ text_of (names (rules_of e)) r ++ text
+  says-so said later r fronts s =
+      let known = names (rules_of e) in
+      let g = m.gives said later (numbered event r) fronts (shared said (ahead [] m.turns later) r s) in
+      let named : NamesFrom 0 known xs = names-first 0 known xs ys (subst (λ (all : List Application). NamesFrom 0 known all) apps_are (names-from e.apps)) in
+      let here = event_line (e.events + 1) event.kind event.dpid in
+      let begun : lines_text known (r.lines ++ Dispatched (r.events + 1) event ∷ []) ≡ lines_text known r.lines ++ here =
+      flat_map-append (line_text known) r.lines (Dispatched (r.events + 1) event ∷ [])
+      ∙ ap (λ (line : List ℕ). lines_text known r.lines ++ line) (append-nil (event_line (r.events + 1) event.kind event.dpid))
+      ∙ ap (λ (n : ℕ). lines_text known r.lines ++ event_line (n + 1) event.kind event.dpid) s.events in
+      ap (text_of known) (does said r s.apps)
+      ∙ g.lines known named
+      ∙ ap (λ (lines : List ℕ). lines ++ turn_text) begun
+      ∙ append_assoc (lines_text known r.lines) here turn_text
+      ∙ ap (λ (more : List ℕ). lines_text known r.lines ++ more) (sym text_is)
 
-alive_moves : {Own : Type 0} (allows : List Place → Bool) (event : Event) (turn_text text : List ℕ) (old new : Seen Own) (e now_e : Engine) → Conforming old → takes_event e event ≡ true → text ≡ event_line (e.events + 1) event.kind event.dpid ++ turn_text
-    → TurnMoves allows event turn_text old new (with_number e) now_e → Moves [] (dispatch allows event) text old new e now_e
-alive_moves allows event turn_text text old new e now_e keeps takes text_is turn = record {
-  starts = turn.starts;
-  replies = turn.reply ∷ [];
-  batches = [];
-  turns = turn.losses ∷ [];
-  given = turn.tells.given;
-  rule = turn.alike.rule;
-  read_starts = turn.tells.read_starts;
-  read_replies = turn.tells.read_replies;
-  read_stimuli = turn.tells.read_stimuli ∙ sym (append-nil (stimuli_in old));
-  stands = λ said_starts said_replies later r starts_is replies_is s.
-      stands_alive allows event turn_text old new e now_e turn.starts turn.reply turn.losses keeps takes turn.tells.given turn.tells.life turn.alike said_starts said_replies later r starts_is replies_is s;
-  says = λ said_starts said_replies later r starts_is replies_is s.
-      says_alive allows event turn_text old new e now_e turn.starts turn.reply turn.losses takes turn.alike said_starts said_replies later r starts_is replies_is s ∙ ap (λ (more : List ℕ). text_of (names e.rule) r ++ more) (sym text_is);
-}
+  pub given-moves : Moves [] f text old new e now_e
+  given-moves = record {
+    told = m.told;
+    batches = [];
+    turns = m.turns;
+    given = m.given;
+    rules = rules-so;
+    read = m.read;
+    read_stimuli = m.stims ∙ sym (append-nil (stimuli_in old));
+    stands = stands-so;
+    says = says-so;
+  }
 
--- ---- It is not given it: it is gone, or is not given such events
+  -- all is at rest behind it
+  pub given-rests : AtRest old e → AtRest new now_e
+  given-rests rests =
+      let same : length front ≡ length xs = same-number front xs m.rules in
+      let all : length now_e.apps ≡ length e.apps = same-number now_e.apps e.apps rules-so in
+      let parts : length e.apps ≡ length xs + length ys = ap (λ (apps : List Application). length apps) apps_are ∙ length-append xs ys in
+      let others = each-silent (0 + length xs) ys old new (λ j le. m.still j (λ least less. omega (arith, le, less)))
+      (each-later (IsAtRest old) 0 xs ys (subst (λ (apps : List Application). EachFrom (IsAtRest old) 0 apps) apps_are rests.each)) in
+      record {
+        calm = m.calm;
+        each = subst (λ (apps : List Application). EachFrom (IsAtRest new) 0 apps) (sym now_apps_are) (each-both (IsAtRest new) 0 front ys m.each (subst (λ (n : ℕ). EachFrom (IsAtRest new) (0 + n) ys) (sym same) others));
+        orderly = orderly-whole (length now_e.apps) old new (subst (λ (n : ℕ). AllByRecursion (IsOrderly n) old.history) (sym all) rests.orderly) (m.orderly (length now_e.apps) (omega (arith, all, parts)));
+      }
 
-dead_moves : {Own : Type 0} (allows : List Place → Bool) (event : Event) (text : List ℕ) (seen : Seen Own) (e : Engine) → takes_event e event ≡ false → text ≡ event_line (e.events + 1) event.kind event.dpid ++ []
-    → Moves [] (dispatch allows event) text seen seen e (with_number e)
-dead_moves allows event text seen e dead text_is = record {
-  starts = [];
-  replies = [];
-  batches = [];
-  turns = [];
-  given = refl;
-  rule = refl;
-  read_starts = sym (append-nil (starts_in (own_acts seen)));
-  read_replies = sym (append-nil (replies_in (own_acts seen)));
-  read_stimuli = sym (append-nil (stimuli_in seen));
-  stands = λ later_starts later_replies later r starts_is replies_is s.
-      subst (λ (x : Run). Stands seen (with_number e) later_starts later_replies later x) (sym (dispatch_dead allows event (app_at e (given_in seen) later_starts later_replies) r s.apps dead)) (record {
-        calm = s.calm;
-        moment = s.moment;
-        places = s.places;
-        queue = s.queue;
-        events = ap (λ (n : ℕ). n + 1) s.events;
-        apps = refl;
-        released = s.released;
-        lost = s.lost;
-        losses_is = s.losses_is;
-        marks = s.marks;
-        life = s.life;
-      });
-  says = λ later_starts later_replies later r starts_is replies_is s.
-      ap (text_of (names e.rule)) (dispatch_dead allows event (app_at e (given_in seen) later_starts later_replies) r s.apps dead)
-      ∙ sym (append-nil (text_of (names e.rule) (without_turn (app_at e (given_in seen) later_starts later_replies) (numbered event r))))
-      ∙ event_lines_alone r s.events
-      ∙ ap (λ (more : List ℕ). text_of (names e.rule) r ++ more) (sym text_is);
-}
-  where
-    event_lines_alone : (r : Run) → r.events ≡ e.events → lines_text (names e.rule) (r.lines ++ Dispatched (r.events + 1) event ∷ []) ++ [] ≡ text_of (names e.rule) r ++ (event_line (e.events + 1) event.kind event.dpid ++ [])
-    event_lines_alone r events =
-        append-nil (lines_text (names e.rule) (r.lines ++ Dispatched (r.events + 1) event ∷ []))
-        ∙ ap (lines_text (names e.rule)) (sym (append-nil (r.lines ++ Dispatched (r.events + 1) event ∷ [])))
-        ∙ event_lines (names e.rule) r.lines [] (r.events + 1) event
-        ∙ ap (λ (n : ℕ). text_of (names e.rule) r ++ (event_line (n + 1) event.kind event.dpid ++ [])) events
+-- ---- To all of them, and to so many
 
--- ---- The whole
+dispatch-is : (allows : List Place → Bool) (event : Event) (r : Run) → dispatch allows event r ≡ (let done = given_to allows event 0 r.apps (numbered event r) in record done.1 { apps = done.0 })
+unfolding dispatch
+dispatch-is allows event r = refl
 
-by_alive : {Own : Type 0} (Tells : Type 0) (accepts : List TableView → Bool) (allows : List Place → Bool) (event : Event) (turn_text text : List ℕ) (old new : Seen Own) (e now_e : Engine) (takes : Bool) → takes_event e event ≡ takes
-    → Tells → Conforming new → Continues Tells old new → JudgesAlike Own allows accepts → AreRead Own Tells accepts → e.events + 1 < 2 ^ 64 → (e.alive ≡ true → LastStands (own_acts old)) → Calm old e.net
-    → IsTurn Tells accepts event takes turn_text old new (with_number e) now_e → text ≡ event_line (e.events + 1) event.kind event.dpid ++ turn_text → Moves [] (dispatch allows event) text old new e now_e
-by_alive Tells accepts allows event turn_text text old new e now_e true takes told keeps continues judges reads few life calm turn text_is =
-    alive_moves allows event turn_text text old new e now_e (Conforming-before told continues keeps) takes text_is
-    (turn_moves Tells accepts allows event turn_text old new (with_number e) now_e told keeps judges reads few (life (takes_alive e event takes)) calm turn)
-by_alive Tells accepts allows event turn_text text old new e now_e false dead told keeps continues judges reads few life calm turn text_is =
-    subst (λ (s : Seen _). Moves [] (dispatch allows event) text old s e now_e) (sym turn.0) (subst (λ (x : Engine). Moves [] (dispatch allows event) text old old e x) (sym turn.1)
-    (dead_moves allows event text old e dead (text_is ∙ ap (λ (more : List ℕ). event_line (e.events + 1) event.kind event.dpid ++ more) turn.2)))
+abbrev with_done : List App × Run → Run
+with_done done = record done.1 { apps = done.0 }
 
-pub dispatch-moves : {Own : Type 0} (Tells : Type 0) (accepts : List TableView → Bool) (allows : List Place → Bool) (event : Event) (text : List ℕ) (old new : Seen Own) (e now_e : Engine)
-    → Tells → Conforming new → Continues Tells old new → JudgesAlike Own allows accepts → AreRead Own Tells accepts → e.events + 1 < 2 ^ 64 → (e.alive ≡ true → LastStands (own_acts old)) → Calm old e.net
-    → Dispatches Tells accepts event text old new e now_e → Moves [] (dispatch allows event) text old new e now_e
-dispatch-moves Tells accepts allows event text old new e now_e told keeps continues judges reads few life calm d =
-    by_alive Tells accepts allows event d.turn_text text old new e now_e (takes_event e event) refl told keeps continues judges reads few life calm d.turn d.text_is
+dispatch-does : {Own : Type 0} (allows : List Place → Bool) (event : Event) (old : Seen Own) (apps : List Application) (said : ℕ → Said) (r : Run) → r.apps ≡ apps_from 0 old apps said
+    → dispatch allows event r ≡ with_others (given_to allows event 0 (apps_from 0 old apps said) (numbered event r)) []
+dispatch-does allows event old apps said r are =
+    let done = given_to allows event 0 (apps_from 0 old apps said) (numbered event r) in
+    dispatch-is allows event r
+    ∙ ap (λ (all : List App). with_done (given_to allows event 0 all (numbered event r))) are
+    ∙ ap (λ (all : List App). record done.1 { apps = all }) (sym (append-nil done.0))
 
--- ---- What the next event needs
+dispatch_to-is : (allows : List Place → Bool) (n : ℕ) (event : Event) (r : Run) → dispatch_to allows n event r ≡ with_others (given_to allows event 0 (take n r.apps) (numbered event r)) (drop n r.apps)
+unfolding dispatch_to
+dispatch_to-is allows n event r = refl
 
--- where it is alive then, its last start stands
-life_by : {Own : Type 0} (Tells : Type 0) (accepts : List TableView → Bool) (allows : List Place → Bool) (event : Event) (turn_text : List ℕ) (old new : Seen Own) (e now_e : Engine) (takes : Bool) → takes_event e event ≡ takes
-    → Tells → Conforming new → JudgesAlike Own allows accepts → AreRead Own Tells accepts → e.events + 1 < 2 ^ 64 → (e.alive ≡ true → LastStands (own_acts old)) → Calm old e.net
-    → IsTurn Tells accepts event takes turn_text old new (with_number e) now_e → now_e.alive ≡ true → LastStands (own_acts new)
-life_by Tells accepts allows event turn_text old new e now_e true takes told keeps judges reads few life calm turn =
-    (turn_moves Tells accepts allows event turn_text old new (with_number e) now_e told keeps judges reads few (life (takes_alive e event takes)) calm turn).tells.life
-life_by Tells accepts allows event turn_text old new e now_e false dead told keeps judges reads few life calm turn =
-    λ up. subst (λ (s : Seen _). LastStands (own_acts s)) (sym turn.0) (life (sym (ap (λ (x : Engine). x.alive) turn.1) ∙ up))
+dispatch_to-does : {Own : Type 0} (allows : List Place → Bool) (n : ℕ) (event : Event) (old : Seen Own) (apps : List Application) (said : ℕ → Said) (r : Run) → r.apps ≡ apps_from 0 old apps said
+    → dispatch_to allows n event r ≡ with_others (given_to allows event 0 (apps_from 0 old (take n apps) said) (numbered event r)) (apps_from (0 + length (take n apps)) old (drop n apps) said)
+dispatch_to-does allows n event old apps said r are =
+    dispatch_to-is allows n event r
+    ∙ ap (λ (all : List App). with_others (given_to allows event 0 (take n all) (numbered event r)) (drop n all)) are
+    ∙ ap₂ (λ (first others : List App). with_others (given_to allows event 0 first (numbered event r)) others) (apps-take n 0 old apps said) (apps-drop n 0 old apps said)
 
-pub dispatch-life : {Own : Type 0} (Tells : Type 0) (accepts : List TableView → Bool) (allows : List Place → Bool) (event : Event) (text : List ℕ) (old new : Seen Own) (e now_e : Engine)
-    → Tells → Conforming new → JudgesAlike Own allows accepts → AreRead Own Tells accepts → e.events + 1 < 2 ^ 64 → (e.alive ≡ true → LastStands (own_acts old)) → Calm old e.net
-    → Dispatches Tells accepts event text old new e now_e → now_e.alive ≡ true → LastStands (own_acts new)
-dispatch-life Tells accepts allows event text old new e now_e told keeps judges reads few life calm d =
-    life_by Tells accepts allows event d.turn_text old new e now_e (takes_event e event) refl told keeps judges reads few life calm d.turn
+-- to all
+pub dispatch-moves : {Own : Type 0} (allows : List Place → Bool) (event : Event) (turn_text text : List ℕ) (old new : Seen Own) (e now_e : Engine) → now_e.events ≡ e.events + 1 → text ≡ event_line (e.events + 1) event.kind event.dpid ++ turn_text → AtRest old e
+    → OfferMoves allows event (e.events + 1) 0 e.apps now_e.apps turn_text (between old e) (between new now_e) → Moved [] (dispatch allows event) text old new e now_e
+dispatch-moves allows event turn_text text old new e now_e events_is text_is rests m =
+    let does = λ (said : ℕ → Said) (r : Run) (are : r.apps ≡ apps_from 0 old e.apps said). dispatch-does allows event old e.apps said r are in
+    record {
+      moves = given-moves allows event (dispatch allows event) e.apps [] now_e.apps turn_text text old new e now_e (sym (append-nil e.apps)) (sym (append-nil now_e.apps)) events_is text_is m does;
+      settled = given-rests allows event (dispatch allows event) e.apps [] now_e.apps turn_text text old new e now_e (sym (append-nil e.apps)) (sym (append-nil now_e.apps)) events_is text_is m does rests;
+    }
+
+-- to so many
+pub dispatch_to-moves : {Own : Type 0} (allows : List Place → Bool) (n : ℕ) (event : Event) (front : List Application) (turn_text text : List ℕ) (old new : Seen Own) (e now_e : Engine) → now_e.apps ≡ front ++ drop n e.apps → now_e.events ≡ e.events + 1
+    → text ≡ event_line (e.events + 1) event.kind event.dpid ++ turn_text → AtRest old e → OfferMoves allows event (e.events + 1) 0 (take n e.apps) front turn_text (between old e) (between new now_e) → Moved [] (dispatch_to allows n event) text old new e now_e
+dispatch_to-moves allows n event front turn_text text old new e now_e apps_is events_is text_is rests m =
+    let does = λ (said : ℕ → Said) (r : Run) (are : r.apps ≡ apps_from 0 old e.apps said). dispatch_to-does allows n event old e.apps said r are in
+    let parts = sym (take-append-drop n e.apps) in
+    record {
+      moves = given-moves allows event (dispatch_to allows n event) (take n e.apps) (drop n e.apps) front turn_text text old new e now_e parts apps_is events_is text_is m does;
+      settled = given-rests allows event (dispatch_to allows n event) (take n e.apps) (drop n e.apps) front turn_text text old new e now_e parts apps_is events_is text_is m does rests;
+    }
+
+-- each of the first is at rest
+pub rests-take : {Own : Type 0} (n : ℕ) (old : Seen Own) (apps : List Application) → EachFrom (IsAtRest old) 0 apps → EachFrom (IsAtRest old) 0 (take n apps)
+rests-take n old apps each = each-first (IsAtRest old) 0 (take n apps) (drop n apps) (subst (λ (all : List Application). EachFrom (IsAtRest old) 0 all) (sym (take-append-drop n apps)) each)
+
+-- ---- Those that wait
 
 -- what comes joins the events that wait
 takes_read-joins : (d : ℕ) (read : Result Envelope WireFault) (k : Knows) → Joins k.1 (takes_read d read k).1
@@ -240,40 +274,54 @@ joins-none : (xs ys : List Event) → ys ≡ xs → Joins xs ys
 joins-none xs ys same = ([], same ∙ sym (append-nil xs))
 
 -- what follows a turn that failed dispatches no event, and none joins
-record Still (e now_e : Engine) : Type 0 where
+record Still (e now_e : Focus) : Type 0 where
   events : now_e.events ≡ e.events
   queue : now_e.queue ≡ e.queue
 
-follows_still : {Own : Type 0} (Tells : Type 0) (rule : Policy) (text : List ℕ) (old new : Seen Own) (e now_e : Engine) → Follows Tells rule text old new e now_e → Still e now_e
-follows_still Tells policy.None text old new e now_e gone = record { events = ap (λ (x : Engine). x.events) gone.engine; queue = ap (λ (x : Engine). x.queue) gone.engine }
-follows_still Tells policy.Absolute text old new e now_e s = record { events = ap (λ (x : Engine). x.events) s.engine; queue = ap (λ (x : Engine). x.queue) s.engine }
-follows_still Tells policy.Equivalence text old new e now_e s = record { events = ap (λ (x : Engine). x.events) s.engine; queue = ap (λ (x : Engine). x.queue) s.engine }
+follows_still : {Own : Type 0} (Tells : Type 0) (rule : Policy) (text : List ℕ) (old new : Seen Own) (e now_e : Focus) → Follows Tells rule text old new e now_e → Still e now_e
+follows_still Tells policy.None text old new e now_e gone = record { events = ap (λ (x : Focus). x.events) gone.engine; queue = ap (λ (x : Focus). x.queue) gone.engine }
+follows_still Tells policy.Absolute text old new e now_e s = record { events = ap (λ (x : Focus). x.events) s.engine; queue = ap (λ (x : Focus). x.queue) s.engine }
+follows_still Tells policy.Equivalence text old new e now_e s = record { events = ap (λ (x : Focus). x.events) s.engine; queue = ap (λ (x : Focus). x.queue) s.engine }
 
-closed_count : {Own : Type 0} (Tells : Type 0) (kind : EventKind) (end : TurnEnd) (checkpoint : Option (List ℕ)) (unread text : List ℕ) (start : ℕ) (mid new : Seen Own) (mid_net : NetState) (e now_e : Engine) → IsClosed Tells kind end checkpoint unread text start mid new mid_net e now_e
+closed_count : {Own : Type 0} (Tells : Type 0) (kind : EventKind) (end : TurnEnd) (checkpoint : Option (List ℕ)) (unread text : List ℕ) (start : ℕ) (mid new : Seen Own) (mid_net : NetState) (e now_e : Focus) → IsClosed Tells kind end checkpoint unread text start mid new mid_net e now_e
     → (now_e.events ≡ e.events) × Joins e.queue now_e.queue
 closed_count Tells kind (ends.Done stop) checkpoint unread text start mid new mid_net e now_e closed = (
-  ap (λ (x : Engine). x.events) closed.engine,
-  subst (λ (x : Engine). Joins e.queue x.queue) (sym closed.engine) (joins-then e.queue closed.queue (closed.queue ++ left_events closed.net.left)
+  ap (λ (x : Focus). x.events) closed.engine,
+  subst (λ (x : Focus). Joins e.queue x.queue) (sym closed.engine) (joins-then e.queue closed.queue (closed.queue ++ left_events closed.net.left)
       (release-joins Tells mid_net.held closed.commits.ended.sent mid new (committed start mid_net) closed.net e.queue closed.queue closed.commits.ended.all) (left_events closed.net.left, refl)),
 )
 closed_count Tells kind (ends.Failed cause) checkpoint unread text start mid new mid_net e now_e closed =
     let still = follows_still Tells (rule_at e.rule kind) closed.later_text closed.undone new (all_told closed.undone_net e.queue (record e { rest = []; failed = e.failed + 1 })) now_e closed.follows in
     (still.events, (left_events closed.undone_net.left, still.queue))
 
-count_by : {Own : Type 0} (Tells : Type 0) (accepts : List TableView → Bool) (event : Event) (text : List ℕ) (old new : Seen Own) (e now_e : Engine) (takes : Bool) → IsTurn Tells accepts event takes text old new e now_e
-    → (now_e.events ≡ e.events) × Joins e.queue now_e.queue
-count_by Tells accepts event text old new e now_e true turn = closed_count Tells event.kind turn.end (handed turn.turns.outcome) turn.unread text (length e.net.log) turn.mid new turn.mid_net e now_e turn.closed
-count_by Tells accepts event text old new e now_e false turn = (ap (λ (x : Engine). x.events) turn.1, joins-none e.queue now_e.queue (ap (λ (x : Engine). x.queue) turn.1))
+offered-joins : {Own : Type 0} (Tells : Type 0) (accepts : List TableView → Bool) (event : Event) (number i : ℕ) (takes stops : Bool) (text : List ℕ) (from to : Between Own) (a now_a : Application) → IsOffered Tells accepts event number i takes stops text from to a now_a → Joins from.queue to.queue
+offered-joins Tells accepts event number i true stops text from to a now_a one =
+    let e = focus i a from.net from.queue number in
+    let turn = one.takes in
+    (closed_count Tells event.kind turn.end (handed turn.turns.outcome) turn.unread text (length from.net.log) turn.mid to.seen turn.mid_net e (focus i now_a to.net to.queue number) turn.closed).1
+offered-joins Tells accepts event number i false stops text from to a now_a passed = joins-none from.queue to.queue (ap (λ (x : Between _). x.queue) passed.0)
+
+later-joins : {Own : Type 0} (Tells : Type 0) (accepts : List TableView → Bool) (event : Event) (number i : ℕ) (more : List Application) (text : List ℕ) (mid to : Between Own) (later_apps : List Application) (stopped stops : Bool)
+    → if_stopped stops (AreLeftOut more mid to text later_apps stopped) (Offers Tells accepts event number i more text mid to later_apps stopped) → (Offers Tells accepts event number i more text mid to later_apps stopped → Joins mid.queue to.queue) → Joins mid.queue to.queue
+later-joins Tells accepts event number i more text mid to later_apps stopped true out go = joins-none mid.queue to.queue (ap (λ (x : Between _). x.queue) out.0)
+later-joins Tells accepts event number i more text mid to later_apps stopped false offers go = go offers
+
+offers-join : {Own : Type 0} (Tells : Type 0) (accepts : List TableView → Bool) (event : Event) (number i : ℕ) (apps : List Application) (text : List ℕ) (from to : Between Own) (now_apps : List Application) (stopped : Bool) → Offers Tells accepts event number i apps text from to now_apps stopped → Joins from.queue to.queue
+offers-join Tells accepts event number i [] text from to now_apps stopped none = joins-none from.queue to.queue (ap (λ (x : Between _). x.queue) none.0)
+offers-join Tells accepts event number i (a ∷ more) text from to now_apps stopped (one, later) =
+    joins-then from.queue one.mid.queue to.queue (offered-joins Tells accepts event number i (is_taking event a) one.stops one.front_text from one.mid a one.now_app one.offered)
+    (later-joins Tells accepts event number (i + 1) more one.later_text one.mid to one.later_apps stopped one.stops later
+    (λ offers. offers-join Tells accepts event number (i + 1) more one.later_text one.mid to one.later_apps stopped offers))
 
 -- one event more was dispatched, and those that wait stay, in front of those that join them
 pub dispatch-count : {Own : Type 0} (Tells : Type 0) (accepts : List TableView → Bool) (event : Event) (text : List ℕ) (old new : Seen Own) (e now_e : Engine) → Dispatches Tells accepts event text old new e now_e
     → (now_e.events ≡ e.events + 1) × Joins e.queue now_e.queue
-dispatch-count Tells accepts event text old new e now_e d = count_by Tells accepts event d.turn_text old new (with_number e) now_e (takes_event e event) d.turn
+dispatch-count Tells accepts event text old new e now_e d = (d.events_is, offers-join Tells accepts event (e.events + 1) 0 e.apps d.turn_text (between old e) (between new now_e) now_e.apps d.stopped d.offers)
 
 -- ---- The oldest event that waits
 
-queue_taken : {Own : Type 0} (seen : Seen Own) (e : Engine) (queue : List Event) (starts : List Start) (replies : List Reply) (later : Losses) (r : Run) → Stands seen e starts replies later r → Stands seen (record e { queue = queue }) starts replies later (record r { queue = queue })
-queue_taken seen e queue starts replies later r s = record {
+queue_taken : {Own : Type 0} (seen : Seen Own) (e : Engine) (queue : List Event) (said : ℕ → Said) (later : Losses) (r : Run) → Stands seen e said later r → Stands seen (record e { queue = queue }) said later (record r { queue = queue })
+queue_taken seen e queue said later r s = record {
   calm = s.calm;
   moment = s.moment;
   places = s.places;
@@ -284,49 +332,40 @@ queue_taken seen e queue starts replies later r s = record {
   lost = s.lost;
   losses_is = s.losses_is;
   marks = s.marks;
-  life = s.life;
 }
 
-next_is : {Own : Type 0} (allows : List Place → Bool) (event : Event) (queue : List Event) (seen : Seen Own) (e : Engine) (starts : List Start) (replies : List Reply) (later : Losses) (r : Run) → e.queue ≡ event ∷ queue → Stands seen e starts replies later r
-    → dispatch_next allows r ≡ dispatch allows event (record r { queue = queue })
-next_is allows event queue seen e starts replies later r waits s = ap (λ (events : List Event). next_dispatched allows events r) (s.queue ∙ waits)
-
--- it is taken out of the queue and dispatched
-pub next-moves : {Own : Type 0} (allows : List Place → Bool) (event : Event) (queue : List Event) (text : List ℕ) (old new : Seen Own) (e now_e : Engine) → e.queue ≡ event ∷ queue
-    → Moves [] (dispatch allows event) text old new (record e { queue = queue }) now_e → Moves [] (dispatch_next allows) text old new e now_e
-next-moves allows event queue text old new e now_e waits moves = record {
-  starts = moves.starts;
-  replies = moves.replies;
+-- it is taken out of the queue, and so much is done at it
+taken-moves : {Own : Type 0} (f g : Run → Run) (event : Event) (queue : List Event) (text : List ℕ) (old new : Seen Own) (e now_e : Engine) → ((r : Run) → r.queue ≡ event ∷ queue → g r ≡ f (record r { queue = queue })) → e.queue ≡ event ∷ queue
+    → Moves [] f text old new (record e { queue = queue }) now_e → Moves [] g text old new e now_e
+taken-moves f g event queue text old new e now_e is waits moves = record {
+  told = moves.told;
   batches = moves.batches;
   turns = moves.turns;
   given = moves.given;
-  rule = moves.rule;
-  read_starts = moves.read_starts;
-  read_replies = moves.read_replies;
+  rules = moves.rules;
+  read = moves.read;
   read_stimuli = moves.read_stimuli;
-  stands = λ said_starts said_replies later r starts_is replies_is s.
-      let all = ahead moves.batches moves.turns later in
-      subst (λ (x : Run). Stands new now_e (drop (length moves.starts) said_starts) (drop (length moves.replies) said_replies) later x) (sym (next_is allows event queue old e said_starts said_replies all r waits s))
-      (moves.stands said_starts said_replies later (record r { queue = queue }) starts_is replies_is (queue_taken old e queue said_starts said_replies all r s));
-  says = λ said_starts said_replies later r starts_is replies_is s.
-      let all = ahead moves.batches moves.turns later in
-      ap (text_of (names e.rule)) (next_is allows event queue old e said_starts said_replies all r waits s)
-      ∙ moves.says said_starts said_replies later (record r { queue = queue }) starts_is replies_is (queue_taken old e queue said_starts said_replies all r s);
+  stands = λ said later r fronts s.
+      subst (λ (x : Run). Stands new now_e (behind moves.told said) later x) (sym (is r (s.queue ∙ waits)))
+      (moves.stands said later (record r { queue = queue }) fronts (queue_taken old e queue said (ahead moves.batches moves.turns later) r s));
+  says = λ said later r fronts s.
+      ap (text_of (names (rules_of e))) (is r (s.queue ∙ waits))
+      ∙ moves.says said later (record r { queue = queue }) fronts (queue_taken old e queue said (ahead moves.batches moves.turns later) r s);
 }
+
+-- it is dispatched
+pub next-moves : {Own : Type 0} (allows : List Place → Bool) (event : Event) (queue : List Event) (text : List ℕ) (old new : Seen Own) (e now_e : Engine) → e.queue ≡ event ∷ queue
+    → Moves [] (dispatch allows event) text old new (record e { queue = queue }) now_e → Moves [] (dispatch_next allows) text old new e now_e
+next-moves allows event queue text old new e now_e waits moves =
+    taken-moves (dispatch allows event) (dispatch_next allows) event queue text old new e now_e (λ r is. ap (λ (events : List Event). next_dispatched allows events r) is) waits moves
+
+-- so far, to so many
+pub next_to-moves : {Own : Type 0} (allows : List Place → Bool) (n : ℕ) (event : Event) (queue : List Event) (text : List ℕ) (old new : Seen Own) (e now_e : Engine) → e.queue ≡ event ∷ queue
+    → Moves [] (dispatch_to allows (suc n) event) text old new (record e { queue = queue }) now_e → Moves [] (dispatch_partly allows (suc n)) text old new e now_e
+next_to-moves allows n event queue text old new e now_e waits moves =
+    taken-moves (dispatch_to allows (suc n) event) (dispatch_partly allows (suc n)) event queue text old new e now_e (λ r is. ap (λ (events : List Event). next_dispatched_to allows (suc n) events r) is) waits moves
 
 -- none waits
 pub none-moves : {Own : Type 0} (allows : List Place → Bool) (seen : Seen Own) (e : Engine) → e.queue ≡ [] → Moves [] (dispatch_next allows) [] seen seen e e
-none-moves allows seen e none = record {
-  starts = [];
-  replies = [];
-  batches = [];
-  turns = [];
-  given = refl;
-  rule = refl;
-  read_starts = sym (append-nil (starts_in (own_acts seen)));
-  read_replies = sym (append-nil (replies_in (own_acts seen)));
-  read_stimuli = sym (append-nil (stimuli_in seen));
-  stands = λ later_starts later_replies later r starts_is replies_is s.
-      subst (λ (x : Run). Stands seen e later_starts later_replies later x) (sym (ap (λ (events : List Event). next_dispatched allows events r) (s.queue ∙ none))) s;
-  says = λ later_starts later_replies later r starts_is replies_is s. ap (text_of (names e.rule)) (ap (λ (events : List Event). next_dispatched allows events r) (s.queue ∙ none)) ∙ sym (append-nil (text_of (names e.rule) r));
-}
+none-moves allows seen e none =
+    moves-as [] (λ r. r) (dispatch_next allows) [] seen seen e e (λ said later r s. sym (ap (λ (events : List Event). next_dispatched allows events r) (s.queue ∙ none))) (moves-none seen e)

@@ -1,84 +1,49 @@
--- What the engine does at a start and at an event is what the reference controller does, in a world that keeps its word.
-use Rattle.std.proofs.Common.{◌≡◌, ℕ, zero, suc, ◌+◌, ◌^◌, ◌<◌, Bool, true, false, List, [], ◌∷◌, Option, is_some, refl, sym, ap, ◌∙◌, subst, inl, inr}
-use Rattle.std.specs.List.{AllByRecursion}
+-- What the engine does at an event is what the reference controller does, in a world that keeps its word.
+use Rattle.std.proofs.Common.{◌≡◌, ℕ, suc, ◌+◌, ◌^◌, ◌<◌, Bool, false, List, [], ◌∷◌, ◌++◌, take, refl}
 use Rattle.flow_table.specs.View.{TableView}
 use Rattle.app_frames.specs.declared.frame.Event.{Event}
-use Rattle.lego_model.specs.Journal.{start_of}
-use Rattle.lego_model.specs.Scripted.{is_start_heard}
 use Rattle.lego_model.specs.Places.{Place}
-use Rattle.lego_model.specs.Controller.{attempts, dispatch}
+use Rattle.lego_model.specs.Controller.{dispatch}
+use Rattle.lego_model.specs.RunReport.{event_line}
+use Rattle.lego_model.specs.ReferenceRun.{dispatch_next}
+use Rattle.lego_model.specs.CutRun.{dispatch_partly}
 use Rattle.outside.specs.Seen.{Seen, Continues}
 use Rattle.outside.specs.Conforming.{Conforming}
-use Rattle.app_visor.specs.Attempts.{OneTry, AreTries}
-use Rattle.app_visor.specs.laws.ReadTurnLaws.{turn_told}
-use Rattle.app_visor.specs.laws.ReadTryLaws.{tries_told}
-use Rattle.journal_laws.specs.laws.FrameLaws.{event_is}
-use Rattle.switch_laws.specs.laws.OrderlyLaws.{orderly-whole}
-use Rattle.batch_laws.specs.Calm.{Calm}
-use Rattle.run_laws.specs.Engine.{Engine, with_number}
-use Rattle.lego_model.specs.Application.{index}
-use Rattle.run_laws.specs.Facts.{takes_event, IsTurn, Dispatches}
-use Rattle.run_laws.specs.Readings.{AreRead, JudgesAlike}
+use Rattle.run_laws.specs.Engine.{Engine}
+use Rattle.run_laws.specs.Facts.{between, Dispatches, DispatchesTo}
+use Rattle.run_laws.specs.Readings.{JudgesAlike}
 use Rattle.run_laws.specs.Moves.{AtRest, Moved, Shown}
-use Rattle.lego_model.specs.ReferenceRun.{dispatch_next}
-use Rattle.run_laws.specs.laws.TurnMoveLaws.{turn_moves}
-use Rattle.run_laws.specs.laws.DialogueLaws.{takes_alive, turn_goes_on}
-use Rattle.run_laws.specs.laws.DispatchLaws.{dispatch-moves, dispatch-life, next-moves, none-moves}
-use Rattle.run_laws.specs.laws.OrderlyRunLaws.{turn-orderly}
+use Rattle.run_laws.specs.laws.OfferLaws.{offers-move}
+use Rattle.run_laws.specs.laws.DispatchLaws.{dispatch-moves, dispatch_to-moves, rests-take, next-moves, next_to-moves, none-moves}
 
--- ---- Every turn and every restart is read
-
--- of each attempt enough is told
-tries-heard : {Own : Type 0} (Tells : Type 0) (app : ℕ) (kept : List ℕ) (n : ℕ) (ts : List (OneTry Own)) (old new : Seen Own) → AreTries Tells app kept n ts old new → AllByRecursion (λ t. is_start_heard (start_of t.attempt) ≡ true) ts
-tries-heard Tells app kept zero [] old new are = tt
-tries-heard Tells app kept zero (t ∷ ts) old new are = absurd are
-tries-heard Tells app kept (suc n) [] old new are = absurd are
-tries-heard {Own} Tells app kept (suc n) (t ∷ ts) old new are = (
-  are.0.heard,
-  elim are.1 [
-    | inl h ↦ subst (λ (l : List (OneTry Own)). AllByRecursion (λ x. is_start_heard (start_of x.attempt) ≡ true) l) (sym h.1) tt
-    | inr h ↦ tries-heard Tells app kept n ts t.after new h.1
-  ],
-)
-
-pub are-read : {Own : Type 0} (Tells : Type 0) (accepts : List TableView → Bool) → AreRead Own Tells accepts
-are-read Tells accepts = record {
-  turn = λ budget number moment event rest old mid net mid_net end unread told t stood.
-      let r = turn_told t told (event_is number moment event) stood in
-      record { starts = r.starts; replies = r.replies; heard = t.heard; life = r.life };
-  tries = λ kept old new found tries told s.
-      let r = tries_told Tells index kept attempts s.all old new s.are told in
-      record { starts = r.starts; replies = r.replies; heard = tries-heard Tells index kept attempts s.all old new s.are; life = λ some. r.life (sym (ap (λ (o : Option (List ℕ)). is_some o) s.found_is) ∙ some); own = r.own };
-}
-
--- ---- An event
-
-calm-by : {Own : Type 0} (Tells : Type 0) (accepts : List TableView → Bool) (allows : List Place → Bool) (event : Event) (text : List ℕ) (old new : Seen Own) (e now_e : Engine) (takes : Bool) → takes_event e event ≡ takes → Tells → Conforming new → JudgesAlike Own allows accepts
-    → e.events + 1 < 2 ^ 64 → AtRest old e → IsTurn Tells accepts event takes text old new (with_number e) now_e → Calm new now_e.net
-calm-by Tells accepts allows event text old new e now_e true is told keeps judges few settled turn =
-    (turn_moves Tells accepts allows event text old new (with_number e) now_e told keeps judges (are-read Tells accepts) few (settled.life (takes_alive e event is)) settled.calm turn).alike.calm
-calm-by Tells accepts allows event text old new e now_e false is told keeps judges few settled turn =
-    subst (λ (s : Seen _). Calm s now_e.net) (sym turn.0) (subst (λ (x : Engine). Calm old x.net) (sym turn.1) settled.calm)
-
-pub dispatch-moved : {Own : Type 0} (Tells : Type 0) (accepts : List TableView → Bool) (allows : List Place → Bool) (event : Event) (text : List ℕ) (old new : Seen Own) (e now_e : Engine) → Tells → Conforming new → Continues Tells old new → JudgesAlike Own allows accepts
+pub dispatch-moved : {Own : Type 0} (Tells : Type 0) (accepts : List TableView → Bool) (allows : List Place → Bool) (event : Event) (text : List ℕ) (old new : Seen Own) (e now_e : Engine) → Tells → Conforming new → JudgesAlike Own allows accepts
     → e.events + 1 < 2 ^ 64 → AtRest old e → Dispatches Tells accepts event text old new e now_e → Moved [] (dispatch allows event) text old new e now_e
-dispatch-moved Tells accepts allows event text old new e now_e told keeps continues judges few settled d = record {
-  moves = dispatch-moves Tells accepts allows event text old new e now_e told keeps continues judges (are-read Tells accepts) few settled.life settled.calm d;
-  settled = record {
-    calm = calm-by Tells accepts allows event d.turn_text old new e now_e (takes_event e event) refl told keeps judges few settled d.turn;
-    life = dispatch-life Tells accepts allows event text old new e now_e told keeps judges (are-read Tells accepts) few settled.life settled.calm d;
-    speaks = turn_goes_on Tells accepts event (takes_event e event) d.turn_text old new (with_number e) now_e told refl (record { at_once = settled.speaks.at_once; rest_is = settled.speaks.rest_is }) d.turn;
-    orderly = orderly-whole index old new settled.orderly (turn-orderly Tells accepts event (takes_event e event) d.turn_text old new (with_number e) now_e told keeps settled.calm (are-read Tells accepts) d.turn);
-  };
-}
+dispatch-moved Tells accepts allows event text old new e now_e told keeps judges few settled d =
+    dispatch-moves allows event d.turn_text text old new e now_e d.events_is d.text_is settled
+    (offers-move Tells accepts allows event (e.events + 1) told judges few 0 e.apps d.turn_text (between old e) (between new now_e) now_e.apps d.stopped keeps settled.each settled.calm d.offers)
 
--- the oldest event is taken out of the queue, and dispatched
+-- the oldest event is taken out of the queue
+abbrev taken-rests : {Own : Type 0} (seen : Seen Own) (e : Engine) (queue : List Event) → AtRest seen e → AtRest seen (record e { queue = queue })
+taken-rests seen e queue settled = record { calm = settled.calm; each = settled.each; orderly = settled.orderly }
+
+-- and given to so many of the first applications
+pub partly-moved : {Own : Type 0} (Tells : Type 0) (accepts : List TableView → Bool) (allows : List Place → Bool) (n : ℕ) (event : Event) (queue : List Event) (old new : Seen Own) (e now_e : Engine) → Tells → Conforming new → JudgesAlike Own allows accepts
+    → e.events + 1 < 2 ^ 64 → AtRest old e → e.queue ≡ event ∷ queue → (d : DispatchesTo Tells accepts event (suc n) old new (record e { queue = queue }) now_e)
+    → Moved [] (dispatch_partly allows (suc n)) (event_line (e.events + 1) event.kind event.dpid ++ d.text) old new e now_e
+partly-moved Tells accepts allows n event queue old new e now_e told keeps judges few settled waits d =
+    let taken : Engine = record e { queue = queue } in
+    let text = event_line (e.events + 1) event.kind event.dpid ++ d.text in
+    let rests = taken-rests old e queue settled in
+    let m = offers-move Tells accepts allows event (e.events + 1) told judges few 0 (take (suc n) e.apps) d.text (between old taken) (between new now_e) d.front false keeps (rests-take (suc n) old e.apps settled.each) settled.calm d.offers in
+    let moved = dispatch_to-moves allows (suc n) event d.front d.text text old new taken now_e d.apps_is d.events_is refl rests m in
+    record { moves = next_to-moves allows n event queue text old new e now_e waits moved.moves; settled = moved.settled }
+
+-- or dispatched
 pub next-shown : {Own : Type 0} (Tells : Type 0) (accepts : List TableView → Bool) (event : Event) (queue : List Event) (text : List ℕ) (old new : Seen Own) (e now_e : Engine) → Continues Tells old new → e.events + 1 < 2 ^ 64 → e.queue ≡ event ∷ queue
     → Dispatches Tells accepts event text old new (record e { queue = queue }) now_e → Shown Tells accepts [] dispatch_next text old new e now_e
 next-shown Tells accepts event queue text old new e now_e continues few waits d = record {
   moved = λ allows told keeps judges settled.
-      let taken : AtRest old (record e { queue = queue }) = record { calm = settled.calm; life = settled.life; speaks = record { at_once = settled.speaks.at_once; rest_is = settled.speaks.rest_is }; orderly = settled.orderly } in
-      let one = dispatch-moved Tells accepts allows event text old new (record e { queue = queue }) now_e told keeps continues judges few taken d in
+      let one = dispatch-moved Tells accepts allows event text old new (record e { queue = queue }) now_e told keeps judges few (taken-rests old e queue settled) d in
       record { moves = next-moves allows event queue text old new e now_e waits one.moves; settled = one.settled };
 }
 

@@ -1,6 +1,6 @@
 -- Where a run begins: a world that was just opened, and an engine before anything happened, stand as the reference controller does before it
--- starts its application.
-use Rattle.std.proofs.Common.{◌≡◌, ◌==◌, ℕ, true, List, [], ◌∷◌, map, Option, None, refl, sym, ap, ap₂, ◌∙◌, subst, inl, inr, true≢false}
+-- starts its applications.
+use Rattle.std.proofs.Common.{◌≡◌, ◌==◌, ℕ, ◌+◌, true, List, [], ◌∷◌, map, length, Option, None, refl, sym, ap, ap₂, ◌∙◌, subst, inl, inr, true≢false}
 use Rattle.std.proofs.lemmas.Bool.{cases_Bool}
 use Rattle.std.specs.Option.{option_map}
 use Rattle.std.specs.List.{AllByRecursion}
@@ -8,7 +8,7 @@ use Rattle.std.proofs.lemmas.Option.{none-some}
 use Rattle.flow_table.specs.Switch.{Declared, SwitchState}
 use Rattle.crash_policy.specs.Policies.{AppValue}
 use Rattle.of_types.specs.declared.journal.Act.{Act}
-use Rattle.lego_model.specs.Journal.{Reply, Start, inputs, released, losses}
+use Rattle.lego_model.specs.Journal.{inputs, released, losses}
 use Rattle.lego_model.specs.Agreement.{AgreeMarks}
 use Rattle.undo_laws.specs.Owned.{owned_switch}
 use Rattle.lego_model.specs.Answers.{rows_of_table}
@@ -23,12 +23,12 @@ use Rattle.switch_laws.specs.Shown.{flags_at, places, shown_switch, shown_places
 use Rattle.lego_model.specs.AtOnce.{at_first as nobody_yet, Dialogue}
 use Rattle.switch_laws.specs.Since.{ports_known}
 use Rattle.batch_laws.specs.Calm.{Calm}
-use Rattle.run_laws.specs.Engine.{Stands, app_at}
-use Rattle.lego_model.specs.Application.{index}
+use Rattle.lego_model.specs.Controller.{App}
+use Rattle.run_laws.specs.Engine.{EachFrom, Stands, app_with, apps_from, rules_of}
 use Rattle.lego_model.specs.History.{given_in, released_of, lost_of}
-use Rattle.run_laws.specs.Moves.{AtRest}
-use Rattle.lego_model.specs.ReferenceRun.{fresh, before_start}
-use Rattle.run_laws.specs.First.{IsOpened, net_at_first, engine_at_first}
+use Rattle.run_laws.specs.Moves.{IsAtRest, AtRest}
+use Rattle.lego_model.specs.ReferenceRun.{Said, fresh_from, before_start}
+use Rattle.run_laws.specs.First.{IsOpened, net_at_first, app_at_first, engine_at_first}
 
 -- ---- The world
 
@@ -84,15 +84,27 @@ pub no-acts : {Own : Type 0} (seen : Seen Own) → IsOpened seen → journal see
 unfolding journal
 no-acts seen is = ap (λ (h : List WorldStep). journal h) is
 
-pub settled-first : {Own : Type 0} (rule : AppValue) (seen : Seen Own) → IsOpened seen → AtRest seen (engine_at_first rule)
-settled-first rule seen is = record {
-  calm = calm-first seen is;
-  life = λ alive. absurd (true≢false (sym alive));
-  speaks = record {
-    at_once = record { last = nobody_yet; dialogue = subst (λ (acts : List Act). Dialogue index nobody_yet acts nobody_yet) (sym (no-acts seen is)) refl };
+-- the applications are those of the policy
+pub rules-first : (rules : List AppValue) → rules_of (engine_at_first rules) ≡ rules
+rules-first [] = refl
+rules-first (rule ∷ rules) = ap (λ (more : List AppValue). rule ∷ more) (rules-first rules)
+
+each-first : {Own : Type 0} (i : ℕ) (rules : List AppValue) (seen : Seen Own) → IsOpened seen → EachFrom (IsAtRest seen) i (map app_at_first rules)
+each-first i [] seen is = tt
+each-first i (rule ∷ rules) seen is = (
+  record {
+    life = λ alive. absurd (true≢false (sym alive));
+    at_once = record { last = nobody_yet; dialogue = subst (λ (acts : List Act). Dialogue i nobody_yet acts nobody_yet) (sym (no-acts seen is)) refl };
     rest_is = λ alive. absurd (true≢false (sym alive));
-  };
-  orderly = subst (λ (h : List WorldStep). AllByRecursion (IsOrderly index) h) (sym is) (tt, tt);
+  },
+  each-first (i + 1) rules seen is,
+)
+
+pub settled-first : {Own : Type 0} (rules : List AppValue) (seen : Seen Own) → IsOpened seen → AtRest seen (engine_at_first rules)
+settled-first rules seen is = record {
+  calm = calm-first seen is;
+  each = each-first 0 rules seen is;
+  orderly = subst (λ (h : List WorldStep). AllByRecursion (IsOrderly (length (map app_at_first rules))) h) (sym is) (tt, tt);
 }
 
 -- ---- The journal tells nothing yet
@@ -101,9 +113,15 @@ places-out : (f : ℕ → Option SwitchState) (ds : List Declared) → ((d : ℕ
 places-out f [] none = refl
 places-out f (d ∷ ds) none = ap₂ (λ (o : Option SwitchState) (ps : List Place). record { declared = d; switch = o } ∷ ps) (none d.dpid) (places-out f ds none)
 
-given-first : {Own : Type 0} (seen : Seen Own) → IsOpened seen → given_in seen ≡ []
+given-first : {Own : Type 0} (i : ℕ) (seen : Seen Own) → IsOpened seen → given_in i seen ≡ []
 unfolding inputs
-given-first seen is = ap (λ (js : List Act). inputs index js) (no-acts seen is)
+given-first i seen is = ap (λ (js : List Act). inputs i js) (no-acts seen is)
+
+-- the applications at first
+apps-first : {Own : Type 0} (i : ℕ) (rules : List AppValue) (seen : Seen Own) (said : ℕ → Said) → IsOpened seen → apps_from i seen (map app_at_first rules) said ≡ fresh_from i rules said
+apps-first i [] seen said is = refl
+apps-first i (rule ∷ rules) seen said is =
+    ap₂ (λ (a : App) (more : List App). a ∷ more) (ap (λ (given : List (List ℕ)). app_with (app_at_first rule) given (said i)) (given-first i seen is)) (apps-first (i + 1) rules seen said is)
 
 released-first : {Own : Type 0} (seen : Seen Own) → IsOpened seen → released_of seen ≡ []
 unfolding released
@@ -114,19 +132,18 @@ unfolding losses
 lost-first seen is = ap (λ (js : List Act). losses js) (no-acts seen is)
 
 -- The two stand alike before anything is started.
-pub stands-first : {Own : Type 0} (rule : AppValue) (seen : Seen Own) (starts : List Start) (replies : List Reply) (losses : Losses) → IsOpened seen
-    → Stands seen (engine_at_first rule) starts replies losses (before_start seen.given.declared losses (fresh rule starts replies))
+pub stands-first : {Own : Type 0} (rules : List AppValue) (seen : Seen Own) (said : ℕ → Said) (losses : Losses) → IsOpened seen
+    → Stands seen (engine_at_first rules) said losses (before_start seen.given.declared losses (fresh_from 0 rules said))
 unfolding shown_places at_first
-stands-first rule seen starts replies losses is = record {
+stands-first rules seen said losses is = record {
   calm = calm-first seen is;
   moment = sym (ap (λ (s : State). s.moment) (state-opened seen is));
   places = sym (places-out (shown_switch [] (state seen)) seen.given.declared (λ d. ap (λ (o : Option SwitchState). option_map (owned_switch (flags_at d [])) o) (none-joined seen is d)));
   queue = refl;
   events = refl;
-  apps = sym (ap (λ (given : List (List ℕ)). app_at (engine_at_first rule) given starts replies ∷ []) (given-first seen is));
+  apps = sym (apps-first 0 rules seen said is);
   released = sym (released-first seen is);
   lost = sym (lost-first seen is);
   losses_is = refl;
   marks = subst (λ (s : State). AgreeMarks s.marks []) (sym (state-opened seen is)) tt;
-  life = λ alive. absurd (true≢false (sym alive));
 }

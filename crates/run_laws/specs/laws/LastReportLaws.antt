@@ -34,7 +34,7 @@ use Rattle.net_txn.specs.AskSteps.{own_rows}
 use Rattle.switch_laws.specs.Shown.{rows_or_none, flags_in, flags_at, shown_switch, places, shown_places, Stand}
 use Rattle.switch_laws.specs.laws.FlagLaws.{flags_in-here, flags_in-there}
 use Rattle.lego_model.specs.Losses.{Losses}
-use Rattle.lego_model.specs.Journal.{Reply, Start, is_of, inputs, stimuli, released, losses}
+use Rattle.lego_model.specs.Journal.{is_of, inputs, stimuli, released, losses}
 use Rattle.lego_model.specs.laws.JournalLaws.{inputs-append, stimuli-append}
 use Rattle.outside.specs.declared.step.WorldStep.{WorldStep}
 use Rattle.outside.specs.declared.step.WorldStep.TheVariants.{Acted, TookInto, From, Joined, Left, Moment, Idle, End, Opened, NotOpened, NextFailed, SendLost, RecvLost, SendFailed, RecvFailed}
@@ -54,17 +54,18 @@ use Rattle.lego_model.specs.FlowQueries.{asked_from, request_sent}
 use Rattle.lego_model.specs.OrderlySteps.{IsOrderly}
 use Rattle.switch_laws.specs.laws.OrderlyLaws.{orderly-none, orderly-then, rows-orderly, rows-release-none}
 use Rattle.switch_laws.specs.laws.ShownUndoLaws.{no-rows}
-use Rattle.run_laws.specs.Engine.{Engine, Stands}
-use Rattle.lego_model.specs.Application.{index, names}
+use Rattle.run_laws.specs.Engine.{Application, Engine, apps_from, Stands, rules_of}
+use Rattle.lego_model.specs.Application.{names}
 use Rattle.lego_model.specs.History.{own_acts, given_in, stimuli_in, lost_of}
-use Rattle.lego_model.specs.ReferenceRun.{text_of}
+use Rattle.lego_model.specs.ReferenceRun.{Said, text_of}
 use Rattle.run_laws.specs.laws.DialogueLaws.{others_at_once}
 use Rattle.run_laws.specs.laws.TellLaws.{released_same, lost_more}
 use Rattle.run_laws.specs.laws.ChainLaws.{links_state, links_tell}
 use Rattle.run_laws.specs.laws.LinkStepLaws.{link_steps-tell}
+use Rattle.run_laws.specs.LinkSteps.{TellsSame}
 use Rattle.batch_laws.specs.laws.KeepingLaws.{Conforming-in_order, calls-orderly}
 use Rattle.run_laws.specs.Whole.{at_last}
-use Rattle.run_laws.specs.LastReport.{SameKeys, flow_lines, table_lines, place_lines, shown_text, last_text, last_lines, OnlyAsked, JoinedWith}
+use Rattle.run_laws.specs.LastReport.{SameKeys, flow_lines, table_lines, place_lines, shown_text, last_text, last_lines, OnlyAsked, JoinedWith, app_lines}
 use Rattle.batch_laws.specs.laws.PortTellLaws.{some_is_none}
 
 -- ---- A switch
@@ -224,15 +225,20 @@ report-ends called r =
     places_lines : Run → List ℕ
     places_lines q = flat_map (place_lines q.losses.last) q.places
 
+-- the lines of the applications
+apps-shown : {Own : Type 0} (i : ℕ) (seen : Seen Own) (apps : List Application) (said : ℕ → Said) → apps_text (names (map (λ a. a.rule) apps)) (apps_from i seen apps said) ≡ app_lines apps
+apps-shown i seen [] said = refl
+apps-shown i seen (a ∷ more) said = ap (λ (text : List ℕ). app_line a.rule.name a.alive a.done a.failed ++ text) (apps-shown (i + 1) seen more said)
+
 -- Where engine and reference controller stand alike, they say the same at the end.
-pub last-shown : {Own : Type 0} (lost : List ℕ) (seen : Seen Own) (e : Engine) (starts : List Start) (replies : List Reply) (r : Run) → Stands seen e starts replies (at_last lost) r → last_lines (names e.rule) r ≡ last_text lost seen e
-last-shown lost seen e starts replies r stands =
+pub last-shown : {Own : Type 0} (lost : List ℕ) (seen : Seen Own) (e : Engine) (said : ℕ → Said) (r : Run) → Stands seen e said (at_last lost) r → last_lines (names (rules_of e)) r ≡ last_text lost seen e
+last-shown lost seen e said r stands =
     let last_is : r.losses.last ≡ lost = ap (λ (l : Losses). l.last) stands.losses_is in
     let moment : r.moment ≡ e.net.moment = stands.moment ∙ sym stands.calm.moment in
     let first_text : List ℕ = flat_map (place_lines lost) (shown_places seen.given.declared e.net.views (state seen)) in
     rw (last_is, stands.places, stands.apps, moment, stands.events)
-    (ap (λ (text : List ℕ). (first_text ++ text) ++ end_line e.net.moment e.events) (append-nil (app_line e.rule.name e.alive e.done e.failed))
-    ∙ append_assoc first_text (app_line e.rule.name e.alive e.done e.failed) (end_line e.net.moment e.events))
+    (ap (λ (text : List ℕ). (first_text ++ text) ++ end_line e.net.moment e.events) (apps-shown 0 seen e.apps said)
+    ∙ append_assoc first_text (app_lines e.apps) (end_line e.net.moment e.events))
 
 -- ---- What it leaves
 
@@ -258,38 +264,38 @@ wait-talk a [] = tt
 wait-talk a (b ∷ bs) = (tt, all_talk (steps_by a.dpid (heard a b) b) (wait_steps a bs) (heard-talk a.dpid (heard a b) b) (wait-talk a bs))
 
 -- what such a step tells
-record TellsNothing (steps : List WorldStep) : Type 0 where
-  acts : filter (is_of index) (journal steps) ≡ []
-  given : inputs index (journal steps) ≡ []
+record TellsNothing (app : ℕ) (steps : List WorldStep) : Type 0 where
+  acts : filter (is_of app) (journal steps) ≡ []
+  given : inputs app (journal steps) ≡ []
   stims : stimuli (journal steps) ≡ []
   lost : losses (journal steps) ≡ []
 
-talk-tells : (steps : List WorldStep) → AllByRecursion IsTalk steps → TellsNothing steps
+talk-tells : (app : ℕ) (steps : List WorldStep) → AllByRecursion IsTalk steps → TellsNothing app steps
 unfolding journal inputs stimuli losses
-talk-tells [] are = record { acts = refl; given = refl; stims = refl; lost = refl }
-talk-tells (Acted (Sent d bytes) ∷ steps) are = let rest = talk-tells steps are.1 in record { acts = rest.acts; given = rest.given; stims = rest.stims; lost = rest.lost }
-talk-tells (Acted (Got d bytes) ∷ steps) are = let rest = talk-tells steps are.1 in record { acts = rest.acts; given = rest.given; stims = rest.stims; lost = rest.lost }
-talk-tells (Acted (Stim x) ∷ steps) are = absurd are.0
-talk-tells (Acted (Started of ok) ∷ steps) are = absurd are.0
-talk-tells (Acted (Gave of bytes) ∷ steps) are = absurd are.0
-talk-tells (Acted (Gone of bytes) ∷ steps) are = absurd are.0
-talk-tells (Acted (Took of what) ∷ steps) are = absurd are.0
-talk-tells (Acted (Ended of) ∷ steps) are = absurd are.0
-talk-tells (Acted (Lost d) ∷ steps) are = absurd are.0
-talk-tells (TookInto of what room ∷ steps) are = absurd are.0
-talk-tells (From d bytes ∷ steps) are = absurd are.0
-talk-tells (Joined d bytes ∷ steps) are = absurd are.0
-talk-tells (Left d ∷ steps) are = absurd are.0
-talk-tells (Moment t ∷ steps) are = absurd are.0
-talk-tells (Idle ∷ steps) are = absurd are.0
-talk-tells (End ∷ steps) are = absurd are.0
-talk-tells (Opened ∷ steps) are = absurd are.0
-talk-tells (NotOpened ∷ steps) are = absurd are.0
-talk-tells (NextFailed ∷ steps) are = absurd are.0
-talk-tells (SendLost d ∷ steps) are = absurd are.0
-talk-tells (RecvLost d ∷ steps) are = absurd are.0
-talk-tells (SendFailed d ∷ steps) are = absurd are.0
-talk-tells (RecvFailed d ∷ steps) are = absurd are.0
+talk-tells app [] are = record { acts = refl; given = refl; stims = refl; lost = refl }
+talk-tells app (Acted (Sent d bytes) ∷ steps) are = let rest = talk-tells app steps are.1 in record { acts = rest.acts; given = rest.given; stims = rest.stims; lost = rest.lost }
+talk-tells app (Acted (Got d bytes) ∷ steps) are = let rest = talk-tells app steps are.1 in record { acts = rest.acts; given = rest.given; stims = rest.stims; lost = rest.lost }
+talk-tells app (Acted (Stim x) ∷ steps) are = absurd are.0
+talk-tells app (Acted (Started of ok) ∷ steps) are = absurd are.0
+talk-tells app (Acted (Gave of bytes) ∷ steps) are = absurd are.0
+talk-tells app (Acted (Gone of bytes) ∷ steps) are = absurd are.0
+talk-tells app (Acted (Took of what) ∷ steps) are = absurd are.0
+talk-tells app (Acted (Ended of) ∷ steps) are = absurd are.0
+talk-tells app (Acted (Lost d) ∷ steps) are = absurd are.0
+talk-tells app (TookInto of what room ∷ steps) are = absurd are.0
+talk-tells app (From d bytes ∷ steps) are = absurd are.0
+talk-tells app (Joined d bytes ∷ steps) are = absurd are.0
+talk-tells app (Left d ∷ steps) are = absurd are.0
+talk-tells app (Moment t ∷ steps) are = absurd are.0
+talk-tells app (Idle ∷ steps) are = absurd are.0
+talk-tells app (End ∷ steps) are = absurd are.0
+talk-tells app (Opened ∷ steps) are = absurd are.0
+talk-tells app (NotOpened ∷ steps) are = absurd are.0
+talk-tells app (NextFailed ∷ steps) are = absurd are.0
+talk-tells app (SendLost d ∷ steps) are = absurd are.0
+talk-tells app (RecvLost d ∷ steps) are = absurd are.0
+talk-tells app (SendFailed d ∷ steps) are = absurd are.0
+talk-tells app (RecvFailed d ∷ steps) are = absurd are.0
 
 talk-marks : (steps : List WorldStep) (s : State) → AllByRecursion IsTalk steps → (after_steps steps s).marks ≡ s.marks
 unfolding after_step after_act
@@ -318,20 +324,20 @@ talk-marks (RecvLost d ∷ steps) s are = absurd are.0
 talk-marks (SendFailed d ∷ steps) s are = absurd are.0
 talk-marks (RecvFailed d ∷ steps) s are = absurd are.0
 
-only-asked : {Own : Type 0} (old new : Seen Own) (steps : List WorldStep) → new.given ≡ old.given → new.history ≡ old.history ++ steps → AllByRecursion IsTalk steps → AllByRecursion (IsOrderly index) steps → released (journal steps) ≡ [] → OnlyAsked [] old new
+only-asked : {Own : Type 0} (old new : Seen Own) (steps : List WorldStep) → new.given ≡ old.given → new.history ≡ old.history ++ steps → AllByRecursion IsTalk steps → ((number : ℕ) → AllByRecursion (IsOrderly number) steps) → released (journal steps) ≡ [] → OnlyAsked [] old new
 only-asked old new steps given more are orderly none =
-    let tells = talk-tells steps are in
+    let tells : (app : ℕ) → TellsNothing app steps = λ app. talk-tells app steps are in
     let longer : journal new.history ≡ journal old.history ++ journal steps = ap journal more ∙ journal-append old.history steps in
     record {
       given = given;
-      acts = ap (filter (is_of index)) longer ∙ filter-append (is_of index) (journal old.history) (journal steps) ∙ ap (λ (xs : List Act). own_acts old ++ xs) tells.acts ∙ append-nil (own_acts old);
-      inputs = ap (inputs index) longer ∙ inputs-append index (journal old.history) (journal steps) ∙ ap (λ (xs : List (List ℕ)). given_in old ++ xs) tells.given ∙ append-nil (given_in old);
-      stimuli = ap stimuli longer ∙ stimuli-append (journal old.history) (journal steps) ∙ ap (λ (xs : List WorldStim). stimuli_in old ++ xs) tells.stims ∙ append-nil (stimuli_in old);
+      acts = λ app. ap (filter (is_of app)) longer ∙ filter-append (is_of app) (journal old.history) (journal steps) ∙ ap (λ (xs : List Act). own_acts app old ++ xs) (tells app).acts ∙ append-nil (own_acts app old);
+      inputs = λ app. ap (inputs app) longer ∙ inputs-append app (journal old.history) (journal steps) ∙ ap (λ (xs : List (List ℕ)). given_in app old ++ xs) (tells app).given ∙ append-nil (given_in app old);
+      stimuli = ap stimuli longer ∙ stimuli-append (journal old.history) (journal steps) ∙ ap (λ (xs : List WorldStim). stimuli_in old ++ xs) (tells 0).stims ∙ append-nil (stimuli_in old);
       released = released_same old new (journal steps) longer none;
-      lost_is = lost_more old new (journal steps) longer ∙ ap (λ (ds : List ℕ). lost_of old ++ ds) tells.lost;
+      lost_is = lost_more old new (journal steps) longer ∙ ap (λ (ds : List ℕ). lost_of old ++ ds) (tells 0).lost;
       marks = ap (λ (s : State). s.marks) (state-append old new steps given more) ∙ talk-marks steps (state old) are;
-      at_once = others_at_once old new steps more tells.acts;
-      orderly = record { steps = steps; history = more; orderly = orderly };
+      at_once = λ app. others_at_once app old new steps more (tells app).acts;
+      orderly = λ number. record { steps = steps; history = more; orderly = orderly number };
     }
 
 waits-asked : {Own : Type 0} (Tells : Type 0) (d xid : ℕ) (old new : Seen Own) (came : List (ℕ × List ℕ)) (refusal : Option Refusal) → Tells → Waits Tells (asked_from d xid) (request_sent d xid ∷ barrier_sent (asked_from d xid) ∷ []) old new [] came refusal
@@ -339,9 +345,9 @@ waits-asked : {Own : Type 0} (Tells : Type 0) (d xid : ℕ) (old new : Seen Own)
 waits-asked Tells d xid old new came refusal told waits =
     let a : Awaited = asked_from d xid in
     only-asked old new (request_sent d xid ∷ barrier_sent a ∷ (wait_steps a waits.got ++ reply_got a ∷ [])) waits.hears.continues.given (waits.hears.told told)
-    (tt, (tt, all_talk (wait_steps a waits.got) (reply_got a ∷ []) (wait-talk a waits.got) (tt, tt))) (rows-orderly index d xid waits.got) (rows-release-none d xid waits.got)
+    (tt, (tt, all_talk (wait_steps a waits.got) (reply_got a ∷ []) (wait-talk a waits.got) (tt, tt))) (λ number. rows-orderly number d xid waits.got) (rows-release-none d xid waits.got)
 
--- To ask a switch for its rows leaves all that is told of the application.
+-- To ask a switch for its rows leaves all that is told of the applications.
 pub rows-asked : {Own : Type 0} (Tells : Type 0) (d xid : ℕ) (old new : Seen Own) (kept now_kept : List (ℕ × List ℕ)) (rows : List FlowRow) → Tells → GivesRows Tells d xid old new kept now_kept rows → OnlyAsked [] old new
 rows-asked Tells d xid old new kept now_kept rows told gives = waits-asked Tells d xid old new gives.came gives.answered.refusal told gives.answered.waits
 
@@ -352,31 +358,41 @@ lost-asked Tells d old new net now_net told keeps joined continues links places 
     let only = links told in
     let out = lost.is_lost.out told joined in
     let longer : journal new.history ≡ journal old.history ++ journal out.steps = ap journal out.history ∙ journal-append old.history out.steps in
-    let tells = links_tell old new only in
+    let tells : (app : ℕ) → TellsSame app old new = λ app. links_tell app old new only in
     record {
       given = continues.given;
-      acts = tells.acts;
-      inputs = tells.given;
-      stimuli = tells.stims;
+      acts = λ app. (tells app).acts;
+      inputs = λ app. (tells app).given;
+      stimuli = (tells 0).stims;
       released = released_same old new (journal out.steps) longer out.released_is;
       lost_is = lost_more old new (journal out.steps) longer ∙ ap (λ (ds : List ℕ). lost_of old ++ ds) out.lost;
       marks = (links_state old new continues.given only).marks;
-      at_once = others_at_once old new only.steps only.history (link_steps-tell index only.steps only.all).acts;
-      orderly = calls-orderly index old new only (places told (Conforming-in_order new keeps) joined);
+      at_once = λ app. others_at_once app old new only.steps only.history (link_steps-tell app only.steps only.all).acts;
+      orderly = λ number. calls-orderly number old new only (places told (Conforming-in_order new keeps) joined);
     }
 
 pub asked-nothing : {Own : Type 0} (seen : Seen Own) → OnlyAsked [] seen seen
-asked-nothing seen = record { given = refl; acts = refl; inputs = refl; stimuli = refl; released = refl; lost_is = sym (append-nil (lost_of seen)); marks = refl; at_once = λ said. said; orderly = orderly-none index seen }
+asked-nothing seen = record {
+  given = refl;
+  acts = λ app. refl;
+  inputs = λ app. refl;
+  stimuli = refl;
+  released = refl;
+  lost_is = sym (append-nil (lost_of seen));
+  marks = refl;
+  at_once = λ app said. said;
+  orderly = λ number. orderly-none number seen;
+}
 
 pub asked-then : {Own : Type 0} (lost more : List ℕ) (old mid new : Seen Own) → OnlyAsked lost old mid → OnlyAsked more mid new → OnlyAsked (lost ++ more) old new
 asked-then lost more old mid new first rest = record {
   given = rest.given ∙ first.given;
-  acts = rest.acts ∙ first.acts;
-  inputs = rest.inputs ∙ first.inputs;
+  acts = λ app. rest.acts app ∙ first.acts app;
+  inputs = λ app. rest.inputs app ∙ first.inputs app;
   stimuli = rest.stimuli ∙ first.stimuli;
   released = rest.released ∙ first.released;
   lost_is = rest.lost_is ∙ ap (λ (ds : List ℕ). ds ++ more) first.lost_is ∙ append_assoc (lost_of old) lost more;
   marks = rest.marks ∙ first.marks;
-  at_once = λ said. rest.at_once (first.at_once said);
-  orderly = orderly-then index old mid new first.orderly rest.orderly;
+  at_once = λ app said. rest.at_once app (first.at_once app said);
+  orderly = λ number. orderly-then number old mid new (first.orderly number) (rest.orderly number);
 }

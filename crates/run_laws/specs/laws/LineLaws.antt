@@ -9,22 +9,26 @@ use Rattle.lego_model.specs.declared.turn.TurnWord.TheVariants as words
 use Rattle.lego_model.specs.Turns.{Outcome, Completed, Failed}
 use Rattle.lego_model.specs.Packets.{Held}
 use Rattle.lego_model.specs.Controller.{Line, Started, Dispatched, gone_line, out_lines}
-use Rattle.lego_model.specs.RunReport.{event_line, out_line, start_line, gone_line as gone_line_of, outcome_word, line_text}
+use Rattle.lego_model.specs.RunReport.{event_line, out_line, start_line, gone_line as gone_line_of, outcome_word, name_of, line_text}
 use Rattle.app_visor.specs.declared.state.TurnEnd.{TurnEnd}
 use Rattle.app_visor.specs.declared.state.TurnEnd.TheVariants as ends
 use Rattle.app_visor.specs.Turns.{IsEnd}
 use Rattle.run_laws.specs.Facts.{gone_text, starts_text, turn_word, out_text}
 use Rattle.run_laws.specs.LastReport.{lines_text}
 
-gone_lines : (name : List ℕ) (back : Bool) → lines_text (name ∷ []) (gone_line 0 back) ≡ gone_text name back
-gone_lines name true = refl
-gone_lines name false = append-nil (gone_line_of name)
+gone_lines : (names : List (List ℕ)) (i : ℕ) (back : Bool) → lines_text names (gone_line i back) ≡ gone_text (name_of i names) back
+gone_lines names i true = refl
+gone_lines names i false = append-nil (gone_line_of (name_of i names))
 
--- the lines of attempts
-pub starts_lines : (name : List ℕ) (tries : List Tried) (back : Bool) → lines_text (name ∷ []) (map (Started 0) tries ++ gone_line 0 back) ≡ starts_text name tries back
-starts_lines name [] back = gone_lines name back
-starts_lines name (t ∷ tries) back =
-    ap (λ (text : List ℕ). start_line name t ++ text) (starts_lines name tries back) ∙ sym (append_assoc (start_line name t) (flat_map (start_line name) tries) (gone_text name back))
+-- the lines of attempts, of an application whose name is known
+named_lines : (names : List (List ℕ)) (i : ℕ) (tries : List Tried) (back : Bool) → lines_text names (map (Started i) tries ++ gone_line i back) ≡ starts_text (name_of i names) tries back
+named_lines names i [] back = gone_lines names i back
+named_lines names i (t ∷ tries) back =
+    ap (λ (text : List ℕ). start_line (name_of i names) t ++ text) (named_lines names i tries back)
+    ∙ sym (append_assoc (start_line (name_of i names) t) (flat_map (start_line (name_of i names)) tries) (gone_text (name_of i names) back))
+
+pub starts_lines : (names : List (List ℕ)) (i : ℕ) (name : List ℕ) → name_of i names ≡ name → (tries : List Tried) (back : Bool) → lines_text names (map (Started i) tries ++ gone_line i back) ≡ starts_text name tries back
+starts_lines names i name known tries back = named_lines names i tries back ∙ ap (λ (n : List ℕ). starts_text n tries back) known
 
 done_word : (stop : Bool) (checkpoint : Option (List ℕ)) (rest : List ℕ) → turn_word (ends.Done stop) ≡ outcome_word (Completed stop checkpoint rest)
 done_word true checkpoint rest = refl

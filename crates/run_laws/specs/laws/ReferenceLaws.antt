@@ -1,63 +1,60 @@
--- What the reference controller does at an event where it has one application: its parts one by one.
-use Rattle.std.proofs.Common.{◌≡◌, ℕ, ◌+◌, ◌&&◌, Bool, true, false, List, [], ◌∷◌, ◌++◌, if◌then◌else◌, refl, ap, ◌∙◌}
+-- What the reference controller does at an event, one application after the other: its parts one by one.
+use Rattle.std.proofs.Common.{◌≡◌, ℕ, ◌+◌, ◌&&◌, Bool, true, false, List, [], ◌∷◌, if◌then◌else◌, refl, ap, ◌∙◌}
 use Rattle.app_frames.specs.declared.frame.Event.{Event}
 use Rattle.crash_policy.specs.Asking.{is_given}
 use Rattle.lego_model.specs.Journal.{Reply}
 use Rattle.lego_model.specs.Places.{Place}
-use Rattle.lego_model.specs.Losses.{TurnLosses, next_turn, turn_fewer}
+use Rattle.lego_model.specs.Losses.{TurnLosses, next_turn}
 use Rattle.lego_model.specs.Packets.{Play, fresh_play}
 use Rattle.lego_model.specs.Turns.{Played, turn_of}
-use Rattle.lego_model.specs.Controller.{App, Ended, Run, Turned, table_of, next_reply, out_lines, lost_lines, leavers, restart_lines, turn, says_stop, marked, given_to, dispatch}
-use Rattle.run_laws.specs.ReferenceTurn.{numbered, after_turn, without_turn, turned_by}
+use Rattle.lego_model.specs.Controller.{App, Run, Turned, table_of, next_reply, turn, says_stop, given_to}
+use Rattle.run_laws.specs.ReferenceTurn.{after_turn, turned_by}
 
-both_same : {X : Type 0} (b : Bool) (x : X) → (if b then x else x) ≡ x
-both_same true x = refl
-both_same false x = refl
+-- ---- An event is given to one application after the other
 
-abbrev next_run : Turned → Run → Run
-next_run t r = record r {
-  places = t.release.places;
-  queue = r.queue ++ (t.release.events ++ t.left);
-  lines = r.lines ++ Ended 0 t.outcome ∷ out_lines t.release.packets ++ lost_lines (leavers t.left) ++ restart_lines 0 t.outcome t.app;
-  released = r.released ++ t.release.packets;
-  lost = r.lost ++ leavers t.left;
-  losses = turn_fewer r.losses;
-  marks = marked t.given r.events r.places r.marks;
-}
+abbrev behind_it : App → List App × Run → List App × Run
+behind_it a rest = (a ∷ rest.0, rest.1)
 
-abbrev turned_one : Turned → Run → List App × Run
-turned_one t r = if says_stop t.outcome then (t.app.0 ∷ [], next_run t r) else (t.app.0 ∷ [], next_run t r)
+abbrev turned_first : (List Place → Bool) → Event → ℕ → List App → Turned → Run → List App × Run
+turned_first allows event i more t r = if says_stop t.outcome then (t.app.0 ∷ more, after_turn i t r) else behind_it t.app.0 (given_to allows event (i + 1) more (after_turn i t r))
 
-given_one : (allows : List Place → Bool) (event : Event) (a : App) (r : Run) → given_to allows event 0 (a ∷ []) r ≡ (if a.alive && is_given a.rule event.kind then turned_one (turn allows r.events r.moment event (next_turn r.losses.turns) r.places a) r else (a ∷ [], r))
+given_first : (allows : List Place → Bool) (event : Event) (i : ℕ) (a : App) (more : List App) (r : Run) → given_to allows event i (a ∷ more) r
+    ≡ (if a.alive && is_given a.rule event.kind then turned_first allows event i more (turn allows r.events r.moment event (next_turn r.losses.turns) r.places a) r else behind_it a (given_to allows event (i + 1) more r))
 unfolding given_to
-given_one allows event a r = refl
+given_first allows event i a more r = refl
 
-given_alive : (allows : List Place → Bool) (event : Event) (a : App) (r : Run) (t : Turned) → (a.alive && is_given a.rule event.kind) ≡ true → turn allows r.events r.moment event (next_turn r.losses.turns) r.places a ≡ t → given_to allows event 0 (a ∷ []) r ≡ (t.app.0 ∷ [], next_run t r)
-given_alive allows event a r t alive is =
-    given_one allows event a r
-    ∙ ap (λ (b : Bool). if b then turned_one (turn allows r.events r.moment event (next_turn r.losses.turns) r.places a) r else (a ∷ [], r)) alive
-    ∙ ap (λ (x : Turned). turned_one x r) is
-    ∙ both_same (says_stop t.outcome) (t.app.0 ∷ [], next_run t r)
+-- there is none
+pub given_none : (allows : List Place → Bool) (event : Event) (i : ℕ) (r : Run) → given_to allows event i [] r ≡ ([], r)
+unfolding given_to
+given_none allows event i r = refl
 
-given_dead : (allows : List Place → Bool) (event : Event) (a : App) (r : Run) → (a.alive && is_given a.rule event.kind) ≡ false → given_to allows event 0 (a ∷ []) r ≡ (a ∷ [], r)
-given_dead allows event a r dead =
-    given_one allows event a r ∙ ap (λ (b : Bool). if b then turned_one (turn allows r.events r.moment event (next_turn r.losses.turns) r.places a) r else (a ∷ [], r)) dead
+-- it is gone, or is not given such events
+pub given_passed : (allows : List Place → Bool) (event : Event) (i : ℕ) (a : App) (more : List App) (r : Run) → (a.alive && is_given a.rule event.kind) ≡ false
+    → given_to allows event i (a ∷ more) r ≡ (let rest = given_to allows event (i + 1) more r in (a ∷ rest.0, rest.1))
+given_passed allows event i a more r dead =
+    given_first allows event i a more r
+    ∙ ap (λ (b : Bool). if b then turned_first allows event i more (turn allows r.events r.moment event (next_turn r.losses.turns) r.places a) r else behind_it a (given_to allows event (i + 1) more r)) dead
 
-abbrev with_apps : List App × Run → Run
-with_apps done = record done.1 { apps = done.0 }
+given_alive : (allows : List Place → Bool) (event : Event) (i : ℕ) (a : App) (more : List App) (r : Run) (t : Turned) → (a.alive && is_given a.rule event.kind) ≡ true → turn allows r.events r.moment event (next_turn r.losses.turns) r.places a ≡ t
+    → given_to allows event i (a ∷ more) r ≡ turned_first allows event i more t r
+given_alive allows event i a more r t alive is =
+    given_first allows event i a more r
+    ∙ ap (λ (b : Bool). if b then turned_first allows event i more (turn allows r.events r.moment event (next_turn r.losses.turns) r.places a) r else behind_it a (given_to allows event (i + 1) more r)) alive
+    ∙ ap (λ (x : Turned). turned_first allows event i more x r) is
 
--- the application is alive, and is given such events
-pub dispatch_alive : (allows : List Place → Bool) (event : Event) (a : App) (r : Run) (t : Turned) → r.apps ≡ a ∷ [] → (a.alive && is_given a.rule event.kind) ≡ true → turn allows (r.events + 1) r.moment event (next_turn r.losses.turns) r.places a ≡ t
-    → dispatch allows event r ≡ after_turn t (numbered event r)
-unfolding dispatch
-dispatch_alive allows event a r t apps alive is =
-    ap with_apps (ap (λ (all : List App). given_to allows event 0 all (numbered event r)) apps ∙ given_alive allows event a (numbered event r) t alive is)
+-- it has its turn, and stops the event there
+pub given_stop : (allows : List Place → Bool) (event : Event) (i : ℕ) (a : App) (more : List App) (r : Run) → (a.alive && is_given a.rule event.kind) ≡ true → (t : Turned) → turn allows r.events r.moment event (next_turn r.losses.turns) r.places a ≡ t → says_stop t.outcome ≡ true
+    → given_to allows event i (a ∷ more) r ≡ (t.app.0 ∷ more, after_turn i t r)
+given_stop allows event i a more r alive t is stops =
+    given_alive allows event i a more r t alive is
+    ∙ ap (λ (b : Bool). if b then (t.app.0 ∷ more, after_turn i t r) else behind_it t.app.0 (given_to allows event (i + 1) more (after_turn i t r))) stops
 
--- the application is gone, or is not given such events
-pub dispatch_dead : (allows : List Place → Bool) (event : Event) (a : App) (r : Run) → r.apps ≡ a ∷ [] → (a.alive && is_given a.rule event.kind) ≡ false → dispatch allows event r ≡ without_turn a (numbered event r)
-unfolding dispatch
-dispatch_dead allows event a r apps dead =
-    ap with_apps (ap (λ (all : List App). given_to allows event 0 all (numbered event r)) apps ∙ given_dead allows event a (numbered event r) dead)
+-- or lets it go on
+pub given_on : (allows : List Place → Bool) (event : Event) (i : ℕ) (a : App) (more : List App) (r : Run) → (a.alive && is_given a.rule event.kind) ≡ true → (t : Turned) → turn allows r.events r.moment event (next_turn r.losses.turns) r.places a ≡ t → says_stop t.outcome ≡ false
+    → given_to allows event i (a ∷ more) r ≡ (let rest = given_to allows event (i + 1) more (after_turn i t r) in (t.app.0 ∷ rest.0, rest.1))
+given_on allows event i a more r alive t is goes =
+    given_alive allows event i a more r t alive is
+    ∙ ap (λ (b : Bool). if b then (t.app.0 ∷ more, after_turn i t r) else behind_it t.app.0 (given_to allows event (i + 1) more (after_turn i t r))) goes
 
 -- ---- A turn
 

@@ -36,7 +36,7 @@ rounds-more Tells accepts number first noted second a b c d e1 e2 e3 e4 later la
         number_is = length-append one.stimuli (x ∷ []) ∙ ap (λ (n : ℕ). n + 1) one.number_is;
         moved = subst (λ (xs : List WorldStim). Moved xs (rounds allows (one.stimuli ++ x ∷ [])) ((first ++ noted) ++ second) a d e1 e4) (append-nil (one.stimuli ++ x ∷ []))
             (moved-as ((one.stimuli ++ x ∷ []) ++ []) (λ r. settle allows (happen x (rounds allows one.stimuli r))) (rounds allows (one.stimuli ++ x ∷ [])) ((first ++ noted) ++ second) a d e1 e4
-            (λ ss rs l r s. sym (fold-append (round allows) r one.stimuli (x ∷ []))) all);
+            (λ said l r s. sym (fold-append (round allows) r one.stimuli (x ∷ []))) all);
       };
 }
 

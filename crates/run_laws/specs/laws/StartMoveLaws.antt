@@ -1,6 +1,6 @@
 -- The law of starts: the attempts of the engine are those of the reference controller, where its application has starts before it of which
 -- theirs are the fronts. So it is with what follows a turn that failed.
-use Rattle.std.proofs.Common.{◌≡◌, ℕ, zero, suc, ◌&&◌, Bool, true, false, List, [], ◌∷◌, ◌++◌, length, drop, Option, is_some, refl, sym, ap, ap₂, ◌∙◌, subst, append_assoc, inl, inr, true≢false}
+use Rattle.std.proofs.Common.{◌≡◌, ℕ, zero, suc, ◌+◌, ◌&&◌, Bool, true, false, List, [], ◌∷◌, ◌++◌, length, drop, Option, is_some, refl, sym, ap, ap₂, ◌∙◌, subst, append_assoc, arith, inl, inr, true≢false}
 use Rattle.std.specs.Prelude.{if◌then◌else◌, unwrap_or}
 use Rattle.std.specs.List.{AllByRecursion}
 use Rattle.std.proofs.lemmas.List.{append-nil}
@@ -18,8 +18,7 @@ use Rattle.outside.specs.State.{state}
 use Rattle.outside.specs.laws.SeenLaws.{Ends-continues}
 use Rattle.app_visor.specs.Attempts.{OneTry, AreTries, restored, restarted, starts_of, given_by, tries_of}
 use Rattle.turn_laws.specs.laws.ChainLaws.{shown-same}
-use Rattle.run_laws.specs.Engine.{Engine, app_at}
-use Rattle.lego_model.specs.Application.{index}
+use Rattle.run_laws.specs.Engine.{Focus, app_at}
 use Rattle.lego_model.specs.History.{starts_in, own_acts, given_in, lost_of}
 use Rattle.run_laws.specs.Facts.{StartsAgain, GoesAway, Follows}
 use Rattle.run_laws.specs.Readings.{AreRead}
@@ -71,7 +70,7 @@ starts_is Tells app kept (suc n) (t ∷ ts) old new are heard a (s ∷ said) has
     ]
 
 -- an application that was started so
-abbrev started_as : Engine → List Start → List Reply → Option (List ℕ) → List (List ℕ) → List Tried → App × List Tried
+abbrev started_as : Focus → List Start → List Reply → Option (List ℕ) → List (List ℕ) → List Tried → App × List Tried
 started_as e starts replies found inputs tries = (
   record {
     rule = e.rule;
@@ -88,34 +87,35 @@ started_as e starts replies found inputs tries = (
 )
 
 -- under a policy that starts it again
-again_alike : {Own : Type 0} (Tells : Type 0) (accepts : List TableView → Bool) (rule : Policy) (text : List ℕ) (old new : Seen Own) (e now_e : Engine) → ((a : App) → after_failure rule a ≡ started attempts a) → Tells → AreRead Own Tells accepts
+again_alike : {Own : Type 0} (Tells : Type 0) (accepts : List TableView → Bool) (rule : Policy) (text : List ℕ) (old new : Seen Own) (e now_e : Focus) → ((a : App) → after_failure rule a ≡ started attempts a) → Tells → AreRead Own e.index Tells accepts
     → StartsAgain Tells text old new e now_e → StartsAlike Tells rule text old new e now_e
 again_alike Tells accepts rule text old new e now_e again told reads s =
     let found = s.found in
     let all = s.restarts.all in
     let read = reads.tries e.kept old new found s.tries told s.restarts in
-    let keeps = tries_keep Tells index e.kept attempts all old new told s.restarts.are read.own in
-    let tells = tries_tell Tells e.kept attempts all old new told s.restarts.are read.own in
-    let none = tries_lose Tells e.kept attempts all old new told s.restarts.are read.own in
-    subst (λ (x : Engine). StartsAlike Tells rule text old new e x) (sym s.engine) (record {
+    let keeps = tries_keep Tells e.index e.kept attempts all old new told s.restarts.are read.own in
+    let tells = tries_tell Tells e.index e.kept attempts all old new told s.restarts.are read.own in
+    let none = tries_lose Tells e.index e.kept attempts all old new told s.restarts.are read.own in
+    subst (λ (x : Focus). StartsAlike Tells rule text old new e x) (sym s.engine) (record {
       starts = starts_of all;
       tries = s.tries;
-      continues = tries_continue Tells index e.kept attempts all old new s.restarts.are;
+      continues = tries_continue Tells e.index e.kept attempts all old new s.restarts.are;
       keeps = keeps;
       net = refl;
       queue = refl;
       events = refl;
+      index = refl;
       rule = refl;
       calm = λ calm. calm_talk old new e.net keeps.links keeps.rests calm;
       places = λ declared. shown-same declared e.net.views (state old) (state new) keeps.links;
       app = λ said_starts said_replies fronts.
           let later_starts = drop (length (starts_of all)) said_starts in
-          again (app_at e (given_in old) said_starts said_replies)
-          ∙ starts_is Tells index e.kept attempts all old new s.restarts.are read.heard (app_at e (given_in old) said_starts said_replies) said_starts refl fronts
-          ∙ ap (λ (f : Option (List ℕ)). started_as e later_starts said_replies f (given_in old ++ given_by e.kept all) (tries_of all)) (sym s.restarts.found_is)
+          again (app_at e (given_in e.index old) said_starts said_replies)
+          ∙ starts_is Tells e.index e.kept attempts all old new s.restarts.are read.heard (app_at e (given_in e.index old) said_starts said_replies) said_starts refl fronts
+          ∙ ap (λ (f : Option (List ℕ)). started_as e later_starts said_replies f (given_in e.index old ++ given_by e.kept all) (tries_of all)) (sym s.restarts.found_is)
           ∙ ap (λ (i : List (List ℕ)). started_as e later_starts said_replies found i (tries_of all)) (sym tells.given)
-          ∙ ap (λ (t : List Tried). started_as e later_starts said_replies found (given_in new) t) (sym s.restarts.tries_is);
-      text_is = s.text_is ∙ sym (starts_lines e.rule.name s.tries (is_some found));
+          ∙ ap (λ (t : List Tried). started_as e later_starts said_replies found (given_in e.index new) t) (sym s.restarts.tries_is);
+      text_is = λ names known. s.text_is ∙ sym (starts_lines names e.index e.rule.name known s.tries (is_some found));
       read_starts = read.starts;
       read_replies = read.replies;
       read_stimuli = tells.stims;
@@ -141,14 +141,15 @@ none_is : (a : App) → after_failure policy.None a ≡ (record a { alive = fals
 unfolding after_failure
 none_is a = refl
 
-abbrev gone_as : Engine → List Start → List Reply → List (List ℕ) → App × List Tried
+abbrev gone_as : Focus → List Start → List Reply → List (List ℕ) → App × List Tried
 gone_as e starts replies inputs = (app_at (record e { alive = false }) inputs starts replies, [])
 
-gone_alike : {Own : Type 0} (Tells : Type 0) (text : List ℕ) (old new : Seen Own) (e now_e : Engine) → Tells → GoesAway Tells text old new e now_e → StartsAlike Tells policy.None text old new e now_e
+gone_alike : {Own : Type 0} (Tells : Type 0) (text : List ℕ) (old new : Seen Own) (e now_e : Focus) → Tells → GoesAway Tells text old new e now_e → StartsAlike Tells policy.None text old new e now_e
 gone_alike Tells text old new e now_e told gone =
-    let leaves = end-leaves Tells old new told gone.ends in
-    let keeps = end-keeps Tells old new told gone.ends in
-    subst (λ (x : Engine). StartsAlike Tells policy.None text old new e x) (sym gone.engine) (record {
+    let leaves = end-leaves Tells e.index (e.index + 1) old new told (omega arith) gone.ends in
+    let told_is = leaves.told e.index in
+    let keeps = end-keeps Tells e.index old new told gone.ends in
+    subst (λ (x : Focus). StartsAlike Tells policy.None text old new e x) (sym gone.engine) (record {
       starts = [];
       tries = [];
       continues = Ends-continues gone.ends;
@@ -156,14 +157,15 @@ gone_alike Tells text old new e now_e told gone =
       net = refl;
       queue = refl;
       events = refl;
+      index = refl;
       rule = refl;
       calm = λ calm. calm_talk old new e.net keeps.links keeps.rests calm;
       places = λ declared. shown-same declared e.net.views (state old) (state new) keeps.links;
       app = λ said_starts said_replies fronts.
-          none_is (app_at e (given_in old) said_starts said_replies) ∙ ap (λ (i : List (List ℕ)). gone_as e said_starts said_replies i) (sym leaves.inputs);
-      text_is = gone.text_is ∙ sym (starts_lines e.rule.name [] false);
-      read_starts = leaves.starts ∙ sym (append-nil (starts_in (own_acts old)));
-      read_replies = leaves.replies;
+          none_is (app_at e (given_in e.index old) said_starts said_replies) ∙ ap (λ (i : List (List ℕ)). gone_as e said_starts said_replies i) (sym told_is.inputs);
+      text_is = λ names known. gone.text_is ∙ sym (starts_lines names e.index e.rule.name known [] false);
+      read_starts = told_is.starts ∙ sym (append-nil (starts_in (own_acts e.index old)));
+      read_replies = told_is.replies;
       read_stimuli = leaves.stimuli;
       released = leaves.released;
       lost = leaves.lost_is ∙ append-nil (lost_of old);
@@ -172,11 +174,11 @@ gone_alike Tells text old new e now_e told gone =
 
 -- ---- The laws
 
-pub starts_alike : {Own : Type 0} (Tells : Type 0) (accepts : List TableView → Bool) (text : List ℕ) (old new : Seen Own) (e now_e : Engine) → Tells → AreRead Own Tells accepts → StartsAgain Tells text old new e now_e
+pub starts_alike : {Own : Type 0} (Tells : Type 0) (accepts : List TableView → Bool) (text : List ℕ) (old new : Seen Own) (e now_e : Focus) → Tells → AreRead Own e.index Tells accepts → StartsAgain Tells text old new e now_e
     → StartsAlike Tells policy.Absolute text old new e now_e
 starts_alike Tells accepts text old new e now_e told reads s = again_alike Tells accepts policy.Absolute text old new e now_e absolute_is told reads s
 
-pub follows_alike : {Own : Type 0} (Tells : Type 0) (accepts : List TableView → Bool) (rule : Policy) (text : List ℕ) (old new : Seen Own) (e now_e : Engine) → Tells → AreRead Own Tells accepts → Follows Tells rule text old new e now_e
+pub follows_alike : {Own : Type 0} (Tells : Type 0) (accepts : List TableView → Bool) (rule : Policy) (text : List ℕ) (old new : Seen Own) (e now_e : Focus) → Tells → AreRead Own e.index Tells accepts → Follows Tells rule text old new e now_e
     → StartsAlike Tells rule text old new e now_e
 follows_alike Tells accepts policy.None text old new e now_e told reads gone = gone_alike Tells text old new e now_e told gone
 follows_alike Tells accepts policy.Absolute text old new e now_e told reads s = starts_alike Tells accepts text old new e now_e told reads s

@@ -21,8 +21,8 @@ use Rattle.lego_model.specs.Turns.{Outcome, Completed, Failed, turn_of}
 use Rattle.lego_model.specs.Scripted.{IsFront, is_heard}
 use Rattle.lego_model.specs.laws.ScriptedLaws.{turn-front}
 use Rattle.lego_model.specs.Losses.{PacketLoss, TurnLosses}
-use Rattle.lego_model.specs.Controller.{table_of, App, Turned, Started, after_failure, gone_line, event_frame, answer_frame, given_in as given_by_turn, Release, release, undoing, undone_release, out_lines, lost_lines, leavers, turn}
-use Rattle.lego_model.specs.RunReport.{turn_line, lost_line, line_text}
+use Rattle.lego_model.specs.Controller.{table_of, App, Turned, Started, after_failure, gone_line, event_frame, answer_frame, given_in as given_by_turn, Release, release, undoing, undone_release, out_lines, lost_lines, leavers, turn, says_stop as outcome_stops}
+use Rattle.lego_model.specs.RunReport.{turn_line, lost_line, outcome_word, line_text}
 use Rattle.outside.specs.Seen.{Given, Seen}
 use Rattle.outside.specs.State.{State, Mark, state, marks_at_event}
 use Rattle.outside.specs.laws.StateLaws.{Conforming-before}
@@ -51,10 +51,9 @@ use Rattle.turn_laws.specs.laws.ChainLaws.{turn-shown}
 use Rattle.batch_laws.specs.Calm.{Calm}
 use Rattle.journal_laws.specs.Readings.{LastStands}
 use Rattle.lego_model.specs.History.{starts_in, replies_in, own_acts, given_in, released_of, lost_of}
-use Rattle.run_laws.specs.Engine.{Engine, app_at}
-use Rattle.lego_model.specs.Application.{index, names}
+use Rattle.run_laws.specs.Engine.{Focus, app_at}
 use Rattle.batch_laws.specs.Knowledge.{left_events, lost_text}
-use Rattle.run_laws.specs.Facts.{turn_word, out_text, all_told, IsClosed, TakesTurn}
+use Rattle.run_laws.specs.Facts.{turn_word, out_text, all_told, IsClosed, TakesTurn, says_stop}
 use Rattle.run_laws.specs.Readings.{AreRead, JudgesAlike}
 use Rattle.run_laws.specs.laws.FrameLaws.{event_numbered}
 use Rattle.run_laws.specs.laws.ReferenceLaws.{turn_is}
@@ -72,9 +71,10 @@ use Rattle.run_laws.specs.EventMoves.{StartsAlike, TurnAlike, TurnMoves}
 -- ---- How all stands when the application is done or failed
 
 -- the turn of the reference controller leaves the same, with these losses
-record AlikeBy {Own : Type 0} (allows : List Place → Bool) (event : Event) (text : List ℕ) (old new : Seen Own) (e now_e : Engine) (starts : List Start) (reply : Reply) : Type 0 where
+record AlikeBy {Own : Type 0} (allows : List Place → Bool) (event : Event) (stops : Bool) (text : List ℕ) (old new : Seen Own) (e now_e : Focus) (starts : List Start) (reply : Reply) : Type 0 where
   losses : TurnLosses
   alike : TurnAlike allows event text old new e now_e starts reply losses
+  stops_is : outcome_stops alike.outcome ≡ stops
 
 abbrev marks_by : Bool → ℕ → State → List Mark
 marks_by given n s = if given then marks_at_event (Some n) s else s.marks
@@ -82,7 +82,7 @@ marks_by given n s = if given then marks_at_event (Some n) s else s.marks
 abbrev places_at : {Own : Type 0} → Seen Own → Seen Own → NetState → List Place
 places_at first now net = shown_places first.given.declared net.views (state now)
 
-record AtEnd {Own : Type 0} (allows : List Place → Bool) (event : Event) (old mid : Seen Own) (e : Engine) (mid_net : NetState) (given : Bool) (reply : Reply) (answers : List Answer) (outcome : Outcome) : Type 0 where
+record AtEnd {Own : Type 0} (allows : List Place → Bool) (event : Event) (old mid : Seen Own) (e : Focus) (mid_net : NetState) (given : Bool) (reply : Reply) (answers : List Answer) (outcome : Outcome) : Type 0 where
   messages : List Bool
   left : List Event
   leaves : LeavesBy old mid e.net mid_net left
@@ -91,8 +91,8 @@ record AtEnd {Own : Type 0} (allows : List Place → Bool) (event : Event) (old 
   rests : Rests (state old) (state mid)
   marks : (state mid).marks ≡ marks_by given e.events (state old)
   turned : (packets : List PacketLoss) (undone : List ℕ) (starts : List Start) (said : Reply) (replies : List Reply) → IsFront reply said
-      → turn allows e.events e.net.moment event (record { messages = messages; packets = packets; undone = undone }) (places_at old old e.net) (app_at e (given_in old) starts (said ∷ replies))
-      ≡ turned_by e.events e.net.moment event (record { messages = messages; packets = packets; undone = undone }) (places_at old old e.net) (app_at e (given_in old) starts (said ∷ replies)) said
+      → turn allows e.events e.net.moment event (record { messages = messages; packets = packets; undone = undone }) (places_at old old e.net) (app_at e (given_in e.index old) starts (said ∷ replies))
+      ≡ turned_by e.events e.net.moment event (record { messages = messages; packets = packets; undone = undone }) (places_at old old e.net) (app_at e (given_in e.index old) starts (said ∷ replies)) said
       (played_on (play_at old mid mid_net [] left) answers outcome)
 
 -- nothing is held before
@@ -102,36 +102,36 @@ fresh_is old net losing none = ap (λ (held : List Held). record { places = plac
 tail_is : (frame : List ℕ) (xs ys : List (List ℕ)) → frame ∷ xs ≡ frame ∷ ys → xs ≡ ys
 tail_is frame xs ys is = cc
 
-behind_event : (given : Bool) (frame : List ℕ) (acts : List Act) (answers : List Answer) → inputs index (give_act given index frame ∷ acts) ≡ given_by_turn given frame answers → NoEvents (inputs index acts)
+behind_event : (app : ℕ) (given : Bool) (frame : List ℕ) (acts : List Act) (answers : List Answer) → inputs app (give_act given app frame ∷ acts) ≡ given_by_turn given frame answers → NoEvents (inputs app acts)
 unfolding inputs
-behind_event true frame acts answers is =
-    subst NoEvents (sym (tail_is frame (inputs index acts) (map answer_frame answers) (sym (gave_first index index frame acts (eq-eqb index index refl)) ∙ is))) (answers_no_events answers)
-behind_event false frame acts answers is = subst NoEvents (sym is) tt
+behind_event app true frame acts answers is =
+    subst NoEvents (sym (tail_is frame (inputs app acts) (map answer_frame answers) (sym (gave_first app app frame acts (eq-eqb app app refl)) ∙ is))) (answers_no_events answers)
+behind_event app false frame acts answers is = subst NoEvents (sym is) tt
 
-at_end : {Own : Type 0} (Tells : Type 0) (accepts : List TableView → Bool) (allows : List Place → Bool) (event : Event) (old mid : Seen Own) (e : Engine) (mid_net : NetState) (end : TurnEnd) (unread : List ℕ)
+at_end : {Own : Type 0} (Tells : Type 0) (accepts : List TableView → Bool) (allows : List Place → Bool) (event : Event) (old mid : Seen Own) (e : Focus) (mid_net : NetState) (end : TurnEnd) (unread : List ℕ)
     → Tells → Conforming mid → JudgesAlike Own allows accepts → e.events < 2 ^ 64 → Calm old e.net
-    → (t : Turns Tells accepts index e.rule.budget e.rest (event_frame e.events e.net.moment event) old mid e.net mid_net end unread) → is_heard e.rule.budget e.rest (reply_by t.given t.trace) ≡ true
+    → (t : Turns Tells accepts e.index e.rule.budget e.rest (event_frame e.events e.net.moment event) old mid e.net mid_net end unread) → is_heard e.rule.budget e.rest (reply_by t.given t.trace) ≡ true
     → AtEnd allows event old mid e mid_net t.given (reply_by t.given t.trace) t.answers t.outcome
 at_end Tells accepts allows event old mid e mid_net end unread told keeps judges few calm t heard =
     let frame = event_frame e.events e.net.moment event in
-    let whole = Talk (give_act t.given index frame) ∷ t.trace in
+    let whole = Talk (give_act t.given e.index frame) ∷ t.trace in
     let first : Goes (length e.net.log) [] old old e.net e.net = record { since = begun old e.net; ready = calm.ready } in
-    let given_is : mid.given ≡ old.given = (Chain-continues Tells index whole old mid e.net mid_net t.chain).given in
+    let given_is : mid.given ≡ old.given = (Chain-continues Tells e.index whole old mid e.net mid_net t.chain).given in
     let judged : allows (places_at old mid mid_net) ≡ accepts mid_net.views =
     subst (λ (g : Given _). allows (shown_places g.declared mid_net.views (state mid)) ≡ accepts mid_net.views) given_is (judges.alike mid mid_net) in
-    let shown = turn-shown Tells accepts allows index e.rule.budget e.rest frame old mid e.net mid_net end unread told keeps calm.ready t judged in
+    let shown = turn-shown Tells accepts allows e.index e.rule.budget e.rest frame old mid e.net mid_net end unread told keeps calm.ready t judged in
     record {
       messages = shown.messages;
       left = shown.left;
       leaves = shown.leaves;
       goes = shown.goes;
-      chain = chain_keeps Tells (length e.net.log) [] old e.net whole old mid e.net mid_net told keeps t.chain first calm.sound;
-      rests = chain_rests Tells index whole old mid e.net mid_net told t.chain;
-      marks = chain_marks Tells index t.trace t.chain.1.0 mid e.net mid_net told t.chain.1.1.1 (behind_event t.given frame (acts_in t.trace) t.answers t.inputs_is)
-          ∙ given_marks Tells t.given index e.events frame old t.chain.1.0 told t.chain.1.1.0 (event_numbered e.events e.net.moment event few);
+      chain = chain_keeps Tells e.index (length e.net.log) [] old e.net whole old mid e.net mid_net told keeps t.chain first calm.sound;
+      rests = chain_rests Tells e.index whole old mid e.net mid_net told t.chain;
+      marks = chain_marks Tells e.index t.trace t.chain.1.0 mid e.net mid_net told t.chain.1.1.1 (behind_event e.index t.given frame (acts_in t.trace) t.answers t.inputs_is)
+          ∙ given_marks Tells t.given e.index e.events frame old t.chain.1.0 told t.chain.1.1.0 (event_numbered e.events e.net.moment event few);
       turned = λ packets undone starts said replies front.
           let losses : TurnLosses = record { messages = shown.messages; packets = packets; undone = undone } in
-          turn_is allows e.events e.net.moment event losses (places_at old old e.net) (app_at e (given_in old) starts (said ∷ replies)) said
+          turn_is allows e.events e.net.moment event losses (places_at old old e.net) (app_at e (given_in e.index old) starts (said ∷ replies)) said
           (played_on (play_at old mid mid_net [] shown.left) t.answers t.outcome) refl
           (turn-front (table_of allows) e.rule.budget e.rest (reply_by t.given t.trace) said (fresh_play shown.messages (places_at old old e.net)) heard front
           ∙ ap (λ (p : Play). turn_of (table_of allows) e.rule.budget e.rest (reply_by t.given t.trace) p) (fresh_is old e.net shown.messages calm.held)
@@ -147,7 +147,7 @@ given_is false trace = refl
 
 -- ---- A turn that was done
 
-abbrev done_app : Engine → Option (List ℕ) → List Start → List Reply → List (List ℕ) → List ℕ → App
+abbrev done_app : Focus → Option (List ℕ) → List Start → List Reply → List (List ℕ) → List ℕ → App
 done_app e checkpoint starts replies inputs rest = record {
   rule = e.rule;
   alive = e.alive;
@@ -163,7 +163,7 @@ done_app e checkpoint starts replies inputs rest = record {
 abbrev done_turn : Release → List Event → App → Outcome → Bool → Turned
 done_turn release left a outcome given = record { release = release; left = left; app = (a, []); outcome = outcome; given = given }
 
-abbrev done_engine : Option (List ℕ) → List ℕ → NetState → List Event → Engine → Engine
+abbrev done_engine : Option (List ℕ) → List ℕ → NetState → List Event → Focus → Focus
 done_engine checkpoint unread net queue e = all_told net queue (record e { rest = unread; kept = unwrap_or checkpoint e.kept; done = e.done + 1 })
 
 -- ---- Switches that were lost in a turn, first in its messages and then behind them
@@ -200,10 +200,10 @@ released_since {Own} old mid new start sent mid_net net queue now_queue given sh
       places = sym shown.places ∙ ap (λ (ds : List Declared). shown_places ds net.views (state new)) declared;
     }
 
-done_alike : {Own : Type 0} (Tells : Type 0) (allows : List Place → Bool) (event : Event) (stop : Bool) (unread text : List ℕ) (old mid new : Seen Own) (e : Engine) (mid_net net : NetState) (queue : List Event) (sent : List (ℕ × ℕ)) (given : Bool) (trace : List (Beat Own)) (answers : List Answer) (outcome : Outcome)
+done_alike : {Own : Type 0} (Tells : Type 0) (allows : List Place → Bool) (event : Event) (stop : Bool) (unread text : List ℕ) (old mid new : Seen Own) (e : Focus) (mid_net net : NetState) (queue : List Event) (sent : List (ℕ × ℕ)) (given : Bool) (trace : List (Beat Own)) (answers : List Answer) (outcome : Outcome)
     → Tells → Conforming new → mid.given ≡ old.given → Commits Tells (length e.net.log) mid new mid_net net e.queue queue (Ok sent) → IsEnd (ends.Done stop) unread outcome → text ≡ turn_line e.rule.name (turn_word (ends.Done stop)) ++ (out_text sent ++ lost_text net.left)
-    → given_in mid ≡ given_in old ++ given_by_turn given (event_frame e.events e.net.moment event) answers → Calm old e.net
-    → AtEnd allows event old mid e mid_net given (reply_by given trace) answers outcome → AlikeBy allows event text old new e (done_engine (handed outcome) unread net queue e) [] (reply_by given trace)
+    → given_in e.index mid ≡ given_in e.index old ++ given_by_turn given (event_frame e.events e.net.moment event) answers → Calm old e.net
+    → AtEnd allows event old mid e mid_net given (reply_by given trace) answers outcome → AlikeBy allows event stop text old new e (done_engine (handed outcome) unread net queue e) [] (reply_by given trace)
 done_alike Tells allows event stop unread text old mid new e mid_net net queue sent given trace answers (Failed cause) told keeps given_stays commits is text_is inputs_are calm at = absurd is
 done_alike Tells allows event stop unread text old mid new e mid_net net queue sent given trace answers (Completed stops checkpoint rest) told keeps given_stays commits is text_is inputs_are calm at =
     let frame = event_frame e.events e.net.moment event in
@@ -211,7 +211,7 @@ done_alike Tells allows event stop unread text old mid new e mid_net net queue s
     let outcome = Completed stops checkpoint rest in
     let only_steps = commits.links told in
     let only = links_state mid new commits.continues.given only_steps in
-    let tells = links_tell mid new only_steps in
+    let tells = links_tell e.index mid new only_steps in
     let there = turn_stays start (leavers at.left) old mid e.net mid_net at.goes at.rests calm in
     let ready : Ready mid (committed start mid_net) = record { waits = at.goes.ready.waits; agrees = at.goes.ready.agrees; known = at.goes.ready.known } in
     let shown = release-shown Tells mid_net.held commits.ended.sent mid new (committed start mid_net) net e.queue queue told keeps commits.ended.all ready at.chain.sound in
@@ -234,23 +234,26 @@ done_alike Tells allows event stop unread text old mid new e mid_net net queue s
         released = shown.released_is ∙ ap (λ (ps : List Held). ps ++ there_is.packets) at.chain.released;
         lost = all.lost;
         events = refl;
+        index = refl;
         rule = refl;
         marks = only.marks ∙ at.marks;
         turned = λ later_starts said later_replies starts_is front. at.turned shown.losing [] later_starts said later_replies front
-            ∙ ap₂ (λ (b : Bool) (r : Release). done_turn r (at.left ++ r.left) (done_app e checkpoint later_starts later_replies (given_in old ++ given_by_turn b frame answers) rest) outcome b) (front.given ∙ given_is given trace) (sym since.is)
+            ∙ ap₂ (λ (b : Bool) (r : Release). done_turn r (at.left ++ r.left) (done_app e checkpoint later_starts later_replies (given_in e.index old ++ given_by_turn b frame answers) rest) outcome b) (front.given ∙ given_is given trace) (sym since.is)
             ∙ ap₂ (λ (i : List (List ℕ)) (x : List ℕ). done_turn there_is left (done_app e checkpoint later_starts later_replies i x) outcome given) (sym (tells.given ∙ inputs_are)) (sym is.1);
-        text_is = λ later_starts later_replies. text_is
+        text_is = λ names known later_starts later_replies. text_is
             ∙ ap₂ (λ (word : TurnWord) (more : List ℕ). turn_line e.rule.name word ++ more) (word_is (ends.Done stop) unread outcome is)
-            (ap₂ (λ (a b : List ℕ). a ++ b) (ap out_text (commits.ended.answer_is ∙ ap (λ (hs : List Held). map (λ h. (h.0, length h.1.payload)) hs) (sym shown.packets)) ∙ outs_is (names e.rule) there_is.packets)
-            (losts_is (names e.rule) net.left ∙ ap (λ (es : List Event). lines_text (names e.rule) (lost_lines (leavers es))) all.events)
-            ∙ sym (flat_map-append (line_text (names e.rule)) (out_lines there_is.packets) (lost_lines (leavers left)))
-            ∙ ap (lines_text (names e.rule)) (sym (append-nil (out_lines there_is.packets ++ lost_lines (leavers left)))));
+            (ap₂ (λ (a b : List ℕ). a ++ b) (ap out_text (commits.ended.answer_is ∙ ap (λ (hs : List Held). map (λ h. (h.0, length h.1.payload)) hs) (sym shown.packets)) ∙ outs_is names there_is.packets)
+            (losts_is names net.left ∙ ap (λ (es : List Event). lines_text names (lost_lines (leavers es))) all.events)
+            ∙ sym (flat_map-append (line_text names) (out_lines there_is.packets) (lost_lines (leavers left)))
+            ∙ ap (lines_text names) (sym (append-nil (out_lines there_is.packets ++ lost_lines (leavers left)))))
+            ∙ ap (λ (n : List ℕ). turn_line n (outcome_word outcome) ++ lines_text names ((out_lines there_is.packets ++ lost_lines (leavers left)) ++ [])) (sym known);
       };
+      stops_is = sym is.0;
     }
 
 -- ---- A turn that failed
 
-abbrev failed_app : Engine → List Start → List Reply → List (List ℕ) → App
+abbrev failed_app : Focus → List Start → List Reply → List (List ℕ) → App
 failed_app e starts replies inputs = record {
   rule = e.rule;
   alive = e.alive;
@@ -266,13 +269,13 @@ failed_app e starts replies inputs = record {
 abbrev failed_turn : List Place × List Event → List Event → App × List Tried → Outcome → Bool → Turned
 failed_turn r left a outcome given = record { release = undone_release r; left = left; app = a; outcome = outcome; given = given }
 
-abbrev failed_engine : NetState → Engine → Engine
+abbrev failed_engine : NetState → Focus → Focus
 failed_engine undone_net e = all_told undone_net e.queue (record e { rest = []; failed = e.failed + 1 })
 
-failed_alike : {Own : Type 0} (Tells : Type 0) (allows : List Place → Bool) (event : Event) (cause : Cause) (unread text later_text : List ℕ) (old mid undone new : Seen Own) (e now_e : Engine) (mid_net undone_net : NetState) (given : Bool) (trace : List (Beat Own)) (answers : List Answer) (outcome : Outcome)
+failed_alike : {Own : Type 0} (Tells : Type 0) (allows : List Place → Bool) (event : Event) (cause : Cause) (unread text later_text : List ℕ) (old mid undone new : Seen Own) (e now_e : Focus) (mid_net undone_net : NetState) (given : Bool) (trace : List (Beat Own)) (answers : List Answer) (outcome : Outcome)
     → Tells → Conforming undone → mid.given ≡ old.given → Undoes Tells (length e.net.log) mid undone mid_net undone_net (Ok tt) → (again : StartsAlike Tells (rule_at e.rule event.kind) later_text undone new (failed_engine undone_net e) now_e)
-    → IsEnd (ends.Failed cause) unread outcome → text ≡ turn_line e.rule.name (turn_word (ends.Failed cause)) ++ (lost_text undone_net.left ++ later_text) → given_in mid ≡ given_in old ++ given_by_turn given (event_frame e.events e.net.moment event) answers → Calm old e.net
-    → AtEnd allows event old mid e mid_net given (reply_by given trace) answers outcome → AlikeBy allows event text old new e now_e again.starts (reply_by given trace)
+    → IsEnd (ends.Failed cause) unread outcome → text ≡ turn_line e.rule.name (turn_word (ends.Failed cause)) ++ (lost_text undone_net.left ++ later_text) → given_in e.index mid ≡ given_in e.index old ++ given_by_turn given (event_frame e.events e.net.moment event) answers → Calm old e.net
+    → AtEnd allows event old mid e mid_net given (reply_by given trace) answers outcome → AlikeBy allows event false text old new e now_e again.starts (reply_by given trace)
 failed_alike Tells allows event cause unread text later_text old mid undone new e now_e mid_net undone_net given trace answers (Completed stops checkpoint rest) told keeps given_stays undoes again is text_is inputs_are calm at = absurd is
 failed_alike {Own} Tells allows event cause unread text later_text old mid undone new e now_e mid_net undone_net given trace answers (Failed why) told keeps given_stays undoes again is text_is inputs_are calm at =
     let frame = event_frame e.events e.net.moment event in
@@ -282,7 +285,7 @@ failed_alike {Own} Tells allows event cause unread text later_text old mid undon
     let lost = leavers at.left in
     let only_steps = undoes.links told in
     let only = links_state mid undone undoes.continues.given only_steps in
-    let tells = links_tell mid undone only_steps in
+    let tells = links_tell e.index mid undone only_steps in
     let there = turn_stays start lost old mid e.net mid_net at.goes at.rests calm in
     let calm_there = calm_undone Tells start lost old mid undone e.net mid_net undone_net told keeps at.goes undoes there calm.sound (links_rest mid undone only) in
     let shown = undo-shown Tells start lost old mid undone e.net mid_net undone_net told keeps at.goes.since at.goes.ready undoes in
@@ -308,52 +311,56 @@ failed_alike {Own} Tells allows event cause unread text later_text old mid undon
         released = again.released ∙ undo-releases-none Tells start mid undone mid_net undone_net (Ok tt) told undoes ∙ at.chain.released ∙ sym (append-nil (released_of old));
         lost = again.lost ∙ all.lost;
         events = again.events;
+        index = again.index;
         rule = again.rule;
         marks = again.keeps.marks ∙ only.marks ∙ at.marks;
         turned = λ said_starts said later_replies starts_is front. at.turned [] gone said_starts said later_replies front
-            ∙ ap₂ (λ (b : Bool) (r : List Place × List Event). failed_turn r (at.left ++ r.1) (after_failure (rule_at e.rule event.kind) (failed_app e said_starts later_replies (given_in old ++ given_by_turn b frame answers))) outcome b) (front.given ∙ given_is given trace) after_is
+            ∙ ap₂ (λ (b : Bool) (r : List Place × List Event). failed_turn r (at.left ++ r.1) (after_failure (rule_at e.rule event.kind) (failed_app e said_starts later_replies (given_in e.index old ++ given_by_turn b frame answers))) outcome b) (front.given ∙ given_is given trace) after_is
             ∙ ap (λ (i : List (List ℕ)). failed_turn (places_at old undone undone_net, shown.left) left (after_failure (rule_at e.rule event.kind) (failed_app e said_starts later_replies i)) outcome given) (sym (tells.given ∙ inputs_are))
             ∙ ap (λ (a : App × List Tried). failed_turn (places_at old undone undone_net, shown.left) left a outcome given) (again.app said_starts later_replies starts_is);
-        text_is = λ later_starts later_replies. text_is
+        text_is = λ names known later_starts later_replies. text_is
             ∙ ap₂ (λ (word : TurnWord) (more : List ℕ). turn_line e.rule.name word ++ more) (word_is (ends.Failed cause) unread outcome is)
-            (ap₂ (λ (a b : List ℕ). a ++ b) (losts_is (names e.rule) undone_net.left ∙ ap (λ (es : List Event). lines_text (names e.rule) (lost_lines (leavers es))) all.events) again.text_is
-            ∙ sym (flat_map-append (line_text (names e.rule)) (lost_lines (leavers left)) (map (Started 0) again.tries ++ gone_line 0 now_e.alive)));
+            (ap₂ (λ (a b : List ℕ). a ++ b) (losts_is names undone_net.left ∙ ap (λ (es : List Event). lines_text names (lost_lines (leavers es))) all.events) (again.text_is names known)
+            ∙ sym (flat_map-append (line_text names) (lost_lines (leavers left)) (map (Started e.index) again.tries ++ gone_line e.index now_e.alive)))
+            ∙ ap (λ (n : List ℕ). turn_line n (outcome_word outcome) ++ lines_text names (lost_lines (leavers left) ++ (map (Started e.index) again.tries ++ gone_line e.index now_e.alive))) (sym known);
       };
+      stops_is = refl;
     }
 
 -- ---- The whole
 
-turn_tells : {Own : Type 0} (Tells : Type 0) (accepts : List TableView → Bool) (event : Event) (old mid : Seen Own) (e : Engine) (mid_net : NetState) (end : TurnEnd) (unread : List ℕ) → Tells
-    → (t : Turns Tells accepts index e.rule.budget e.rest (event_frame e.events e.net.moment event) old mid e.net mid_net end unread)
-    → TellsGiven old mid (given_by_turn t.given (event_frame e.events e.net.moment event) t.answers)
+turn_tells : {Own : Type 0} (Tells : Type 0) (accepts : List TableView → Bool) (event : Event) (old mid : Seen Own) (e : Focus) (mid_net : NetState) (end : TurnEnd) (unread : List ℕ) → Tells
+    → (t : Turns Tells accepts e.index e.rule.budget e.rest (event_frame e.events e.net.moment event) old mid e.net mid_net end unread)
+    → TellsGiven e.index old mid (given_by_turn t.given (event_frame e.events e.net.moment event) t.answers)
 turn_tells Tells accepts event old mid e mid_net end unread told t =
-    subst (TellsGiven old mid) t.inputs_is (chain_tells Tells (Talk (give_act t.given index (event_frame e.events e.net.moment event)) ∷ t.trace) old mid e.net mid_net told t.chain)
+    subst (TellsGiven e.index old mid) t.inputs_is (chain_tells Tells e.index (Talk (give_act t.given e.index (event_frame e.events e.net.moment event)) ∷ t.trace) old mid e.net mid_net told t.chain)
 
-closed_moves : {Own : Type 0} (Tells : Type 0) (accepts : List TableView → Bool) (allows : List Place → Bool) (event : Event) (text : List ℕ) (old mid new : Seen Own) (e now_e : Engine) (mid_net : NetState) (end : TurnEnd) (unread : List ℕ)
-    → Tells → Conforming new → JudgesAlike Own allows accepts → AreRead Own Tells accepts → e.events < 2 ^ 64 → LastStands (own_acts old) → Calm old e.net
-    → (t : Turns Tells accepts index e.rule.budget e.rest (event_frame e.events e.net.moment event) old mid e.net mid_net end unread) → IsClosed Tells event.kind end (handed t.outcome) unread text (length e.net.log) mid new mid_net e now_e
-    → TurnMoves allows event text old new e now_e
+closed_moves : {Own : Type 0} (Tells : Type 0) (accepts : List TableView → Bool) (allows : List Place → Bool) (event : Event) (text : List ℕ) (old mid new : Seen Own) (e now_e : Focus) (mid_net : NetState) (end : TurnEnd) (unread : List ℕ)
+    → Tells → Conforming new → JudgesAlike Own allows accepts → AreRead Own e.index Tells accepts → e.events < 2 ^ 64 → LastStands (own_acts e.index old) → Calm old e.net
+    → (t : Turns Tells accepts e.index e.rule.budget e.rest (event_frame e.events e.net.moment event) old mid e.net mid_net end unread) → IsClosed Tells event.kind end (handed t.outcome) unread text (length e.net.log) mid new mid_net e now_e
+    → TurnMoves allows event (says_stop end) text old new e now_e
 closed_moves Tells accepts allows event text old mid new e now_e mid_net (ends.Done stop) unread told keeps judges reads few stands calm t closed =
     let read = reads.turn e.rule.budget e.events e.net.moment event e.rest old mid e.net mid_net (ends.Done stop) unread told t stands in
     let commits = closed.commits in
     let keeps_mid = Conforming-before told commits.continues keeps in
     let told_is = turn_tells Tells accepts event old mid e mid_net (ends.Done stop) unread told t in
-    let given_stays : mid.given ≡ old.given = (Chain-continues Tells index (Talk (give_act t.given index (event_frame e.events e.net.moment event)) ∷ t.trace) old mid e.net mid_net t.chain).given in
-    let tells = links_tell mid new (commits.links told) in
+    let given_stays : mid.given ≡ old.given = (Chain-continues Tells e.index (Talk (give_act t.given e.index (event_frame e.events e.net.moment event)) ∷ t.trace) old mid e.net mid_net t.chain).given in
+    let tells = links_tell e.index mid new (commits.links told) in
     let by = done_alike Tells allows event stop unread text old mid new e mid_net closed.net closed.queue closed.sent t.given t.trace t.answers t.outcome told keeps given_stays commits t.ends closed.text_is told_is.given calm
     (at_end Tells accepts allows event old mid e mid_net (ends.Done stop) unread told keeps_mid judges few calm t read.heard) in
-    subst (λ (x : Engine). TurnMoves allows event text old new e x) (sym closed.engine) (record {
+    subst (λ (x : Focus). TurnMoves allows event stop text old new e x) (sym closed.engine) (record {
       starts = [];
       reply = reply_by t.given t.trace;
       tells = record {
         given = commits.continues.given ∙ given_stays;
-        read_starts = ap starts_in tells.acts ∙ read.starts ∙ sym (append-nil (starts_in (own_acts old)));
+        read_starts = ap starts_in tells.acts ∙ read.starts ∙ sym (append-nil (starts_in (own_acts e.index old)));
         read_replies = ap replies_in tells.acts ∙ read.replies;
         read_stimuli = tells.stims ∙ told_is.stims;
         life = λ alive. subst LastStands (sym tells.acts) read.life;
       };
       losses = by.losses;
       alike = by.alike;
+      stops_is = by.stops_is;
     })
 closed_moves Tells accepts allows event text old mid new e now_e mid_net (ends.Failed cause) unread told keeps judges reads few stands calm t closed =
     let read = reads.turn e.rule.budget e.events e.net.moment event e.rest old mid e.net mid_net (ends.Failed cause) unread told t stands in
@@ -363,8 +370,8 @@ closed_moves Tells accepts allows event text old mid new e now_e mid_net (ends.F
     let keeps_undone = Conforming-before told again.continues keeps in
     let keeps_mid = Conforming-before told closed.undoes.continues keeps_undone in
     let told_is = turn_tells Tells accepts event old mid e mid_net (ends.Failed cause) unread told t in
-    let given_stays : mid.given ≡ old.given = (Chain-continues Tells index (Talk (give_act t.given index (event_frame e.events e.net.moment event)) ∷ t.trace) old mid e.net mid_net t.chain).given in
-    let tells = links_tell mid undone (closed.undoes.links told) in
+    let given_stays : mid.given ≡ old.given = (Chain-continues Tells e.index (Talk (give_act t.given e.index (event_frame e.events e.net.moment event)) ∷ t.trace) old mid e.net mid_net t.chain).given in
+    let tells = links_tell e.index mid undone (closed.undoes.links told) in
     let by = failed_alike Tells allows event cause unread text closed.later_text old mid undone new e now_e mid_net undone_net t.given t.trace t.answers t.outcome told keeps_undone given_stays closed.undoes again t.ends closed.text_is told_is.given calm
     (at_end Tells accepts allows event old mid e mid_net (ends.Failed cause) unread told keeps_mid judges few calm t read.heard) in
     record {
@@ -379,10 +386,11 @@ closed_moves Tells accepts allows event text old mid new e now_e mid_net (ends.F
       };
       losses = by.losses;
       alike = by.alike;
+      stops_is = by.stops_is;
     }
 
-pub turn_moves : {Own : Type 0} (Tells : Type 0) (accepts : List TableView → Bool) (allows : List Place → Bool) (event : Event) (text : List ℕ) (old new : Seen Own) (e now_e : Engine)
-    → Tells → Conforming new → JudgesAlike Own allows accepts → AreRead Own Tells accepts → e.events < 2 ^ 64 → LastStands (own_acts old) → Calm old e.net → TakesTurn Tells accepts event text old new e now_e
-    → TurnMoves allows event text old new e now_e
+pub turn_moves : {Own : Type 0} (Tells : Type 0) (accepts : List TableView → Bool) (allows : List Place → Bool) (event : Event) (text : List ℕ) (old new : Seen Own) (e now_e : Focus)
+    → Tells → Conforming new → JudgesAlike Own allows accepts → AreRead Own e.index Tells accepts → e.events < 2 ^ 64 → LastStands (own_acts e.index old) → Calm old e.net → (taken : TakesTurn Tells accepts event text old new e now_e)
+    → TurnMoves allows event (says_stop taken.end) text old new e now_e
 turn_moves Tells accepts allows event text old new e now_e told keeps judges reads few stands calm turn =
     closed_moves Tells accepts allows event text old turn.mid new e now_e turn.mid_net turn.end turn.unread told keeps judges reads few stands calm turn.turns turn.closed

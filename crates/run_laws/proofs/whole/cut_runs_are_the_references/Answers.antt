@@ -1,4 +1,4 @@
-use Rattle.run_laws.specs.laws.CutLaws.{cut-so, lines-so, some-so, start-so, loss-so, event-so, end-so}
+use Rattle.run_laws.specs.laws.CutLaws.{cut-so, lines-so, some-so, none-so, start-so, loss-so, event-so, end-so}
 use Rattle.run_laws.proofs.whole.cut_runs_are_the_references.Goals as goal
 
 pub returns-clause-cut : goal.returns-clause-cut
@@ -9,6 +9,9 @@ returns-clause-lines g c = lines-so
 
 pub returns-clause-short : goal.returns-clause-short
 returns-clause-short g c = some-so
+
+pub returns-clause-unstarted : goal.returns-clause-unstarted
+returns-clause-unstarted g c = none-so
 
 pub returns-clause-start : goal.returns-clause-start
 returns-clause-start g c = start-so
