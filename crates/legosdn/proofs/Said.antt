@@ -129,12 +129,12 @@ no_own_step number i (RecvLost d) steps out so rest = rest
 no_own_step number i (SendFailed d) steps out so rest = rest
 no_own_step number i (RecvFailed d) steps out so rest = rest
 
+none_at_first : (i : ℕ) → filter (is_of i) (journal []) ≡ []
+unfolding journal
+none_at_first i = refl
+
 none_own : (number i : ℕ) (steps : List WorldStep) → number ≤ i → AllByRecursion (IsOrderly number) steps → filter (is_of i) (journal steps) ≡ []
-none_own number i [] out so = none_yet i
-  where
-    none_yet : (k : ℕ) → filter (is_of k) (journal []) ≡ []
-    unfolding journal
-    none_yet k = refl
+none_own number i [] out so = none_at_first i
 none_own number i (step ∷ steps) out so = no_own_step number i step steps out so.0 (none_own number i steps out so.1)
 
 -- ---- The front of what is said

@@ -42,14 +42,14 @@ fn is_taken(app: &AppRule) -> bool
 }
 
 /// Tells whether it can run all of these.
-#[tactic(auto, using(crate::proofs::Policies::all_of_values))]
 fn are_taken(apps: &[AppRule]) -> bool
-    ensures { result ≡ list_all is_taken_in (map app_value apps.now) }
+    ensures { result ≡ list_all (λ app. is_taken_in (app_value app)) apps.now }
 {
     apps.iter().all(|app| is_taken(app))
 }
 
 /// Gives the applications of a policy, where the engine can run all of them so far.
+#[tactic(auto, using(crate::proofs::Policies::all_taken))]
 fn taken_apps(policy: PolicyFile) -> Result<Vec<AppRule>, Refusal>
     ensures taken { IfOk result (λ apps. apps_in (Ok (policy_value policy)) ≡ Ok (map app_value apps.items)) }
     ensures same { IfOk result (λ apps. apps ≡ policy.apps) }
@@ -73,6 +73,7 @@ pub fn read_apps(alloc: Global, text: &[u8]) -> Result<Vec<AppRule>, Stop>
 }
 
 /// Tells whether a command starts an application.
+#[tactic(auto, unfolding(crate::specs::Input::has_words))]
 fn is_startable(app: &AppRule) -> bool
     ensures { result ≡ has_words (app_value app.now) }
 {
@@ -80,14 +81,14 @@ fn is_startable(app: &AppRule) -> bool
 }
 
 /// Tells whether a command starts each of these.
-#[tactic(auto, using(crate::proofs::Policies::all_of_values))]
 fn are_startable(apps: &[AppRule]) -> bool
-    ensures { result ≡ list_all has_words (map app_value apps.now) }
+    ensures { result ≡ list_all (λ app. has_words (app_value app)) apps.now }
 {
     apps.iter().all(|app| is_startable(app))
 }
 
 /// Gives the applications, where each has a command.
+#[tactic(auto, using(crate::proofs::Policies::all_have_words))]
 fn with_commands(apps: Vec<AppRule>) -> Result<Vec<AppRule>, Refusal>
     ensures taken { IfOk result (λ same. (same ≡ apps) × (with_words (map app_value apps.items) ≡ Ok (map app_value apps.items))) }
     ensures refused { IfErr result (λ refusal. with_words (map app_value apps.items) ≡ Err (refusal_line refusal)) }

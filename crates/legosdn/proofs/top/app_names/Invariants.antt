@@ -5,4 +5,4 @@ use Rattle.legosdn.proofs.top.app_names.Given as goal
 
 abbrev pub invariant-loop-app : goal.invariant-loop-app
 invariant-loop-app l =
-    names (map app_value l.apps.now) ≡ map string_bytes l.names.items ++ names (map app_value (drop l.app-index l.apps.now))
+    names (map app_value l.apps) ≡ map string_bytes l.names.items ++ names (map app_value (drop l.app-index l.apps))

@@ -1,8 +1,8 @@
-use Rattle.std.proofs.Common.{map, inl}
+use Rattle.std.proofs.Common.{map, sym, subst, inl}
 use Rattle.crash_policy.specs.Policies.{app_value}
 use Rattle.sim_world.specs.World.{seen_of}
 use Rattle.legosdn.proofs.Causes.{are_new, run_causes}
-use Rattle.legosdn.specs.Headline.{KeepsLines}
+use Rattle.legosdn.specs.Headline.{KeepsLines, Loaded}
 use Rattle.legosdn.proofs.Loads.{loaded_on, loaded_as, unread_as}
 use Rattle.legosdn.proofs.Losses.{nothing_lost}
 use Rattle.legosdn.proofs.Runs.{untouched, none_runs, runs_by_read, lines_by_read, new_strays}
@@ -25,8 +25,9 @@ returns-in_err-apps-clause-late_lines g c =
 
 pub returns-clause-runs : goal.returns-clause-runs
 returns-clause-runs g c = inl (
-  map app_value c.in_ok-apps.apps.items,
-  loaded_on (seen_of c.load.new.sim) (seen_of c.simulate.new.sim) c.simulate.ensures.continues c.in_ok-apps.ensures.loaded,
+  map app_value c.deref.result.now,
+  subst (λ apps. Loaded (map app_value apps) (g.S.Source.remaining c.args.source.now) (g.S.Source.remaining c.load.new.source) (seen_of c.simulate.new.sim)) (sym c.deref.ensures.value)
+  (loaded_on (seen_of c.load.new.sim) (seen_of c.simulate.new.sim) c.simulate.ensures.continues c.in_ok-apps.ensures.loaded),
   c.simulate.ensures.runs (untouched c.load.new.sim c.in_ok-apps.ensures.new) c.in_ok-apps.ensures.few,
 )
 
