@@ -67,6 +67,14 @@ def long_frames(size):
     return head + line * count + b"#" * (rest - 1) + b"\n" * (rest > 0), b"end 0 events %d\n" % (count + 1), b"switch 1 flows 0\n"
 
 
+def many_apps(stimuli, listeners):
+    """A session with 32 applications and so many frames, each of which becomes an event that so many of them are given."""
+    app = '[[app]]\nname = "a%02d"\nevents = ["%s"]\n'
+    policy = "".join(app % (i, "packet_in" if i < listeners else "error") for i in range(32))
+    text = policy + "---\nsession 1\nswitch 1 8 1,2\njoin 1\n" + ("frame 1 1 %s\n" % FRAME) * stimuli
+    return text.encode(), b"end 0 events %d\n" % (stimuli + 1), b"app a%02d alive done %d failed 0\n" % (listeners - 1, stimuli)
+
+
 def refused():
     """Names, inputs and the line that refuses them."""
     yield "64 MiB of zero bytes", bytes(MOST), b"bad separator\n"
@@ -83,6 +91,9 @@ def sessions(share):
         yield "%d messages, %s" % (count, end), 0, [big_turn(count, end)]
     n = int(100_000 * share)
     yield "%d stimuli: turns, frames, expiries" % n, n, [busy(n // 2), busy(n)]
+    for listeners in (1, 32):
+        n = int(100_000 * share) // listeners
+        yield "%d events, each for %d of 32 applications" % (n, listeners), 0, [many_apps(n // 2, listeners), many_apps(n, listeners)]
     n = int(MOST * share)
     yield "%.3g MiB: long frames" % (n / 2**20), 0, [long_frames(n // 2), long_frames(n)]
     n = int(1_000_000 * share)
