@@ -27,7 +27,7 @@ pub returns-clause-runs : goal.returns-clause-runs
 returns-clause-runs g c = inl (
   map app_value c.deref.result.now,
   subst (λ apps. Loaded (map app_value apps) (g.S.Source.remaining c.args.source.now) (g.S.Source.remaining c.load.new.source) (seen_of c.simulate.new.sim)) (sym c.deref.ensures.value)
-  (loaded_on (seen_of c.load.new.sim) (seen_of c.simulate.new.sim) c.simulate.ensures.continues c.in_ok-apps.ensures.loaded),
+      (loaded_on (seen_of c.load.new.sim) (seen_of c.simulate.new.sim) c.simulate.ensures.continues c.in_ok-apps.ensures.loaded),
   c.simulate.ensures.runs (untouched c.load.new.sim c.in_ok-apps.ensures.new) c.in_ok-apps.ensures.few,
 )
 
