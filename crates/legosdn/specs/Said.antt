@@ -1,5 +1,5 @@
 -- The reference controller of a session: its switches, what its lines say of the applications, and its stimuli. All of this is our own.
-use Rattle.std.specs.Prelude.{◌≡◌, ℕ, ◌≤◌, ◌⊎◌, Bool, true, List, [], ◌∷◌, Option}
+use Rattle.std.specs.Prelude.{◌≡◌, ℕ, ◌≤◌, ◌⊎◌, Bool, true, List, [], Option}
 use Rattle.crash_policy.specs.Policies.{AppValue}
 use Rattle.outside.specs.Seen.{Given, Seen}
 use Rattle.sim_world.specs.Told.{without_links}

@@ -1,6 +1,6 @@
 //! The policy, and the applications that it names.
 
-ghost use Rattle.std.specs.Prelude.{◌≡◌, ◌≤◌, Ok, Err, length, map, IfOk, OnOk, IfErr};
+ghost use Rattle.std.specs.Prelude.{◌≡◌, ◌≤◌, Ok, Err, length, map, IfOk, IfErr};
 ghost use Rattle.std.specs.List.{list_all};
 ghost use Rattle.lego_io.specs.Count.{NeverFell};
 ghost use Rattle.crash_policy.specs.Policies.{app_value, policy_value};
