@@ -117,9 +117,9 @@ unfolding at_first
 none_is_lost seen order none fails = steps_lose seen.given.declared seen.history (at_first seen.given) (first_none seen.given.fails seen.given.declared fails) order.steps none
 
 -- of the session that the input spells
-pub none_lost_by : (app : AppValue) (told left : Option (List ℕ)) (seen : Seen Scripts) (input : List ℕ) (session : SessionValue) → RunsNoOther told left seen → (seen.given.fails ≡ [] → lost_of seen ≡ [])
-    → told ≡ Some input → session_of input ≡ Ok (app, session) → session.faults ≡ [] → lost_of seen ≡ []
+pub none_lost_by : (apps : List AppValue) (told left : Option (List ℕ)) (seen : Seen Scripts) (input : List ℕ) (session : SessionValue) → RunsNoOther told left seen → (seen.given.fails ≡ [] → lost_of seen ≡ [])
+    → told ≡ Some input → session_of input ≡ Ok (apps, session) → session.faults ≡ [] → lost_of seen ≡ []
 unfolding given_by
-none_lost_by app told left seen input session (inl none) lost whole spelled faults = nothing_lost seen none
-none_lost_by app told left seen input session (inr loaded) lost whole spelled faults =
-    lost (ap (λ (g : Given Scripts). g.fails) (given_session loaded.0 app told left seen input session loaded.1 whole spelled) ∙ ap (map fail_of) faults)
+none_lost_by apps told left seen input session (inl none) lost whole spelled faults = nothing_lost seen none
+none_lost_by apps told left seen input session (inr loaded) lost whole spelled faults =
+    lost (ap (λ (g : Given Scripts). g.fails) (given_session loaded.0 apps told left seen input session loaded.1 whole spelled) ∙ ap (map fail_of) faults)

@@ -1,30 +1,56 @@
 -- What is read of a policy, and why it is not taken.
-use Rattle.std.proofs.Common.{◌≡◌, ◌≤◌, ℕ, List, [], Option, Some, None, Result, Ok, Err, IfSome, IfErr, length, refl, sym, ap, subst, ◌∙◌}
+use Rattle.std.proofs.Common.{◌≡◌, ◌≤◌, ◌&&◌, ℕ, Bool, List, [], ◌∷◌, map, Option, Some, None, Result, Ok, Err, IfSome, IfErr, length, refl, sym, ap, subst, ◌∙◌, arith}
+use Rattle.std.specs.List.{list_all}
 use Rattle.std.specs.Result.{IsErrAnd}
 use Rattle.std.proofs.lemmas.Bool.{le-ltb}
+use Rattle.std.proofs.lemmas.List.{length-map}
 use Rattle.lego_io.specs.Source.{ended}
 use Rattle.crash_policy.specs.declared.policy_fault.PolicyFault.{PolicyFault}
 use Rattle.crash_policy.specs.declared.policy_fault.PolicyFault.TheVariants.{Text, UnknownKey, Missing, Range, Double, NoMemory}
-use Rattle.crash_policy.specs.Policies.{AppValue}
+use Rattle.crash_policy.specs.declared.policy_file.AppRule.{AppRule}
+use Rattle.crash_policy.specs.declared.policy_file.PolicyFile.{PolicyFile}
+use Rattle.crash_policy.specs.Policies.{AppValue, app_value, policy_value}
+use Rattle.crash_policy.specs.laws.BoundLaws.{IsSized}
 use Rattle.crash_policy.specs.Faults.{Refuses}
 use Rattle.crash_policy.specs.Order.{policy_of}
 use Rattle.legosdn.specs.declared.stop.Refusal.{Refusal}
 use Rattle.legosdn.specs.declared.stop.Stop.{Stop}
 use Rattle.legosdn.specs.declared.stop.Stop.TheVariants as stops
-use Rattle.legosdn.specs.Input.{Read, with_read, most_input, app_in, with_words, run_policy}
+use Rattle.legosdn.specs.Input.{Read, with_read, most_input, is_taken, has_words, apps_in, with_words, run_policy}
 use Rattle.legosdn.specs.Stops.{refusal_line, policy_words, stop_of_policy}
 use Rattle.legosdn.specs.Headline.{IsNoPolicy, IsReadCause, IsPolicyCause}
 use Rattle.legosdn.specs.Live.{Taken}
+
+-- ---- Of many
+
+-- all of some are so of their values where all of the values are so
+all_of_values : {A B : Type 0} (is_so : B → Bool) (value : A → B) (xs : List A) → list_all (λ x. is_so (value x)) xs ≡ list_all is_so (map value xs)
+all_of_values is_so value [] = refl
+all_of_values is_so value (x ∷ xs) = ap (λ (rest : Bool). is_so (value x) && rest) (all_of_values is_so value xs)
+
+pub all_taken : (apps : List AppRule) → list_all (λ app. is_taken (app_value app)) apps ≡ list_all is_taken (map app_value apps)
+all_taken apps = all_of_values is_taken app_value apps
+
+pub all_have_words : (apps : List AppRule) → list_all (λ app. has_words (app_value app)) apps ≡ list_all has_words (map app_value apps)
+all_have_words apps = all_of_values has_words app_value apps
+
+-- so few applications are read
+pub few_read : (file : PolicyFile) (apps : List AppRule) → apps ≡ file.apps.items → IsSized (policy_value file) → length apps ≤ 32
+few_read file apps same sized =
+    let few = sized.few in
+    let number = length-map file.apps.items app_value in
+    let all = ap (λ (xs : List AppRule). length xs) same in
+    omega (arith, few, number, all)
 
 -- ---- Of a text
 
 fault_cause : (text : List ℕ) (fault : PolicyFault) → Refuses fault (policy_of text) → IsPolicyCause text (stop_of_policy fault)
 unfolding refusal_line policy_words
-fault_cause text Text refuses = ap app_in refuses
-fault_cause text (UnknownKey key) refuses = ap app_in refuses
-fault_cause text (Missing key) refuses = ap app_in refuses
-fault_cause text (Range key) refuses = ap app_in refuses
-fault_cause text (Double name) refuses = ap app_in refuses
+fault_cause text Text refuses = ap apps_in refuses
+fault_cause text (UnknownKey key) refuses = ap apps_in refuses
+fault_cause text (Missing key) refuses = ap apps_in refuses
+fault_cause text (Range key) refuses = ap apps_in refuses
+fault_cause text (Double name) refuses = ap apps_in refuses
 fault_cause text NoMemory refuses = tt
 
 pub fault_causes : {T : Type 0} (text : List ℕ) (fault : PolicyFault) (result : Result T Stop) → IsErrAnd result (λ stop. stop ≡ stop_of_policy fault) → Refuses fault (policy_of text) → IfErr result (IsPolicyCause text)
@@ -33,11 +59,7 @@ fault_causes text fault (Err stop) is refuses = rw is (fault_cause text fault re
 
 -- ---- Of an input
 
--- it is started by a command
-abbrev started : AppValue → Read AppValue
-started app = with_words app app.command
-
-run_is : (input : List ℕ) → length input ≤ most_input → run_policy input ≡ with_read (app_in (policy_of input)) started
+run_is : (input : List ℕ) → length input ≤ most_input → run_policy input ≡ with_read (apps_in (policy_of input)) with_words
 unfolding run_policy
 run_is input within = rw (le-ltb most_input (length input) within) refl
 
@@ -47,17 +69,17 @@ pub record ReadAs (told : Option (List ℕ)) (input text : List ℕ) : Type 0 wh
   pub within : length input ≤ most_input
   pub text_is : text ≡ input
 
-policy_is : (told : Option (List ℕ)) (input text : List ℕ) → ReadAs told input text → run_policy input ≡ with_read (app_in (policy_of text)) started
-policy_is told input text r = run_is input r.within ∙ ap (λ (t : List ℕ). with_read (app_in (policy_of t)) started) (sym r.text_is)
+policy_is : (told : Option (List ℕ)) (input text : List ℕ) → ReadAs told input text → run_policy input ≡ with_read (apps_in (policy_of text)) with_words
+policy_is told input text r = run_is input r.within ∙ ap (λ (t : List ℕ). with_read (apps_in (policy_of t)) with_words) (sym r.text_is)
 
 told_refused : (told : Option (List ℕ)) (input : List ℕ) (refusal : Refusal) → IfSome told (λ left. input ≡ left) → IsNoPolicy refusal input → IfSome told (IsNoPolicy refusal)
 told_refused None input refusal whole e = tt
 told_refused (Some left) input refusal whole e = subst (IsNoPolicy refusal) whole e
 
--- the text gives no application
+-- the text gives no applications
 app_cause : (told : Option (List ℕ)) (old new : ℕ) (input text : List ℕ) (stop : Stop) → ReadAs told input text → IsPolicyCause text stop → IsReadCause IsNoPolicy told old new stop
 app_cause told old new input text stops.Usage r cause = absurd cause
-app_cause told old new input text (stops.Refused refusal) r cause = told_refused told input refusal r.whole (policy_is told input text r ∙ ap (λ (x : Read AppValue). with_read x started) cause)
+app_cause told old new input text (stops.Refused refusal) r cause = told_refused told input refusal r.whole (policy_is told input text r ∙ ap (λ (x : Read (List AppValue)). with_read x with_words) cause)
 app_cause told old new input text stops.ReadFault r cause = absurd cause
 app_cause told old new input text stops.WriteFault r cause = absurd cause
 app_cause told old new input text stops.Shut r cause = absurd cause
@@ -71,19 +93,19 @@ pub app_causes : {T : Type 0} (told : Option (List ℕ)) (old new : ℕ) (input 
 app_causes told old new input text stop (Ok x) is r cause = tt
 app_causes told old new input text stop (Err s) is r cause = rw is (app_cause told old new input text stop r cause)
 
-started_is : (told : Option (List ℕ)) (input text : List ℕ) (app : AppValue) (read : Read AppValue) → ReadAs told input text → app_in (policy_of text) ≡ Ok app → started app ≡ read → run_policy input ≡ read
-started_is told input text app read r spelled is = policy_is told input text r ∙ ap (λ (x : Read AppValue). with_read x started) spelled ∙ is
+commands_are : (told : Option (List ℕ)) (input text : List ℕ) (apps : List AppValue) (read : Read (List AppValue)) → ReadAs told input text → apps_in (policy_of text) ≡ Ok apps → with_words apps ≡ read → run_policy input ≡ read
+commands_are told input text apps read r spelled is = policy_is told input text r ∙ ap (λ (x : Read (List AppValue)). with_read x with_words) spelled ∙ is
 
--- it has no command
-pub command_causes : {T : Type 0} (told : Option (List ℕ)) (old new : ℕ) (input text : List ℕ) (app : AppValue) (refusal : Refusal) (result : Result T Stop) → IsErrAnd result (λ stop. stop ≡ stops.Refused refusal) → ReadAs told input text
-    → app_in (policy_of text) ≡ Ok app → started app ≡ Err (refusal_line refusal) → IfErr result (IsReadCause IsNoPolicy told old new)
-command_causes told old new input text app refusal (Ok x) is r spelled refused = tt
-command_causes told old new input text app refusal (Err stop) is r spelled refused = rw is (told_refused told input refusal r.whole (started_is told input text app (Err (refusal_line refusal)) r spelled refused))
+-- one has no command
+pub command_causes : {T : Type 0} (told : Option (List ℕ)) (old new : ℕ) (input text : List ℕ) (apps : List AppValue) (refusal : Refusal) (result : Result T Stop) → IsErrAnd result (λ stop. stop ≡ stops.Refused refusal) → ReadAs told input text
+    → apps_in (policy_of text) ≡ Ok apps → with_words apps ≡ Err (refusal_line refusal) → IfErr result (IsReadCause IsNoPolicy told old new)
+command_causes told old new input text apps refusal (Ok x) is r spelled refused = tt
+command_causes told old new input text apps refusal (Err stop) is r spelled refused = rw is (told_refused told input refusal r.whole (commands_are told input text apps (Err (refusal_line refusal)) r spelled refused))
 
-pub takes : (told left : Option (List ℕ)) (input text : List ℕ) (app : AppValue) → ReadAs told input text → left ≡ ended told → app_in (policy_of text) ≡ Ok app → started app ≡ Ok app → Taken app told left
-takes told left input text app r end spelled is = record {
+pub takes : (told left : Option (List ℕ)) (input text : List ℕ) (apps : List AppValue) → ReadAs told input text → left ≡ ended told → apps_in (policy_of text) ≡ Ok apps → with_words apps ≡ Ok apps → Taken apps told left
+takes told left input text apps r end spelled is = record {
   input = input;
   whole = r.whole;
   end = end;
-  spelled = started_is told input text app (Ok app) r spelled is;
+  spelled = commands_are told input text apps (Ok apps) r spelled is;
 }

@@ -65,19 +65,19 @@ lines_seen : (sim : WorldData) → KeepsLines sim → KeepsScripts (seen_of sim)
 unfolding seen_of given_of
 lines_seen sim lines = lines
 
-runs_whole : (rule : AppValue) (sim : WorldData) (a b : Option (List ℕ)) → KeepsLines sim → ServesWhole rule (seen_of sim) a b → RunsWhole rule (seen_of sim) a b
-runs_whole rule sim a b lines whole = record {
+runs_whole : (rules : List AppValue) (sim : WorldData) (a b : Option (List ℕ)) → KeepsLines sim → ServesWhole rules (seen_of sim) a b → RunsWhole rules (seen_of sim) a b
+runs_whole rules sim a b lines whole = record {
   events = whole.events;
   alike = whole.alike;
   stimuli = whole.stimuli;
-  as_said = λ no_call. ends_as_said rule (seen_of sim) a b whole.events whole.alike whole.stimuli (kept_to_lines (seen_of sim) (without_links (seen_of sim).given.fails) (lines_seen sim lines) no_call whole.alike.in_order whole.alike.at_once);
+  as_said = λ no_call. ends_as_said rules (seen_of sim) a b whole.events whole.alike whole.stimuli (kept_to_lines (length rules) (seen_of sim) (without_links (seen_of sim).given.fails) (lines_seen sim lines) no_call whole.alike.in_order whole.alike.at_once);
 }
 
-runs_part : (rule : AppValue) (sim : WorldData) (a b : Option (List ℕ)) (left : ℕ) → KeepsLines sim → ServesPart rule (seen_of sim) a b left → RunsPart rule (seen_of sim) a b left
-runs_part rule sim a b left lines part = record {
+runs_part : (rules : List AppValue) (sim : WorldData) (a b : Option (List ℕ)) (left : ℕ) → KeepsLines sim → ServesPart rules (seen_of sim) a b left → RunsPart rules (seen_of sim) a b left
+runs_part rules sim a b left lines part = record {
   alike = part.alike;
   stimuli = part.stimuli;
-  as_said = λ no_call. leaves_as_said rule (seen_of sim) a b left part.alike part.stimuli (kept_to_lines (seen_of sim) (without_links (seen_of sim).given.fails) (lines_seen sim lines) no_call part.alike.in_order part.alike.at_once);
+  as_said = λ no_call. leaves_as_said rules (seen_of sim) a b left part.alike part.stimuli (kept_to_lines (length rules) (seen_of sim) (without_links (seen_of sim).given.fails) (lines_seen sim lines) no_call part.alike.in_order part.alike.at_once);
 }
 
 some_refused : (sim : WorldData) → (BringMessages (seen_of sim).history → ⊥) → SomeRefused sim
@@ -85,56 +85,56 @@ unfolding seen_of
 some_refused sim none = none
 
 -- how it goes, over what the lines of the session say
-stops_said : (rule : AppValue) (sim : WorldData) (a b : Option (List ℕ)) (stop : Stop) → KeepsLines sim → ServesUntil rule stop (seen_of sim) a b → StopsAs rule stop sim a b
-stops_said rule sim a b Usage lines until = tt
-stops_said rule sim a b (Refused refusal) lines until = tt
-stops_said rule sim a b ReadFault lines until = tt
-stops_said rule sim a b WriteFault lines until = writing_said rule sim a b lines until
-stops_said rule sim a b Shut lines until = until
-stops_said rule sim a b NextFault lines until = lines_said rule sim a b lines until
-stops_said rule sim a b (SwitchBroke d) lines until = ((λ none. some_refused sim (until.0 none)), lines_said rule sim a b lines until.1)
-stops_said rule sim a b (Diverged d) lines until = (some_refused sim until.0, lines_said rule sim a b lines until.1)
-stops_said rule sim a b (EventsLeft left) lines until = runs_part rule sim a b left lines until
-stops_said rule sim a b NoMemory lines until = memory_said rule sim a b (NothingDone [] (seen_of sim) a b) lines until
+stops_said : (rules : List AppValue) (sim : WorldData) (a b : Option (List ℕ)) (stop : Stop) → KeepsLines sim → ServesUntil rules stop (seen_of sim) a b → StopsAs rules stop sim a b
+stops_said rules sim a b Usage lines until = tt
+stops_said rules sim a b (Refused refusal) lines until = tt
+stops_said rules sim a b ReadFault lines until = tt
+stops_said rules sim a b WriteFault lines until = writing_said rules sim a b lines until
+stops_said rules sim a b Shut lines until = until
+stops_said rules sim a b NextFault lines until = lines_said rules sim a b lines until
+stops_said rules sim a b (SwitchBroke d) lines until = ((λ none. some_refused sim (until.0 none)), lines_said rules sim a b lines until.1)
+stops_said rules sim a b (Diverged d) lines until = (some_refused sim until.0, lines_said rules sim a b lines until.1)
+stops_said rules sim a b (EventsLeft left) lines until = runs_part rules sim a b left lines until
+stops_said rules sim a b NoMemory lines until = memory_said rules sim a b (NothingDone [] (seen_of sim) a b) lines until
 
-pub runs_said : {T : Type 0} (rule : AppValue) (sim : WorldData) (a b : Option (List ℕ)) (result : Result T Stop) → KeepsLines sim → ServesAs rule result (seen_of sim) a b → RunsAs rule result sim a b
-runs_said rule sim a b (Ok x) lines serves = runs_whole rule sim a b lines serves
-runs_said rule sim a b (Err stop) lines serves = stops_said rule sim a b stop lines serves
+pub runs_said : {T : Type 0} (rules : List AppValue) (sim : WorldData) (a b : Option (List ℕ)) (result : Result T Stop) → KeepsLines sim → ServesAs rules result (seen_of sim) a b → RunsAs rules result sim a b
+runs_said rules sim a b (Ok x) lines serves = runs_whole rules sim a b lines serves
+runs_said rules sim a b (Err stop) lines serves = stops_said rules sim a b stop lines serves
 
--- ---- The run of the application that was loaded
+-- ---- The run of the applications that were loaded
 
-told_spelled : (told : Option (List ℕ)) (app : AppValue) (input : List ℕ) (session : SessionValue) → IfSome told (λ bytes. input ≡ bytes) → session_of input ≡ Ok (app, session) → IfSome told (λ bytes. SpellsSession bytes app)
-told_spelled None app input session whole spelled = tt
-told_spelled (Some bytes) app input session whole spelled = (session, subst (λ (b : List ℕ). session_of b ≡ Ok (app, session)) whole spelled)
+told_spelled : (told : Option (List ℕ)) (apps : List AppValue) (input : List ℕ) (session : SessionValue) → IfSome told (λ bytes. input ≡ bytes) → session_of input ≡ Ok (apps, session) → IfSome told (λ bytes. SpellsSession bytes apps)
+told_spelled None apps input session whole spelled = tt
+told_spelled (Some bytes) apps input session whole spelled = (session, subst (λ (b : List ℕ). session_of b ≡ Ok (apps, session)) whole spelled)
 
 -- it is that which the input spells
-pub of_session : (P : AppValue → Type 0) (told left : Option (List ℕ)) (seen : Seen Scripts) (app : AppValue) → Loaded app told left seen → P app → OfInput SpellsSession told P
-of_session P told left seen app loaded holds = record {
-  app = app;
-  spelled = told_spelled told app loaded.input loaded.session loaded.whole loaded.spelled;
+pub of_session : (P : List AppValue → Type 0) (told left : Option (List ℕ)) (seen : Seen Scripts) (apps : List AppValue) → Loaded apps told left seen → P apps → OfInput SpellsSession told P
+of_session P told left seen apps loaded holds = record {
+  apps = apps;
+  spelled = told_spelled told apps loaded.input loaded.session loaded.whole loaded.spelled;
   holds = holds;
 }
 
--- a run that came to its end was one of such an application,
-pub ran_whole : (told left : Option (List ℕ)) (sim : WorldData) (a b : Option (List ℕ)) → RunsLoaded {T = Unit {0}} (Ok tt) told left sim a b → (app : AppValue) × Loaded app told left (seen_of sim) × RunsWhole app (seen_of sim) a b
+-- a run that came to its end was one of such applications,
+pub ran_whole : (told left : Option (List ℕ)) (sim : WorldData) (a b : Option (List ℕ)) → RunsLoaded {T = Unit {0}} (Ok tt) told left sim a b → (apps : List AppValue) × Loaded apps told left (seen_of sim) × RunsWhole apps (seen_of sim) a b
 ran_whole told left sim a b (inl ran) = ran
 ran_whole told left sim a b (inr before) = absurd before
 
-pub whole_of_input : (told left : Option (List ℕ)) (sim : WorldData) (a b : Option (List ℕ)) → RunsLoaded {T = Unit {0}} (Ok tt) told left sim a b → OfInput SpellsSession told (λ app. RunsWhole app (seen_of sim) a b)
-whole_of_input told left sim a b runs = let ran = ran_whole told left sim a b runs in of_session (λ app. RunsWhole app (seen_of sim) a b) told left (seen_of sim) ran.0 ran.1 ran.2
+pub whole_of_input : (told left : Option (List ℕ)) (sim : WorldData) (a b : Option (List ℕ)) → RunsLoaded {T = Unit {0}} (Ok tt) told left sim a b → OfInput SpellsSession told (λ apps. RunsWhole apps (seen_of sim) a b)
+whole_of_input told left sim a b runs = let ran = ran_whole told left sim a b runs in of_session (λ apps. RunsWhole apps (seen_of sim) a b) told left (seen_of sim) ran.0 ran.1 ran.2
 
 -- and so was one that a stop ended that comes once the world runs
 abbrev RanUntil : Stop → Option (List ℕ) → Option (List ℕ) → WorldData → Option (List ℕ) → Option (List ℕ) → Type 0
-RanUntil stop told left sim a b = (app : AppValue) × Loaded app told left (seen_of sim) × StopsAs app stop sim a b
+RanUntil stop told left sim a b = (apps : List AppValue) × Loaded apps told left (seen_of sim) × StopsAs apps stop sim a b
 
 ran_late : (told left : Option (List ℕ)) (sim : WorldData) (a b : Option (List ℕ)) (stop : Stop) → IsLate stop → RunsLoaded {T = Unit {0}} (Err stop) told left sim a b → RanUntil stop told left sim a b
 ran_late told left sim a b stop late (inl ran) = ran
 ran_late told left sim a b stop late (inr before) = not_before _ stop before.0 late
 
 -- how the run went up to a stop
-cut_short : (app : AppValue) (status : ℕ) (sim : WorldData) (stop : Stop) (contents before now_contents : Option (List ℕ)) (faults_old faults faults_new : ℕ) → status ≡ stop_status stop → NeverFell faults_old faults → StopsAs app stop sim contents before
-    → Wrote before now_contents faults faults_new (stop_line stop) → CutShort app status sim contents now_contents faults_old faults_new
-cut_short app status sim stop contents before now_contents faults_old faults faults_new is up runs written = record {
+cut_short : (apps : List AppValue) (status : ℕ) (sim : WorldData) (stop : Stop) (contents before now_contents : Option (List ℕ)) (faults_old faults faults_new : ℕ) → status ≡ stop_status stop → NeverFell faults_old faults → StopsAs apps stop sim contents before
+    → Wrote before now_contents faults faults_new (stop_line stop) → CutShort apps status sim contents now_contents faults_old faults_new
+cut_short apps status sim stop contents before now_contents faults_old faults faults_new is up runs written = record {
   stop = stop;
   status_is = is;
   before = before;
@@ -164,23 +164,23 @@ not_begun status seen stop contents before now_contents faults_old faults faults
 -- at such a status it went so far, or did not begin
 pub cut_or_not_begun : (told left : Option (List ℕ)) (status : ℕ) (sim : WorldData) (stop : Stop) (contents before now_contents : Option (List ℕ)) (faults_old faults faults_new : ℕ) → status ≡ stop_status stop
     → Contains (5 ∷ 6 ∷ 8 ∷ 9 ∷ 10 ∷ 12 ∷ []) (stop_status stop) → NeverFell faults_old faults → RunsLoaded {T = Unit {0}} (Err stop) told left sim contents before → Wrote before now_contents faults faults_new (stop_line stop)
-    → OfInput SpellsSession told (λ app. CutShort app status sim contents now_contents faults_old faults_new) ⊎ NotBegun status (seen_of sim) contents now_contents faults_old faults_new
+    → OfInput SpellsSession told (λ apps. CutShort apps status sim contents now_contents faults_old faults_new) ⊎ NotBegun status (seen_of sim) contents now_contents faults_old faults_new
 cut_or_not_begun told left status sim stop contents before now_contents faults_old faults faults_new is within up (inl ran) written =
-    inl (of_session (λ app. CutShort app status sim contents now_contents faults_old faults_new) told left (seen_of sim) ran.0 ran.1
+    inl (of_session (λ apps. CutShort apps status sim contents now_contents faults_old faults_new) told left (seen_of sim) ran.0 ran.1
     (cut_short ran.0 status sim stop contents before now_contents faults_old faults faults_new is up ran.2 written))
 cut_or_not_begun told left status sim stop contents before now_contents faults_old faults faults_new is within up (inr before_all) written =
     inr (not_begun status (seen_of sim) stop contents before now_contents faults_old faults faults_new is (is_memory stop before_all.0 within) up before_all.1 before_all.2 written)
 
 -- where events are left, the last line tells how many
-left_as : (app : AppValue) (sim : WorldData) (left : ℕ) (stop : Stop) (contents before now_contents : Option (List ℕ)) (faults_old faults faults_new : ℕ) (told : Option (List ℕ)) (old new : Faults Scripts) → stop ≡ EventsLeft left → NeverFell faults_old faults
-    → StopsAs app stop sim contents before → IsCause (Unit {0}) IsNoSession told old new stop → Wrote before now_contents faults faults_new (stop_line stop) → LeftAs app sim contents now_contents faults_old faults_new
-left_as app sim left stop contents before now_contents faults_old faults faults_new told old new is up runs cause written = record {
+left_as : (apps : List AppValue) (sim : WorldData) (left : ℕ) (stop : Stop) (contents before now_contents : Option (List ℕ)) (faults_old faults faults_new : ℕ) (told : Option (List ℕ)) (old new : Faults Scripts) → stop ≡ EventsLeft left → NeverFell faults_old faults
+    → StopsAs apps stop sim contents before → IsCause (Unit {0}) IsNoSession told old new stop → Wrote before now_contents faults faults_new (stop_line stop) → LeftAs apps sim contents now_contents faults_old faults_new
+left_as apps sim left stop contents before now_contents faults_old faults faults_new told old new is up runs cause written = record {
   left = left;
   some = subst (IsCause (Unit {0}) IsNoSession told old new) is cause;
   before = before;
   faults = faults;
   never_fell = up;
-  run = subst (λ (s : Stop). StopsAs app s sim contents before) is runs;
+  run = subst (λ (s : Stop). StopsAs apps s sim contents before) is runs;
   written = subst (λ (s : Stop). Wrote before now_contents faults faults_new (stop_line s)) is written;
 }
 
@@ -189,11 +189,11 @@ late_at stop other is late = subst IsLate (sym is) late
 
 pub left_of_input : (rest : Option (List ℕ)) (sim : WorldData) (stop : Stop) (contents before now_contents : Option (List ℕ)) (faults_old faults faults_new : ℕ) (told : Option (List ℕ)) (old new : Faults Scripts) → stop_status stop ≡ 10 → NeverFell faults_old faults
     → RunsLoaded {T = Unit {0}} (Err stop) told rest sim contents before → IsCause (Unit {0}) IsNoSession told old new stop → Wrote before now_contents faults faults_new (stop_line stop)
-    → OfInput SpellsSession told (λ app. LeftAs app sim contents now_contents faults_old faults_new)
+    → OfInput SpellsSession told (λ apps. LeftAs apps sim contents now_contents faults_old faults_new)
 left_of_input rest sim stop contents before now_contents faults_old faults faults_new told old new ten up runs cause written =
     let last = is_left stop ten in
     let ran = ran_late told rest sim contents before stop (late_at stop (EventsLeft last.0) last.1 tt) runs in
-    of_session (λ app. LeftAs app sim contents now_contents faults_old faults_new) told rest (seen_of sim) ran.0 ran.1
+    of_session (λ apps. LeftAs apps sim contents now_contents faults_old faults_new) told rest (seen_of sim) ran.0 ran.1
     (left_as ran.0 sim last.0 stop contents before now_contents faults_old faults faults_new told old new last.1 up ran.2 cause written)
 
 -- where an input is not read, nothing was done
@@ -268,8 +268,8 @@ completes Tells IsRefused told old new (EventsLeft left) cause good broke diverg
 completes Tells IsRefused told old new NoMemory cause good broke diverged none = (2, omega arith, refl)
 
 -- an input that spells a session is not refused
-pub good_session : (told : Option (List ℕ)) (input : List ℕ) (app : AppValue) (session : SessionValue) → told ≡ Some input → session_of input ≡ Ok (app, session) → (refusal : Refusal) → IfSome told (IsNoSession refusal) → ⊥
-good_session told input app session whole spelled refusal cause = no_both (app, session) (refusal_line refusal) (sym spelled ∙ subst (λ (t : Option (List ℕ)). IfSome t (IsNoSession refusal)) whole cause)
+pub good_session : (told : Option (List ℕ)) (input : List ℕ) (apps : List AppValue) (session : SessionValue) → told ≡ Some input → session_of input ≡ Ok (apps, session) → (refusal : Refusal) → IfSome told (IsNoSession refusal) → ⊥
+good_session told input apps session whole spelled refusal cause = no_both (apps, session) (refusal_line refusal) (sym spelled ∙ subst (λ (t : Option (List ℕ)). IfSome t (IsNoSession refusal)) whole cause)
 
 -- nothing was counted in a new world
 pub new_strays : (w : WorldData) → IsNew w → (seen_of w).counts.strays ≡ 0

@@ -1,5 +1,5 @@
 -- The run of any world that tells in order is the reference controller's.
-use Rattle.std.proofs.Common.{◌≡◌, ◌⊎◌, ℕ, Bool, true, List, [], Option, refl, sym, subst, inl, inr}
+use Rattle.std.proofs.Common.{◌≡◌, ◌⊎◌, ℕ, ◌<◌, length, Bool, true, List, [], Option, refl, sym, subst, inl, inr}
 use Rattle.std.specs.List.{AllByRecursion}
 use Rattle.flow_table.specs.View.{TableView}
 use Rattle.crash_policy.specs.Policies.{AppValue}
@@ -12,8 +12,8 @@ use Rattle.outside.specs.Quiescence.{IsLastQuiescent}
 use Rattle.lego_model.specs.UndoFaults.{AreExpectedOnLinks}
 use Rattle.net_txn.specs.LinkSteps.{MakesNoStrayCall}
 use Rattle.lego_model.specs.Places.{Place}
-use Rattle.lego_model.specs.Application.{index}
 use Rattle.lego_model.specs.AtOnce.{AtOnce}
+use Rattle.lego_model.specs.AfterFault.{TablesBehind}
 use Rattle.lego_model.specs.OrderlySteps.{IsOrderly}
 use Rattle.lego_model.specs.declared.fault.TxnFault.{TxnFault}
 use Rattle.lego_model.specs.declared.fault.TxnFault.TheVariants as faults
@@ -35,7 +35,7 @@ use Rattle.legosdn.specs.Stops.{stop_of_switch}
 use Rattle.legosdn.specs.Said.{all_allowed}
 use Rattle.legosdn.specs.Headline.{UpToPoint, NoneFloods}
 use Rattle.legosdn.specs.Live.{TellsInOrder, NoneStray, ServesWhole, ServesPart, ServesUntil}
-use Rattle.legosdn.proofs.Places.{all_for, behind_for, links_from_first, in_place, shut_in_place, idle_in_place}
+use Rattle.legosdn.proofs.Places.{AreInPlace, all_among, behind_among, links_from_first, in_place, shut_in_place, idle_in_place}
 
 -- ---- What the engine promises of a world that it may call
 
@@ -45,11 +45,11 @@ accepts_all views = true
 abbrev pub Reads : {Own : Type 0} → Type 0 → Seen Own → Seen Own → Served → Type 0
 Reads Tells old new end = Tells → old.history ≡ [] → InOrder new → IsReadServed new end
 
-abbrev pub Promises : {Own : Type 0} → AppValue → Type 0 → ℕ → Seen Own → Seen Own → Option (List ℕ) → Option (List ℕ) → Served → Type 0
-Promises rule Tells rounds old new a b end = (allows : List Place → Bool) → Premise Tells accepts_all allows rounds old new → IsAlike rule allows new a b end
+abbrev pub Promises : {Own : Type 0} → List AppValue → Type 0 → ℕ → Seen Own → Seen Own → Option (List ℕ) → Option (List ℕ) → Served → Type 0
+Promises rules Tells rounds old new a b end = (allows : List Place → Bool) → Premise Tells accepts_all allows rounds old new → IsAlike rules allows new a b end
 
-abbrev pub PromisesCut : {Own : Type 0} → AppValue → Type 0 → ℕ → Seen Own → Seen Own → Option (List ℕ) → Option (List ℕ) → Served → Type 0
-PromisesCut rule Tells rounds old new a b end = (allows : List Place → Bool) → PremiseSoFar Tells accepts_all allows rounds old new → IsCut rule allows new a b end
+abbrev pub PromisesCut : {Own : Type 0} → List AppValue → Type 0 → ℕ → Seen Own → Seen Own → Option (List ℕ) → Option (List ℕ) → Served → Type 0
+PromisesCut rules Tells rounds old new a b end = (allows : List Place → Bool) → PremiseSoFar Tells accepts_all allows rounds old new → IsCut rules allows new a b end
 
 abbrev pub PromisesPlain : {Own : Type 0} → Type 0 → ℕ → Seen Own → Seen Own → Served → Type 0
 PromisesPlain Tells rounds old new end = (allows : List Place → Bool) → Premise Tells accepts_all allows rounds old new → EndsPlain old new end
@@ -83,18 +83,18 @@ ended_keeps Tells rounds old new end events tells is reads = in_order-Conforming
 left_keeps : {Own : Type 0} (Tells : Type 0) (rounds : ℕ) (old new : Seen Own) (end : Served) (left : ℕ) → TellsInOrder Tells rounds old new → end ≡ served.EventsLeft left → Reads Tells old new end → Conforming new
 left_keeps Tells rounds old new end left tells is reads = in_order-Conforming new tells.order (subst (IsReadServed new) is (reads tells.told tells.untouched tells.order))
 
-pub serves_whole : {Own : Type 0} (rule : AppValue) (Tells : Type 0) (rounds : ℕ) (old new : Seen Own) (a b : Option (List ℕ)) (end : Served) (events : ℕ) → end ≡ served.Ended events → Reads Tells old new end → Promises rule Tells rounds old new a b end
-    → TellsInOrder Tells rounds old new → ServesWhole rule new a b
-serves_whole rule Tells rounds old new a b end events is reads promises tells =
+pub serves_whole : {Own : Type 0} (rules : List AppValue) (Tells : Type 0) (rounds : ℕ) (old new : Seen Own) (a b : Option (List ℕ)) (end : Served) (events : ℕ) → end ≡ served.Ended events → Reads Tells old new end → Promises rules Tells rounds old new a b end
+    → TellsInOrder Tells rounds old new → ServesWhole rules new a b
+serves_whole rules Tells rounds old new a b end events is reads promises tells =
     let keeps = ended_keeps Tells rounds old new end events tells is reads in
-    let whole = subst (IsAlike rule all_allowed new a b) is (promises all_allowed (premise Tells rounds old new tells keeps)) in
+    let whole = subst (IsAlike rules all_allowed new a b) is (promises all_allowed (premise Tells rounds old new tells keeps)) in
     record { events = events; alike = whole.alike; stimuli = told-all new keeps whole.none_to_come }
 
-pub serves_part : {Own : Type 0} (rule : AppValue) (Tells : Type 0) (rounds : ℕ) (old new : Seen Own) (a b : Option (List ℕ)) (end : Served) (left : ℕ) → end ≡ served.EventsLeft left → Reads Tells old new end → Promises rule Tells rounds old new a b end
-    → TellsInOrder Tells rounds old new → ServesPart rule new a b left
-serves_part rule Tells rounds old new a b end left is reads promises tells =
+pub serves_part : {Own : Type 0} (rules : List AppValue) (Tells : Type 0) (rounds : ℕ) (old new : Seen Own) (a b : Option (List ℕ)) (end : Served) (left : ℕ) → end ≡ served.EventsLeft left → Reads Tells old new end → Promises rules Tells rounds old new a b end
+    → TellsInOrder Tells rounds old new → ServesPart rules new a b left
+serves_part rules Tells rounds old new a b end left is reads promises tells =
     let keeps = left_keeps Tells rounds old new end left tells is reads in
-    let part = subst (IsAlike rule all_allowed new a b) is (promises all_allowed (premise Tells rounds old new tells keeps)) in
+    let part = subst (IsAlike rules all_allowed new a b) is (promises all_allowed (premise Tells rounds old new tells keeps)) in
     record { alike = part.alike; stimuli = told-all new keeps part.none_to_come }
 
 -- ---- A run that a fault ends
@@ -103,8 +103,8 @@ serves_part rule Tells rounds old new a b end left is reads promises tells =
 conforms_at : {Own : Type 0} (seen last : Seen Own) → InOrder seen → seen.given ≡ last.given → IsLastQuiescent last seen → BringMessages last.history → Conforming last
 conforms_at seen last order given quiet messages = in_order-Conforming last (InOrder-front last seen quiet.steps given quiet.history order) messages
 
-place_of : {Own : Type 0} (rule : AppValue) (seen : Seen Own) (Short : Type 0) (Alike : Seen Own → Type 0) → InOrder seen → CutAt rule Short Alike seen → UpToPoint rule seen Short Alike
-place_of rule seen Short Alike order cut =
+place_of : {Own : Type 0} (rules : List AppValue) (seen : Seen Own) (Short : Type 0) (Alike : Seen Own → Type 0) → InOrder seen → CutAt rules Short Alike seen → UpToPoint rules seen Short Alike
+place_of rules seen Short Alike order cut =
     let quiet = cut.last_point order in
     let keeps = conforms_at seen cut.last order cut.given quiet (cut.messages order) in
     record {
@@ -118,32 +118,36 @@ place_of rule seen Short Alike order cut =
     }
 
 -- what the engine promises where a fault ends the run
-pub cut_as : {Own : Type 0} (rule : AppValue) (Tells : Type 0) (rounds : ℕ) (old new : Seen Own) (a b : Option (List ℕ)) (end fault : Served) → end ≡ fault → PromisesCut rule Tells rounds old new a b end → TellsInOrder Tells rounds old new → IsCut rule all_allowed new a b fault
-cut_as rule Tells rounds old new a b end fault is promises tells = subst (IsCut rule all_allowed new a b) is (promises all_allowed (premise_so_far Tells rounds old new tells))
+pub cut_as : {Own : Type 0} (rules : List AppValue) (Tells : Type 0) (rounds : ℕ) (old new : Seen Own) (a b : Option (List ℕ)) (end fault : Served) → end ≡ fault → PromisesCut rules Tells rounds old new a b end → TellsInOrder Tells rounds old new → IsCut rules all_allowed new a b fault
+cut_as rules Tells rounds old new a b end fault is promises tells = subst (IsCut rules all_allowed new a b) is (promises all_allowed (premise_so_far Tells rounds old new tells))
 
-pub writing_place : {Own : Type 0} (rule : AppValue) (seen : Seen Own) (a b : Option (List ℕ)) → InOrder seen → CutWriting rule all_allowed seen a b → UpToPoint rule seen ⊥ (λ last. CutInLines rule all_allowed last a b)
-writing_place rule seen a b order cut = place_of rule seen ⊥ (λ last. CutInLines rule all_allowed last a b) order cut
+pub writing_place : {Own : Type 0} (rules : List AppValue) (seen : Seen Own) (a b : Option (List ℕ)) → InOrder seen → CutWriting rules all_allowed seen a b → UpToPoint rules seen ⊥ (λ last. CutInLines rules all_allowed last a b)
+writing_place rules seen a b order cut = place_of rules seen ⊥ (λ last. CutInLines rules all_allowed last a b) order cut
 
-pub lines_place : {Own : Type 0} (rule : AppValue) (seen : Seen Own) (a b : Option (List ℕ)) → InOrder seen → CutWithLines rule all_allowed seen a b → UpToPoint rule seen ⊥ (λ last. CutBehindLines rule all_allowed last a b)
-lines_place rule seen a b order cut = place_of rule seen ⊥ (λ last. CutBehindLines rule all_allowed last a b) order cut
+pub lines_place : {Own : Type 0} (rules : List AppValue) (seen : Seen Own) (a b : Option (List ℕ)) → InOrder seen → CutWithLines rules all_allowed seen a b → UpToPoint rules seen ⊥ (λ last. CutBehindLines rules all_allowed last a b)
+lines_place rules seen a b order cut = place_of rules seen ⊥ (λ last. CutBehindLines rules all_allowed last a b) order cut
 
-pub memory_place : {Own : Type 0} (rule : AppValue) (seen : Seen Own) (a b : Option (List ℕ)) → InOrder seen → CutAlike rule all_allowed seen a b ⊎ NothingDone [] seen a b
-    → UpToPoint rule seen (Unit {0}) (λ last. CutForMemory rule all_allowed seen last a b) ⊎ NothingDone [] seen a b
-memory_place rule seen a b order (inl cut) = inl (place_of rule seen (Unit {0}) (λ last. CutForMemory rule all_allowed seen last a b) order cut)
-memory_place rule seen a b order (inr none) = inr none
+pub memory_place : {Own : Type 0} (rules : List AppValue) (seen : Seen Own) (a b : Option (List ℕ)) → InOrder seen → CutAlike rules all_allowed seen a b ⊎ NothingDone [] seen a b
+    → UpToPoint rules seen (Unit {0}) (λ last. CutForMemory rules all_allowed seen last a b) ⊎ NothingDone [] seen a b
+memory_place rules seen a b order (inl cut) = inl (place_of rules seen (Unit {0}) (λ last. CutForMemory rules all_allowed seen last a b) order cut)
+memory_place rules seen a b order (inr none) = inr none
 
 never_short : ⊥ → Unit {0}
 never_short none = tt
 
+behind_for_memory : {Own : Type 0} (rules : List AppValue) (old new : Seen Own) → TablesBehind rules ⊥ old new → TablesBehind rules (Unit {0}) old new
+behind_for_memory rules old new (inl before) = inl before
+behind_for_memory rules old new (inr behind) = inr (record { app = behind.app; rule = behind.rule; rule_is = behind.rule_is; tables = tables_for never_short behind.tables })
+
 -- no line is missing, so that the lines of the start are there
-lines_for_memory : {Own : Type 0} (rule : AppValue) (seen : Seen Own) (a b : Option (List ℕ)) → UpToPoint rule seen ⊥ (λ last. CutBehindLines rule all_allowed last a b) → UpToPoint rule seen (Unit {0}) (λ last. CutForMemory rule all_allowed seen last a b)
-lines_for_memory rule seen a b up_to = record {
+lines_for_memory : {Own : Type 0} (rules : List AppValue) (seen : Seen Own) (a b : Option (List ℕ)) → UpToPoint rules seen ⊥ (λ last. CutBehindLines rules all_allowed last a b) → UpToPoint rules seen (Unit {0}) (λ last. CutForMemory rules all_allowed seen last a b)
+lines_for_memory rules seen a b up_to = record {
   last = up_to.last;
   given = up_to.given;
   last_point = up_to.last_point;
   messages = up_to.messages;
   holds = record { run = up_to.holds.run; done = inr up_to.holds.done };
-  tables = tables_for never_short up_to.tables;
+  tables = behind_for_memory rules up_to.last seen up_to.tables;
   at_once = up_to.at_once;
 }
 
@@ -161,37 +165,43 @@ not_diverged old new d sent got (inr flooded) = absurd (other flooded.0 flooded.
     other : (e : ℕ) → served.Txn (faults.Diverged d sent got) ≡ served.Txn (faults.Flooded e flood) → ⊥
     other e is = cc
 
-switch_until : {Own : Type 0} (rule : AppValue) (old seen : Seen Own) (a b : Option (List ℕ)) (fault : TxnFault) → (BringMessages seen.history → EndsPlain old seen (served.Txn fault)) → UpToPoint rule seen ⊥ (λ last. CutBehindLines rule all_allowed last a b)
-    → ServesUntil rule (stop_of_switch fault) seen a b
-switch_until rule old seen a b (faults.SwitchBroke d bytes) plain place = ((λ none messages. ends_plainly old seen (served.Txn (faults.SwitchBroke d bytes)) none (plain messages)), place)
-switch_until rule old seen a b (faults.Flooded d n) plain place = ((λ none messages. ends_plainly old seen (served.Txn (faults.Flooded d n)) none (plain messages)), place)
-switch_until rule old seen a b (faults.Diverged d sent got) plain place = ((λ messages. not_diverged old seen d sent got (plain messages)), place)
-switch_until rule old seen a b faults.NoMemory plain place = inl (lines_for_memory rule seen a b place)
+switch_until : {Own : Type 0} (rules : List AppValue) (old seen : Seen Own) (a b : Option (List ℕ)) (fault : TxnFault) → (BringMessages seen.history → EndsPlain old seen (served.Txn fault)) → UpToPoint rules seen ⊥ (λ last. CutBehindLines rules all_allowed last a b)
+    → ServesUntil rules (stop_of_switch fault) seen a b
+switch_until rules old seen a b (faults.SwitchBroke d bytes) plain place = ((λ none messages. ends_plainly old seen (served.Txn (faults.SwitchBroke d bytes)) none (plain messages)), place)
+switch_until rules old seen a b (faults.Flooded d n) plain place = ((λ none messages. ends_plainly old seen (served.Txn (faults.Flooded d n)) none (plain messages)), place)
+switch_until rules old seen a b (faults.Diverged d sent got) plain place = ((λ messages. not_diverged old seen d sent got (plain messages)), place)
+switch_until rules old seen a b faults.NoMemory plain place = inl (lines_for_memory rules seen a b place)
 
 -- where it is by a switch
-pub switch_serves : {Own : Type 0} (rule : AppValue) (Tells : Type 0) (rounds : ℕ) (old new : Seen Own) (a b : Option (List ℕ)) (stop : Stop) (fault : TxnFault) (end : Served) → end ≡ served.Txn fault → stop ≡ stop_of_switch fault
-    → PromisesPlain Tells rounds old new end → PromisesCut rule Tells rounds old new a b end → TellsInOrder Tells rounds old new → ServesUntil rule stop new a b
-switch_serves rule Tells rounds old new a b stop fault end is so plain promises tells =
-    subst (λ (s : Stop). ServesUntil rule s new a b) (sym so)
-    (switch_until rule old new a b fault (λ messages. subst (EndsPlain old new) is (plain all_allowed (premise Tells rounds old new tells (in_order-Conforming new tells.order messages))))
-    (lines_place rule new a b tells.order (cut_as rule Tells rounds old new a b end (served.Txn fault) is promises tells)))
+pub switch_serves : {Own : Type 0} (rules : List AppValue) (Tells : Type 0) (rounds : ℕ) (old new : Seen Own) (a b : Option (List ℕ)) (stop : Stop) (fault : TxnFault) (end : Served) → end ≡ served.Txn fault → stop ≡ stop_of_switch fault
+    → PromisesPlain Tells rounds old new end → PromisesCut rules Tells rounds old new a b end → TellsInOrder Tells rounds old new → ServesUntil rules stop new a b
+switch_serves rules Tells rounds old new a b stop fault end is so plain promises tells =
+    subst (λ (s : Stop). ServesUntil rules s new a b) (sym so)
+    (switch_until rules old new a b fault (λ messages. subst (EndsPlain old new) is (plain all_allowed (premise Tells rounds old new tells (in_order-Conforming new tells.order messages))))
+    (lines_place rules new a b tells.order (cut_as rules Tells rounds old new a b end (served.Txn fault) is promises tells)))
 
 -- ---- No call of it was a stray one
 
 links : {Own : Type 0} (Tells : Type 0) (rounds : ℕ) (old new : Seen Own) → Continues Tells old new → NoStrays Tells old new → TellsInOrder Tells rounds old new → AreExpectedOnLinks new.history (at_first new.given)
 links Tells rounds old new continues stays tells = links_from_first old new tells.untouched continues.given (stays tells.told tells.untouched tells.order)
 
-whole_strays : {Own : Type 0} (seen : Seen Own) → AllByRecursion (IsOrderly index) seen.history → AtOnce index (journal seen.history) → AreExpectedOnLinks seen.history (at_first seen.given) → NoneStray seen
-whole_strays seen in_order at_once links = in_place seen (all_for seen.history in_order) (applications_in_place seen at_once) links
+abbrev AreAtOnce : {Own : Type 0} → ℕ → Seen Own → Type 0
+AreAtOnce number seen = (i : ℕ) → i < number → AtOnce i (journal seen.history)
 
-cut_strays : {Own : Type 0} (rule : AppValue) (seen : Seen Own) (Short : Type 0) (Alike : Seen Own → Type 0) → InOrder seen → AreExpectedOnLinks seen.history (at_first seen.given) → (cut : CutAt rule Short Alike seen) → (Alike cut.last → AllByRecursion (IsOrderly index) cut.last.history) → NoneStray seen
-cut_strays rule seen Short Alike order links cut in_order =
+are_in_place : {Own : Type 0} (number : ℕ) (seen : Seen Own) → AreAtOnce number seen → AreInPlace number seen.history (at_first seen.given)
+are_in_place number seen at_once = λ i lt. applications_in_place i seen (at_once i lt)
+
+whole_strays : {Own : Type 0} (number : ℕ) (seen : Seen Own) → AllByRecursion (IsOrderly number) seen.history → AreAtOnce number seen → AreExpectedOnLinks seen.history (at_first seen.given) → NoneStray seen
+whole_strays number seen in_order at_once links = in_place number seen (all_among number seen.history in_order) (are_in_place number seen at_once) links
+
+cut_strays : {Own : Type 0} (rules : List AppValue) (seen : Seen Own) (Short : Type 0) (Alike : Seen Own → Type 0) → InOrder seen → AreExpectedOnLinks seen.history (at_first seen.given) → (cut : CutAt rules Short Alike seen) → (Alike cut.last → AllByRecursion (IsOrderly (length rules)) cut.last.history) → NoneStray seen
+cut_strays rules seen Short Alike order links cut in_order =
     let keeps = conforms_at seen cut.last order cut.given (cut.last_point order) (cut.messages order) in
-    in_place seen (behind_for (in_order (cut.alike keeps)) cut.no_other_called) (applications_in_place seen (cut.at_once keeps)) links
+    in_place (length rules) seen (behind_among (length rules) (in_order (cut.alike keeps)) cut.no_other_called) (are_in_place (length rules) seen (cut.at_once keeps)) links
 
-memory_strays : {Own : Type 0} (rule : AppValue) (seen : Seen Own) (a b : Option (List ℕ)) → InOrder seen → AreExpectedOnLinks seen.history (at_first seen.given) → CutAlike rule all_allowed seen a b ⊎ NothingDone [] seen a b → NoneStray seen
-memory_strays rule seen a b order links (inl cut) = cut_strays rule seen (Unit {0}) (λ last. CutForMemory rule all_allowed seen last a b) order links cut (λ short. short.run.in_order)
-memory_strays rule seen a b order links (inr idle) = idle_in_place seen idle.history
+memory_strays : {Own : Type 0} (rules : List AppValue) (seen : Seen Own) (a b : Option (List ℕ)) → InOrder seen → AreExpectedOnLinks seen.history (at_first seen.given) → CutAlike rules all_allowed seen a b ⊎ NothingDone [] seen a b → NoneStray seen
+memory_strays rules seen a b order links (inl cut) = cut_strays rules seen (Unit {0}) (λ last. CutForMemory rules all_allowed seen last a b) order links cut (λ short. short.run.in_order)
+memory_strays rules seen a b order links (inr idle) = idle_in_place seen idle.history
 
 -- the run ended before all was done
 abbrev IsFaultEnd : Served → Type 0
@@ -199,29 +209,29 @@ IsFaultEnd (served.Ended events) = ⊥
 IsFaultEnd (served.EventsLeft left) = ⊥
 IsFaultEnd other = Unit {0}
 
-fault_strays : {Own : Type 0} (rule : AppValue) (seen : Seen Own) (a b : Option (List ℕ)) (end : Served) → InOrder seen → AreExpectedOnLinks seen.history (at_first seen.given) → IsFaultEnd end → IsCut rule all_allowed seen a b end → NoneStray seen
-fault_strays rule seen a b (served.Ended events) order links fault cut = absurd fault
-fault_strays rule seen a b (served.EventsLeft left) order links fault cut = absurd fault
-fault_strays rule seen a b served.WriteFault order links fault cut = cut_strays rule seen ⊥ (λ last. CutInLines rule all_allowed last a b) order links cut (λ writing. writing.run.up_to.in_order)
-fault_strays rule seen a b served.Shut order links fault cut = shut_in_place seen cut.history
-fault_strays rule seen a b served.NextFault order links fault cut = cut_strays rule seen ⊥ (λ last. CutBehindLines rule all_allowed last a b) order links cut (λ behind. behind.run.in_order)
-fault_strays rule seen a b (served.Txn fault_of) order links fault cut = cut_strays rule seen ⊥ (λ last. CutBehindLines rule all_allowed last a b) order links cut (λ behind. behind.run.in_order)
-fault_strays rule seen a b served.NoMemory order links fault cut = memory_strays rule seen a b order links cut
+fault_strays : {Own : Type 0} (rules : List AppValue) (seen : Seen Own) (a b : Option (List ℕ)) (end : Served) → InOrder seen → AreExpectedOnLinks seen.history (at_first seen.given) → IsFaultEnd end → IsCut rules all_allowed seen a b end → NoneStray seen
+fault_strays rules seen a b (served.Ended events) order links fault cut = absurd fault
+fault_strays rules seen a b (served.EventsLeft left) order links fault cut = absurd fault
+fault_strays rules seen a b served.WriteFault order links fault cut = cut_strays rules seen ⊥ (λ last. CutInLines rules all_allowed last a b) order links cut (λ writing. writing.run.up_to.in_order)
+fault_strays rules seen a b served.Shut order links fault cut = shut_in_place seen cut.history
+fault_strays rules seen a b served.NextFault order links fault cut = cut_strays rules seen ⊥ (λ last. CutBehindLines rules all_allowed last a b) order links cut (λ behind. behind.run.in_order)
+fault_strays rules seen a b (served.Txn fault_of) order links fault cut = cut_strays rules seen ⊥ (λ last. CutBehindLines rules all_allowed last a b) order links cut (λ behind. behind.run.in_order)
+fault_strays rules seen a b served.NoMemory order links fault cut = memory_strays rules seen a b order links cut
 
-strays_by : {Own : Type 0} (rule : AppValue) (Tells : Type 0) (rounds : ℕ) (old new : Seen Own) (a b : Option (List ℕ)) (whole end : Served) → whole ≡ end → AreExpectedOnLinks new.history (at_first new.given) → Reads Tells old new whole → Promises rule Tells rounds old new a b whole
-    → PromisesCut rule Tells rounds old new a b whole → TellsInOrder Tells rounds old new → NoneStray new
-strays_by rule Tells rounds old new a b whole (served.Ended events) is links reads promises cut tells =
-    let alike = (serves_whole rule Tells rounds old new a b whole events is reads promises tells).alike in
-    whole_strays new alike.in_order alike.at_once links
-strays_by rule Tells rounds old new a b whole (served.EventsLeft left) is links reads promises cut tells =
-    let alike = (serves_part rule Tells rounds old new a b whole left is reads promises tells).alike in
-    whole_strays new alike.in_order alike.at_once links
-strays_by rule Tells rounds old new a b whole served.WriteFault is links reads promises cut tells = fault_strays rule new a b served.WriteFault tells.order links tt (cut_as rule Tells rounds old new a b whole served.WriteFault is cut tells)
-strays_by rule Tells rounds old new a b whole served.Shut is links reads promises cut tells = fault_strays rule new a b served.Shut tells.order links tt (cut_as rule Tells rounds old new a b whole served.Shut is cut tells)
-strays_by rule Tells rounds old new a b whole served.NextFault is links reads promises cut tells = fault_strays rule new a b served.NextFault tells.order links tt (cut_as rule Tells rounds old new a b whole served.NextFault is cut tells)
-strays_by rule Tells rounds old new a b whole (served.Txn fault) is links reads promises cut tells = fault_strays rule new a b (served.Txn fault) tells.order links tt (cut_as rule Tells rounds old new a b whole (served.Txn fault) is cut tells)
-strays_by rule Tells rounds old new a b whole served.NoMemory is links reads promises cut tells = fault_strays rule new a b served.NoMemory tells.order links tt (cut_as rule Tells rounds old new a b whole served.NoMemory is cut tells)
+strays_by : {Own : Type 0} (rules : List AppValue) (Tells : Type 0) (rounds : ℕ) (old new : Seen Own) (a b : Option (List ℕ)) (whole end : Served) → whole ≡ end → AreExpectedOnLinks new.history (at_first new.given) → Reads Tells old new whole → Promises rules Tells rounds old new a b whole
+    → PromisesCut rules Tells rounds old new a b whole → TellsInOrder Tells rounds old new → NoneStray new
+strays_by rules Tells rounds old new a b whole (served.Ended events) is links reads promises cut tells =
+    let alike = (serves_whole rules Tells rounds old new a b whole events is reads promises tells).alike in
+    whole_strays (length rules) new alike.in_order alike.at_once links
+strays_by rules Tells rounds old new a b whole (served.EventsLeft left) is links reads promises cut tells =
+    let alike = (serves_part rules Tells rounds old new a b whole left is reads promises tells).alike in
+    whole_strays (length rules) new alike.in_order alike.at_once links
+strays_by rules Tells rounds old new a b whole served.WriteFault is links reads promises cut tells = fault_strays rules new a b served.WriteFault tells.order links tt (cut_as rules Tells rounds old new a b whole served.WriteFault is cut tells)
+strays_by rules Tells rounds old new a b whole served.Shut is links reads promises cut tells = fault_strays rules new a b served.Shut tells.order links tt (cut_as rules Tells rounds old new a b whole served.Shut is cut tells)
+strays_by rules Tells rounds old new a b whole served.NextFault is links reads promises cut tells = fault_strays rules new a b served.NextFault tells.order links tt (cut_as rules Tells rounds old new a b whole served.NextFault is cut tells)
+strays_by rules Tells rounds old new a b whole (served.Txn fault) is links reads promises cut tells = fault_strays rules new a b (served.Txn fault) tells.order links tt (cut_as rules Tells rounds old new a b whole (served.Txn fault) is cut tells)
+strays_by rules Tells rounds old new a b whole served.NoMemory is links reads promises cut tells = fault_strays rules new a b served.NoMemory tells.order links tt (cut_as rules Tells rounds old new a b whole served.NoMemory is cut tells)
 
-pub none_stray : {Own : Type 0} (rule : AppValue) (Tells : Type 0) (rounds : ℕ) (old new : Seen Own) (a b : Option (List ℕ)) (end : Served) → Continues Tells old new → NoStrays Tells old new → Reads Tells old new end → Promises rule Tells rounds old new a b end
-    → PromisesCut rule Tells rounds old new a b end → TellsInOrder Tells rounds old new → NoneStray new
-none_stray rule Tells rounds old new a b end continues stays reads promises cut tells = strays_by rule Tells rounds old new a b end end refl (links Tells rounds old new continues stays tells) reads promises cut tells
+pub none_stray : {Own : Type 0} (rules : List AppValue) (Tells : Type 0) (rounds : ℕ) (old new : Seen Own) (a b : Option (List ℕ)) (end : Served) → Continues Tells old new → NoStrays Tells old new → Reads Tells old new end → Promises rules Tells rounds old new a b end
+    → PromisesCut rules Tells rounds old new a b end → TellsInOrder Tells rounds old new → NoneStray new
+none_stray rules Tells rounds old new a b end continues stays reads promises cut tells = strays_by rules Tells rounds old new a b end end refl (links Tells rounds old new continues stays tells) reads promises cut tells

@@ -94,45 +94,45 @@ none_early : {Own T : Type 0} (Stays Tells : Type 0) (k l : ℕ) (old new : Seen
 none_early Stays Tells k l old new (Ok x) cause = tt
 none_early Stays Tells k l old new (Err stop) cause = not_early Stays Tells k l old new stop cause
 
-pub serves_taken : {Own T : Type 0} (Tells : Type 0) (rounds : ℕ) (told left : Option (List ℕ)) (i j k l : ℕ) (old new : Seen Own) (a b : Option (List ℕ)) (Stays : Type 0) (result : Result T Stop) (app : AppValue) → Taken app told left
-    → (TellsInOrder Tells rounds old new → ServesAs app result new a b) → (TellsInOrder Tells rounds old new → NoneStray new) → IfErr result (IsRunCause Tells k l old new)
+pub serves_taken : {Own T : Type 0} (Tells : Type 0) (rounds : ℕ) (told left : Option (List ℕ)) (i j k l : ℕ) (old new : Seen Own) (a b : Option (List ℕ)) (Stays : Type 0) (result : Result T Stop) (apps : List AppValue) → Taken apps told left
+    → (TellsInOrder Tells rounds old new → ServesAs apps result new a b) → (TellsInOrder Tells rounds old new → NoneStray new) → IfErr result (IsRunCause Tells k l old new)
     → Serves Tells rounds result told left (faults_of i k old) (faults_of j l new) a b Stays
-serves_taken Tells rounds told left i j k l old new a b Stays result app taken runs strays why = record {
-  taken = taken_as told left result (app, taken);
-  no_other = inl (app, taken);
-  runs = λ tells. inl (app, taken, runs tells);
+serves_taken Tells rounds told left i j k l old new a b Stays result apps taken runs strays why = record {
+  taken = taken_as told left result (apps, taken);
+  no_other = inl (apps, taken);
+  runs = λ tells. inl (apps, taken, runs tells);
   strays = strays;
   why = ran_causes Tells IsNoPolicy told i j k l old new result why;
   early = none_early Stays Tells k l old new result why;
 }
 
--- ---- The run of the application that was taken
+-- ---- The run of the applications that were taken
 
-told_spelled : (told : Option (List ℕ)) (app : AppValue) (input : List ℕ) → IfSome told (λ bytes. input ≡ bytes) → run_policy input ≡ Ok app → IfSome told (λ bytes. SpellsPolicy bytes app)
-told_spelled None app input whole spelled = tt
-told_spelled (Some bytes) app input whole spelled = subst (λ (b : List ℕ). run_policy b ≡ Ok app) whole spelled
+told_spelled : (told : Option (List ℕ)) (apps : List AppValue) (input : List ℕ) → IfSome told (λ bytes. input ≡ bytes) → run_policy input ≡ Ok apps → IfSome told (λ bytes. SpellsPolicy bytes apps)
+told_spelled None apps input whole spelled = tt
+told_spelled (Some bytes) apps input whole spelled = subst (λ (b : List ℕ). run_policy b ≡ Ok apps) whole spelled
 
 -- it is that which the input spells
-of_policy : (P : AppValue → Type 0) (told left : Option (List ℕ)) (app : AppValue) → Taken app told left → P app → OfInput SpellsPolicy told P
-of_policy P told left app taken holds = record { app = app; spelled = told_spelled told app taken.input taken.whole taken.spelled; holds = holds }
+of_policy : (P : List AppValue → Type 0) (told left : Option (List ℕ)) (apps : List AppValue) → Taken apps told left → P apps → OfInput SpellsPolicy told P
+of_policy P told left apps taken holds = record { apps = apps; spelled = told_spelled told apps taken.input taken.whole taken.spelled; holds = holds }
 
-served_whole : {Own : Type 0} (told left : Option (List ℕ)) (seen : Seen Own) (a b : Option (List ℕ)) → ServesTaken {T = Unit {0}} (Ok tt) told left seen a b → (app : AppValue) × Taken app told left × ServesWhole app seen a b
+served_whole : {Own : Type 0} (told left : Option (List ℕ)) (seen : Seen Own) (a b : Option (List ℕ)) → ServesTaken {T = Unit {0}} (Ok tt) told left seen a b → (apps : List AppValue) × Taken apps told left × ServesWhole apps seen a b
 served_whole told left seen a b (inl served) = served
 served_whole told left seen a b (inr before) = absurd before
 
-pub served_of_policy : {Own : Type 0} (told left : Option (List ℕ)) (seen : Seen Own) (a b : Option (List ℕ)) → ServesTaken {T = Unit {0}} (Ok tt) told left seen a b → OfInput SpellsPolicy told (λ app. ServesWhole app seen a b)
-served_of_policy told left seen a b serves = let served = served_whole told left seen a b serves in of_policy (λ app. ServesWhole app seen a b) told left served.0 served.1 served.2
+pub served_of_policy : {Own : Type 0} (told left : Option (List ℕ)) (seen : Seen Own) (a b : Option (List ℕ)) → ServesTaken {T = Unit {0}} (Ok tt) told left seen a b → OfInput SpellsPolicy told (λ apps. ServesWhole apps seen a b)
+served_of_policy told left seen a b serves = let served = served_whole told left seen a b serves in of_policy (λ apps. ServesWhole apps seen a b) told left served.0 served.1 served.2
 
-served_late : {Own : Type 0} (told left : Option (List ℕ)) (seen : Seen Own) (a b : Option (List ℕ)) (stop : Stop) → IsLate stop → ServesTaken {T = Unit {0}} (Err stop) told left seen a b → (app : AppValue) × Taken app told left × ServesUntil app stop seen a b
+served_late : {Own : Type 0} (told left : Option (List ℕ)) (seen : Seen Own) (a b : Option (List ℕ)) (stop : Stop) → IsLate stop → ServesTaken {T = Unit {0}} (Err stop) told left seen a b → (apps : List AppValue) × Taken apps told left × ServesUntil apps stop seen a b
 served_late told left seen a b stop late (inl served) = served
 served_late told left seen a b stop late (inr before) = not_before _ stop before.0 late
 
 -- at such a status it went so far, or did not begin
 pub served_or_not_begun : {Own : Type 0} (told left : Option (List ℕ)) (status : ℕ) (seen : Seen Own) (stop : Stop) (contents before now_contents : Option (List ℕ)) (faults_old faults faults_new : ℕ) → status ≡ stop_status stop
     → Contains (5 ∷ 6 ∷ 8 ∷ 9 ∷ 10 ∷ 12 ∷ []) (stop_status stop) → NeverFell faults_old faults → ServesTaken {T = Unit {0}} (Err stop) told left seen contents before → Wrote before now_contents faults faults_new (stop_line stop)
-    → OfInput SpellsPolicy told (λ app. ServesCut app status seen contents now_contents faults_old faults_new) ⊎ NotBegun status seen contents now_contents faults_old faults_new
+    → OfInput SpellsPolicy told (λ apps. ServesCut apps status seen contents now_contents faults_old faults_new) ⊎ NotBegun status seen contents now_contents faults_old faults_new
 served_or_not_begun told left status seen stop contents before now_contents faults_old faults faults_new is within up (inl served) written =
-    inl (of_policy (λ app. ServesCut app status seen contents now_contents faults_old faults_new) told left served.0 served.1 (record {
+    inl (of_policy (λ apps. ServesCut apps status seen contents now_contents faults_old faults_new) told left served.0 served.1 (record {
       stop = stop;
       status_is = is;
       before = before;
@@ -159,8 +159,8 @@ diverged_live told left seen a b stop serves messages nine =
     (subst (λ (s : Stop). ServesUntil served.0 s seen a b) is.1 served.2).0 messages
 
 -- a policy that is taken is not refused
-pub good_policy : (told : Option (List ℕ)) (input : List ℕ) (app : AppValue) → told ≡ Some input → run_policy input ≡ Ok app → (refusal : Refusal) → IfSome told (IsNoPolicy refusal) → ⊥
-good_policy told input app whole spelled refusal cause = no_both app (refusal_line refusal) (sym spelled ∙ subst (λ (t : Option (List ℕ)). IfSome t (IsNoPolicy refusal)) whole cause)
+pub good_policy : (told : Option (List ℕ)) (input : List ℕ) (apps : List AppValue) → told ≡ Some input → run_policy input ≡ Ok apps → (refusal : Refusal) → IfSome told (IsNoPolicy refusal) → ⊥
+good_policy told input apps whole spelled refusal cause = no_both apps (refusal_line refusal) (sym spelled ∙ subst (λ (t : Option (List ℕ)). IfSome t (IsNoPolicy refusal)) whole cause)
 
 refused_or_taken : (bytes : List ℕ) (left : Option (List ℕ)) (line : List ℕ) → IsTaken (Some bytes) left → run_policy bytes ≡ Err line → ⊥
 refused_or_taken bytes left line taken e = no_both taken.0 line (sym taken.1.spelled ∙ ap run_policy taken.1.whole ∙ e)

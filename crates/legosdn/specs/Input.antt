@@ -43,30 +43,41 @@ is_built NoRestart = true
 unfoldable pub is_taken : AppValue → Bool
 is_taken app = is_built app.policy && list_all is_built app.rules
 
-abbrev pub or_later : AppValue → Bool → Read AppValue
-or_later app true = Ok app
-or_later app false = Err (refusal_line PolicyLater)
+abbrev pub or_later : List AppValue → Bool → Read (List AppValue)
+or_later apps true = Ok apps
+or_later apps false = Err (refusal_line PolicyLater)
 
--- there is one application, and no judge counts entries
-abbrev pub one_app : Option ℕ → List AppValue → Read AppValue
-one_app None (app ∷ []) = or_later app (is_taken app)
-one_app quota apps = Err (refusal_line PolicyLater)
+-- it can run all of them, and no judge counts entries
+abbrev pub taken_apps : Option ℕ → List AppValue → Read (List AppValue)
+taken_apps None apps = or_later apps (list_all is_taken apps)
+taken_apps (Some quota) apps = Err (refusal_line PolicyLater)
 
--- the application of a policy text
-abbrev pub app_in : Result PolicyValue Fault → Read AppValue
-app_in (Ok policy) = one_app policy.quota policy.apps
-app_in (Err fault) = Err (policy_line (fault_words fault))
+-- the applications of a policy text, in their order
+abbrev pub apps_in : Result PolicyValue Fault → Read (List AppValue)
+apps_in (Ok policy) = taken_apps policy.quota policy.apps
+apps_in (Err fault) = Err (policy_line (fault_words fault))
 
 -- ---- `run`
 
--- it is started by a command
-abbrev pub with_words : AppValue → List (List ℕ) → Read AppValue
-with_words app [] = Err (refusal_line NoCommand)
-with_words app (word ∷ words) = Ok app
+-- a command starts it
+abbrev pub are_words : List (List ℕ) → Bool
+are_words [] = false
+are_words (word ∷ words) = true
 
--- the application that a policy starts, or the line by which the policy is refused
-unfoldable pub run_policy : List ℕ → Read AppValue
-run_policy input = if nat_lt most_input (length input) then Err (refusal_line Size) else with_read (app_in (policy_of input)) (λ app. with_words app app.command)
+unfoldable pub has_words : AppValue → Bool
+has_words app = are_words app.command
+
+-- a command starts each of them
+abbrev pub or_none : List AppValue → Bool → Read (List AppValue)
+or_none apps true = Ok apps
+or_none apps false = Err (refusal_line NoCommand)
+
+abbrev pub with_words : List AppValue → Read (List AppValue)
+with_words apps = or_none apps (list_all has_words apps)
+
+-- the applications that a policy starts, in their order, or the line by which the policy is refused
+unfoldable pub run_policy : List ℕ → Read (List AppValue)
+run_policy input = if nat_lt most_input (length input) then Err (refusal_line Size) else with_read (apps_in (policy_of input)) with_words
 
 -- ---- `replay`
 
@@ -83,20 +94,20 @@ abbrev pub behind_separator : ℕ → List (List ℕ) → Option (ℕ × List (L
 behind_separator n [] = None
 behind_separator n (line ∷ lines) = if is_separator line then Some (n + 1, lines) else behind_separator (n + 1) lines
 
--- the session that lines spell, which are numbered from n; it names the application as the policy does
-unfoldable pub session_lines : AppValue → ℕ → List (List ℕ) → Result SessionValue SessionFault
-session_lines app n lines = lines_from (names app) n at_first lines >>= λ p. Ok p.so_far.session
+-- the session that lines spell, which are numbered from n; it names the applications as the policy does
+unfoldable pub session_lines : List AppValue → ℕ → List (List ℕ) → Result SessionValue SessionFault
+session_lines apps n lines = lines_from (names apps) n at_first lines >>= λ p. Ok p.so_far.session
 
--- with its application
-abbrev pub or_refused : AppValue → Result SessionValue SessionFault → Read (AppValue × SessionValue)
-or_refused app (Ok session) = Ok (app, session)
-or_refused app (Err fault) = Err (refusal_line (Session fault))
+-- with its applications
+abbrev pub or_refused : List AppValue → Result SessionValue SessionFault → Read (List AppValue × SessionValue)
+or_refused apps (Ok session) = Ok (apps, session)
+or_refused apps (Err fault) = Err (refusal_line (Session fault))
 
 -- the policy before a separator, and the session behind it
-abbrev pub session_behind : List ℕ → Option (ℕ × List (List ℕ)) → Read (AppValue × SessionValue)
+abbrev pub session_behind : List ℕ → Option (ℕ × List (List ℕ)) → Read (List AppValue × SessionValue)
 session_behind policy None = Err (refusal_line Separator)
-session_behind policy (Some (n, lines)) = with_read (app_in (policy_of policy)) (λ app. or_refused app (session_lines app n lines))
+session_behind policy (Some (n, lines)) = with_read (apps_in (policy_of policy)) (λ apps. or_refused apps (session_lines apps n lines))
 
--- the application and the session that an input spells, or the line by which it is refused
-unfoldable pub session_of : List ℕ → Read (AppValue × SessionValue)
+-- the applications and the session that an input spells, or the line by which it is refused
+unfoldable pub session_of : List ℕ → Read (List AppValue × SessionValue)
 session_of input = if nat_lt most_input (length input) then Err (refusal_line Size) else session_behind (policy_text input) (behind_separator 1 (lines_of input))

@@ -22,15 +22,15 @@ use Rattle.legosdn.specs.Headline.{NoneFloods, Faults, IsNoPolicy, IsCause, IsEa
 -- ---- The policy
 
 -- The source was read to its end, and what it told is a policy that is taken.
-pub record Taken (app : AppValue) (told left : Option (List ℕ)) : Type 0 where
+pub record Taken (apps : List AppValue) (told left : Option (List ℕ)) : Type 0 where
   pub input : List ℕ
   pub whole : IfSome told (λ bytes. input ≡ bytes)
   pub end : left ≡ ended told
-  pub spelled : run_policy input ≡ Ok app
+  pub spelled : run_policy input ≡ Ok apps
 
--- so it is for some application
+-- so it is for some applications
 abbrev pub IsTaken : Option (List ℕ) → Option (List ℕ) → Type 0
-IsTaken told left = (app : AppValue) × Taken app told left
+IsTaken told left = (apps : List AppValue) × Taken apps told left
 
 -- ---- The world
 
@@ -49,17 +49,17 @@ NoneStray seen = AreExpected seen.history (at_first seen.given)
 -- ---- The run
 
 -- All stimuli that the world was given were told, and the run is that of the reference controller over them: at every quiescent point the
--- tables agree, the application was given what it is given there, the packets that were released are those that it releases, the switches that
--- were lost are those that it loses, no event is left, and what was written is the whole report. The journal is a dialogue with the application, in which each change had reached its switch
+-- tables agree, each application was given what it is given there, the packets that were released are those that it releases, the switches that
+-- were lost are those that it loses, no event is left, and what was written is the whole report. The journal is a dialogue with each application, in which each change had reached its switch
 -- at once when it was answered.
-pub record ServesWhole {Own : Type 0} (rule : AppValue) (seen : Seen Own) (contents now_contents : Option (List ℕ)) : Type 0 where
+pub record ServesWhole {Own : Type 0} (rules : List AppValue) (seen : Seen Own) (contents now_contents : Option (List ℕ)) : Type 0 where
   pub events : ℕ
-  pub alike : EndsAlike rule all_allowed seen contents now_contents events
+  pub alike : EndsAlike rules all_allowed seen contents now_contents events
   pub stimuli : stimuli_in seen ≡ seen.given.stimuli
 
 -- The same with so many events left, and with the lines of those that were dispatched.
-pub record ServesPart {Own : Type 0} (rule : AppValue) (seen : Seen Own) (contents now_contents : Option (List ℕ)) (left : ℕ) : Type 0 where
-  pub alike : LeavesAlike rule all_allowed seen contents now_contents left
+pub record ServesPart {Own : Type 0} (rules : List AppValue) (seen : Seen Own) (contents now_contents : Option (List ℕ)) (left : ℕ) : Type 0 where
+  pub alike : LeavesAlike rules all_allowed seen contents now_contents left
   pub stimuli : stimuli_in seen ≡ seen.given.stimuli
 
 -- How a run goes that ends so. Where events are left it is as above. Where a fault ends it, it is that of the reference controller up to the
@@ -67,28 +67,28 @@ pub record ServesPart {Own : Type 0} (rule : AppValue) (seen : Seen Own) (conten
 -- comes next failed, or a switch; where the sink failed it took a part of the lines of the last; where memory was wanting those of the start
 -- are there, if a stimulus happened. Or nothing was done. Only where bytes come that are no message, a switch diverges, or breaks, unless a
 -- packet that was released made it send as many messages as are too many.
-abbrev pub ServesUntil : {Own : Type 0} → AppValue → Stop → Seen Own → Option (List ℕ) → Option (List ℕ) → Type 0
-ServesUntil rule (EventsLeft left) seen contents now_contents = ServesPart rule seen contents now_contents left
-ServesUntil rule WriteFault seen contents now_contents = UpToPoint rule seen ⊥ (λ last. CutInLines rule all_allowed last contents now_contents)
-ServesUntil rule Shut seen contents now_contents = NothingDone (NotOpened ∷ []) seen contents now_contents
-ServesUntil rule NextFault seen contents now_contents = UpToPoint rule seen ⊥ (λ last. CutBehindLines rule all_allowed last contents now_contents)
-ServesUntil rule (SwitchBroke d) seen contents now_contents = (NoneFloods seen → BringMessages seen.history → ⊥) × UpToPoint rule seen ⊥ (λ last. CutBehindLines rule all_allowed last contents now_contents)
-ServesUntil rule (Diverged d) seen contents now_contents = (BringMessages seen.history → ⊥) × UpToPoint rule seen ⊥ (λ last. CutBehindLines rule all_allowed last contents now_contents)
-ServesUntil rule NoMemory seen contents now_contents = UpToPoint rule seen (Unit {0}) (λ last. CutForMemory rule all_allowed seen last contents now_contents) ⊎ NothingDone [] seen contents now_contents
-ServesUntil rule other seen contents now_contents = Unit {0}
+abbrev pub ServesUntil : {Own : Type 0} → List AppValue → Stop → Seen Own → Option (List ℕ) → Option (List ℕ) → Type 0
+ServesUntil rules (EventsLeft left) seen contents now_contents = ServesPart rules seen contents now_contents left
+ServesUntil rules WriteFault seen contents now_contents = UpToPoint rules seen ⊥ (λ last. CutInLines rules all_allowed last contents now_contents)
+ServesUntil rules Shut seen contents now_contents = NothingDone (NotOpened ∷ []) seen contents now_contents
+ServesUntil rules NextFault seen contents now_contents = UpToPoint rules seen ⊥ (λ last. CutBehindLines rules all_allowed last contents now_contents)
+ServesUntil rules (SwitchBroke d) seen contents now_contents = (NoneFloods seen → BringMessages seen.history → ⊥) × UpToPoint rules seen ⊥ (λ last. CutBehindLines rules all_allowed last contents now_contents)
+ServesUntil rules (Diverged d) seen contents now_contents = (BringMessages seen.history → ⊥) × UpToPoint rules seen ⊥ (λ last. CutBehindLines rules all_allowed last contents now_contents)
+ServesUntil rules NoMemory seen contents now_contents = UpToPoint rules seen (Unit {0}) (λ last. CutForMemory rules all_allowed seen last contents now_contents) ⊎ NothingDone [] seen contents now_contents
+ServesUntil rules other seen contents now_contents = Unit {0}
 
-abbrev pub ServesAs : {Own T : Type 0} → AppValue → Result T Stop → Seen Own → Option (List ℕ) → Option (List ℕ) → Type 0
-ServesAs rule (Ok x) seen contents now_contents = ServesWhole rule seen contents now_contents
-ServesAs rule (Err stop) seen contents now_contents = ServesUntil rule stop seen contents now_contents
+abbrev pub ServesAs : {Own T : Type 0} → List AppValue → Result T Stop → Seen Own → Option (List ℕ) → Option (List ℕ) → Type 0
+ServesAs rules (Ok x) seen contents now_contents = ServesWhole rules seen contents now_contents
+ServesAs rules (Err stop) seen contents now_contents = ServesUntil rules stop seen contents now_contents
 
 -- How the run went up to a stop of this status, whose line stands behind what was written up to there.
-pub record ServesCut {Own : Type 0} (rule : AppValue) (status : ℕ) (seen : Seen Own) (contents now_contents : Option (List ℕ)) (faults_old faults_new : ℕ) : Type 0 where
+pub record ServesCut {Own : Type 0} (rules : List AppValue) (status : ℕ) (seen : Seen Own) (contents now_contents : Option (List ℕ)) (faults_old faults_new : ℕ) : Type 0 where
   pub stop : Stop
   pub status_is : status ≡ stop_status stop
   pub before : Option (List ℕ)
   pub faults : ℕ
   pub never_fell : NeverFell faults_old faults
-  pub run : ServesUntil rule stop seen contents before
+  pub run : ServesUntil rules stop seen contents before
   pub written : Wrote before now_contents faults faults_new (stop_line stop)
 
 -- ---- Before `run` has its status: how it ends, which reads a policy to its end and then runs
@@ -98,9 +98,9 @@ abbrev pub TakenAs : {T : Type 0} → Result T Stop → Option (List ℕ) → Op
 TakenAs (Ok x) told left = IsTaken told left
 TakenAs (Err stop) told left = IsLate stop → IsTaken told left
 
--- how the run went of the application that was taken, if one was: it was, but where the stop comes before, or memory was wanting
+-- how the run went of the applications that were taken, if any were: they were, but where the stop comes before, or memory was wanting
 abbrev pub ServesTaken : {Own T : Type 0} → Result T Stop → Option (List ℕ) → Option (List ℕ) → Seen Own → Option (List ℕ) → Option (List ℕ) → Type 0
-ServesTaken result told left seen contents now_contents = ((app : AppValue) × Taken app told left × ServesAs app result seen contents now_contents) ⊎ StopsBefore result seen contents now_contents
+ServesTaken result told left seen contents now_contents = ((apps : List AppValue) × Taken apps told left × ServesAs apps result seen contents now_contents) ⊎ StopsBefore result seen contents now_contents
 
 pub record Serves {Own T : Type 0} (Tells : Type 0) (rounds : ℕ) (result : Result T Stop) (told left : Option (List ℕ)) (old new : Faults Own) (contents now_contents : Option (List ℕ)) (Stays : Type 0) : Type 0 where
   pub taken : TakenAs result told left

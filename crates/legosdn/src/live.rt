@@ -13,7 +13,7 @@ use lego_io::{Sink, Source};
 use outside::World;
 use std::alloc::Global;
 
-/// Reads a policy to its end, and runs its application over the switches of a world, at most so many rounds.
+/// Reads a policy to its end, and runs its applications over the switches of a world, at most so many rounds.
 pub fn run_live<S: Source, K: Sink, W: World>(
     alloc: Global,
     source: &mut S,
@@ -30,6 +30,6 @@ pub fn run_live<S: Source, K: Sink, W: World>(
     ensures ended { W.Tells → (W.seen live.old).history ≡ [] → (state (W.seen live.new)).running ≡ [] }
     ensures never_fell { NeverFell (K.faults sink.old) (K.faults sink.new) }
 {
-    let app = read_program(alloc, source)?;
-    run_world(alloc, &app, sink, live, port, rounds)
+    let apps = read_program(alloc, source)?;
+    run_world(alloc, &apps, sink, live, port, rounds)
 }

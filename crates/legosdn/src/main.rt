@@ -1,5 +1,5 @@
 //! The program: it reads an input, runs a world, and writes the report. `replay` runs the session of the input in a simulated
-//! world. `run` runs the application of a policy over the switches that connect.
+//! world. `run` runs the applications of a policy over the switches that connect.
 //!
 //! The call is `top::legosdn`, over any source, sink and worlds. Whole runs: `whole_run`, `whole_report`, `events_left`,
 //! `live_whole_run`. Runs that a fault ends: `run_until_fault`, `live_run_until_stop`. Causes: `status_has_cause`,

@@ -1,11 +1,11 @@
-//! The policy, and the application that it names.
+//! The policy, and the applications that it names.
 
-ghost use Rattle.std.specs.Prelude.{◌≡◌, Ok, Err, map, IfOk, OnOk, IfErr, string_bytes};
+ghost use Rattle.std.specs.Prelude.{◌≡◌, ◌≤◌, Ok, Err, length, map, IfOk, IfErr};
 ghost use Rattle.std.specs.List.{list_all};
 ghost use Rattle.lego_io.specs.Count.{NeverFell};
 ghost use Rattle.crash_policy.specs.Policies.{app_value, policy_value};
 ghost use Rattle.crash_policy.specs.Order.{policy_of};
-ghost use Rattle.legosdn.specs.Input.{is_built as is_built_in, is_taken as is_taken_in, with_words, app_in};
+ghost use Rattle.legosdn.specs.Input.{is_built as is_built_in, is_taken as is_taken_in, has_words, with_words, apps_in};
 ghost use Rattle.legosdn.specs.Stops.{refusal_line};
 ghost use Rattle.legosdn.specs.Headline.{IsReadCause, IsNoPolicy, IsPolicyCause};
 ghost use Rattle.legosdn.specs.Live.{Taken};
@@ -41,45 +41,72 @@ fn is_taken(app: &AppRule) -> bool
     is_built(app.policy) && are_built(&app.rules)
 }
 
-/// Gives the application of a policy, where it names one alone that the engine can run so far.
-fn one_app(policy: PolicyFile) -> Result<AppRule, Refusal>
-    ensures taken { IfOk result (λ app. app_in (Ok (policy_value policy)) ≡ Ok (app_value app)) }
-    ensures refused { IfErr result (λ refusal. app_in (Ok (policy_value policy)) ≡ Err (refusal_line refusal)) }
+/// Tells whether it can run all of these.
+fn are_taken(apps: &[AppRule]) -> bool
+    ensures { result ≡ list_all (λ app. is_taken_in (app_value app)) apps.now }
 {
-    let PolicyFile { quota, mut apps } = policy;
-    match apps.pop() {
-        Some(app) if quota.is_none() && apps.is_empty() && is_taken(&app) => Ok(app),
-        _ => Err(Refusal::PolicyLater),
-    }
+    apps.iter().all(|app| is_taken(app))
 }
 
-/// Reads the application of a policy text.
-pub fn read_app(alloc: Global, text: &[u8]) -> Result<AppRule, Stop>
-    ensures taken { IfOk result (λ app. app_in (policy_of text.now) ≡ Ok (app_value app)) }
+/// Gives the applications of a policy, where the engine can run all of them so far.
+#[tactic(auto, using(crate::proofs::Policies::all_taken))]
+fn taken_apps(policy: PolicyFile) -> Result<Vec<AppRule>, Refusal>
+    ensures taken { IfOk result (λ apps. apps_in (Ok (policy_value policy)) ≡ Ok (map app_value apps.items)) }
+    ensures same { IfOk result (λ apps. apps ≡ policy.apps) }
+    ensures refused { IfErr result (λ refusal. apps_in (Ok (policy_value policy)) ≡ Err (refusal_line refusal)) }
+{
+    let PolicyFile { quota, apps } = policy;
+    if quota.is_none() && are_taken(&apps) {
+        return Ok(apps);
+    }
+    Err(Refusal::PolicyLater)
+}
+
+/// Reads the applications of a policy text, in their order.
+pub fn read_apps(alloc: Global, text: &[u8]) -> Result<Vec<AppRule>, Stop>
+    ensures taken { IfOk result (λ apps. apps_in (policy_of text.now) ≡ Ok (map app_value apps.items)) }
+    ensures few { IfOk result (λ apps. length apps.items ≤ 32) }
     ensures why { IfErr result (IsPolicyCause text.now) }
 {
     let policy = read_policy(alloc, text)?;
-    Ok(one_app(policy)?)
+    Ok(taken_apps(policy)?)
 }
 
-/// Gives the application, where it has a command.
-fn with_command(app: AppRule) -> Result<AppRule, Refusal>
-    ensures taken { IfOk result (λ same. (same ≡ app) × (with_words (app_value app) (map string_bytes app.command.items) ≡ Ok (app_value app))) }
-    ensures refused { IfErr result (λ refusal. with_words (app_value app) (map string_bytes app.command.items) ≡ Err (refusal_line refusal)) }
+/// Tells whether a command starts an application.
+#[tactic(auto, unfolding(crate::specs::Input::has_words))]
+fn is_startable(app: &AppRule) -> bool
+    ensures { result ≡ has_words (app_value app.now) }
 {
-    if app.command.is_empty() {
+    !app.command.is_empty()
+}
+
+/// Tells whether a command starts each of these.
+fn are_startable(apps: &[AppRule]) -> bool
+    ensures { result ≡ list_all (λ app. has_words (app_value app)) apps.now }
+{
+    apps.iter().all(|app| is_startable(app))
+}
+
+/// Gives the applications, where each has a command.
+#[tactic(auto, using(crate::proofs::Policies::all_have_words))]
+fn with_commands(apps: Vec<AppRule>) -> Result<Vec<AppRule>, Refusal>
+    ensures taken { IfOk result (λ same. (same ≡ apps) × (with_words (map app_value apps.items) ≡ Ok (map app_value apps.items))) }
+    ensures refused { IfErr result (λ refusal. with_words (map app_value apps.items) ≡ Err (refusal_line refusal)) }
+{
+    if !are_startable(&apps) {
         return Err(Refusal::NoCommand);
     }
-    Ok(app)
+    Ok(apps)
 }
 
-/// Reads an input to its end, as a policy, and gives the application that it starts.
-pub fn read_program<S: Source>(alloc: Global, source: &mut S) -> Result<AppRule, Stop>
-    ensures taken { IfOk result (λ app. Taken (app_value app) (S.remaining source.old) (S.remaining source.new)) }
+/// Reads an input to its end, as a policy, and gives the applications that it starts, in their order.
+pub fn read_program<S: Source>(alloc: Global, source: &mut S) -> Result<Vec<AppRule>, Stop>
+    ensures taken { IfOk result (λ apps. Taken (map app_value apps.items) (S.remaining source.old) (S.remaining source.new)) }
+    ensures few { IfOk result (λ apps. length apps.items ≤ 32) }
     ensures why { IfErr result (IsReadCause IsNoPolicy (S.remaining source.old) (S.faults source.old) (S.faults source.new)) }
     ensures never_fell { NeverFell (S.faults source.old) (S.faults source.new) }
 {
     let input = read_input(alloc, source)?;
-    let app = read_app(alloc, &input)?;
-    Ok(with_command(app)?)
+    let apps = read_apps(alloc, &input)?;
+    Ok(with_commands(apps)?)
 }

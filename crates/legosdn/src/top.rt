@@ -25,7 +25,7 @@ ghost use Rattle.legosdn.specs.Live.{IsTaken, TellsInOrder, NoneStray, ServesWho
 
 use crate::input::{cut, read_input};
 use crate::live::run_live;
-use crate::policy::read_app;
+use crate::policy::read_apps;
 use crate::stop::Stop;
 use crate::world::run_world;
 use command_words::{Command, read_words};
@@ -38,21 +38,24 @@ use sim_world::SimWorld;
 use std::alloc::{AllocError, Global};
 use trace_world::Traced;
 
-/// Gives the names of the applications: there is one.
-fn app_names(alloc: Global, app: &AppRule) -> Result<Vec<String>, AllocError>
-    ensures { IfOk result (λ all. map string_bytes all.items ≡ names (app_value app.now)) }
+/// Gives the names of applications, in their order.
+fn app_names(alloc: Global, apps: &[AppRule]) -> Result<Vec<String>, AllocError>
+    ensures { IfOk result (λ all. map string_bytes all.items ≡ names (map app_value apps.now)) }
 {
     let mut names = Vec::new(alloc);
-    names.push(String::from_str(alloc, app.name.as_str())?)?;
+    for app in apps {
+        names.push(String::from_str(alloc, app.name.as_str())?)?;
+    }
     Ok(names)
 }
 
-/// Reads an input to its end, and its session into the world; answers its application.
-fn load<S: Source>(alloc: Global, source: &mut S, sim: &mut SimWorld) -> Result<AppRule, Stop>
+/// Reads an input to its end, and its session into the world; answers its applications, in their order.
+fn load<S: Source>(alloc: Global, source: &mut S, sim: &mut SimWorld) -> Result<Vec<AppRule>, Stop>
     requires new { IsNew sim.old }
     requires nothing { given_of sim.old ≡ nothing_given }
-    ensures loaded { IfOk result (λ app. Loaded (app_value app) (S.remaining source.old) (S.remaining source.new) (seen_of sim.new)) }
+    ensures loaded { IfOk result (λ apps. Loaded (map app_value apps.items) (S.remaining source.old) (S.remaining source.new) (seen_of sim.new)) }
     ensures new { IsNew sim.new }
+    ensures few_apps { IfOk result (λ apps. length apps.items ≤ 32) }
     ensures few { OnOk result (length (seen_of sim.new).given.stimuli ≤ 1000000) }
     ensures why { IfErr result (IsReadCause IsNoSession (S.remaining source.old) (S.faults source.old) (S.faults source.new)) }
     ensures early { IfErr result (λ stop. IsEarly stop → sim.new ≡ sim.old) }
@@ -60,10 +63,10 @@ fn load<S: Source>(alloc: Global, source: &mut S, sim: &mut SimWorld) -> Result<
 {
     let input = read_input(alloc, source)?;
     let parts = cut(&input)?;
-    let app = read_app(alloc, parts.policy)?;
-    let names = app_names(alloc, &app)?;
+    let apps = read_apps(alloc, parts.policy)?;
+    let names = app_names(alloc, &apps)?;
     read_session(alloc, parts.session, parts.first_line, &names, sim)?;
-    Ok(app)
+    Ok(apps)
 }
 
 /// Finds that the simulated world keeps its word.
@@ -75,15 +78,16 @@ fn keeps_word<E: Sink + Drop>(sim: &Traced<SimWorld, E>)
     sim.world().keeps_word();
 }
 
-/// Runs the application in the simulated world to its end, and writes the report.
+/// Runs the applications in the simulated world to its end, and writes the report.
 fn simulate<K: Sink, E: Sink + Drop>(
     alloc: Global,
-    app: &AppRule,
+    apps: &[AppRule],
     sink: &mut K,
     sim: &mut Traced<SimWorld, E>,
 ) -> Result<(), Stop>
+    requires few { length apps.now ≤ 32 }
     ensures runs { (seen_of sim.old).history ≡ [] → length (seen_of sim.old).given.stimuli ≤ 1000000
-        → RunsAs (app_value app.now) result sim.new (K.contents sink.old) (K.contents sink.new) }
+        → RunsAs (map app_value apps.now) result sim.new (K.contents sink.old) (K.contents sink.new) }
     ensures lines { KeepsLines sim.new }
     ensures strays { (seen_of sim.old).history ≡ [] → length (seen_of sim.old).given.stimuli ≤ 1000000
         → (seen_of sim.new).counts.shorts ≡ 0 → (seen_of sim.new).counts.strays ≡ 0 }
@@ -93,7 +97,7 @@ fn simulate<K: Sink, E: Sink + Drop>(
     ensures ended { (seen_of sim.old).history ≡ [] → (state (seen_of sim.new)).running ≡ [] }
     ensures never_fell { NeverFell (K.faults sink.old) (K.faults sink.new) }
 {
-    let ended = run_world(alloc, app, sink, sim, 0, MOST_ROUNDS);
+    let ended = run_world(alloc, apps, sink, sim, 0, MOST_ROUNDS);
     keeps_word(sim);
     ended
 }
@@ -120,8 +124,8 @@ fn replay<S: Source, K: Sink, E: Sink + Drop>(
     ensures early { IfErr result (λ stop. IsEarly stop → (sim.new ≡ sim.old) × (sink.new ≡ sink.old)) }
     ensures never_fell { NeverFell (K.faults sink.old) (K.faults sink.new) }
 {
-    let app = load(alloc, source, sim.world_mut())?;
-    simulate(alloc, &app, sink, sim)
+    let apps = load(alloc, source, sim.world_mut())?;
+    simulate(alloc, &apps, sink, sim)
 }
 
 /// Runs the command that the words are.
@@ -176,7 +180,7 @@ pub fn halt<K: Sink>(sink: &mut K, stop: Stop) -> u8
 
 /// Runs one command: reads an input to its end, runs a world, and writes the report.
 ///
-/// `replay` runs the session of the input, with the application of its policy, in the simulated world, and `run` the application
+/// `replay` runs the session of the input, with the applications of its policy, in the simulated world, and `run` the applications
 /// of a policy over the switches of the other world. The simulated world may tell its acts in words; contracts see it without them. The answer is the status
 /// of the program: 0 where the whole report was written, 2 where
 /// the words are no command, 3 where the input is refused, 4 where the source failed, 5 where the sink failed, 6 where
@@ -193,29 +197,29 @@ pub fn legosdn<S: Source, K: Sink, E: Sink + Drop, W: World>(
     requires new_world { IsNew sim.old }
     requires empty_world { given_of sim.old ≡ nothing_given }
     // `replay`. At status 0 all stimuli of the session happened, and the run is that of the reference controller over them, under the policy
-    // that the input spells, and over what the application did: at every quiescent point the tables agree, the application was given what it is given there, the packets that were
-    // released are those that it releases, the switches that were lost are those that it loses, no event is left, and what was written is the whole report. Each answer that the application was
+    // that the input spells, and over what its applications did: at every quiescent point the tables agree, each application was given what it is given there, the packets that were
+    // released are those that it releases, the switches that were lost are those that it loses, no event is left, and what was written is the whole report. Each answer that an application was
     // given is to its next message, and a change that passed the host's tests had then reached its switch: since the frame given before,
     // the change was sent there, a barrier behind it, the barrier's reply came, and no other change was sent.
     ensures whole_run { IsReplay (map string_bytes words.now) → result ≡ 0
-        → OfInput SpellsSession (S.remaining source.old) (λ app. RunsWhole app (seen_of sim.new) (K.contents sink.old) (K.contents sink.new)) }
+        → OfInput SpellsSession (S.remaining source.old) (λ apps. RunsWhole apps (seen_of sim.new) (K.contents sink.old) (K.contents sink.new)) }
     // And that report is the one of the reference controller over the session that the input spells: over its switches and stimuli and what
-    // its lines say of the application, where it loses the same switches in the same places, with as many ready starts and plain turns behind
+    // its lines say of the applications, where it loses the same switches in the same places, with as many ready starts and plain turns behind
     // the last line as one likes, if they are enough.
-    ensures whole_report { IsReplay (map string_bytes words.now) → (input : List ℕ) (app : AppValue) (session : SessionValue) → S.remaining source.old ≡ Some input → session_of input ≡ Ok (app, session)
+    ensures whole_report { IsReplay (map string_bytes words.now) → (input : List ℕ) (apps : List AppValue) (session : SessionValue) → S.remaining source.old ≡ Some input → session_of input ≡ Ok (apps, session)
         → result ≡ 0
-        → (run : RunsWhole app (seen_of sim.new) (K.contents sink.old) (K.contents sink.new))
-        × WithEnough (λ more. K.contents sink.new ≡ append_known (K.contents sink.old) (run_report (names app) (reference_of_session app more run.alike.losses session))) }
+        → (run : RunsWhole apps (seen_of sim.new) (K.contents sink.old) (K.contents sink.new))
+        × WithEnough (λ more. K.contents sink.new ≡ append_known (K.contents sink.old) (run_report (names apps) (reference_of_session apps more run.alike.losses session))) }
     // At status 10 the same with the lines of the events that were dispatched, and how many are left behind them.
     ensures events_left { IsReplay (map string_bytes words.now) → result ≡ 10
-        → OfInput SpellsSession (S.remaining source.old) (λ app. LeftAs app sim.new (K.contents sink.old) (K.contents sink.new) (K.faults sink.old) (K.faults sink.new)) }
+        → OfInput SpellsSession (S.remaining source.old) (λ apps. LeftAs apps sim.new (K.contents sink.old) (K.contents sink.new) (K.faults sink.old) (K.faults sink.new)) }
     // Where a fault ends the run, it is that of the reference controller up to the last quiescent point: what was written is what this says so
     // far, or a part of the lines of what was done last where the sink failed, and behind it stands the line that says why; and the whole
     // journal is such a dialogue. Or nothing was done.
     ensures run_until_fault { IsReplay (map string_bytes words.now) → Contains (5 ∷ 6 ∷ 8 ∷ 9 ∷ 12 ∷ []) result
-        → OfInput SpellsSession (S.remaining source.old) (λ app. CutShort app result sim.new (K.contents sink.old) (K.contents sink.new) (K.faults sink.old) (K.faults sink.new))
+        → OfInput SpellsSession (S.remaining source.old) (λ apps. CutShort apps result sim.new (K.contents sink.old) (K.contents sink.new) (K.faults sink.old) (K.faults sink.new))
         ⊎ NotBegun result (seen_of sim.new) (K.contents sink.old) (K.contents sink.new) (K.faults sink.old) (K.faults sink.new) }
-    // What the application did is what the lines of the session say.
+    // What the applications did is what the lines of the session say.
     ensures application_keeps_script { IsReplay (map string_bytes words.now) → Contains (0 ∷ 5 ∷ 6 ∷ 8 ∷ 9 ∷ 10 ∷ []) result → KeepsLines sim.new }
 
     // Any other status than 0 is that of a stop, whose cause there is, and whose line is the last that was written. Of a switch that broke or
@@ -228,7 +232,7 @@ pub fn legosdn<S: Source, K: Sink, E: Sink + Drop, W: World>(
     // At every status: no call of the world was a stray one, where none wanted memory.
     ensures no_stray_call { (seen_of sim.new).counts.shorts ≡ 0 → (seen_of sim.new).counts.strays ≡ 0 }
     // And where the session says of no call of a link that it fails, no switch is lost.
-    ensures none_lost_without_fault { (input : List ℕ) (app : AppValue) (session : SessionValue) → S.remaining source.old ≡ Some input → session_of input ≡ Ok (app, session)
+    ensures none_lost_without_fault { (input : List ℕ) (apps : List AppValue) (session : SessionValue) → S.remaining source.old ≡ Some input → session_of input ≡ Ok (apps, session)
         → session.faults ≡ [] → lost_of (seen_of sim.new) ≡ [] }
 
     // A switch diverges only where bytes came that are no message, and breaks only there or where a packet that was released made it send as many
@@ -237,8 +241,8 @@ pub fn legosdn<S: Source, K: Sink, E: Sink + Drop, W: World>(
     ensures diverges_only_on_bad_bytes { IsReplay (map string_bytes words.now) → result ≡ 9 → SomeRefused sim.new }
     // Where the words are the command, the whole input spells a session, all bytes that came of switches are messages, no packet that was released
     // made its switch send too many, and nothing failed, the whole report is written, or events are left, or memory is wanting.
-    ensures complete_without_fault { IsReplay (map string_bytes words.now) → (input : List ℕ) (app : AppValue) (session : SessionValue) → S.remaining source.old ≡ Some input
-        → session_of input ≡ Ok (app, session) → BringMessages sim.new.history → NoneFloods (seen_of sim.new)
+    ensures complete_without_fault { IsReplay (map string_bytes words.now) → (input : List ℕ) (apps : List AppValue) (session : SessionValue) → S.remaining source.old ≡ Some input
+        → session_of input ≡ Ok (apps, session) → BringMessages sim.new.history → NoneFloods (seen_of sim.new)
         → NoneFailed (faults_of (S.faults source.old) (K.faults sink.old) (seen_of sim.old)) (faults_of (S.faults source.new) (K.faults sink.new) (seen_of sim.new))
         → Contains (0 ∷ 10 ∷ 12 ∷ []) result }
 
@@ -260,12 +264,12 @@ pub fn legosdn<S: Source, K: Sink, E: Sink + Drop, W: World>(
     // `run`, over a world that tells in order, on which no call was made before, and that tells fewer stimuli than rounds. At status 0 the run
     // is that of the reference controller over all that the world told, as above.
     ensures live_whole_run { (port rounds : ℕ) → IsRun (map string_bytes words.now) port rounds → TellsInOrder W.Tells rounds (W.seen live.old) (W.seen live.new)
-        → result ≡ 0 → OfInput SpellsPolicy (S.remaining source.old) (λ app. ServesWhole app (W.seen live.new) (K.contents sink.old) (K.contents sink.new)) }
+        → result ≡ 0 → OfInput SpellsPolicy (S.remaining source.old) (λ apps. ServesWhole apps (W.seen live.new) (K.contents sink.old) (K.contents sink.new)) }
     // Where events are left, or a fault ends the run, it is so as far as it goes, and behind what was written stands the line that says why. A
     // switch diverges only where bytes came that are no message, and breaks only there or where a packet that was released made it send too many.
     ensures live_run_until_stop { (port rounds : ℕ) → IsRun (map string_bytes words.now) port rounds → TellsInOrder W.Tells rounds (W.seen live.old) (W.seen live.new)
         → Contains (5 ∷ 6 ∷ 8 ∷ 9 ∷ 10 ∷ 12 ∷ []) result
-        → OfInput SpellsPolicy (S.remaining source.old) (λ app. ServesCut app result (W.seen live.new) (K.contents sink.old) (K.contents sink.new) (K.faults sink.old) (K.faults sink.new))
+        → OfInput SpellsPolicy (S.remaining source.old) (λ apps. ServesCut apps result (W.seen live.new) (K.contents sink.old) (K.contents sink.new) (K.faults sink.old) (K.faults sink.new))
         ⊎ NotBegun result (W.seen live.new) (K.contents sink.old) (K.contents sink.new) (K.faults sink.old) (K.faults sink.new) }
     // No call of it was a stray one.
     ensures live_no_stray_call { (port rounds : ℕ) → IsRun (map string_bytes words.now) port rounds → TellsInOrder W.Tells rounds (W.seen live.old) (W.seen live.new)
@@ -273,7 +277,7 @@ pub fn legosdn<S: Source, K: Sink, E: Sink + Drop, W: World>(
     // Where the whole input is a policy that is taken, all bytes that came of switches are messages, no packet that was released made its switch
     // send too many, and nothing failed, the whole report is written, or events are left, or memory is wanting.
     ensures live_complete_without_fault { (port rounds : ℕ) → IsRun (map string_bytes words.now) port rounds → TellsInOrder W.Tells rounds (W.seen live.old) (W.seen live.new)
-        → (input : List ℕ) (app : AppValue) → S.remaining source.old ≡ Some input → run_policy input ≡ Ok app → BringMessages (W.seen live.new).history → NoneFloods (W.seen live.new)
+        → (input : List ℕ) (apps : List AppValue) → S.remaining source.old ≡ Some input → run_policy input ≡ Ok apps → BringMessages (W.seen live.new).history → NoneFloods (W.seen live.new)
         → NoneFailed (faults_of (S.faults source.old) (K.faults sink.old) (W.seen live.old)) (faults_of (S.faults source.new) (K.faults sink.new) (W.seen live.new))
         → Contains (0 ∷ 10 ∷ 12 ∷ []) result }
     // Over any world: a status other than 0 is that of a stop, whose cause there is, and whose line is the last that was written.

@@ -1,6 +1,6 @@
 //! The run of a world.
 
-ghost use Rattle.std.specs.Prelude.{◌≡◌, ◌≤◌, [], IfErr};
+ghost use Rattle.std.specs.Prelude.{◌≡◌, ◌≤◌, [], length, map, IfErr};
 ghost use Rattle.crash_policy.specs.Policies.{app_value};
 ghost use Rattle.lego_io.specs.Count.{NeverFell};
 ghost use Rattle.outside.specs.Seen.{Continues};
@@ -15,27 +15,28 @@ use lego_io::Sink;
 use outside::{AllowAll, World};
 use std::alloc::Global;
 
-/// Runs the application of a policy in a world to its end, at most so many rounds, and writes the report. The world is opened
+/// Runs the applications of a policy in a world to its end, at most so many rounds, and writes the report. The world is opened
 /// at the port.
 #[tactic(auto, using(crate::proofs::Causes::switch_cause))]
 pub fn run_world<K: Sink, W: World>(
     alloc: Global,
-    app: &AppRule,
+    apps: &[AppRule],
     sink: &mut K,
     world: &mut W,
     port: u16,
     rounds: u64,
 ) -> Result<(), Stop>
     requires rounds { rounds ≤ 1000000000 }
+    requires few { length apps.now ≤ 32 }
     ensures runs { TellsInOrder W.Tells rounds (W.seen world.old) (W.seen world.new)
-        → ServesAs (app_value app.now) result (W.seen world.new) (K.contents sink.old) (K.contents sink.new) }
+        → ServesAs (map app_value apps.now) result (W.seen world.new) (K.contents sink.old) (K.contents sink.new) }
     ensures strays { TellsInOrder W.Tells rounds (W.seen world.old) (W.seen world.new) → NoneStray (W.seen world.new) }
     ensures why { IfErr result (IsRunCause W.Tells (K.faults sink.old) (K.faults sink.new) (W.seen world.old) (W.seen world.new)) }
     ensures continues { Continues W.Tells (W.seen world.old) (W.seen world.new) }
     ensures ended { W.Tells → (W.seen world.old).history ≡ [] → (state (W.seen world.new)).running ≡ [] }
     ensures never_fell { NeverFell (K.faults sink.old) (K.faults sink.new) }
 {
-    match serve(alloc, app, world, &AllowAll, sink, port, rounds) {
+    match serve(alloc, apps, world, &AllowAll, sink, port, rounds) {
         Served::Ended { .. } => Ok(()),
         Served::WriteFault => Err(Stop::WriteFault),
         Served::Shut => Err(Stop::Shut),

@@ -97,7 +97,7 @@ fn run_at<R: Net + Processes<Started = SystemProcess> + Env + Clock + AllocGloba
     let _switch = Player::start(rt, alloc, &[scene.switch, word.as_str()])?;
     let served = serve(
         alloc,
-        &app,
+        &[app],
         &mut world,
         &AllowAll,
         &mut sink,

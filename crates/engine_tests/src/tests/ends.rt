@@ -43,8 +43,15 @@ fn run(
         sim.fail_call(kind, 0, number)?;
     }
     let mut sink = MemSink::new(alloc, 4096, failing_writes)?;
-    let app = usual_app(alloc)?;
-    let served = serve(alloc, &app, &mut sim, &AllowAll, &mut sink, 0, MOST_ROUNDS);
+    let served = serve(
+        alloc,
+        &[usual_app(alloc)?],
+        &mut sim,
+        &AllowAll,
+        &mut sink,
+        0,
+        MOST_ROUNDS,
+    );
     Ok((ending_of(&served), sink))
 }
 

@@ -40,10 +40,9 @@ fn run_traced<W: World + Drop>(
 ) -> Result<(Served, W, MemSink), AllocError> {
     let mut traced = Traced::new(alloc, world, MemSink::new(alloc, 65_536, &[])?);
     let mut report = MemSink::new(alloc, 65_536, &[])?;
-    let app = usual_app(alloc)?;
     let served = serve(
         alloc,
-        &app,
+        &[usual_app(alloc)?],
         &mut traced,
         &AllowAll,
         &mut report,

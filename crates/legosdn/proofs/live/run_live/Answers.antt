@@ -1,19 +1,20 @@
 use Rattle.crash_policy.specs.Policies.{app_value}
-use Rattle.std.proofs.Common.{refl}
+use Rattle.std.proofs.Common.{map, refl, sym, subst}
+use Rattle.legosdn.specs.Live.{Taken}
 use Rattle.legosdn.proofs.Serving.{serves_unread, serves_taken}
 use Rattle.legosdn.proofs.Runs.{none_runs_yet}
 use Rattle.legosdn.proofs.live.run_live.Goals as goal
 
-pub returns-in_err-app-clause-serves : goal.returns-in_err-app-clause-serves
-returns-in_err-app-clause-serves g c =
+pub returns-in_err-apps-clause-serves : goal.returns-in_err-apps-clause-serves
+returns-in_err-apps-clause-serves g c =
     serves_unread g.W.World.Tells c.args.rounds (g.S.Source.remaining c.args.source.now) (g.S.Source.remaining c.read_program.new.source) (g.S.Source.faults c.args.source.now) (g.S.Source.faults c.read_program.new.source)
-    (g.K.Sink.faults c.args.sink.now) (g.W.World.seen c.args.live.now) (g.K.Sink.contents c.args.sink.now) _ c.in_err-app.field-0.0 c.from_residual.result c.from_residual.ensures.1 c.in_err-app.ensures.why (refl, refl)
+    (g.K.Sink.faults c.args.sink.now) (g.W.World.seen c.args.live.now) (g.K.Sink.contents c.args.sink.now) _ c.in_err-apps.field-0.0 c.from_residual.result c.from_residual.ensures.1 c.in_err-apps.ensures.why (refl, refl)
 
 pub returns-clause-serves : goal.returns-clause-serves
 returns-clause-serves g c =
     serves_taken g.W.World.Tells c.args.rounds (g.S.Source.remaining c.args.source.now) (g.S.Source.remaining c.read_program.new.source) (g.S.Source.faults c.args.source.now) (g.S.Source.faults c.read_program.new.source)
-    (g.K.Sink.faults c.args.sink.now) (g.K.Sink.faults c.run_world.new.sink) (g.W.World.seen c.args.live.now) (g.W.World.seen c.run_world.new.world) (g.K.Sink.contents c.args.sink.now) (g.K.Sink.contents c.run_world.new.sink) _ c.run_world.result (app_value c.in_ok-app.app)
-    c.in_ok-app.ensures.taken c.run_world.ensures.runs c.run_world.ensures.strays c.run_world.ensures.why
+    (g.K.Sink.faults c.args.sink.now) (g.K.Sink.faults c.run_world.new.sink) (g.W.World.seen c.args.live.now) (g.W.World.seen c.run_world.new.world) (g.K.Sink.contents c.args.sink.now) (g.K.Sink.contents c.run_world.new.sink) _ c.run_world.result (map app_value c.deref.result.now)
+    (subst (λ apps. Taken (map app_value apps) (g.S.Source.remaining c.args.source.now) (g.S.Source.remaining c.read_program.new.source)) (sym c.deref.ensures.value) c.in_ok-apps.ensures.taken) c.run_world.ensures.runs c.run_world.ensures.strays c.run_world.ensures.why
 
-pub returns-in_err-app-clause-ended : goal.returns-in_err-app-clause-ended
-returns-in_err-app-clause-ended g c = λ told none. none_runs_yet (g.W.World.seen c.args.live.now) none
+pub returns-in_err-apps-clause-ended : goal.returns-in_err-apps-clause-ended
+returns-in_err-apps-clause-ended g c = λ told none. none_runs_yet (g.W.World.seen c.args.live.now) none

@@ -41,12 +41,12 @@ pub returns-in-Err-clause-whole_run : goal.returns-in-Err-clause-whole_run
 returns-in-Err-clause-whole_run g c = λ is zero. absurd (not_zero c.in-Err.stop (sym c.halt.ensures.status ∙ zero))
 
 pub returns-in-Ok-clause-whole_report : goal.returns-in-Ok-clause-whole_report
-returns-in-Ok-clause-whole_report g c = λ is input app session whole spelled zero.
-    reports app (g.S.Source.remaining c.args.source.now) (g.S.Source.remaining c.run.new.source) (seen_of c.run.new.sim) (g.K.Sink.contents c.args.sink.now) (g.K.Sink.contents c.run.new.sink) input session
+returns-in-Ok-clause-whole_report g c = λ is input apps session whole spelled zero.
+    reports apps (g.S.Source.remaining c.args.source.now) (g.S.Source.remaining c.run.new.source) (seen_of c.run.new.sim) (g.K.Sink.contents c.args.sink.now) (g.K.Sink.contents c.run.new.sink) input session
     (ran_whole (g.S.Source.remaining c.args.source.now) (g.S.Source.remaining c.run.new.source) c.run.new.sim (g.K.Sink.contents c.args.sink.now) (g.K.Sink.contents c.run.new.sink) (c.in-Ok.ensures.replays is).runs) whole spelled
 
 pub returns-in-Err-clause-whole_report : goal.returns-in-Err-clause-whole_report
-returns-in-Err-clause-whole_report g c = λ is input app session whole spelled zero. absurd (not_zero c.in-Err.stop (sym c.halt.ensures.status ∙ zero))
+returns-in-Err-clause-whole_report g c = λ is input apps session whole spelled zero. absurd (not_zero c.in-Err.stop (sym c.halt.ensures.status ∙ zero))
 
 pub returns-in-Err-clause-events_left : goal.returns-in-Err-clause-events_left
 returns-in-Err-clause-events_left g c = λ is ten.
@@ -71,15 +71,15 @@ returns-in-Err-clause-diverges_only_on_bad_bytes g c = λ is nine.
     diverged_as (g.S.Source.remaining c.args.source.now) (g.S.Source.remaining c.run.new.source) c.run.new.sim c.in-Err.stop (g.K.Sink.contents c.args.sink.now) (g.K.Sink.contents c.run.new.sink) (c.in-Err.ensures.replays is).runs (sym c.halt.ensures.status ∙ nine)
 
 pub returns-in-Ok-clause-complete_without_fault : goal.returns-in-Ok-clause-complete_without_fault
-returns-in-Ok-clause-complete_without_fault g c = λ is input app session whole spelled readable quiet none. (0, omega arith, refl)
+returns-in-Ok-clause-complete_without_fault g c = λ is input apps session whole spelled readable quiet none. (0, omega arith, refl)
 
 pub returns-in-Err-clause-complete_without_fault : goal.returns-in-Err-clause-complete_without_fault
-returns-in-Err-clause-complete_without_fault g c = λ is input app session whole spelled readable quiet none.
+returns-in-Err-clause-complete_without_fault g c = λ is input apps session whole spelled readable quiet none.
     let cause = cause_then (Unit {0}) IsNoSession (g.S.Source.remaining c.args.source.now) (g.S.Source.faults c.args.source.now) (g.S.Source.faults c.run.new.source) (g.K.Sink.faults c.args.sink.now) (g.K.Sink.faults c.run.new.sink) (g.K.Sink.faults c.halt.new.sink)
     (seen_of c.args.sim.now) (seen_of c.run.new.sim) c.in-Err.stop c.run.ensures.never_fell c.halt.ensures.never_fell (c.in-Err.ensures.replays is).why in
     subst (λ (status : ℕ). Contains (0 ∷ 10 ∷ 12 ∷ []) status) (sym c.halt.ensures.status)
     (completes (Unit {0}) IsNoSession (g.S.Source.remaining c.args.source.now) (faults_of (g.S.Source.faults c.args.source.now) (g.K.Sink.faults c.args.sink.now) (seen_of c.args.sim.now)) (faults_of (g.S.Source.faults c.run.new.source) (g.K.Sink.faults c.halt.new.sink) (seen_of c.run.new.sim))
-    c.in-Err.stop cause (good_session (g.S.Source.remaining c.args.source.now) input app session whole spelled)
+    c.in-Err.stop cause (good_session (g.S.Source.remaining c.args.source.now) input apps session whole spelled)
     (λ eight. broke_as (g.S.Source.remaining c.args.source.now) (g.S.Source.remaining c.run.new.source) c.run.new.sim c.in-Err.stop (g.K.Sink.contents c.args.sink.now) (g.K.Sink.contents c.run.new.sink) (c.in-Err.ensures.replays is).runs quiet eight readable)
     (λ nine. diverged_as (g.S.Source.remaining c.args.source.now) (g.S.Source.remaining c.run.new.source) c.run.new.sim c.in-Err.stop (g.K.Sink.contents c.args.sink.now) (g.K.Sink.contents c.run.new.sink) (c.in-Err.ensures.replays is).runs nine readable) none)
 
@@ -124,15 +124,15 @@ pub returns-in-Err-clause-live_no_stray_call : goal.returns-in-Err-clause-live_n
 returns-in-Err-clause-live_no_stray_call g c = λ port rounds is tells. (c.in-Err.ensures.serves port rounds is).strays tells
 
 pub returns-in-Ok-clause-live_complete_without_fault : goal.returns-in-Ok-clause-live_complete_without_fault
-returns-in-Ok-clause-live_complete_without_fault g c = λ port rounds is tells input app whole spelled readable quiet none. (0, omega arith, refl)
+returns-in-Ok-clause-live_complete_without_fault g c = λ port rounds is tells input apps whole spelled readable quiet none. (0, omega arith, refl)
 
 pub returns-in-Err-clause-live_complete_without_fault : goal.returns-in-Err-clause-live_complete_without_fault
-returns-in-Err-clause-live_complete_without_fault g c = λ port rounds is tells input app whole spelled readable quiet none.
+returns-in-Err-clause-live_complete_without_fault g c = λ port rounds is tells input apps whole spelled readable quiet none.
     let cause = cause_then g.W.World.Tells IsNoPolicy (g.S.Source.remaining c.args.source.now) (g.S.Source.faults c.args.source.now) (g.S.Source.faults c.run.new.source) (g.K.Sink.faults c.args.sink.now) (g.K.Sink.faults c.run.new.sink) (g.K.Sink.faults c.halt.new.sink)
     (g.W.World.seen c.args.live.now) (g.W.World.seen c.run.new.live) c.in-Err.stop c.run.ensures.never_fell c.halt.ensures.never_fell (c.in-Err.ensures.serves port rounds is).why in
     subst (λ (status : ℕ). Contains (0 ∷ 10 ∷ 12 ∷ []) status) (sym c.halt.ensures.status)
     (completes g.W.World.Tells IsNoPolicy (g.S.Source.remaining c.args.source.now) (faults_of (g.S.Source.faults c.args.source.now) (g.K.Sink.faults c.args.sink.now) (g.W.World.seen c.args.live.now)) (faults_of (g.S.Source.faults c.run.new.source) (g.K.Sink.faults c.halt.new.sink) (g.W.World.seen c.run.new.live))
-    c.in-Err.stop cause (good_policy (g.S.Source.remaining c.args.source.now) input app whole spelled)
+    c.in-Err.stop cause (good_policy (g.S.Source.remaining c.args.source.now) input apps whole spelled)
     (broke_live (g.S.Source.remaining c.args.source.now) (g.S.Source.remaining c.run.new.source) (g.W.World.seen c.run.new.live) (g.K.Sink.contents c.args.sink.now) (g.K.Sink.contents c.run.new.sink) c.in-Err.stop ((c.in-Err.ensures.serves port rounds is).runs tells) quiet readable)
     (diverged_live (g.S.Source.remaining c.args.source.now) (g.S.Source.remaining c.run.new.source) (g.W.World.seen c.run.new.live) (g.K.Sink.contents c.args.sink.now) (g.K.Sink.contents c.run.new.sink) c.in-Err.stop ((c.in-Err.ensures.serves port rounds is).runs tells) readable) none)
 
@@ -217,9 +217,9 @@ returns-in-Err-clause-world_untouched g c = λ within.
     )
 
 pub returns-in-Ok-clause-none_lost_without_fault : goal.returns-in-Ok-clause-none_lost_without_fault
-returns-in-Ok-clause-none_lost_without_fault g c = λ input app session whole spelled faults.
-    none_lost_by app (g.S.Source.remaining c.args.source.now) (g.S.Source.remaining c.run.new.source) (seen_of c.run.new.sim) input session c.run.ensures.no_other_session c.run.ensures.lost whole spelled faults
+returns-in-Ok-clause-none_lost_without_fault g c = λ input apps session whole spelled faults.
+    none_lost_by apps (g.S.Source.remaining c.args.source.now) (g.S.Source.remaining c.run.new.source) (seen_of c.run.new.sim) input session c.run.ensures.no_other_session c.run.ensures.lost whole spelled faults
 
 pub returns-in-Err-clause-none_lost_without_fault : goal.returns-in-Err-clause-none_lost_without_fault
-returns-in-Err-clause-none_lost_without_fault g c = λ input app session whole spelled faults.
-    none_lost_by app (g.S.Source.remaining c.args.source.now) (g.S.Source.remaining c.run.new.source) (seen_of c.run.new.sim) input session c.run.ensures.no_other_session c.run.ensures.lost whole spelled faults
+returns-in-Err-clause-none_lost_without_fault g c = λ input apps session whole spelled faults.
+    none_lost_by apps (g.S.Source.remaining c.args.source.now) (g.S.Source.remaining c.run.new.source) (seen_of c.run.new.sim) input session c.run.ensures.no_other_session c.run.ensures.lost whole spelled faults

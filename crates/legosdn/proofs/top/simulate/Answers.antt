@@ -1,3 +1,4 @@
+use Rattle.std.proofs.Common.{map}
 use Rattle.crash_policy.specs.Policies.{app_value}
 use Rattle.sim_world.specs.World.{seen_of}
 use Rattle.legosdn.proofs.Losses.{none_is_lost}
@@ -7,7 +8,7 @@ use Rattle.legosdn.proofs.top.simulate.Goals as goal
 
 pub returns-clause-runs : goal.returns-clause-runs
 returns-clause-runs g c = λ none few.
-    runs_said (app_value c.args.app.now) c.run_world-ended.new.world (g.K.Sink.contents c.args.sink.now) (g.K.Sink.contents c.run_world-ended.new.sink) c.run_world-ended.result c.keeps_word.ensures.scripts
+    runs_said (map app_value c.args.apps.now) c.run_world-ended.new.world (g.K.Sink.contents c.args.sink.now) (g.K.Sink.contents c.run_world-ended.new.sink) c.run_world-ended.result c.keeps_word.ensures.scripts
     (c.run_world-ended.ensures.runs (tells (seen_of c.args.sim.now) (seen_of c.run_world-ended.new.world) none few c.run_world-ended.ensures.continues c.keeps_word.ensures.word))
 
 pub returns-clause-strays : goal.returns-clause-strays
