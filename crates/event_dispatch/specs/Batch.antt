@@ -17,7 +17,7 @@ use Rattle.batch_laws.specs.Items.{Enters, Handles, TakesNext}
 use Rattle.batch_laws.specs.InBatch.{BatchEnds, BatchOver, SoFar}
 use Rattle.event_dispatch.specs.declared.batch.Rest.{Rest}
 use Rattle.event_dispatch.specs.declared.batch.Rest.TheVariants as rests
-use Rattle.event_dispatch.specs.declared.core.Core.{Core}
+use Rattle.event_dispatch.specs.declared.engine_core.Core.{Core}
 
 abbrev pub standing_of : {Own : Type 0} → Seen Own → Core → Standing Own
 standing_of seen run = record { seen = seen; net = run.net; queue = run.queue; text = run.lines.items }

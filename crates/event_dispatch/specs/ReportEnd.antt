@@ -17,7 +17,7 @@ use Rattle.switch_laws.specs.Since.{Ready}
 use Rattle.switch_laws.specs.Sound.{Sound}
 use Rattle.batch_laws.specs.Calm.{Calm}
 use Rattle.run_laws.specs.LastReport.{SameKeys, flow_lines, table_lines, shown_text, switch_left, last_text, OnlyAsked}
-use Rattle.event_dispatch.specs.declared.core.Core.{Core}
+use Rattle.event_dispatch.specs.declared.engine_core.Core.{Core}
 use Rattle.event_dispatch.specs.declared.run.Run.{Run}
 use Rattle.event_dispatch.specs.Shows.{engine_of, Adds}
 

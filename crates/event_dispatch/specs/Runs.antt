@@ -7,7 +7,7 @@ use Rattle.of_types.specs.Fields.{number_at}
 use Rattle.of_wire.specs.Reading.{reading_of}
 use Rattle.checkpoint_store.specs.Slots.{Slot, slot_of, HasStaged}
 use Rattle.crash_policy.specs.declared.policy_file.AppRule.{AppRule}
-use Rattle.event_dispatch.specs.declared.core.Core.{Core}
+use Rattle.event_dispatch.specs.declared.engine_core.Core.{Core}
 use Rattle.event_dispatch.specs.declared.run.Managed.{Managed}
 use Rattle.event_dispatch.specs.declared.run.Run.{Run}
 

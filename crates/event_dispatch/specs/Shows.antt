@@ -2,7 +2,7 @@
 use Rattle.std.specs.Prelude.{◌≡◌, ℕ, List, [], ◌++◌, map, string_bytes}
 use Rattle.batch_laws.specs.Knowledge.{left_events, lost_text}
 use Rattle.run_laws.specs.Engine.{Application, Engine, Focus, focus}
-use Rattle.event_dispatch.specs.declared.core.Core.{Core}
+use Rattle.event_dispatch.specs.declared.engine_core.Core.{Core}
 use Rattle.event_dispatch.specs.declared.run.Managed.{Managed}
 use Rattle.event_dispatch.specs.declared.run.Run.{Run}
 use Rattle.app_frames.specs.declared.frame.Event.{Event}

@@ -21,7 +21,7 @@ ghost use Rattle.event_dispatch.specs.Steady.{NoStray, Reads, AtMostThisPoint};
 ghost use Rattle.event_dispatch.specs.Told.{OnlyMessages, NoStrayAtItem, NextPoint, GoesBegun};
 ghost use Rattle.event_dispatch.specs.Plain.{IsPlainEnd, PlainRead, PlainJoin, PlainItem, PlainNext, PlainKept, PlainCalm};
 
-use crate::core::Core;
+use crate::engine_core::Core;
 use crate::fault::Fault;
 use crate::limits::MOST_ITEMS;
 use app_frames::{Event, EventKind};

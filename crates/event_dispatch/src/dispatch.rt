@@ -22,7 +22,7 @@ ghost use Rattle.event_dispatch.specs.Undone.{IsShort, TurnLeft};
 ghost use Rattle.event_dispatch.specs.Cut.{OfferFails, OffersFail, FailsIn, CutOne, CutSome};
 
 use crate::closing::Closing;
-use crate::core::Core;
+use crate::engine_core::Core;
 use crate::fault::Fault;
 use crate::limits::{MOST_BODY, MOST_EVENTS};
 use crate::run::{Managed, Run};

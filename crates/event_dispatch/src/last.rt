@@ -17,7 +17,7 @@ ghost use Rattle.event_dispatch.specs.Shows.{application_of, engine_with, Adds};
 ghost use Rattle.event_dispatch.specs.ReportEnd.{FindsFlags, FlowsSaid, TableSaid, AsksAs, TableShown, TablesShown, LastShown};
 
 use crate::batch::is_joined;
-use crate::core::Core;
+use crate::engine_core::Core;
 use crate::fault::Fault;
 use crate::run::{Managed, Run};
 use flow_table::{TableView, ViewList, ViewRow};

@@ -10,8 +10,8 @@
 
 mod batch;
 mod closing;
-mod core;
 mod dispatch;
+mod engine_core;
 mod fault;
 mod last;
 mod limits;

@@ -5,7 +5,7 @@ ghost use Rattle.lego_model.specs.RunReport.{lost_line as lost_line_of};
 ghost use Rattle.event_dispatch.specs.Runs.{Waits};
 ghost use Rattle.event_dispatch.specs.Shows.{Adds, TellsLost};
 
-use crate::core::Core;
+use crate::engine_core::Core;
 use of_types::Dpid;
 use report_text::lost_line;
 use std::alloc::AllocError;

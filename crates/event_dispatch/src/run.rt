@@ -8,7 +8,7 @@ ghost use Rattle.run_laws.specs.First.{engine_at_first};
 ghost use Rattle.run_laws.specs.Facts.{is_taking};
 ghost use Rattle.event_dispatch.specs.Shows.{engine_of, application_of};
 
-use crate::core::Core;
+use crate::engine_core::Core;
 use app_frames::Event;
 use app_visor::AppState;
 use crash_policy::{AppRule, listens};

@@ -24,7 +24,7 @@ ghost use Rattle.event_dispatch.specs.Cut.{CutRound, CutRounds, CutStart, CutEnd
 ghost use Rattle.event_dispatch.specs.Serves.{AllStarted, Writes, GoesRound, GoesToEnd, Begins, EndsReport, Finishes, GoesAs, RunsAs, IsUnopened, IsCut, IsAlike};
 
 use crate::batch::Rest;
-use crate::core::Core;
+use crate::engine_core::Core;
 use crate::fault::Fault;
 use crate::run::{Managed, Run};
 use crate::served::Served;

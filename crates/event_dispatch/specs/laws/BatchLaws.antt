@@ -28,7 +28,7 @@ use Rattle.batch_laws.specs.InBatch.{SoFar, GoesOn}
 use Rattle.batch_laws.specs.laws.InBatchLaws.{next_goes_on, never_so_many}
 use Rattle.event_dispatch.specs.declared.batch.Rest.{Rest}
 use Rattle.event_dispatch.specs.declared.batch.Rest.TheVariants as rests
-use Rattle.event_dispatch.specs.declared.core.Core.{Core}
+use Rattle.event_dispatch.specs.declared.engine_core.Core.{Core}
 use Rattle.event_dispatch.specs.Runs.{AreRead}
 use Rattle.event_dispatch.specs.Shows.{TellsLost}
 use Rattle.event_dispatch.specs.Batch.{of_memory, standing_of, rest_by, as_told, TakesItem, TakesJoin, TakesFirst, KeptSoFar, TakesKept, KeptComesFirst, NextTaken, BatchGoes, BatchShown}

@@ -27,7 +27,7 @@ use Rattle.net_txn.specs.laws.ReadLaws.{arrives_read}
 use Rattle.run_laws.specs.Cut.{CallsAmong}
 use Rattle.batch_laws.specs.Items.{Handles}
 use Rattle.event_dispatch.specs.declared.batch.Rest.{Rest}
-use Rattle.event_dispatch.specs.declared.core.Core.{Core}
+use Rattle.event_dispatch.specs.declared.engine_core.Core.{Core}
 use Rattle.event_dispatch.specs.Runs.{AreRead, Waits}
 use Rattle.event_dispatch.specs.Shows.{TellsLost}
 use Rattle.event_dispatch.specs.Batch.{TakesItem, rest_by}

@@ -17,7 +17,7 @@ use Rattle.app_visor.specs.Attempts.{kept_of}
 use Rattle.run_laws.specs.Engine.{Application, Focus, focus}
 use Rattle.run_laws.specs.Facts.{StartsAgain, StartsOne, StartsFrom}
 use Rattle.run_laws.specs.First.{net_at_first, app_at_first, engine_at_first}
-use Rattle.event_dispatch.specs.declared.core.Core.{Core}
+use Rattle.event_dispatch.specs.declared.engine_core.Core.{Core}
 use Rattle.event_dispatch.specs.declared.run.Managed.{Managed}
 use Rattle.event_dispatch.specs.Runs.{AreRead, StoreRests, CoreGoes, IsCountedTo, AreNumbered, AreGoing, SameManaged, IsFresh, AreFresh, Waits}
 use Rattle.event_dispatch.specs.Shows.{application_of, focus_of, engine_with, Stays}

@@ -24,7 +24,7 @@ use Rattle.run_laws.specs.laws.EventLaws.{next-shown, partly-moved}
 use Rattle.event_dispatch.specs.declared.batch.Rest.{Rest}
 use Rattle.event_dispatch.specs.declared.fault.Fault.{Fault}
 use Rattle.event_dispatch.specs.declared.fault.Fault.TheVariants as faults
-use Rattle.event_dispatch.specs.declared.core.Core.{Core}
+use Rattle.event_dispatch.specs.declared.engine_core.Core.{Core}
 use Rattle.event_dispatch.specs.declared.run.Run.{Run}
 use Rattle.event_dispatch.specs.declared.served.Served.{Served}
 use Rattle.event_dispatch.specs.declared.served.Served.TheVariants as served

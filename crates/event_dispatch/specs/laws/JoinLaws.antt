@@ -20,7 +20,7 @@ use Rattle.net_txn.specs.Joining.{JoinsOrNot}
 use Rattle.net_txn.specs.JoiningSteps.{JoinedInStep}
 use Rattle.batch_laws.specs.Knowledge.{knowledge_of, joined_by}
 use Rattle.batch_laws.specs.Items.{TakesIn, EntersStill}
-use Rattle.event_dispatch.specs.declared.core.Core.{Core}
+use Rattle.event_dispatch.specs.declared.engine_core.Core.{Core}
 use Rattle.event_dispatch.specs.Shows.{Adds}
 use Rattle.event_dispatch.specs.Batch.{TakesJoin}
 

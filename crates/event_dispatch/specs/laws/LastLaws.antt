@@ -38,7 +38,7 @@ use Rattle.run_laws.specs.LastReport.{SameKeys, flow_lines, table_lines, shown_t
 use Rattle.run_laws.specs.laws.LastReportLaws.{keys-same, table-shown, joined-with, out-with, places-shown, asked-nothing, rows-asked, lost-asked, asked-then}
 use Rattle.run_laws.specs.Endings.{Leaves}
 use Rattle.run_laws.specs.laws.LeaveLaws.{asked-leaves}
-use Rattle.event_dispatch.specs.declared.core.Core.{Core}
+use Rattle.event_dispatch.specs.declared.engine_core.Core.{Core}
 use Rattle.event_dispatch.specs.Runs.{WaitsAtEnd}
 use Rattle.event_dispatch.specs.declared.run.Managed.{Managed}
 use Rattle.event_dispatch.specs.declared.run.Run.{Run}

@@ -8,7 +8,7 @@ use Rattle.net_txn.specs.declared.ports.KnownPorts.{KnownPorts}
 use Rattle.net_txn.specs.Net.{NetState}
 use Rattle.net_txn.specs.Leaving.{left_event}
 use Rattle.batch_laws.specs.Knowledge.{left_events, lost_text}
-use Rattle.event_dispatch.specs.declared.core.Core.{Core}
+use Rattle.event_dispatch.specs.declared.engine_core.Core.{Core}
 use Rattle.event_dispatch.specs.Runs.{Waits}
 use Rattle.event_dispatch.specs.Shows.{none_left, Adds, TellsLost, TellsOn}
 use Rattle.event_dispatch.specs.laws.WhyLaws.{waits_then}

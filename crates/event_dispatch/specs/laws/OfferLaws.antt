@@ -24,7 +24,7 @@ use Rattle.run_laws.specs.Facts.{is_taking, says_stop, TakesTurn, Between, HasIt
 use Rattle.run_laws.specs.laws.OtherLaws.{calls-silent, silent-at-once}
 use Rattle.event_dispatch.specs.declared.fault.Fault.{Fault}
 use Rattle.event_dispatch.specs.declared.fault.Fault.TheVariants as faults
-use Rattle.event_dispatch.specs.declared.core.Core.{Core}
+use Rattle.event_dispatch.specs.declared.engine_core.Core.{Core}
 use Rattle.event_dispatch.specs.declared.run.Managed.{Managed}
 use Rattle.event_dispatch.specs.declared.run.Run.{Run}
 use Rattle.event_dispatch.specs.Runs.{AreRead, StoreRests, CoreGoes, IsCountedTo, IsCountedBefore, AreBefore, AreNumbered, AreGoing}

@@ -30,7 +30,7 @@ use Rattle.run_laws.specs.laws.StartShownLaws.{start-shown}
 use Rattle.run_laws.specs.laws.EventLaws.{next-shown, rest-shown}
 use Rattle.event_dispatch.specs.declared.batch.Rest.{Rest}
 use Rattle.event_dispatch.specs.declared.batch.Rest.TheVariants as rests
-use Rattle.event_dispatch.specs.declared.core.Core.{Core}
+use Rattle.event_dispatch.specs.declared.engine_core.Core.{Core}
 use Rattle.event_dispatch.specs.declared.run.Run.{Run}
 use Rattle.event_dispatch.specs.Runs.{AreRead, StoreRests, IsCountedTo, Going, Waits}
 use Rattle.event_dispatch.specs.Batch.{standing_of, BatchShown}

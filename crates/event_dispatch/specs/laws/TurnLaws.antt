@@ -26,7 +26,7 @@ use Rattle.batch_laws.specs.Knowledge.{lost_text}
 use Rattle.run_laws.specs.Facts.{turn_word, out_text, all_told, says_stop, Follows}
 use Rattle.event_dispatch.specs.declared.closing.Closing.{Closing}
 use Rattle.event_dispatch.specs.declared.closing.Closing.TheVariants as closings
-use Rattle.event_dispatch.specs.declared.core.Core.{Core}
+use Rattle.event_dispatch.specs.declared.engine_core.Core.{Core}
 use Rattle.event_dispatch.specs.declared.run.Managed.{Managed}
 use Rattle.event_dispatch.specs.Shows.{focus_of, name_of, played_core, played_app}
 use Rattle.event_dispatch.specs.Serves.{end_of, Closes, TurnNoted}

@@ -11,7 +11,7 @@ use Rattle.lego_model.specs.declared.fault.TxnFault.{TxnFault}
 use Rattle.lego_model.specs.declared.fault.TxnFault.TheVariants.{SwitchBroke, Diverged, Flooded, NoMemory}
 use Rattle.event_dispatch.specs.declared.served.Served.{Served}
 use Rattle.event_dispatch.specs.declared.served.Served.TheVariants as ends
-use Rattle.event_dispatch.specs.declared.core.Core.{Core}
+use Rattle.event_dispatch.specs.declared.engine_core.Core.{Core}
 use Rattle.event_dispatch.specs.Runs.{Waits, WaitsAtEnd}
 use Rattle.event_dispatch.specs.Why.{IsWhy}
 use Rattle.lego_model.specs.SwitchFaults.{CameFrom, IsBadPart, IsUnanswered, IsErrorFor, IsWhyTxn}

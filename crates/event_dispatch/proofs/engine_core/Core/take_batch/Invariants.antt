@@ -1,0 +1,23 @@
+use Rattle.event_dispatch.specs.Talking.{KeepsTalking}
+use Rattle.std.proofs.Common.{◌≡◌, [], length}
+use Rattle.outside.specs.Seen.{Continues}
+use Rattle.event_dispatch.specs.Steady.{NoStray, Reads}
+use Rattle.event_dispatch.specs.Told.{BatchPoint}
+use Rattle.event_dispatch.specs.Runs.{AreRead, Waits}
+use Rattle.event_dispatch.specs.Batch.{BatchGoes, KeptComesFirst}
+use Rattle.event_dispatch.proofs.engine_core.Core.take_batch.Given as goal
+
+abbrev pub invariant-loop-item : goal.invariant-loop-item
+invariant-loop-item g l = record {
+  waits : Waits l.fn.self l.self;
+  left : l.self.net.left ≡ [];
+  read : AreRead l.self.net.kept;
+  goes : BatchGoes g.W.World.Tells l._item (g.W.World.seen l.fn.world) (g.W.World.seen l.world) l.fn.self l.self;
+  first : KeptComesFirst l.fn.self l.self;
+  buffer : length l.buf ≡ length l.fn.buf;
+  continues : Continues g.W.World.Tells (g.W.World.seen l.fn.world) (g.W.World.seen l.world);
+  talks : KeepsTalking g.W.World.Tells (g.W.World.seen l.fn.world) (g.W.World.seen l.world);
+  places : NoStray g.W.World.Tells (length l.fn.self.store) (g.W.World.seen l.fn.world) (g.W.World.seen l.world) l.fn.self.net;
+  reads : Reads g.W.World.Tells (g.W.World.seen l.fn.world) (g.W.World.seen l.world) l.fn.self.net l.self.net;
+  here : BatchPoint g.W.World.Tells (length l.fn.self.store) (g.W.World.seen l.fn.world) (g.W.World.seen l.world) l.fn.self.net;
+}
