@@ -41,11 +41,23 @@ fn place_from(rows: &[ViewRow], from: usize, key: &Key) -> Option<usize>
     None
 }
 
-/// Finds the flags of the owner of an entry, and where the next one is looked for. Rows and entries stand in key order.
+/// Finds where the row of a key stands, from a position on, and if none stands there, from the first one on.
+fn place_of(rows: &[ViewRow], from: usize, key: &Key) -> Option<usize>
+    ensures within { IfSome result (λ at. at < length rows.now) }
+    ensures here { (v : ViewRow) (later : List ViewRow) → drop from rows.now ≡ v ∷ later → v.key ≡ key.now → result ≡ Some from }
+{
+    match place_from(rows, from, key) {
+        Some(at) => Some(at),
+        None => place_from(rows, 0, key),
+    }
+}
+
+/// Finds the flags of the owner of an entry, and where the next one is looked for. Rows stand in key order. So do the entries of a
+/// simulated switch; a real one may tell its entries in any order.
 fn flags_from(rows: &[ViewRow], from: usize, key: &Key) -> (u16, usize)
     ensures { FindsFlags from key.now rows.now result }
 {
-    match place_from(rows, from, key) {
+    match place_of(rows, from, key) {
         Some(at) => (rows[at].flags, at + 1),
         None => (0, from),
     }

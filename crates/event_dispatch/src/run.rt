@@ -60,16 +60,27 @@ fn fresh<'a>(alloc: Global, rules: &'a [AppRule]) -> Result<Vec<Managed<'a>>, Al
     Ok(apps)
 }
 
+/// Counts applications. More than four bytes can number are more than memory could hold.
+fn number_of(rules: &[AppRule]) -> Result<u32, AllocError>
+    ensures { IfOk result (λ number. number ≡ length rules.now) }
+{
+    match u32::try_from(rules.len()) {
+        Ok(number) => Ok(number),
+        Err(_) => Err(AllocError),
+    }
+}
+
 impl<'a> Run<'a> {
     /// Makes a run of applications of which nothing has happened.
     pub(crate) fn new(alloc: Global, rules: &'a [AppRule]) -> Result<Run<'a>, AllocError>
-        requires { length rules.now < 2 ^ 32 }
+        ensures number { IfOk result (λ r. length rules.now < 2 ^ 32) }
         ensures going { IfOk result Going }
         ensures first { IfOk result (λ r. engine_of r ≡ engine_at_first (map app_value rules.now)) }
         ensures none_waits { IfOk result (λ r. r.core.lines.items ≡ []) }
     {
+        let number = number_of(rules)?;
         Ok(Run {
-            core: Core::new(alloc, rules.len() as u32)?,
+            core: Core::new(alloc, number)?,
             apps: fresh(alloc, rules)?,
         })
     }

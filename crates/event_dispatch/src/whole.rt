@@ -314,7 +314,6 @@ fn run<W: World, J: Judge, K: Sink>(
     rounds: u64,
 ) -> Result<u64, Served>
     requires few { rounds ≤ most_rounds }
-    requires number { length rules.now < 2 ^ 32 }
     ensures runs { RunsAs (map app_value rules.now) W.Tells (J.accepts judge.now) rounds result (K.contents sink.old) (K.contents sink.new) (W.seen world.old) (W.seen world.new) }
     ensures cut { IfErr result (λ end. CutAs W.Tells (J.accepts judge.now) rounds end (K.contents sink.old) (K.contents sink.new) (W.seen world.old) (W.seen world.new) (engine_at_first (map app_value rules.now))) }
     ensures continues { Continues W.Tells (W.seen world.old) (W.seen world.new) }
@@ -352,7 +351,6 @@ pub fn serve<W: World, J: Judge, K: Sink>(
     rounds: u64,
 ) -> Served
     requires rounds { rounds ≤ most_rounds }
-    requires number { length rules.now < 2 ^ 32 }
     ensures continues { Continues W.Tells (W.seen world.old) (W.seen world.new) }
     ensures never_fell { NeverFell (K.faults sink.old) (K.faults sink.new) }
     // Each end but the whole one and want of memory has its cause in this call.

@@ -89,4 +89,4 @@ returns-clause-reads g c =
     subst (λ (e : Engine). HasRead g.W.World.Tells (g.W.World.seen c.args.world.now) (g.W.World.seen c.run_then_end.new.world) e.net) c.in_ok-run.ensures.first c.in_ok-run_then_end.ensures.reads
 
 pub run_then_end-requires-clause-number : goal.run_then_end-requires-clause-number
-run_then_end-requires-clause-number g c = first_few c.args.rules.now c.in_ok-run.run' c.in_ok-run.ensures.first c.requires.number
+run_then_end-requires-clause-number g c = first_few c.args.rules.now c.in_ok-run.run' c.in_ok-run.ensures.first c.in_ok-run.ensures.number
