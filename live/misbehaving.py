@@ -3,7 +3,7 @@
 
 It adds an entry to each switch that joins. At a PACKET_IN it adds an entry for the frame's source, floods the frame as a packet, and
 then does what the last byte of that address says (HOW below; with any other byte it ends well). Its state is how many turns it has
-done; an entry has the number of its turn as cookie. It keeps its process number in FILE, so that it can be killed. Where its switch is
+done; an entry has the number of its turn as cookie, and its removal is to be told if it is for a source. It keeps its process number in FILE, so that it can be killed. Where its switch is
 unknown it gives up, but for the frames of one address.
 """
 
@@ -48,7 +48,7 @@ class Misbehaving(App):
 
     def send_on(self, event, source):
         here = ":".join(f"{byte:02x}" for byte in source)
-        self.add_flow(event.dpid, Match(dl_dst=here), [Output(event.in_port)], priority=20, cookie=self.turns)
+        self.add_flow(event.dpid, Match(dl_dst=here), [Output(event.in_port)], priority=20, cookie=self.turns, send_flow_removed=True)
         self.packet_out(event.dpid, [Output(Port.FLOOD)], event.data, in_port=event.in_port)
         if source[5] == NOWHERE:
             self.packet_out(event.dpid, [Output(9)], event.data)

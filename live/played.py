@@ -55,10 +55,12 @@ class Switch(threading.Thread):
     barriers  how many barriers it has answered: one when it joined, and one for each change and each packet
     cut_at    the link is cut where this many messages of this kind have come, in the place of the next barrier's reply
     cut_by    how it is cut: it is ended, it is reset, or nothing is said any more
+    backwards whether it tells its entries in another order than that of the keys
     """
 
-    def __init__(self, port, dpid, cut_at=None, cut_by="end"):
+    def __init__(self, port, dpid, cut_at=None, cut_by="end", backwards=False):
         super().__init__(daemon=True)
+        self.backwards = backwards
         self.dpid, self.table, self.said, self.frames = dpid, {}, [], []
         self.cut_at, self.cut_by = cut_at, cut_by
         self.changed = threading.Condition()
@@ -140,7 +142,7 @@ class Switch(threading.Thread):
             self.barriers += 1
         elif isinstance(message, messages.StatsRequest):
             self.said.append(("STATS", None))
-            in_order = sorted(self.table.items(), key=lambda it: (-it[0][0], it[0][1].encode()))
+            in_order = sorted(self.table.items(), key=lambda it: (-it[0][0], it[0][1].encode()), reverse=self.backwards)
             rows = b"".join(
                 FlowStats(match, actions, priority=priority, cookie=cookie).encode() for (priority, match), (actions, cookie) in in_order
             )
