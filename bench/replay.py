@@ -79,7 +79,7 @@ def refused():
     """Names, inputs and the line that refuses them."""
     yield "64 MiB of zero bytes", bytes(MOST), b"bad separator\n"
     yield "64 MiB in one line behind the separator", b"---\n" + b"x" * (MOST - 4), b"bad session 2 long\n"
-    yield "64 MiB of line ends before a policy's end", b"\n" * (MOST - 4) + b"---\n", b"bad policy later\n"
+    yield "64 MiB of line ends before a policy's end", b"\n" * (MOST - 4) + b"---\n", b"bad policy missing app\n"
     yield "64 MiB of spaces in lines of 4 MiB", b"---\nsession 1\n" + (b" " * 4_194_303 + b"\n") * 15, b"bad session 3 word\n"
     yield "one byte more than 64 MiB", bytes(MOST + 1), b"bad size\n"
 
