@@ -47,7 +47,7 @@ abbrev pub Asking : Type 0 → Type 0
 Asking Own = Option (List (Exchange Own))
 
 unfoldable pub oracle : {Own : Type 0} → Bool → Table (Asking Own)
-oracle judged = record { answer = λ state dpid bytes. next_asked dpid bytes state; allows = λ state. judged }
+oracle judged = record { answer = λ state dpid bytes. next_asked dpid bytes state; allows = λ state. judged; undo = λ before state. state }
 
 -- exactly these messages were asked, in this order
 abbrev pub played_is : {Own : Type 0} → List Answer → Outcome → Played (Asking Own)
@@ -97,11 +97,11 @@ LeavesNone (ends.Failed cause) unread = unread ≡ []
 -- what is played of acts and exchanges, with so many frames left and these bytes unread
 abbrev pub played_by : {Own : Type 0} → Bool → ℕ → List ℕ → List Act → List (Exchange Own) → Played (Asking Own)
 played_by judged left rest acts exchanges =
-    turn_from (oracle judged) left (answers_given acts) (end_from Untold acts) (Some exchanges) (next_of rest (pieces acts))
+    turn_from (oracle judged) left (answers_given acts) (end_from Untold acts) [] (Some exchanges) (next_of rest (pieces acts))
 
 -- whether these acts tell enough, with so many frames left and these bytes unread
 abbrev pub heard_by : ℕ → List ℕ → List Act → Bool
-heard_by left rest acts = is_heard_from left (answers_given acts) (end_from Untold acts) (next_of rest (pieces acts))
+heard_by left rest acts = is_heard_from left 0 (answers_given acts) (end_from Untold acts) (next_of rest (pieces acts))
 
 -- The rest of a turn, behind its event: so many frames may still be taken, and these bytes are unread.
 pub record TurnsFrom {Own : Type 0} (Tells : Type 0) (accepts : List TableView → Bool) (app left : ℕ) (rest : List ℕ) (old new : Seen Own) (net now_net : NetState) (end : PlayEnd) (unread : List ℕ) : Type 0 where

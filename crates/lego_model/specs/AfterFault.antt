@@ -105,7 +105,7 @@ next_answer [] = (Unknown, [])
 next_answer (answer ∷ answers) = (answer, answers)
 
 unfoldable pub answering : Bool → Table (List Answer)
-answering judged = record { answer = λ answers dpid bytes. next_answer answers; allows = λ answers. judged }
+answering judged = record { answer = λ answers dpid bytes. next_answer answers; allows = λ answers. judged; undo = λ before answers. answers }
 
 abbrev pub IsCompleted : Outcome → Type 0
 IsCompleted (Completed stop checkpoint unread) = Unit {0}

@@ -19,6 +19,7 @@ use Rattle.app_frames.specs.declared.frame.Answer.TheVariants.{Unknown}
 use Rattle.std.specs.List.{list_any}
 use Rattle.app_frames.specs.Frames.{app_reading}
 use Rattle.lego_model.specs.declared.wait.Awaited.{Awaited}
+use Rattle.lego_model.specs.declared.wait.Notices.TheVariants as notices
 use Rattle.lego_model.specs.declared.wait.Heard.{Heard}
 use Rattle.lego_model.specs.declared.wait.Heard.TheVariants.{Refused}
 use Rattle.lego_model.specs.BarrierWaits.{heard}
@@ -103,7 +104,7 @@ error_got a act = None
 
 -- the first such ERROR for a change, by the transaction ids of the change and of the barrier behind it
 unfoldable pub first_error : ℕ → ℕ → ℕ → List Act → Option OfError
-first_error dpid xid barrier acts = slice_get (filter_map (error_got (record { dpid = dpid; first = xid; barrier = barrier })) acts) 0
+first_error dpid xid barrier acts = slice_get (filter_map (error_got (record { dpid = dpid; first = xid; barrier = barrier; notices = notices.Held })) acts) 0
 
 -- It is the host's own answer, and no change was sent.
 pub record AnsweredByHost (bytes : List ℕ) (answer : Answer) (since : List Act) : Type 0 where

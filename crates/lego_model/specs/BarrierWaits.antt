@@ -12,6 +12,8 @@ use Rattle.of_wire.specs.Spelling.{message_bytes}
 use Rattle.outside.specs.declared.step.WorldStep.{WorldStep}
 use Rattle.outside.specs.declared.step.WorldStep.TheVariants.{Acted}
 use Rattle.lego_model.specs.declared.wait.Awaited.{Awaited}
+use Rattle.lego_model.specs.declared.wait.Notices.{Notices}
+use Rattle.lego_model.specs.declared.wait.Notices.TheVariants as notices
 use Rattle.lego_model.specs.declared.wait.Refusal.{Refusal}
 use Rattle.lego_model.specs.declared.wait.Heard.{Heard}
 use Rattle.lego_model.specs.declared.wait.Heard.TheVariants.{Reply, Refused, Notice, Echo, Other}
@@ -36,12 +38,18 @@ is_awaited a xid =
 abbrev pub refusal_of : List ℕ → Refusal
 refusal_of bytes = record { xid = number_at 4 4 bytes; error = record { kind = number_at 2 8 bytes; code = number_at 2 10 bytes } }
 
+-- whether a notice of an entry that was deleted is no message as any other to it
+abbrev pub is_apart : Notices → Bool
+is_apart notices.Held = true
+is_apart notices.Dropped = true
+is_apart notices.Kept = false
+
 -- ERROR is 1, ECHO_REQUEST 2, FLOW_REMOVED 11 with reason DELETE 2
 unfoldable pub heard : Awaited → List ℕ → Heard
 heard a bytes =
     if bytes_eq bytes (message_bytes a.barrier BarrierReply) then Reply
     else if number_at 1 1 bytes == 1 && is_awaited a (number_at 4 4 bytes) then Refused (refusal_of bytes)
-    else if number_at 1 1 bytes == 11 && number_at 1 58 bytes == 2 then Notice
+    else if is_apart a.notices && (number_at 1 1 bytes == 11 && number_at 1 58 bytes == 2) then Notice
     else if number_at 1 1 bytes == 2 then Echo
     else Other
 

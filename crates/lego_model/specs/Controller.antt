@@ -27,7 +27,8 @@ use Rattle.lego_model.specs.Turns.{Outcome, Completed, Failed, Table, turn_of, o
 use Rattle.lego_model.specs.Places.{Place, switch_at, with_place, undone_places}
 use Rattle.lego_model.specs.Losses.{PacketLoss, Stays, BeforeSent, AfterSent, TurnLosses, Losses, next_flag, next_packet, next_turn, batch_fewer, turn_fewer}
 pub use Rattle.lego_model.specs.Events.{ports_of, two_bytes, event_of_message, event_of_read, events_of, join_event, leave_event}
-use Rattle.lego_model.specs.Packets.{Held, Play, fresh_play, play}
+use Rattle.lego_model.specs.Packets.{Held, HeldBack, Play, fresh_play, play, play_undo}
+pub use Rattle.lego_model.specs.Packets.{lose_at, lose, undoing}
 use Rattle.outside.specs.State.{Mark, moment_after, is_event}
 
 -- ---- What happens, and what events that makes
@@ -169,7 +170,7 @@ reference_mark event ps = record { event = event; switches = map (λ p. p.switch
 
 -- the frames of an application are played on the switches; the judge sees what is joined
 abbrev pub table_of : (List Place → Bool) → Table Play
-table_of allows = record { answer = play; allows = λ p. allows p.places }
+table_of allows = record { answer = play; allows = λ p. allows p.places; undo = play_undo }
 
 abbrev pub answer_frame : Answer → List ℕ
 answer_frame a = host_bytes (host.Answer a)
@@ -194,9 +195,9 @@ abbrev pub after_outcome : EventKind → Outcome → App → App × List Tried
 after_outcome kind (Completed stop checkpoint rest) a = (record a { rest = rest; kept = unwrap_or checkpoint a.kept; done = a.done + 1 }, [])
 after_outcome kind (Failed cause) a = after_failure (rule_at a.rule kind) (record a { rest = []; failed = a.failed + 1 })
 
--- ---- The release (5.3.6 Send Packet Message): each packet that is held goes to its switch, while that is joined, and what the switch
--- sends then becomes events. Where the switch is lost before the packet is sent, it is not released; where it is lost behind it, it is, and
--- what the switch sent for it makes no events.
+-- ---- The release (5.3.6 Send Packet Message): the notices that are held become events. Then each packet that is held goes to its switch, while
+-- that is joined, and what the switch sends then becomes events. Where the switch is lost before the packet is sent, it is not released; where
+-- it is lost behind it, it is, and what the switch sent for it makes no events.
 
 pub record Release : Type 0 where
   pub places : List Place
@@ -206,8 +207,8 @@ pub record Release : Type 0 where
   -- the Leave events of the switches that were lost, in order
   pub left : List Event
 
-abbrev pub none_released : List PacketLoss → List Place → Release
-none_released losing places = record { places = places; events = []; packets = []; losing = losing; left = [] }
+abbrev pub none_released : List PacketLoss → List Place → List Event → Release
+none_released losing places notices = record { places = places; events = notices; packets = []; losing = losing; left = [] }
 
 abbrev pub went_out : ℕ → SwitchState → Release → Release
 went_out d s r = record r { places = with_place d (λ o. None) r.places; left = r.left ++ leave_event s ∷ [] }
@@ -228,26 +229,13 @@ release_at (Some s) loss r held = release_to loss s r held
 abbrev pub release_one : Release → Held → Release
 release_one r held = release_at (switch_at held.0 r.places) (next_packet r.losing) (record r { losing = drop 1 r.losing }) held
 
-unfoldable pub release : List PacketLoss → List Place → List Held → Release
-release losing places held = fold release_one (none_released losing places) held
-
--- ---- The undoing of a turn: a switch that is lost in it goes out
-
--- the switches, with the Leave events of those that were lost
-abbrev pub lose_at : ℕ → Option SwitchState → List Place × List Event → List Place × List Event
-lose_at d None r = r
-lose_at d (Some s) r = (with_place d (λ o. None) r.0, r.1 ++ leave_event s ∷ [])
-
-abbrev pub lose : List Place × List Event → ℕ → List Place × List Event
-lose r d = lose_at d (switch_at d r.0) r
-
-unfoldable pub undoing : List ℕ → List Place → List Place → List Place × List Event
-undoing lost before after = fold lose (undone_places before after, []) lost
+unfoldable pub release : List PacketLoss → List Place → HeldBack → Release
+release losing places held = fold release_one (none_released losing places held.notices) held.packets
 
 abbrev pub undone_release : List Place × List Event → Release
 undone_release r = record { places = r.0; events = []; packets = []; losing = []; left = r.1 }
 
--- A turn that completed leaves what it did, and its packets are released; one that failed leaves what an undo gives back.
+-- A turn that completed leaves what it did, and what it held is released; one that failed leaves what an undo gives back.
 abbrev pub release_by : Outcome → TurnLosses → List Place → Play → Release
 release_by (Completed stop checkpoint rest) losses before after = release losses.packets after.places after.held
 release_by (Failed cause) losses before after = undone_release (undoing losses.undone before after.places)
@@ -272,7 +260,7 @@ pub record Turned : Type 0 where
 unfoldable pub turn : (List Place → Bool) → ℕ → ℕ → Event → TurnLosses → List Place → App → Turned
 turn allows number moment event losses ps a =
     let reply = next_reply a.replies in
-    let played = turn_of (table_of allows) a.rule.budget a.rest reply (fresh_play losses.messages ps) in
+    let played = turn_of (table_of allows) a.rule.budget a.rest reply (fresh_play losses ps) in
     let release = release_by played.outcome losses ps played.state in
     record {
       release = release;

@@ -1,6 +1,6 @@
 -- The events of a run: what switches send becomes events (OpenFlow 1.0.0, 5.4 Asynchronous Messages), and so do their joins and leaves. Which
 -- messages are events is our own choice.
-use Rattle.std.specs.Prelude.{◌==◌, ℕ, ◌/◌, ◌%◌, List, [], ◌∷◌, ◌++◌, map, filter_map, Option, Some, None, Result, Ok, Err, if◌then◌else◌}
+use Rattle.std.specs.Prelude.{ℕ, ◌/◌, ◌%◌, Bool, true, false, List, [], ◌∷◌, ◌++◌, map, filter, filter_map, Option, Some, None, Result, Ok, Err}
 use Rattle.of_types.specs.declared.port_desc.PortDesc.{PortDesc}
 use Rattle.of_wire.specs.declared.message.Message.{Message}
 use Rattle.of_wire.specs.declared.message.Message.TheVariants.{Error, PacketIn, FlowRemoved, PortStatus}
@@ -10,6 +10,7 @@ use Rattle.of_wire.specs.Reading.{reading_of}
 use Rattle.of_wire.specs.Spelling.{message_bytes, ports_bytes}
 use Rattle.flow_table.specs.Switch.{SwitchState, features_reply, port_desc}
 use Rattle.app_frames.specs.declared.frame.Event.{Event}
+use Rattle.app_frames.specs.declared.frame.EventKind.{EventKind}
 use Rattle.app_frames.specs.declared.frame.EventKind.TheVariants as events
 
 -- the known ports of a switch, as they stand, by number
@@ -21,7 +22,7 @@ two_bytes n = n / 256 ∷ n % 256 ∷ []
 
 abbrev pub event_of_message : ℕ → Message → Option Event
 event_of_message dpid (PacketIn m) = Some (record { kind = events.PacketIn; dpid = dpid; body = message_bytes 0 (PacketIn m) })
-event_of_message dpid (FlowRemoved m) = if m.reason == 2 then None else Some (record { kind = events.FlowRemoved; dpid = dpid; body = message_bytes 0 (FlowRemoved m) })
+event_of_message dpid (FlowRemoved m) = Some (record { kind = events.FlowRemoved; dpid = dpid; body = message_bytes 0 (FlowRemoved m) })
 event_of_message dpid (PortStatus m) = Some (record { kind = events.PortStatus; dpid = dpid; body = message_bytes 0 (PortStatus m) })
 event_of_message dpid (Error kind code payload) = Some (record { kind = events.SwitchError; dpid = dpid; body = two_bytes kind ++ two_bytes code })
 event_of_message dpid other = None
@@ -33,6 +34,14 @@ event_of_read dpid (Err fault) = None
 -- the events that messages of a switch become, in order
 unfoldable pub events_of : ℕ → List (List ℕ) → List Event
 events_of dpid messages = filter_map (λ bytes. event_of_read dpid (reading_of bytes)) messages
+
+-- of events, the notices of entries that were removed (5.4.2 Flow Removed Message)
+abbrev pub is_removal : EventKind → Bool
+is_removal events.FlowRemoved = true
+is_removal other = false
+
+abbrev pub removals_in : List Event → List Event
+removals_in es = filter (λ e. is_removal e.kind) es
 
 abbrev pub join_event : SwitchState → Event
 join_event s = record { kind = events.Join; dpid = s.declared.dpid; body = features_reply 0 s }

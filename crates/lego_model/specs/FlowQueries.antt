@@ -16,6 +16,7 @@ use Rattle.of_stats.specs.Reading.{rows_of}
 use Rattle.outside.specs.declared.step.WorldStep.{WorldStep}
 use Rattle.outside.specs.declared.step.WorldStep.TheVariants.{Acted}
 use Rattle.lego_model.specs.declared.wait.Awaited.{Awaited}
+use Rattle.lego_model.specs.declared.wait.Notices.TheVariants as notices
 use Rattle.lego_model.specs.BarrierWaits.{next_xid}
 
 -- ---- The request: flows of any match, in all tables, whatever their outputs
@@ -31,7 +32,7 @@ request_sent d xid = Acted (Sent d (flows_request xid))
 
 -- the request is sent, and then a barrier; no refusal is awaited, so that an ERROR comes as a part does
 abbrev pub asked_from : ℕ → ℕ → Awaited
-asked_from d xid = record { dpid = d; first = next_xid xid; barrier = next_xid xid }
+asked_from d xid = record { dpid = d; first = next_xid xid; barrier = next_xid xid; notices = notices.Kept }
 
 -- ---- Which of the messages that came answer it: those of its transaction id that are a STATS_REPLY (17) or an ERROR (1), which both
 -- have 12 bytes at least.

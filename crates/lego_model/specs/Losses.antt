@@ -8,10 +8,12 @@ pub data PacketLoss : Type 0 where
   AfterSent : PacketLoss
 
 -- In a turn: whether the switch of a message is lost at it, message by message; what becomes of the switches of the packets that are
--- released, packet by packet; and those that are lost in the undoing of the turn, in order.
+-- released, packet by packet; those that are lost in each undo that the application asks for, undo by undo; and those that are lost in the
+-- undoing of the turn, in order.
 pub record TurnLosses : Type 0 where
   pub messages : List Bool
   pub packets : List PacketLoss
+  pub inner : List (List ℕ)
   pub undone : List ℕ
 
 -- In a run: whether the switch of a stimulus is lost while its items are handled, stimulus by stimulus; turn by turn; and those that are
@@ -24,11 +26,15 @@ pub record Losses : Type 0 where
 -- ---- What comes next: behind the last one that is said, none is lost
 
 abbrev pub no_loss : TurnLosses
-no_loss = record { messages = []; packets = []; undone = [] }
+no_loss = record { messages = []; packets = []; inner = []; undone = [] }
 
 abbrev pub next_flag : List Bool → Bool
 next_flag [] = false
 next_flag (lost ∷ more) = lost
+
+abbrev pub next_undo : List (List ℕ) → List ℕ
+next_undo [] = []
+next_undo (lost ∷ more) = lost
 
 abbrev pub next_packet : List PacketLoss → PacketLoss
 next_packet [] = Stays

@@ -1,6 +1,6 @@
 -- What is said beforehand of an application: how its starts end and what it gives in its turns. And how what a journal tells of it stands to
 -- that: the application was looked at no further than its turn went. All of this is our own.
-use Rattle.std.specs.Prelude.{◌≡◌, ℕ, zero, suc, Bool, true, false, not, ◌||◌, List, [], ◌∷◌, ◌++◌, map, Option, None, ◌⊎◌}
+use Rattle.std.specs.Prelude.{◌≡◌, ℕ, zero, suc, ◌+◌, ◌-◌, Bool, true, false, not, ◌||◌, ◌&&◌, if◌then◌else◌, List, [], ◌∷◌, ◌++◌, map, Option, None, ◌⊎◌}
 use Rattle.app_frames.specs.declared.frame.AppFrame.TheVariants.{Message, Save, Keep, Undo, Done, Ready}
 use Rattle.app_frames.specs.declared.script.ScriptStep.{ScriptStep}
 use Rattle.app_frames.specs.declared.script.ScriptStep.TheVariants.{Bytes, Closed, Silent}
@@ -8,7 +8,7 @@ use Rattle.app_frames.specs.declared.script.StartScript.{StartScript}
 use Rattle.app_frames.specs.declared.script.StartScript.TheVariants as start
 use Rattle.app_frames.specs.Spelling.{app_bytes}
 use Rattle.lego_model.specs.Journal.{End, Closes, Stalls, Untold, Reply, Start}
-use Rattle.lego_model.specs.Turns.{Next, Framed, Faulty, Over, next_of, one_fewer, is_none_left}
+use Rattle.lego_model.specs.Turns.{Next, Framed, Faulty, Over, next_of, one_fewer, is_none_left, are_taken, is_full, is_open}
 
 -- ---- What is said
 
@@ -103,24 +103,24 @@ is_told Closes = true
 is_told Stalls = true
 is_told Untold = false
 
--- from a place on, with so many frames to take and so many Answers that can be given
-unfoldable pub settles : ℕ → Option ℕ → Next → Bool
-settles left answers Over = false
-settles left answers (Faulty fault) = true
-settles zero answers (Framed frame rest pieces) = true
-settles (suc left) answers (Framed (Message dpid bytes) rest pieces) = is_none_left answers || settles left (one_fewer answers) (next_of rest pieces)
-settles (suc left) answers (Framed (Done stop checkpoint) rest pieces) = true
-settles (suc left) answers (Framed Save rest pieces) = true
-settles (suc left) answers (Framed Keep rest pieces) = true
-settles (suc left) answers (Framed Undo rest pieces) = true
-settles (suc left) answers (Framed Ready rest pieces) = true
+-- from a place on, with so many frames to take, so many snapshots, and so many Answers that can be given
+unfoldable pub settles : ℕ → ℕ → Option ℕ → Next → Bool
+settles left saved answers Over = false
+settles left saved answers (Faulty fault) = true
+settles zero saved answers (Framed frame rest pieces) = true
+settles (suc left) saved answers (Framed (Message dpid bytes) rest pieces) = is_none_left answers || settles left saved (one_fewer answers) (next_of rest pieces)
+settles (suc left) saved answers (Framed (Done stop checkpoint) rest pieces) = true
+settles (suc left) saved answers (Framed Save rest pieces) = if are_taken && not (is_full saved) then settles left (saved + 1) answers (next_of rest pieces) else true
+settles (suc left) saved answers (Framed Keep rest pieces) = if are_taken && is_open saved then settles left (saved - 1) answers (next_of rest pieces) else true
+settles (suc left) saved answers (Framed Undo rest pieces) = if are_taken && is_open saved then settles left (saved - 1) answers (next_of rest pieces) else true
+settles (suc left) saved answers (Framed Ready rest pieces) = true
 
-abbrev pub is_heard_from : ℕ → Option ℕ → End → Next → Bool
-is_heard_from left answers end next = is_told end || settles left answers next
+abbrev pub is_heard_from : ℕ → ℕ → Option ℕ → End → Next → Bool
+is_heard_from left saved answers end next = is_told end || settles left saved answers next
 
 -- a turn with this budget, that begins with these bytes
 unfoldable pub is_heard : ℕ → List ℕ → Reply → Bool
-is_heard budget rest reply = not reply.given || is_heard_from budget reply.answers reply.end (next_of rest reply.pieces)
+is_heard budget rest reply = not reply.given || is_heard_from budget 0 reply.answers reply.end (next_of rest reply.pieces)
 
 abbrev pub is_whole : Next → Bool
 is_whole Over = false

@@ -1,12 +1,12 @@
 -- What an application does at an event: its frames cut from the pieces of bytes that it gives, and why its turn ends. All of this is our
 -- own choice.
-use Rattle.std.specs.Prelude.{◌==◌, ℕ, zero, suc, Bool, true, false, List, [], ◌∷◌, ◌++◌, drop, Option, Some, None, Ok, Err, if◌then◌else◌}
+use Rattle.std.specs.Prelude.{◌==◌, ℕ, zero, suc, Bool, true, false, not, ◌&&◌, List, [], ◌∷◌, ◌++◌, drop, length, Option, Some, None, Ok, Err, if◌then◌else◌}
 use Rattle.app_frames.specs.declared.frame.AppFrame.{AppFrame}
 use Rattle.app_frames.specs.declared.frame.AppFrame.TheVariants.{Message, Save, Keep, Undo, Done, Ready}
 use Rattle.app_frames.specs.declared.frame.Answer.{Answer}
 use Rattle.app_frames.specs.declared.fault.FrameFault.{FrameFault}
 use Rattle.app_frames.specs.declared.cause.Cause.{Cause}
-use Rattle.app_frames.specs.declared.cause.Cause.TheVariants.{Closed, Silent, Garbled, Budget, Unbalanced, Judged}
+use Rattle.app_frames.specs.declared.cause.Cause.TheVariants.{Closed, Silent, Garbled, Budget, Depth, Unbalanced, Judged}
 use Rattle.app_frames.specs.declared.cause.Tried.{Tried}
 use Rattle.app_frames.specs.declared.cause.Tried.TheVariants as tried
 use Rattle.app_frames.specs.Reading.{Reading}
@@ -59,10 +59,12 @@ answered answer rest = record rest { answers = answer ∷ rest.answers }
 
 -- ---- A turn
 
--- What the frames of a turn are played on: how a message is answered, and whether the judge allows the tables.
+-- What the frames of a turn are played on: how a message is answered, whether the judge allows the tables, and what an undo makes of a state
+-- that was saved and of the state since.
 pub record Table (State : Type 0) : Type 0 where
   pub answer : State → ℕ → List ℕ → Answer × State
   pub allows : State → Bool
+  pub undo : State → State → State
 
 abbrev pub done_by : {State : Type 0} → Bool → State → Bool → Option (List ℕ) → List ℕ → Played State
 done_by true state stop checkpoint rest = over state (Completed stop checkpoint rest)
@@ -89,24 +91,56 @@ spent end state (Framed frame rest pieces) = over state (Failed Budget)
 spent end state (Faulty fault) = over state (Failed (Garbled fault))
 spent end state Over = over state (ended_by end)
 
--- The turn from a place on: how many frames it may still take, how many Answers can be given, how its bytes end.
-unfoldable pub turn_from : {State : Type 0} → Table State → ℕ → Option ℕ → End → State → Next → Played State
-turn_from table zero answers end state next = spent end state next
-turn_from table (suc left) answers end state (Framed (Message dpid bytes) rest pieces) =
+-- ---- Snapshots: Save puts the state on a stack, Undo goes back to the newest one there, Keep goes on as it is; both take that one off.
+
+-- The three are not taken yet: a turn ends at each of them as at one that is out of place.
+abbrev pub are_taken : Bool
+are_taken = false
+
+abbrev pub most_saved : ℕ
+most_saved = 7
+
+abbrev pub is_full : ℕ → Bool
+is_full saved = saved == most_saved
+
+abbrev pub is_open : ℕ → Bool
+is_open saved = not (saved == 0)
+
+-- an undo to the newest snapshot
+abbrev pub back_from : {State : Type 0} → Table State → List State → State → State
+back_from table [] state = state
+back_from table (before ∷ saved) state = table.undo before state
+
+-- a Save that is not taken: with as many snapshots as there may be, or since none is taken yet
+abbrev pub unsaved : Bool → Cause
+unsaved true = Depth
+unsaved false = Unbalanced
+
+-- The turn from a place on: how many frames it may still take, how many Answers can be given, how its bytes end, and its snapshots, newest
+-- first.
+unfoldable pub turn_from : {State : Type 0} → Table State → ℕ → Option ℕ → End → List State → State → Next → Played State
+turn_from table zero answers end saved state next = spent end state next
+turn_from table (suc left) answers end saved state (Framed (Message dpid bytes) rest pieces) =
     let played = table.answer state dpid bytes in
-    told_to (is_none_left answers) played (turn_from table left (one_fewer answers) end played.1 (next_of rest pieces))
-turn_from table (suc left) answers end state (Framed (Done stop checkpoint) rest pieces) = done_by (table.allows state) state stop checkpoint rest
-turn_from table (suc left) answers end state (Framed Save rest pieces) = over state (Failed Unbalanced)
-turn_from table (suc left) answers end state (Framed Keep rest pieces) = over state (Failed Unbalanced)
-turn_from table (suc left) answers end state (Framed Undo rest pieces) = over state (Failed Unbalanced)
-turn_from table (suc left) answers end state (Framed Ready rest pieces) = over state (Failed Unbalanced)
-turn_from table (suc left) answers end state (Faulty fault) = over state (Failed (Garbled fault))
-turn_from table (suc left) answers end state Over = over state (ended_by end)
+    told_to (is_none_left answers) played (turn_from table left (one_fewer answers) end saved played.1 (next_of rest pieces))
+turn_from table (suc left) answers end saved state (Framed (Done stop checkpoint) rest pieces) =
+    if is_open (length saved) then over state (Failed Unbalanced) else done_by (table.allows state) state stop checkpoint rest
+turn_from table (suc left) answers end saved state (Framed Save rest pieces) =
+    if are_taken && not (is_full (length saved)) then turn_from table left answers end (state ∷ saved) state (next_of rest pieces)
+    else over state (Failed (unsaved are_taken))
+turn_from table (suc left) answers end saved state (Framed Keep rest pieces) =
+    if are_taken && is_open (length saved) then turn_from table left answers end (drop 1 saved) state (next_of rest pieces) else over state (Failed Unbalanced)
+turn_from table (suc left) answers end saved state (Framed Undo rest pieces) =
+    if are_taken && is_open (length saved) then turn_from table left answers end (drop 1 saved) (back_from table saved state) (next_of rest pieces)
+    else over state (Failed Unbalanced)
+turn_from table (suc left) answers end saved state (Framed Ready rest pieces) = over state (Failed Unbalanced)
+turn_from table (suc left) answers end saved state (Faulty fault) = over state (Failed (Garbled fault))
+turn_from table (suc left) answers end saved state Over = over state (ended_by end)
 
 -- the whole turn, which begins with the bytes that are left of what was taken before
 unfoldable pub turn_of : {State : Type 0} → Table State → ℕ → List ℕ → Reply → State → Played State
 turn_of table budget rest reply state =
-    if reply.given then turn_from table budget reply.answers reply.end state (next_of rest reply.pieces)
+    if reply.given then turn_from table budget reply.answers reply.end [] state (next_of rest reply.pieces)
     else over state (Failed Closed)
 
 -- ---- A start

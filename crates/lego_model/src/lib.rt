@@ -14,4 +14,4 @@ mod wait;
 pub use fault::TxnFault;
 pub use session::{Session, SessionFault, SessionKind};
 pub use turn::TurnWord;
-pub use wait::{Awaited, Heard, Refusal};
+pub use wait::{Awaited, Heard, Notices, Refusal};

@@ -12,6 +12,19 @@ pub struct Awaited {
     pub first: Xid,
     /// The transaction id of the barrier.
     pub barrier: Xid,
+    /// What becomes of notices of entries that were deleted.
+    pub notices: Notices,
+}
+
+/// What becomes of a notice of an entry that was deleted (FLOW_REMOVED with reason DELETE) which comes in a wait.
+#[derive(Clone, Copy, Debug, PartialEq, Eq)]
+pub enum Notices {
+    /// A change is awaited, and the notice is held with it.
+    Held,
+    /// The host deletes entries of its own, and the notice is dropped.
+    Dropped,
+    /// Nothing is awaited that deletes entries, and the notice is kept as any other message.
+    Kept,
 }
 
 /// An ERROR that answers a message by its transaction id.
@@ -30,7 +43,7 @@ pub enum Heard {
     Reply,
     /// The answer to a message that was sent.
     Refused(Refusal),
-    /// A notice of an entry that was deleted.
+    /// A notice of an entry that was deleted, which is held or dropped.
     Notice,
     /// An ECHO_REQUEST, which is answered at once.
     Echo,

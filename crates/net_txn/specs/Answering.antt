@@ -14,7 +14,7 @@ use Rattle.flow_table.specs.Change.{key_in}
 use Rattle.flow_table.specs.Step.{after_message}
 use Rattle.app_frames.specs.declared.frame.Answer.{Answer}
 use Rattle.lego_model.specs.Answers.{as_sent, host_answer, answer_by}
-use Rattle.lego_model.specs.Packets.{Held, holds}
+use Rattle.lego_model.specs.Packets.{HeldBack, holds}
 use Rattle.outside.specs.declared.step.WorldStep.{WorldStep}
 use Rattle.outside.specs.declared.step.WorldStep.TheVariants.{Acted}
 use Rattle.outside.specs.Seen.{Seen}
@@ -32,6 +32,7 @@ use Rattle.net_txn.specs.Waits.{Waits, Floods, KeptMore}
 use Rattle.lego_model.specs.BarrierWaits.{barrier_sent, next_xid}
 use Rattle.net_txn.specs.Views.{with_rows, rows_after, is_row_at}
 pub use Rattle.net_txn.specs.Agrees.{known_rows}
+use Rattle.net_txn.specs.Arriving.{notices_told}
 use Rattle.net_txn.specs.Net.{NetState, awaited_from, logged_by, with_logged}
 
 -- ---- What the host knows of a switch
@@ -54,20 +55,27 @@ abbrev pub log_by : Option Refusal → ℕ → Change → List Logged → List L
 log_by None d m log = with_logged (logged_by d m) log
 log_by (Some refusal) d m log = log
 
+-- notices are held of a change that was not refused: of each entry whose owner asked for one
+abbrev pub held_by : Option Refusal → ℕ → List TableView → List (List ℕ) → HeldBack → HeldBack
+held_by None d views notices held = record held { notices = held.notices ++ notices_told d views notices }
+held_by (Some refusal) d views notices held = held
+
 abbrev pub change_sent : ℕ → ℕ → Change → WorldStep
 change_sent d xid m = Acted (Sent d (message_bytes xid (as_sent (FlowMod m))))
 
--- The change was sent, then a barrier, and its reply was awaited; the answer is the first refusal that came before it, or Fine. The
--- view and the log move where it was not refused.
+-- The change was sent, then a barrier, and its reply was awaited; the answer is the first refusal that came before it, or Fine. Where it was not
+-- refused the view and the log move, and the notices that came are held.
 pub record Asked {Own : Type 0} (Tells : Type 0) (d : ℕ) (m : Change) (old new : Seen Own) (net now_net : NetState) (answer : Answer) : Type 0 where
   -- what is sent is a message with a transaction id
   pub message : IsMessage (FlowMod m)
   pub is_xid : (1 ≤ net.xid) × (net.xid < 2 ^ 32)
   pub refusal : Option Refusal
-  pub waits : Waits Tells (awaited_from d net.xid) (change_sent d net.xid m ∷ barrier_sent (awaited_from d net.xid) ∷ []) old new net.kept now_net.kept refusal
+  pub notices : List (List ℕ)
+  pub waits : Waits Tells (awaited_from d net.xid) (change_sent d net.xid m ∷ barrier_sent (awaited_from d net.xid) ∷ []) old new net.kept now_net.kept (record { refusal = refusal; notices = notices })
   pub answer_is : answer ≡ answer_by (error_in refusal)
   pub views : now_net.views ≡ views_by refusal d m net.views
   pub log : now_net.log ≡ log_by refusal d m net.log
+  pub held : now_net.held ≡ held_by refusal d net.views notices net.held
   pub xid : now_net.xid ≡ next_xid (next_xid net.xid)
 
 -- ---- Faults
@@ -78,6 +86,7 @@ pub record Unsent {Own : Type 0} (old new : Seen Own) (net now_net : NetState) :
   pub views : now_net.views ≡ net.views
   pub log : now_net.log ≡ net.log
   pub kept : now_net.kept ≡ net.kept
+  pub held : now_net.held ≡ net.held
 
 -- What undoes the change is logged, unless a row has its key already: then the switch refuses it, and its inverse would remove an entry
 -- that was there before.
@@ -89,18 +98,24 @@ pub record CutOff (d : ℕ) (m : Change) (net now_net : NetState) : Type 0 where
   pub views : (now_net.views ≡ net.views) ⊎ (now_net.views ≡ with_rows d (rows_after m) net.views)
   pub log : now_net.log ≡ log_in_flight d m net.views net.log
   pub kept : KeptMore d net.kept now_net.kept
+  pub held : now_net.held ≡ net.held
 
 abbrev pub Stopped : {Own : Type 0} → ℕ → Change → Seen Own → Seen Own → NetState → NetState → Type 0
 Stopped d m old new net now_net = Unsent old new net now_net ⊎ CutOff d m net now_net
 
+-- messages and a barrier were sent, its reply came, and nothing was refused
+pub record RepliesWell {Own : Type 0} (Tells : Type 0) (a : Awaited) (frames : List (List ℕ)) (old new : Seen Own) (kept now_kept : List (ℕ × List ℕ)) : Type 0 where
+  pub notices : List (List ℕ)
+  pub replied : Replied Tells a frames Growing [] old new kept now_kept (record { refusal = None; notices = notices })
+
 -- what was said where messages were to be sent, and then a barrier: they or the barrier could not be sent, its reply did not come, or it
--- came and refused nothing
+-- came and nothing was refused
 abbrev pub BreaksOff : {Own : Type 0} → Type 0 → Awaited → List (List ℕ) → Seen Own → Seen Own → List (ℕ × List ℕ) → List (ℕ × List ℕ) → Halt → Type 0
 BreaksOff Tells a first old new kept now_kept halt =
-    BreaksBy Tells a (first ++ barrier_of a ∷ []) old new kept now_kept halt ⊎ Replied Tells a (first ++ barrier_of a ∷ []) Growing [] old new kept now_kept None
+    BreaksBy Tells a (first ++ barrier_of a ∷ []) old new kept now_kept halt ⊎ RepliesWell Tells a (first ++ barrier_of a ∷ []) old new kept now_kept
 
 -- The change is in flight: it or the barrier behind it could not be sent, or the barrier's reply is outstanding, or it came and no memory
--- was left to put the row into the view. The log is this one.
+-- was left to put the row into the view or to hold the notices. The log is this one.
 pub record InFlight {Own : Type 0} (Tells : Type 0) (d : ℕ) (m : Change) (log : List Logged) (old new : Seen Own) (net now_net : NetState) (halt : Halt) : Type 0 where
   pub message : IsMessage (FlowMod m)
   pub is_xid : net.xid < 2 ^ 32
@@ -108,6 +123,7 @@ pub record InFlight {Own : Type 0} (Tells : Type 0) (d : ℕ) (m : Change) (log 
   pub views : (now_net.views ≡ net.views) ⊎ (now_net.views ≡ with_rows d (rows_after m) net.views)
   pub log_is : now_net.log ≡ log
   pub kept : KeptMore d net.kept now_net.kept
+  pub held : now_net.held ≡ net.held
 
 -- How the switches stand then, in a world that tells: the one moved as by the change, or not at all.
 pub record MayMove (d : ℕ) (m : Message) (old new : State) : Type 0 where
@@ -126,8 +142,8 @@ IfGivenUp Tells d m old new net Lost = Unit {0}
 -- ---- The whole
 
 -- a packet that is answered Fine is held behind the others
-abbrev pub held_after : ℕ → List ℕ → Result Answer TxnFault → List Held → List Held
-held_after d bytes (Ok answer) held = held ++ holds d bytes answer
+abbrev pub held_after : ℕ → List ℕ → Result Answer TxnFault → HeldBack → HeldBack
+held_after d bytes (Ok answer) held = record held { packets = held.packets ++ holds d bytes answer }
 held_after d bytes (Err fault) held = held
 
 -- the host answered: no call of the world was made, and nothing moved but what is held; memory may have been wanting

@@ -1,7 +1,7 @@
 -- What the host makes of a message that came of itself: an event, or none; and what it then knows (OpenFlow 1.0.0, 5.4 Asynchronous
 -- Messages and 5.5.2 Echo Request). Which messages are events is our own choice.
-use Rattle.std.specs.Prelude.{◌≡◌, ◌==◌, ◌⊎◌, ℕ, Bool, false, not, ◌&&◌, List, [], ◌∷◌, ◌++◌, filter, Option, Some, None, Result, IsErr, IsOkAnd, IfOk, IfErr, OnErr, if◌then◌else◌}
-use Rattle.std.specs.List.{list_any}
+use Rattle.std.specs.Prelude.{◌≡◌, ◌==◌, ◌⊎◌, ℕ, Bool, false, not, ◌&&◌, List, [], ◌∷◌, ◌++◌, filter, Option, Some, None, Result, Ok, Err, IsErr, IsOkAnd, IfOk, IfErr, OnErr, if◌then◌else◌}
+use Rattle.std.specs.List.{list_any, flat_map}
 use Rattle.std.proofs.Common.{zero, suc}
 use Rattle.of_types.specs.Fields.{number_bytes}
 use Rattle.of_types.specs.declared.port_desc.PortDesc.{PortDesc}
@@ -11,6 +11,8 @@ use Rattle.of_match.specs.Key.{key_number}
 use Rattle.of_wire.specs.declared.bodies.FlowRemoved.{FlowRemoved as Removed}
 use Rattle.of_wire.specs.declared.bodies.PortStatus.{PortStatus as Status}
 use Rattle.of_wire.specs.declared.message.Message.{Message}
+use Rattle.of_wire.specs.declared.message.Envelope.{Envelope}
+use Rattle.of_wire.specs.declared.fault.WireFault.{WireFault}
 use Rattle.of_wire.specs.declared.message.Message.TheVariants.{Error, EchoRequest, EchoReply, PacketIn, FlowRemoved, PortStatus}
 use Rattle.of_wire.specs.Reading.{reading_of}
 use Rattle.of_wire.specs.Spelling.{message_bytes}
@@ -47,9 +49,8 @@ abbrev pub is_asked : Key → Option (List ViewRow) → Bool
 is_asked k None = false
 is_asked k (Some rows) = list_any (λ r. key_number r.key == key_number k && asks_notice r.flags) rows
 
--- A notice with reason DELETE (2) is dropped for now.
 abbrev pub is_told : ℕ → List TableView → Removed → Bool
-is_told d views f = not (f.reason == 2) && is_asked (key_removed f) (rows_at d views)
+is_told d views f = is_asked (key_removed f) (rows_at d views)
 
 abbrev pub without_key : Key → List ViewRow → List ViewRow
 without_key k rows = filter (λ r. not (key_number r.key == key_number k)) rows
@@ -88,6 +89,19 @@ event_of d views (PortStatus status) = Some (event_from kinds.PortStatus d (Port
 event_of d views (Error kind code payload) = Some (record { kind = kinds.SwitchError; dpid = d; body = number_bytes 2 kind ++ number_bytes 2 code })
 event_of d views (FlowRemoved f) = if is_told d views f then Some (event_from kinds.FlowRemoved d (FlowRemoved f)) else None
 event_of d views other = None
+
+-- the events of notices: of each entry whose owner asked for one
+
+abbrev pub removal_told : ℕ → List TableView → Message → List Event
+removal_told d views (FlowRemoved f) = if is_told d views f then event_from kinds.FlowRemoved d (FlowRemoved f) ∷ [] else []
+removal_told d views other = []
+
+abbrev pub notice_told : ℕ → List TableView → Result Envelope WireFault → List Event
+notice_told d views (Ok e) = removal_told d views e.message
+notice_told d views (Err fault) = []
+
+abbrev pub notices_told : ℕ → List TableView → List (List ℕ) → List Event
+notices_told d views notices = flat_map (λ b. notice_told d views (reading_of b)) notices
 
 abbrev pub net_after : ℕ → Message → NetState → NetState
 net_after d (FlowRemoved f) net = record net { views = with_rows d (without_key (key_removed f)) net.views }

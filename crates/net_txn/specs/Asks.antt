@@ -12,13 +12,12 @@ use Rattle.outside.specs.Seen.{Seen, Continues}
 use Rattle.outside.specs.InOrder.{MessagesSince}
 use Rattle.lego_model.specs.declared.fault.TxnFault.{TxnFault}
 use Rattle.lego_model.specs.declared.fault.TxnFault.TheVariants.{SwitchBroke, Diverged, Flooded, NoMemory}
-use Rattle.lego_model.specs.declared.wait.Refusal.{Refusal}
 use Rattle.net_txn.specs.LinkSteps.{OnLinks, AsksWithoutStrays}
 use Rattle.net_txn.specs.Causes.{IsCause}
 use Rattle.net_txn.specs.Net.{NetState}
 use Rattle.lego_model.specs.History.{lost_of}
 use Rattle.net_txn.specs.Losing.{IsLost, lost_net}
-use Rattle.net_txn.specs.Waits.{Waits, IfFlooded, KeptMore}
+use Rattle.net_txn.specs.Waits.{Brought, Waits, IfFlooded, KeptMore}
 use Rattle.lego_model.specs.BarrierWaits.{barrier_sent, next_xid}
 use Rattle.lego_model.specs.FlowQueries.{flows_request, request_sent, asked_from, is_about, parts_in, refusals_in, all_parts, IsBroken}
 
@@ -62,8 +61,8 @@ IsRepliesFault d request reply parts refusals (Flooded of n) = ⊥
 
 -- The request was sent, then a barrier, and its reply came; of what came before it, what does not answer the request is kept.
 pub record Answered {Own : Type 0} (Tells : Type 0) (d xid : ℕ) (old new : Seen Own) (kept now_kept came : List (ℕ × List ℕ)) : Type 0 where
-  pub refusal : Option Refusal
-  pub waits : Waits Tells (asked_from d xid) (request_sent d xid ∷ barrier_sent (asked_from d xid) ∷ []) old new [] came refusal
+  pub brought : Brought
+  pub waits : Waits Tells (asked_from d xid) (request_sent d xid ∷ barrier_sent (asked_from d xid) ∷ []) old new [] came brought
   pub kept_is : now_kept ≡ kept ++ others_in xid came
 
 -- no ERROR answered, and the rows are those of the parts

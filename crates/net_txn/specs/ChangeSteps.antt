@@ -34,7 +34,7 @@ pub record ReachedSince (d : ℕ) (change : Message) (answer : Answer) (old new 
   pub answer_is : answer ≡ answer_by error
 
 -- The answer is the switch's own, the switch moves as by this message alone, and the view with it; nothing of the switch waits, no other
--- switch moves, and nothing is kept.
+-- switch moves, and nothing is kept or held.
 pub record InStep {Own : Type 0} (d : ℕ) (m : Message) (old new : Seen Own) (net now_net : NetState) (answer : Answer) : Type 0 where
   pub answer_is : IfSome (switch_of d (state old)) (λ s. answer ≡ switch_answer s m)
   pub moved : switch_of d (state new) ≡ option_map (after_message m) (switch_of d (state old))
@@ -42,6 +42,7 @@ pub record InStep {Own : Type 0} (d : ℕ) (m : Message) (old new : Seen Own) (n
   pub others : (e : ℕ) → e ≢ d → switch_of e (state new) ≡ switch_of e (state old)
   pub others_wait : (e : ℕ) → e ≢ d → waits_of e (state new) ≡ waits_of e (state old)
   pub kept : now_net.kept ≡ net.kept
+  pub held : now_net.held ≡ net.held
   pub agrees : Agrees d now_net.views (state new)
   pub others_agree : (e : ℕ) → e ≢ d → Agrees e net.views (state old) → Agrees e now_net.views (state new)
 

@@ -21,7 +21,7 @@ use Rattle.net_txn.specs.Net.{NetState}
 use Rattle.net_txn.specs.ChangeSteps.{Reaches, Steps}
 pub use Rattle.net_txn.specs.Answering.{answer_of_host, error_in, views_by, log_by, change_sent, Asked, Unsent, log_in_flight, CutOff, Stopped, BreaksOff, InFlight, MayMove, IfGivenUp, held_after, ByHost}
 
--- No switch was lost. A packet is held, and the same switches have views. The host's own answer is exactly that; else the switch answers.
+-- No switch was lost. A packet is held, after a fault nothing more is, and the same switches have views. The host's own answer is exactly that; else the switch answers.
 -- Flooded comes only where 65,536 messages were got behind the barrier, none of them its reply. After a fault it is known whether anything was
 -- sent, and what was said; what undoes the change is logged before it is sent. What the switch answered reached it at once; and where the world
 -- keeps its word, nothing of the switch waited, and view and table agreed, they take the step together, and a fault is one of memory.
@@ -29,7 +29,8 @@ pub record ChangesJoined {Own : Type 0} (Tells : Type 0) (d : ℕ) (bytes : List
   pub switches : (e : ℕ) → is_some (rows_at e now_net.views) ≡ is_some (rows_at e net.views)
   pub ports : now_net.ports ≡ net.ports
   pub left : now_net.left ≡ net.left
-  pub held : now_net.held ≡ held_after d bytes result net.held
+  pub held : now_net.held.packets ≡ (held_after d bytes result net.held).packets
+  pub unheld : IfErr result (λ fault. now_net.held ≡ net.held)
   pub by_host : (answer : Answer) → answer_of_host d bytes net ≡ Some answer → ByHost d bytes answer old new net now_net result
   pub by_switch : (xid : ℕ) (m : Change) → answer_of_host d bytes net ≡ None → reading_of bytes ≡ Ok (enveloped xid (FlowMod m))
       → MatchResult result (Asked Tells d m old new net now_net) (λ f. Stopped d m old new net now_net)

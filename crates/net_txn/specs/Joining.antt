@@ -1,7 +1,7 @@
 -- What is done when a switch joins: its table is emptied and its configuration set, behind a barrier (OpenFlow 1.0.0, 5.3.2 Switch
 -- Configuration and 5.3.3 Modify State Messages). An ERROR that answers one of the two is kept, as any other message. All of this is
 -- our own choice.
-use Rattle.std.specs.Prelude.{◌≡◌, ◌==◌, ℕ, ◌<◌, ◌≤◌, Bool, true, false, not, List, [], ◌∷◌, ◌++◌, filter, Option, nat_lt, if◌then◌else◌}
+use Rattle.std.specs.Prelude.{◌≡◌, ◌==◌, ℕ, ◌<◌, ◌≤◌, Bool, true, false, not, List, [], ◌∷◌, ◌++◌, filter, nat_lt, if◌then◌else◌}
 use Rattle.std.proofs.Common.{zero, suc}
 use Rattle.of_types.specs.declared.port_desc.PortDesc.{PortDesc}
 use Rattle.of_types.specs.declared.journal.Act.TheVariants.{Sent}
@@ -17,8 +17,8 @@ use Rattle.outside.specs.declared.step.WorldStep.{WorldStep}
 use Rattle.outside.specs.declared.step.WorldStep.TheVariants.{Acted}
 use Rattle.outside.specs.Seen.{Seen}
 use Rattle.lego_model.specs.declared.wait.Awaited.{Awaited}
-use Rattle.lego_model.specs.declared.wait.Refusal.{Refusal}
-use Rattle.net_txn.specs.Waits.{Waits, KeptMore}
+use Rattle.lego_model.specs.declared.wait.Notices.TheVariants as notices
+use Rattle.net_txn.specs.Waits.{Brought, Waits, KeptMore}
 use Rattle.lego_model.specs.BarrierWaits.{barrier_sent, next_xid}
 use Rattle.net_txn.specs.Net.{NetState}
 use Rattle.lego_model.specs.History.{lost_of}
@@ -41,7 +41,7 @@ delete_all = record {
 
 -- two messages are sent, and then a barrier; no refusal is awaited
 abbrev pub greeted_from : ℕ → ℕ → Awaited
-greeted_from d xid = record { dpid = d; first = next_xid (next_xid xid); barrier = next_xid (next_xid xid) }
+greeted_from d xid = record { dpid = d; first = next_xid (next_xid xid); barrier = next_xid (next_xid xid); notices = notices.Dropped }
 
 abbrev pub greeting : ℕ → ℕ → List WorldStep
 greeting d xid =
@@ -61,7 +61,7 @@ IsViewPlace d (v ∷ vs) (suc i) = (v.dpid < d) × IsViewPlace d vs i
 
 -- a switch joined with these ports
 pub record Joins {Own : Type 0} (Tells : Type 0) (d : ℕ) (ports : List PortDesc) (old new : Seen Own) (net now_net : NetState) : Type 0 where
-  pub answer : Option Refusal
+  pub answer : Brought
   pub waits : Waits Tells (greeted_from d net.xid) (greeting d net.xid) old new net.kept now_net.kept answer
   pub views : now_net.views ≡ with_view d net.views
   pub known : now_net.ports ≡ net.ports ++ record { dpid = d; ports = ports } ∷ []

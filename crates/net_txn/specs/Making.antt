@@ -18,7 +18,7 @@ use Rattle.net_txn.specs.Answering.{Asked, Unsent, InFlight, log_in_flight, IfGi
 
 -- all else stays
 abbrev pub StaysBut : NetState → NetState → Type 0
-StaysBut net now_net = now_net ≡ record net { views = now_net.views; log = now_net.log; xid = now_net.xid; kept = now_net.kept }
+StaysBut net now_net = now_net ≡ record net { views = now_net.views; log = now_net.log; held = record net.held { notices = now_net.held.notices }; xid = now_net.xid; kept = now_net.kept }
 
 -- The switch was lost. All bytes that came before were messages, its view stands as it stood, and more of its messages may be kept.
 pub record LosesSo {Own : Type 0} (Tells : Type 0) (d : ℕ) (log : List Logged) (old new : Seen Own) (net now_net : NetState) : Type 0 where
@@ -27,6 +27,7 @@ pub record LosesSo {Own : Type 0} (Tells : Type 0) (d : ℕ) (log : List Logged)
   pub views : now_net.views ≡ net.views
   pub log_is : now_net.log ≡ log
   pub kept : KeptMore d net.kept now_net.kept
+  pub held : now_net.held ≡ net.held
 
 -- with this log
 abbrev pub Halts : {Own : Type 0} → Type 0 → ℕ → Change → List Logged → Seen Own → Seen Own → NetState → NetState → Halt → Type 0

@@ -1,5 +1,5 @@
 -- What the host keeps of its network: the views of the joined switches and their known ports, by switch ascending; what undoes the
--- changes of the open transaction, newest last, and the packets that it holds back; the transaction id that is used next; the moment; the
+-- changes of the open transaction, newest last, and what it holds back; the transaction id that is used next; the moment; the
 -- messages that came while something else was awaited; how many faults of undos there is room for; and the known ports of the switches that
 -- were lost and whose leaving was not told yet, in the order of the losses. All of this is our own.
 use Rattle.std.specs.Prelude.{false, ℕ, List, [], ◌∷◌, ◌++◌, Option, Some, None, if◌then◌else◌}
@@ -8,7 +8,8 @@ use Rattle.of_wire.specs.declared.bodies.FlowMod.{FlowMod as Change}
 use Rattle.flow_table.specs.View.{TableView}
 use Rattle.flow_table.specs.Change.{key_in, is_delete}
 use Rattle.lego_model.specs.declared.wait.Awaited.{Awaited}
-use Rattle.lego_model.specs.Packets.{Held}
+use Rattle.lego_model.specs.declared.wait.Notices.TheVariants as notices
+use Rattle.lego_model.specs.Packets.{HeldBack}
 use Rattle.net_txn.specs.declared.logged.UndoProgress.{UndoProgress}
 use Rattle.net_txn.specs.declared.logged.Logged.{Logged}
 use Rattle.net_txn.specs.declared.ports.KnownPorts.{KnownPorts}
@@ -18,7 +19,7 @@ pub record NetState : Type 0 where
   pub views : List TableView
   pub ports : List KnownPorts
   pub log : List Logged
-  pub held : List Held
+  pub held : HeldBack
   pub xid : ℕ
   pub moment : ℕ
   pub kept : List (ℕ × List ℕ)
@@ -29,7 +30,7 @@ pub record NetState : Type 0 where
 
 -- what is awaited where one message was sent with this id, and then a barrier
 abbrev pub awaited_from : ℕ → ℕ → Awaited
-awaited_from d xid = record { dpid = d; first = xid; barrier = next_xid xid }
+awaited_from d xid = record { dpid = d; first = xid; barrier = next_xid xid; notices = notices.Held }
 
 -- ---- The log
 

@@ -11,7 +11,6 @@ use Rattle.outside.specs.InOrder.{InOrder, MessagesSince}
 use Rattle.lego_model.specs.declared.fault.TxnFault.{TxnFault}
 use Rattle.lego_model.specs.declared.fault.TxnFault.TheVariants.{NoMemory}
 use Rattle.lego_model.specs.declared.wait.Awaited.{Awaited}
-use Rattle.lego_model.specs.declared.wait.Refusal.{Refusal}
 use Rattle.lego_model.specs.History.{lost_of}
 use Rattle.lego_model.specs.Packets.{Held}
 use Rattle.net_txn.specs.declared.queue.Storage.TheVariants.{Growing}
@@ -20,6 +19,7 @@ use Rattle.net_txn.specs.declared.halt.Halt.{Halt}
 use Rattle.net_txn.specs.declared.halt.Halt.TheVariants.{Lost, Fault}
 use Rattle.net_txn.specs.Losing.{lost_net, is_among}
 use Rattle.net_txn.specs.Said.{Says, Calls, SaysNot, barrier_of, Replied, BreaksBy}
+use Rattle.net_txn.specs.Waits.{Brought}
 use Rattle.net_txn.specs.Undos.{AreJoined}
 use Rattle.net_txn.specs.Views.{is_viewed}
 use Rattle.net_txn.specs.Net.{NetState}
@@ -53,8 +53,8 @@ PacketUnsent Tells d old new halt = ((new ≡ old) × (halt ≡ Fault NoMemory))
 
 -- the reply to the barrier behind it came
 pub record BarrierPassed {Own : Type 0} (Tells : Type 0) (a : Awaited) (old new : Seen Own) (came : List (ℕ × List ℕ)) : Type 0 where
-  pub refusal : Option Refusal
-  pub replied : Replied Tells a (barrier_of a ∷ []) Growing [] old new [] came refusal
+  pub brought : Brought
+  pub replied : Replied Tells a (barrier_of a ∷ []) Growing [] old new [] came brought
 
 -- the wait for it failed
 pub record BarrierBroke {Own : Type 0} (Tells : Type 0) (a : Awaited) (old new : Seen Own) (halt : Halt) : Type 0 where
@@ -77,8 +77,8 @@ packet_frames d xid packet = message_bytes xid (PacketOut packet) ∷ barrier_of
 
 -- the packet was sent, and the reply to its barrier came
 pub record PacketTold {Own : Type 0} (Tells : Type 0) (d xid : ℕ) (packet : Packet) (old new : Seen Own) (came : List (ℕ × List ℕ)) : Type 0 where
-  pub refusal : Option Refusal
-  pub replied : Replied Tells (packet_awaited d xid) (packet_frames d xid packet) Growing [] old new [] came refusal
+  pub brought : Brought
+  pub replied : Replied Tells (packet_awaited d xid) (packet_frames d xid packet) Growing [] old new [] came brought
 
 -- a fault came of it
 pub record PacketBroke {Own : Type 0} (Tells : Type 0) (d xid : ℕ) (packet : Packet) (old new : Seen Own) (fault : TxnFault) : Type 0 where

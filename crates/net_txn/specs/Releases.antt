@@ -22,17 +22,17 @@ use Rattle.outside.specs.InOrder.{InOrder, MessagesSince}
 use Rattle.lego_model.specs.declared.fault.TxnFault.{TxnFault}
 use Rattle.lego_model.specs.declared.fault.TxnFault.TheVariants.{SwitchBroke, Diverged, Flooded, NoMemory}
 use Rattle.lego_model.specs.declared.wait.Awaited.{Awaited}
-use Rattle.lego_model.specs.declared.wait.Refusal.{Refusal}
+use Rattle.lego_model.specs.declared.wait.Notices.TheVariants as notices
 use Rattle.lego_model.specs.BarrierWaits.{barrier_sent, flood, next_xid}
 use Rattle.lego_model.specs.Journal.{released, losses}
-use Rattle.lego_model.specs.Packets.{Held}
+use Rattle.lego_model.specs.Packets.{Held, nothing_held}
 use Rattle.lego_model.specs.Controller.{events_of}
 use Rattle.lego_model.specs.AfterFault.{after_packets}
 use Rattle.net_txn.specs.LinkSteps.{OnLinks, MakesNoStrayCall}
 use Rattle.net_txn.specs.Causes.{IsCause, IsPlain}
 use Rattle.net_txn.specs.Losing.{is_among, IsLost, lost_net}
 use Rattle.lego_model.specs.History.{lost_of}
-use Rattle.net_txn.specs.Waits.{Waits, IfFlooded}
+use Rattle.net_txn.specs.Waits.{Brought, Waits, IfFlooded}
 use Rattle.net_txn.specs.Views.{is_viewed}
 use Rattle.net_txn.specs.Arriving.{event_of, net_after}
 use Rattle.net_txn.specs.Undos.{AreJoined, Undoes}
@@ -42,7 +42,7 @@ use Rattle.net_txn.specs.Net.{NetState}
 
 -- Nothing but the reply to the barrier is awaited: an ERROR for the packet is taken as any other message.
 abbrev pub packet_awaited : ℕ → ℕ → Awaited
-packet_awaited d xid = record { dpid = d; first = next_xid xid; barrier = next_xid xid }
+packet_awaited d xid = record { dpid = d; first = next_xid xid; barrier = next_xid xid; notices = notices.Kept }
 
 abbrev pub packet_steps : ℕ → ℕ → Packet → List WorldStep
 packet_steps d xid packet = Acted (Sent d (message_bytes xid (PacketOut packet))) ∷ barrier_sent (packet_awaited d xid) ∷ []
@@ -89,8 +89,8 @@ pub record SendsPacket {Own : Type 0} (Tells : Type 0) (held : Held) (old new : 
   pub message : IsMessage (PacketOut held.1)
   pub is_xid : (1 ≤ net.xid) × (net.xid < 2 ^ 32)
   pub came : List (ℕ × List ℕ)
-  pub refusal : Option Refusal
-  pub waits : Waits Tells (packet_awaited held.0 net.xid) (packet_steps held.0 net.xid held.1) old new [] came refusal
+  pub brought : Brought
+  pub waits : Waits Tells (packet_awaited held.0 net.xid) (packet_steps held.0 net.xid held.1) old new [] came brought
   pub taken : (now_net, now_queue) ≡ takes_all came (record net { xid = next_xid (next_xid net.xid) }, queue)
   pub moves : Tells → MovesBy (held ∷ []) old new
   pub in_step : (s : SwitchState) → Tells → Conforming new → switch_of held.0 (state old) ≡ Some s → waits_of held.0 (state old) ≡ []
@@ -153,12 +153,12 @@ pub record BreaksAt {Own : Type 0} (Tells : Type 0) (held : Held) (old new : See
 
 -- what the transaction keeps: its changes stay, and nothing is held any more
 abbrev pub committed : ℕ → NetState → NetState
-committed start net = record net { log = take start net.log; held = [] }
+committed start net = record net { log = take start net.log; held = nothing_held }
 
--- Each packet was released that was sent, and is answered with how many bytes it has.
+-- The notices that were held became events, and then each packet was released that was sent, and is answered with how many bytes it has.
 pub record Released {Own : Type 0} (Tells : Type 0) (start : ℕ) (old new : Seen Own) (net now_net : NetState) (queue now_queue : List Event) (answer : List (ℕ × ℕ)) : Type 0 where
   pub sent : List Held
-  pub all : ReleasesAll Tells net.held sent old new (committed start net) now_net queue now_queue
+  pub all : ReleasesAll Tells net.held.packets sent old new (committed start net) now_net (queue ++ net.held.notices) now_queue
   pub answer_is : answer ≡ map (λ h. (h.0, length h.1.payload)) sent
 
 -- the release stopped behind some packets
@@ -166,12 +166,12 @@ pub record StopsRelease {Own : Type 0} (Tells : Type 0) (start : ℕ) (old new :
   pub front : List Held
   pub broken : Held
   pub rest : List Held
-  pub held_is : net.held ≡ front ++ broken ∷ rest
+  pub held_is : net.held.packets ≡ front ++ broken ∷ rest
   pub sent : List Held
   pub mid : Seen Own
   pub mid_net : NetState
   pub mid_queue : List Event
-  pub before : ReleasesAll Tells front sent old mid (committed start net) mid_net queue mid_queue
+  pub before : ReleasesAll Tells front sent old mid (committed start net) mid_net (queue ++ net.held.notices) mid_queue
   pub breaks : BreaksAt Tells broken mid new mid_net fault
 
 -- no memory was left before the release, and the transaction was undone

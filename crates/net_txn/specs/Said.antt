@@ -19,7 +19,6 @@ use Rattle.net_txn.specs.declared.halt.Halt.{Halt}
 use Rattle.net_txn.specs.declared.halt.Halt.TheVariants.{Lost, Fault}
 use Rattle.lego_model.specs.declared.fault.TxnFault.TheVariants.{NoMemory}
 use Rattle.lego_model.specs.declared.wait.Awaited.{Awaited}
-use Rattle.lego_model.specs.declared.wait.Refusal.{Refusal}
 use Rattle.lego_model.specs.declared.wait.Heard.{Heard}
 use Rattle.lego_model.specs.declared.wait.Heard.TheVariants.{Echo}
 use Rattle.lego_model.specs.BarrierWaits.{flood, heard, is_reply, echo_reply, kept_by, kept_of}
@@ -29,7 +28,7 @@ use Rattle.net_txn.specs.declared.trouble.Trouble.{Trouble}
 use Rattle.net_txn.specs.declared.trouble.Trouble.TheVariants as troubles
 use Rattle.lego_model.specs.UndoFaults.{GoesWithoutStrays, key_refused}
 use Rattle.net_txn.specs.MessageStore.{KeptWhereFit}
-use Rattle.net_txn.specs.Waits.{IsRead, refusal_in, first_of, answer_of}
+use Rattle.net_txn.specs.Waits.{IsRead, Brought, with_heard, answer_of}
 use Rattle.net_txn.specs.Causes.{halt_by}
 
 -- ---- What is said
@@ -154,11 +153,11 @@ abbrev pub wait_said : Awaited → List (List ℕ) → List Said
 wait_said a got = flat_map (heard_said a) got
 
 -- what was to be done with a message was done
-pub record Treats {Own : Type 0} (Tells : Type 0) (a : Awaited) (storage : Storage) (bytes : List ℕ) (old new : Seen Own) (kept now_kept : List (ℕ × List ℕ)) (answer now_answer : Option Refusal) (ended : Bool) : Type 0 where
+pub record Treats {Own : Type 0} (Tells : Type 0) (a : Awaited) (storage : Storage) (bytes : List ℕ) (old new : Seen Own) (kept now_kept : List (ℕ × List ℕ)) (answer now_answer : Brought) (ended : Bool) : Type 0 where
   pub ends : ended ≡ is_reply (heard a bytes)
   pub calls : Calls Tells a.dpid (said_by a.dpid (heard a bytes) bytes) old new
   pub kept_is : KeptAs storage kept (kept_by a.dpid (heard a bytes) bytes) now_kept
-  pub answer_is : now_answer ≡ first_of answer (refusal_in (heard a bytes))
+  pub answer_is : now_answer ≡ with_heard a.notices (heard a bytes) bytes answer
 
 -- it was not: the answer could not be sent, or no memory was left to keep it
 abbrev pub IsUntreated : Storage → Trouble → Type 0
@@ -192,13 +191,13 @@ IsBreak sent storage n None troubles.Flooded buf = n ≡ flood
 IsBreak sent storage n None trouble buf = IsOfHearing trouble
 
 -- one message was got, and what was to be done with it was done
-pub record HearsNext {Own : Type 0} (Tells : Type 0) (a : Awaited) (storage : Storage) (sent : List (ℕ × Key)) (old new : Seen Own) (kept now_kept : List (ℕ × List ℕ)) (answer now_answer : Option Refusal) (ended : Bool) : Type 0 where
+pub record HearsNext {Own : Type 0} (Tells : Type 0) (a : Awaited) (storage : Storage) (sent : List (ℕ × Key)) (old new : Seen Own) (kept now_kept : List (ℕ × List ℕ)) (answer now_answer : Brought) (ended : Bool) : Type 0 where
   pub bytes : List ℕ
   pub read : IsRead bytes
   pub unrefused : key_refused sent bytes ≡ None
   pub ends : ended ≡ is_reply (heard a bytes)
   pub kept_is : KeptAs storage kept (kept_by a.dpid (heard a bytes) bytes) now_kept
-  pub answer_is : now_answer ≡ first_of answer (refusal_in (heard a bytes))
+  pub answer_is : now_answer ≡ with_heard a.notices (heard a bytes) bytes answer
   pub calls : Calls Tells a.dpid (heard_said a bytes) old new
 
 pub record HearsLast {Own : Type 0} (Tells : Type 0) (a : Awaited) (storage : Storage) (sent : List (ℕ × Key)) (old new : Seen Own) (kept now_kept : List (ℕ × List ℕ)) (buf : List ℕ) (t : Trouble) : Type 0 where
@@ -210,7 +209,7 @@ pub record HearsLast {Own : Type 0} (Tells : Type 0) (a : Awaited) (storage : St
 -- ---- A wait
 
 -- it has not ended yet, after so many messages
-pub record WaitsOn {Own : Type 0} (Tells : Type 0) (a : Awaited) (storage : Storage) (sent : List (ℕ × Key)) (old new : Seen Own) (kept now_kept : List (ℕ × List ℕ)) (answer : Option Refusal) (n : ℕ) : Type 0 where
+pub record WaitsOn {Own : Type 0} (Tells : Type 0) (a : Awaited) (storage : Storage) (sent : List (ℕ × Key)) (old new : Seen Own) (kept now_kept : List (ℕ × List ℕ)) (answer : Brought) (n : ℕ) : Type 0 where
   pub got : List (List ℕ)
   pub count : length got ≡ n
   pub before : AreHeard a sent got
@@ -229,7 +228,7 @@ abbrev pub reply_heard : Awaited → Said
 reply_heard a = Hears a.dpid (message_bytes a.barrier BarrierReply)
 
 -- The messages were sent, and then the reply came, at most 65,535 messages before it.
-pub record Replied {Own : Type 0} (Tells : Type 0) (a : Awaited) (frames : List (List ℕ)) (storage : Storage) (sent : List (ℕ × Key)) (old new : Seen Own) (kept now_kept : List (ℕ × List ℕ)) (answer : Option Refusal) : Type 0 where
+pub record Replied {Own : Type 0} (Tells : Type 0) (a : Awaited) (frames : List (List ℕ)) (storage : Storage) (sent : List (ℕ × Key)) (old new : Seen Own) (kept now_kept : List (ℕ × List ℕ)) (answer : Brought) : Type 0 where
   pub got : List (List ℕ)
   pub few : length got ≤ 65535
   pub before : AreHeard a sent got
@@ -259,7 +258,7 @@ pub record Unsent {Own : Type 0} (Tells : Type 0) (d : ℕ) (frames : List (List
 abbrev pub Breaks : {Own : Type 0} → Type 0 → Awaited → List (List ℕ) → Storage → List (ℕ × Key) → Seen Own → Seen Own → List (ℕ × List ℕ) → List (ℕ × List ℕ) → List ℕ → Trouble → Type 0
 Breaks Tells a frames storage sent old new kept now_kept buf t = Unsent Tells a.dpid frames old new kept now_kept t ⊎ Unreplied Tells a frames storage sent old new kept now_kept buf t
 
-abbrev pub Exchanges : {Own : Type 0} → Type 0 → Awaited → List (List ℕ) → Storage → List (ℕ × Key) → Seen Own → Seen Own → List (ℕ × List ℕ) → List (ℕ × List ℕ) → List ℕ → Result (Option Refusal) Trouble → Type 0
+abbrev pub Exchanges : {Own : Type 0} → Type 0 → Awaited → List (List ℕ) → Storage → List (ℕ × Key) → Seen Own → Seen Own → List (ℕ × List ℕ) → List (ℕ × List ℕ) → List ℕ → Result Brought Trouble → Type 0
 Exchanges Tells a frames storage sent old new kept now_kept buf result =
     MatchResult result (Replied Tells a frames storage sent old new kept now_kept) (Breaks Tells a frames storage sent old new kept now_kept buf)
 
@@ -289,6 +288,6 @@ pub record BreaksBy {Own : Type 0} (Tells : Type 0) (a : Awaited) (frames : List
   pub halt_is : IsHaltBy a.dpid trouble buf halt
 
 -- Messages are sent, then a barrier, and its reply is awaited.
-abbrev pub Talks : {Own : Type 0} → Type 0 → Awaited → List (List ℕ) → Seen Own → Seen Own → List (ℕ × List ℕ) → List (ℕ × List ℕ) → Result (Option Refusal) Halt → Type 0
+abbrev pub Talks : {Own : Type 0} → Type 0 → Awaited → List (List ℕ) → Seen Own → Seen Own → List (ℕ × List ℕ) → List (ℕ × List ℕ) → Result Brought Halt → Type 0
 Talks Tells a first old new kept now_kept result =
     MatchResult result (Replied Tells a (first ++ barrier_of a ∷ []) Growing [] old new kept now_kept) (BreaksBy Tells a (first ++ barrier_of a ∷ []) old new kept now_kept)

@@ -24,7 +24,9 @@ use Rattle.lego_model.specs.declared.fault.TxnFault.{TxnFault}
 use Rattle.lego_model.specs.declared.fault.TxnFault.TheVariants.{SwitchBroke, Diverged, Flooded, NoMemory}
 use Rattle.net_txn.specs.declared.halt.Halt.{Halt}
 use Rattle.net_txn.specs.declared.halt.Halt.TheVariants.{Lost, Fault}
+use Rattle.lego_model.specs.Packets.{nothing_held}
 use Rattle.lego_model.specs.declared.wait.Awaited.{Awaited}
+use Rattle.lego_model.specs.declared.wait.Notices.TheVariants as notices
 use Rattle.net_txn.specs.declared.logged.UndoProgress.{UndoProgress}
 use Rattle.net_txn.specs.declared.logged.Logged.{Logged}
 use Rattle.net_txn.specs.declared.trouble.Trouble.{Trouble}
@@ -56,7 +58,7 @@ pub record Moves {Own : Type 0} (Tells : Type 0) (d : ℕ) (steps : List WorldSt
 
 -- what is awaited behind a barrier alone
 abbrev pub alone : ℕ → ℕ → Awaited
-alone d xid = record { dpid = d; first = xid; barrier = xid }
+alone d xid = record { dpid = d; first = xid; barrier = xid; notices = notices.Dropped }
 
 -- ---- Why a switch failed in an undo
 
@@ -455,7 +457,7 @@ pub record AgreesAgain (d : ℕ) (views : List TableView) (new : State) : Type 0
 
 -- what the host keeps where what was logged from a place on is undone and forgotten: the views lose its keys, and nothing is held any more
 abbrev pub undone_net : ℕ → NetState → NetState
-undone_net start net = record net { views = without_keys (map key_logged (drop start net.log)) net.views; log = take start net.log; held = [] }
+undone_net start net = record net { views = without_keys (map key_logged (drop start net.log)) net.views; log = take start net.log; held = nothing_held }
 
 -- the switch was lost
 abbrev pub is_lost_in : ℕ → List (ℕ × Part) → Bool

@@ -1,7 +1,7 @@
 -- What a wait for the reply to a barrier leaves (OpenFlow 1.0.0, 4.2 Message Handling and 5.3.7 Barrier Message): the steps that it made,
--- what it kept, and the first refusal that came. All of this is our own choice.
+-- what it kept, the first refusal that came, and the notices that it held. All of this is our own choice.
 use Rattle.std.specs.Prelude.{◌≡◌, ℕ, ◌≤◌, false, List, [], ◌∷◌, ◌++◌, length, map, Option, Some, None, IsOk}
-use Rattle.std.specs.List.{AllByRecursion}
+use Rattle.std.specs.List.{AllByRecursion, flat_map}
 use Rattle.of_types.specs.Fields.{IsBytes}
 use Rattle.of_wire.specs.Reading.{reading_of}
 use Rattle.outside.specs.declared.step.WorldStep.{WorldStep}
@@ -9,9 +9,11 @@ use Rattle.outside.specs.Seen.{Seen, Continues}
 use Rattle.lego_model.specs.declared.fault.TxnFault.{TxnFault}
 use Rattle.lego_model.specs.declared.fault.TxnFault.TheVariants.{SwitchBroke, Diverged, Flooded, NoMemory}
 use Rattle.lego_model.specs.declared.wait.Awaited.{Awaited}
+use Rattle.lego_model.specs.declared.wait.Notices.{Notices}
+use Rattle.lego_model.specs.declared.wait.Notices.TheVariants.{Held, Dropped, Kept}
 use Rattle.lego_model.specs.declared.wait.Refusal.{Refusal}
 use Rattle.lego_model.specs.declared.wait.Heard.{Heard}
-use Rattle.lego_model.specs.declared.wait.Heard.TheVariants.{Refused}
+use Rattle.lego_model.specs.declared.wait.Heard.TheVariants.{Refused, Notice}
 use Rattle.lego_model.specs.BarrierWaits.{flood, heard, is_reply, wait_steps, kept_of, reply_got}
 
 -- ---- The first refusal among messages
@@ -25,9 +27,39 @@ abbrev pub first_of : Option Refusal → Option Refusal → Option Refusal
 first_of None later = later
 first_of (Some refusal) later = Some refusal
 
-abbrev pub answer_of : Awaited → List (List ℕ) → Option Refusal
-answer_of a [] = None
-answer_of a (b ∷ bs) = first_of (refusal_in (heard a b)) (answer_of a bs)
+abbrev pub first_refusal : Awaited → List (List ℕ) → Option Refusal
+first_refusal a [] = None
+first_refusal a (b ∷ bs) = first_of (refusal_in (heard a b)) (first_refusal a bs)
+
+-- ---- The notices among them, where such ones are held
+
+abbrev pub held_notice : Notices → List ℕ → List (List ℕ)
+held_notice Held bytes = bytes ∷ []
+held_notice Dropped bytes = []
+held_notice Kept bytes = []
+
+abbrev pub notice_in : Notices → Heard → List ℕ → List (List ℕ)
+notice_in notices Notice bytes = held_notice notices bytes
+notice_in notices _ bytes = []
+
+abbrev pub notices_of : Awaited → List (List ℕ) → List (List ℕ)
+notices_of a got = flat_map (λ b. notice_in a.notices (heard a b) b) got
+
+-- ---- What came of it: the two together
+
+pub record Brought : Type 0 where
+  pub refusal : Option Refusal
+  pub notices : List (List ℕ)
+
+abbrev pub nothing_brought : Brought
+nothing_brought = record { refusal = None; notices = [] }
+
+-- with one message more
+abbrev pub with_heard : Notices → Heard → List ℕ → Brought → Brought
+with_heard notices h bytes answer = record { refusal = first_of answer.refusal (refusal_in h); notices = answer.notices ++ notice_in notices h bytes }
+
+abbrev pub answer_of : Awaited → List (List ℕ) → Brought
+answer_of a got = record { refusal = first_refusal a got; notices = notices_of a got }
 
 -- bytes that are one message
 abbrev pub IsRead : List ℕ → Type 0
@@ -35,7 +67,7 @@ IsRead bytes = IsBytes bytes × IsOk (reading_of bytes)
 
 -- ---- What calls leave that got messages: steps before, the messages, and steps behind them.
 
-pub record Hears {Own : Type 0} (Tells : Type 0) (a : Awaited) (front behind : List WorldStep) (old new : Seen Own) (kept now_kept : List (ℕ × List ℕ)) (answer : Option Refusal) (got : List (List ℕ)) : Type 0 where
+pub record Hears {Own : Type 0} (Tells : Type 0) (a : Awaited) (front behind : List WorldStep) (old new : Seen Own) (kept now_kept : List (ℕ × List ℕ)) (answer : Brought) (got : List (List ℕ)) : Type 0 where
   pub continues : Continues Tells old new
   pub read : AllByRecursion IsRead got
   pub before_reply : AllByRecursion (λ b. is_reply (heard a b) ≡ false) got
@@ -44,7 +76,7 @@ pub record Hears {Own : Type 0} (Tells : Type 0) (a : Awaited) (front behind : L
   pub told : Tells → new.history ≡ old.history ++ (front ++ (wait_steps a got ++ behind))
 
 -- A wait that ended by the reply, at most 65,535 messages behind the steps before.
-pub record Waits {Own : Type 0} (Tells : Type 0) (a : Awaited) (front : List WorldStep) (old new : Seen Own) (kept now_kept : List (ℕ × List ℕ)) (answer : Option Refusal) : Type 0 where
+pub record Waits {Own : Type 0} (Tells : Type 0) (a : Awaited) (front : List WorldStep) (old new : Seen Own) (kept now_kept : List (ℕ × List ℕ)) (answer : Brought) : Type 0 where
   pub got : List (List ℕ)
   pub few : length got ≤ 65535
   pub hears : Hears Tells a front (reply_got a ∷ []) old new kept now_kept answer got

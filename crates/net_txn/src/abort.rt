@@ -30,6 +30,7 @@ impl Net {
         ensures { Undoes W.Tells start (W.seen world.old) (W.seen world.new) self.old self.new result }
     {
         self.held.clear();
+        self.notices.clear();
         let from = within_log(&self.log, start);
         undo_log(world, self, from)
     }

@@ -55,7 +55,7 @@ fn answer_echo<W: World>(
 }
 
 /// Returns the event of a flow that was removed, where its owner is told.
-fn removed_event(
+pub(crate) fn removed_event(
     alloc: Global,
     views: &[TableView],
     dpid: Dpid,

@@ -15,9 +15,10 @@ use crate::halt::Halt;
 use crate::host::{HostAnswer, answer_bytes};
 use crate::logged::Logged;
 use crate::net::{Net, await_from, following};
+use crate::notices::take_effect;
 use crate::prepared::{Prepared, prepare};
 use crate::rows::key_of;
-use crate::views::{find, is_row, make_room, put_added};
+use crate::views::{find, is_row, make_room};
 use app_frames::Answer;
 use lego_model::TxnFault;
 use of_types::Dpid;
@@ -66,7 +67,7 @@ impl Net {
         make_room(self.alloc, &mut self.views, dpid)?;
         let before = self.log.len();
         push_logged(&mut self.log, logged)?;
-        let refusal = ask(
+        let answer = ask(
             world,
             self.alloc,
             &mut self.buf,
@@ -74,9 +75,16 @@ impl Net {
             &awaited,
             frame.as_slice(),
         )?;
-        match refusal {
+        match answer.refusal {
             None => {
-                put_added(self.alloc, &mut self.views, dpid, row)?;
+                take_effect(
+                    self.alloc,
+                    &mut self.views,
+                    &mut self.notices,
+                    dpid,
+                    row,
+                    &answer.notices,
+                )?;
                 Ok(Answer::Fine)
             }
             Some(refusal) => {

@@ -10,10 +10,11 @@ ghost use Rattle.net_txn.specs.declared.queue.Storage.TheVariants.{Growing};
 use crate::halt::Halt;
 use crate::logged::inverse_of;
 use crate::queue::{MessageQueue, Storage};
+use crate::response::Response;
 use crate::room::front;
 use crate::trouble::Trouble;
 use crate::wait::{FLOOD, await_barrier, send};
-use lego_model::{Awaited, Refusal, TxnFault};
+use lego_model::{Awaited, TxnFault};
 use of_types::{ByteList, Dpid};
 use outside::World;
 use std::alloc::{AllocError, Global};
@@ -65,14 +66,14 @@ pub(crate) fn say<W: World>(
     }
 }
 
-/// Sends a message and a barrier, and waits for its reply; answers the first refusal that came before it.
+/// Sends a message and a barrier, and waits for its reply; answers what came before it.
 fn exchange<W: World>(
     world: &mut W,
     buf: &mut [u8],
     kept: &mut MessageQueue,
     awaited: &Awaited,
     frame: &[u8],
-) -> Result<Option<Refusal>, Trouble>
+) -> Result<Response, Trouble>
     requires room { most_message ≤ length buf.old }
     requires read { IsOk (reading_of frame.now) }
     ensures { Exchanges W.Tells awaited.now (frame.now ∷ barrier_of awaited.now ∷ []) Growing [] (W.seen world.old) (W.seen world.new) kept.old kept.new buf.new result }
@@ -81,7 +82,7 @@ fn exchange<W: World>(
     await_barrier(world, buf, kept, awaited, Storage::Growing, &[])
 }
 
-/// Sends a message and a barrier, and waits for its reply; answers the first refusal that came before it.
+/// Sends a message and a barrier, and waits for its reply; answers what came before it.
 pub(crate) fn ask<W: World>(
     world: &mut W,
     alloc: Global,
@@ -89,7 +90,7 @@ pub(crate) fn ask<W: World>(
     kept: &mut MessageQueue,
     awaited: &Awaited,
     frame: &[u8],
-) -> Result<Option<Refusal>, Halt>
+) -> Result<Response, Halt>
     requires room { most_message ≤ length buf.old }
     requires read { IsOk (reading_of frame.now) }
     ensures { Talks W.Tells awaited.now (frame.now ∷ []) (W.seen world.old) (W.seen world.new) kept.old kept.new result }
@@ -100,14 +101,14 @@ pub(crate) fn ask<W: World>(
     }
 }
 
-/// Sends a barrier, and waits for its reply; answers the first refusal that came before it.
+/// Sends a barrier, and waits for its reply; answers what came before it.
 pub(crate) fn pass<W: World>(
     world: &mut W,
     alloc: Global,
     buf: &mut [u8],
     kept: &mut MessageQueue,
     awaited: &Awaited,
-) -> Result<Option<Refusal>, Halt>
+) -> Result<Response, Halt>
     requires { most_message ≤ length buf.old }
     ensures { Talks W.Tells awaited.now [] (W.seen world.old) (W.seen world.new) kept.old kept.new result }
 {

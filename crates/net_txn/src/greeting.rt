@@ -12,7 +12,8 @@ ghost use Rattle.net_txn.specs.Said.{Talks};
 use crate::exchange::{ask, say};
 use crate::halt::Halt;
 use crate::queue::MessageQueue;
-use lego_model::{Awaited, Refusal};
+use crate::response::Response;
+use lego_model::Awaited;
 use of_action::ActionList;
 use of_match::Match;
 use of_types::{ByteList, Xid, flows, ports};
@@ -71,7 +72,7 @@ pub(crate) fn greet<W: World>(
     awaited: &Awaited,
     first: &[u8],
     second: &[u8],
-) -> Result<Option<Refusal>, Halt>
+) -> Result<Response, Halt>
     requires room { most_message ≤ length buf.old }
     requires first { IsOk (reading_of first.now) }
     requires second { IsOk (reading_of second.now) }

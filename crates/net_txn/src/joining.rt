@@ -19,7 +19,7 @@ use crate::net::{Net, following};
 use crate::port_table::PortTable;
 use crate::ports::KnownPorts;
 use flow_table::{TableView, ViewList};
-use lego_model::{Awaited, TxnFault};
+use lego_model::{Awaited, Notices, TxnFault};
 use of_types::{Dpid, Xid};
 use of_wire::{FeaturesReply, PortList};
 use outside::World;
@@ -34,6 +34,7 @@ fn greeted(dpid: Dpid, xid: Xid) -> Awaited
         dpid,
         first: barrier,
         barrier,
+        notices: Notices::Dropped,
     }
 }
 

@@ -61,10 +61,8 @@ pub(crate) fn tells(views: &[TableView], dpid: Dpid, flow: &FlowRemoved) -> bool
     ensures { result ≡ is_told dpid (plains views.now) flow.now }
 {
     match find(views, dpid) {
-        Some(view) if flow.reason != flows::DELETED => {
-            has_asking(&removed_key(flow), view.rows.as_slice())
-        }
-        _ => false,
+        Some(view) => has_asking(&removed_key(flow), view.rows.as_slice()),
+        None => false,
     }
 }
 

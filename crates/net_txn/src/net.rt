@@ -4,15 +4,16 @@ ghost use Rattle.std.specs.Prelude.{◌≡◌, ◌≤◌, [], ◌∷◌, ◌++�
 ghost use Rattle.flow_table.specs.View.{plains};
 ghost use Rattle.net_txn.specs.Net.{awaited_from};
 ghost use Rattle.lego_model.specs.BarrierWaits.{next_xid};
+ghost use Rattle.lego_model.specs.Packets.{nothing_held};
 ghost use Rattle.of_wire.specs.declared.message.Message.TheVariants as messages;
 ghost use Rattle.of_wire.specs.Grammar.{IsMessage};
 
 use crate::logged::Logged;
 use crate::port_table::PortTable;
-use crate::queue::MessageQueue;
+use crate::queue::{EventQueue, MessageQueue};
 use crate::room::Room;
 use flow_table::TableView;
-use lego_model::Awaited;
+use lego_model::{Awaited, Notices};
 use of_types::limits::MOST_MESSAGE_BYTES;
 use of_types::{ByteList, Dpid, Xid};
 use of_wire::PacketOut;
@@ -20,7 +21,8 @@ use std::alloc::{AllocError, Global};
 use std::marker::Model;
 
 /// What the host keeps of its switches: their tables as the owner sees them, their ports, what undoes the changes of
-/// the open transaction, the packets that it holds back, and the messages that came while something else was awaited.
+/// the open transaction, the packets and notices that it holds back, and the messages that came while something else was
+/// awaited.
 #[derive(Drop, Debug)]
 pub struct Net {
     pub(crate) alloc: Global,
@@ -30,6 +32,8 @@ pub struct Net {
     pub(crate) ports: PortTable,
     pub(crate) log: Vec<Logged>,
     pub(crate) held: Vec<(Dpid, PacketOut)>,
+    /// The events of the notices that it holds back.
+    pub(crate) notices: EventQueue,
     pub(crate) xid: Xid,
     pub(crate) moment: u64,
     pub(crate) kept: MessageQueue,
@@ -52,7 +56,7 @@ impl Model for Net {
       views = plains s.views.items;
       ports = s.ports.known;
       log = s.log.items;
-      held = s.held.items;
+      held = record { packets = s.held.items; notices = s.notices };
       xid = s.xid;
       moment = s.moment;
       kept = s.kept;
@@ -79,13 +83,14 @@ pub(crate) fn await_from(dpid: Dpid, xid: Xid) -> Awaited
         dpid,
         first: xid,
         barrier: following(xid),
+        notices: Notices::Held,
     }
 }
 
 impl Net {
     /// Returns a network of no switch, at moment 0. It takes the room that undoes and releases need.
     pub fn new(alloc: Global) -> Result<Net, AllocError>
-        ensures { IfOk result (λ n. n ≡ record { views = []; ports = []; log = []; held = []; xid = 1; moment = 0; kept = []; room = 2; left = [] }) }
+        ensures { IfOk result (λ n. n ≡ record { views = []; ports = []; log = []; held = nothing_held; xid = 1; moment = 0; kept = []; room = 2; left = [] }) }
     {
         Ok(Net {
             alloc,
@@ -94,6 +99,7 @@ impl Net {
             ports: PortTable::new(alloc),
             log: Vec::new(alloc),
             held: Vec::new(alloc),
+            notices: EventQueue::new(alloc),
             xid: 1,
             moment: 0,
             kept: MessageQueue::new(alloc)?,
@@ -143,7 +149,7 @@ impl Net {
     /// Holds a packet back, behind the others.
     pub(crate) fn hold(&mut self, dpid: Dpid, packet: PacketOut) -> Result<(), AllocError>
         requires { IsMessage (messages.PacketOut packet) }
-        ensures ok { OnOk result (self.new ≡ record self.old { held = self.old.held ++ (dpid, packet) ∷ [] }) }
+        ensures ok { OnOk result (self.new ≡ record self.old { held = record self.old.held { packets = self.old.held.packets ++ (dpid, packet) ∷ [] } }) }
         ensures err { OnErr result (self.new ≡ self.old) }
     {
         self.held.push((dpid, packet))?;

@@ -49,6 +49,24 @@ impl EventQueue {
         Ok(())
     }
 
+    /// Appends all events of another queue, of which none is left. Where memory is wanting both stay.
+    pub(crate) fn append(&mut self, other: &mut EventQueue) -> Result<(), AllocError>
+        ensures ok { OnOk result (self.new ≡ self.old ++ other.old) }
+        ensures emptied { OnOk result (other.new ≡ []) }
+        ensures err { OnErr result (self.new ≡ self.old) }
+        ensures left { OnErr result (other.new ≡ other.old) }
+    {
+        self.events.append(&mut other.events)?;
+        Ok(())
+    }
+
+    /// Drops all events; takes no memory.
+    pub(crate) fn clear(&mut self)
+        ensures { self.new ≡ [] }
+    {
+        self.events.clear();
+    }
+
     /// Tells how many events wait; takes no memory.
     pub fn len(&self) -> usize
         ensures { result ≡ length self.now }
@@ -109,6 +127,11 @@ impl MessageQueue {
             messages: VecDeque::new(alloc),
             store: MessageStore::new(alloc)?,
         })
+    }
+
+    /// Tells where its memory comes from.
+    pub(crate) fn allocator(&self) -> Global {
+        self.alloc
     }
 
     /// Appends a copy of a message.

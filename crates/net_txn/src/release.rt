@@ -1,6 +1,6 @@
 //! The release of the packets that a transaction holds.
 
-ghost use Rattle.std.specs.Prelude.{◌≡◌, ◌+◌, ◌<◌, ◌≤◌, [], All, length, vec_capacity, Ok, Err, IsOk, IfOk, OnOk, MatchResult};
+ghost use Rattle.std.specs.Prelude.{◌≡◌, ◌+◌, ◌<◌, ◌≤◌, [], ◌++◌, All, length, vec_capacity, Ok, Err, IsOk, IfOk, OnOk, OnErr, MatchResult};
 ghost use Rattle.of_wire.specs.declared.message.Message.TheVariants as messages;
 ghost use Rattle.of_wire.specs.Reading.{reading_of};
 ghost use Rattle.of_wire.specs.Spelling.{message_bytes};
@@ -14,7 +14,7 @@ use crate::halt::Halt;
 use crate::net::{Net, following};
 use crate::queue::{EventQueue, MessageQueue};
 use crate::views::is_viewed;
-use lego_model::{Awaited, TxnFault};
+use lego_model::{Awaited, Notices, TxnFault};
 use of_types::{ByteList, Dpid, Xid};
 use of_wire::{Message, PacketOut, WireFault, decode, encode};
 use outside::World;
@@ -31,6 +31,7 @@ fn await_packet(dpid: Dpid, xid: Xid) -> Awaited
         dpid,
         first: barrier,
         barrier,
+        notices: Notices::Kept,
     }
 }
 
@@ -156,6 +157,25 @@ fn release_all<W: World>(
     Ok(sent)
 }
 
+/// Appends notices to the events that wait, and gives room for the answer of a release. Where memory is wanting both stay.
+fn take_room(
+    alloc: Global,
+    queue: &mut EventQueue,
+    notices: &mut EventQueue,
+    packets: usize,
+) -> Result<Vec<(Dpid, u32)>, AllocError>
+    ensures none { IfOk result (λ room. room.items ≡ []) }
+    ensures room { IfOk result (λ room. packets ≤ vec_capacity room) }
+    ensures queue { OnOk result (queue.new ≡ queue.old ++ notices.old) }
+    ensures emptied { OnOk result (notices.new ≡ []) }
+    ensures err { OnErr result (queue.new ≡ queue.old) }
+    ensures left { OnErr result (notices.new ≡ notices.old) }
+{
+    let room = Vec::with_capacity(alloc, packets)?;
+    queue.append(notices)?;
+    Ok(room)
+}
+
 impl Net {
     /// Waits for the reply to the barrier behind a packet, and takes in what comes before it; the switch is lost where its
     /// link fails.
@@ -207,9 +227,9 @@ impl Net {
         }
     }
 
-    /// Forgets what was logged from a position on, and releases the packets that are held, in order, each with a barrier
-    /// behind it; what comes meanwhile joins the queue as events. The room for its answer is taken first: where there is
-    /// none, what was logged is undone.
+    /// Forgets what was logged from a position on, appends the notices that are held to the queue, and releases the packets
+    /// that are held, in order, each with a barrier behind it; what comes meanwhile joins the queue as events. The room for
+    /// its answer and for the notices is taken first: where there is none, what was logged is undone.
     pub(crate) fn release_from<W: World>(
         &mut self,
         world: &mut W,
@@ -221,7 +241,7 @@ impl Net {
             (λ sent. Commits W.Tells start (W.seen world.old) (W.seen world.new) self.old self.new queue.old queue.new (Ok sent.items))
             (λ fault. Commits W.Tells start (W.seen world.old) (W.seen world.new) self.old self.new queue.old queue.new (Err fault)) }
     {
-        let Ok(room) = Vec::with_capacity(self.alloc, self.held.len()) else {
+        let Ok(room) = take_room(self.alloc, queue, &mut self.notices, self.held.len()) else {
             let _undone = self.undo_from(world, start);
             return Err(TxnFault::NoMemory);
         };

@@ -13,7 +13,7 @@ use crate::halt::Halt;
 use crate::net::{Net, following};
 use crate::queue::MessageQueue;
 use crate::replies::{read_replies, sort_out};
-use lego_model::{Awaited, TxnFault};
+use lego_model::{Awaited, Notices, TxnFault};
 use of_match::Match;
 use of_stats::RowList;
 use of_types::{ByteList, Dpid, Xid, ports, put_array, put_u8, put_u16, stats};
@@ -33,6 +33,7 @@ fn asked(dpid: Dpid, xid: Xid) -> Awaited
         dpid,
         first: barrier,
         barrier,
+        notices: Notices::Kept,
     }
 }
 

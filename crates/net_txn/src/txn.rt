@@ -71,15 +71,15 @@ impl<'a> Txn<'a> {
         requires message { IsMessage (messages.PacketOut packet) }
         ensures same_reference { self.new.net.ghost_name ≡ self.old.net.ghost_name }
         ensures start { self.new.start ≡ self.old.start }
-        ensures ok { OnOk result (self.new.net.now ≡ record self.old.net.now { held = self.old.net.now.held ++ (dpid, packet) ∷ [] }) }
+        ensures ok { OnOk result (self.new.net.now ≡ record self.old.net.now { held = record self.old.net.now.held { packets = self.old.net.now.held.packets ++ (dpid, packet) ∷ [] } }) }
         ensures err { OnErr result (self.new.net.now ≡ self.old.net.now) }
     {
         self.net.hold(dpid, packet)
     }
 
-    /// Closes the transaction: its changes stay, and the packets that were held are released in order, each with a
-    /// barrier behind it; what comes meanwhile joins the queue as events. Answers each packet's switch and how many bytes
-    /// it has.
+    /// Closes the transaction: its changes stay, the notices that were held join the queue, and the packets that were held
+    /// are released in order, each with a barrier behind it; what comes meanwhile joins the queue as events. Answers each
+    /// packet's switch and how many bytes it has.
     pub fn commit<W: World>(
         self,
         world: &mut W,

@@ -8,7 +8,7 @@ use crate::logged::Logged;
 use crate::queue::{MessageQueue, Storage};
 use crate::trouble::Trouble;
 use crate::wait::await_barrier;
-use lego_model::Awaited;
+use lego_model::{Awaited, Notices};
 use of_types::{Dpid, Xid};
 use outside::World;
 
@@ -29,6 +29,7 @@ pub(crate) fn pass_barrier<W: World>(
         dpid,
         first: xid,
         barrier: xid,
+        notices: Notices::Dropped,
     };
     match await_barrier(world, buf, kept, &awaited, Storage::Reserved, reverted) {
         Ok(_) => Ok(()),

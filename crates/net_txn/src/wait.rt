@@ -1,21 +1,23 @@
 //! Messages to a switch, and the wait for the reply to a barrier, without memory but for messages that are kept.
 
-ghost use Rattle.std.specs.Prelude.{◌≡◌, ◌^◌, ◌<◌, ◌≤◌, [], ◌∷◌, length, take, Some, IsOk, IfOk, MatchResult};
+ghost use Rattle.std.specs.Prelude.{◌≡◌, ◌^◌, ◌<◌, ◌≤◌, [], ◌∷◌, length, take, IsOk, IfOk, MatchResult};
 ghost use Rattle.of_types.specs.Fields.{number_at, IsBytes};
 ghost use Rattle.of_wire.specs.Reading.{reading_of};
 ghost use Rattle.outside.specs.Calls.{most_message};
 ghost use Rattle.lego_model.specs.BarrierWaits.{echo_reply};
-ghost use Rattle.net_txn.specs.Waits.{first_of};
+ghost use Rattle.lego_model.specs.declared.wait.Notices.TheVariants.{Held};
 ghost use Rattle.net_txn.specs.Causes.{link_trouble};
 ghost use Rattle.net_txn.specs.Undos.{inverses_in};
+ghost use Rattle.net_txn.specs.declared.queue.Storage.TheVariants.{Growing};
 ghost use Rattle.net_txn.specs.Said.{SaysOne, HearsOne, Treats, TreatsNot, HearsNext, HearsLast, barrier_of, Exchanges};
 
 use crate::heard::{barrier_request, classify};
 use crate::logged::Logged;
 use crate::queue::{MessageQueue, Storage};
+use crate::response::Response;
 use crate::trouble::Trouble;
 use crate::undo_progress::key_refused;
-use lego_model::{Awaited, Heard, Refusal};
+use lego_model::{Awaited, Heard};
 use of_types::{Dpid, get_u32, kinds, put_u8};
 use of_wire::check;
 use outside::{LinkFault, World};
@@ -75,36 +77,31 @@ fn make_reply(message: &mut [u8])
     put_u8(message, 1, kinds::ECHO_REPLY);
 }
 
-/// Keeps the first refusal.
-fn note(answer: &mut Option<Refusal>, refusal: Refusal)
-    ensures { answer.new ≡ first_of answer.old (Some refusal) }
-{
-    if answer.is_none() {
-        *answer = Some(refusal);
-    }
-}
-
 /// Does with a message what it is to the wait, and answers whether it ends it.
 fn treat<W: World>(
     world: &mut W,
     message: &mut [u8],
     kept: &mut MessageQueue,
-    answer: &mut Option<Refusal>,
+    answer: &mut Response,
     awaited: &Awaited,
     storage: Storage,
 ) -> Result<bool, Trouble>
     requires bytes { IsBytes message.old }
     requires read { IsOk (reading_of message.old) }
+    requires growing { awaited.now.notices ≡ Held → storage ≡ Growing }
     ensures { MatchResult result (Treats W.Tells awaited.now storage message.old (W.seen world.old) (W.seen world.new) kept.old kept.new answer.old answer.new)
         (TreatsNot W.Tells awaited.now storage (W.seen world.old) (W.seen world.new) kept.old kept.new) }
 {
     match classify(message, awaited) {
         Heard::Reply => Ok(true),
         Heard::Refused(refusal) => {
-            note(answer, refusal);
+            answer.note(refusal);
             Ok(false)
         }
-        Heard::Notice => Ok(false),
+        Heard::Notice => {
+            answer.hold(awaited.notices, message)?;
+            Ok(false)
+        }
         Heard::Echo => {
             make_reply(message);
             send(world, awaited.dpid, message)?;
@@ -122,12 +119,13 @@ fn hear<W: World>(
     world: &mut W,
     buf: &mut [u8],
     kept: &mut MessageQueue,
-    answer: &mut Option<Refusal>,
+    answer: &mut Response,
     awaited: &Awaited,
     storage: Storage,
     reverted: &[Logged],
 ) -> Result<bool, Trouble>
-    requires { most_message ≤ length buf.old }
+    requires room { most_message ≤ length buf.old }
+    requires growing { awaited.now.notices ≡ Held → storage ≡ Growing }
     ensures hears { MatchResult result (HearsNext W.Tells awaited.now storage (inverses_in awaited.now.dpid reverted.now) (W.seen world.old) (W.seen world.new) kept.old kept.new answer.old answer.new)
         (HearsLast W.Tells awaited.now storage (inverses_in awaited.now.dpid reverted.now) (W.seen world.old) (W.seen world.new) kept.old kept.new buf.new) }
     ensures len { length buf.new ≡ length buf.old }
@@ -139,7 +137,7 @@ fn hear<W: World>(
     treat(world, &mut buf[..len], kept, answer, awaited, storage)
 }
 
-/// Waits for the reply to the barrier, and answers the first refusal that came before it.
+/// Waits for the reply to the barrier, and answers what came before it.
 fn wait<W: World>(
     world: &mut W,
     buf: &mut [u8],
@@ -147,13 +145,14 @@ fn wait<W: World>(
     awaited: &Awaited,
     storage: Storage,
     reverted: &[Logged],
-) -> Result<Option<Refusal>, Trouble>
+) -> Result<Response, Trouble>
     requires room { most_message ≤ length buf.old }
     requires is_xid { awaited.now.barrier < 2 ^ 32 }
+    requires growing { awaited.now.notices ≡ Held → storage ≡ Growing }
     ensures exchanges { Exchanges W.Tells awaited.now [] storage (inverses_in awaited.now.dpid reverted.now) (W.seen world.old) (W.seen world.new) kept.old kept.new buf.new result }
     ensures len { length buf.new ≡ length buf.old }
 {
-    let mut answer = None;
+    let mut answer = Response::new(kept.allocator());
     for _heard in 0..FLOOD {
         if hear(world, buf, kept, &mut answer, awaited, storage, reverted)? {
             return Ok(answer);
@@ -162,8 +161,8 @@ fn wait<W: World>(
     Err(Trouble::Flooded)
 }
 
-/// Sends the barrier and waits for its reply; answers the first refusal that came before it. A message that refuses the
-/// inverse of one of these entries ends it.
+/// Sends the barrier and waits for its reply; answers what came before it. A message that refuses the inverse of one of
+/// these entries ends it.
 pub(crate) fn await_barrier<W: World>(
     world: &mut W,
     buf: &mut [u8],
@@ -171,8 +170,9 @@ pub(crate) fn await_barrier<W: World>(
     awaited: &Awaited,
     storage: Storage,
     reverted: &[Logged],
-) -> Result<Option<Refusal>, Trouble>
-    requires { most_message ≤ length buf.old }
+) -> Result<Response, Trouble>
+    requires room { most_message ≤ length buf.old }
+    requires growing { awaited.now.notices ≡ Held → storage ≡ Growing }
     ensures exchanges { Exchanges W.Tells awaited.now (barrier_of awaited.now ∷ []) storage (inverses_in awaited.now.dpid reverted.now) (W.seen world.old) (W.seen world.new) kept.old kept.new buf.new result }
     ensures len { length buf.new ≡ length buf.old }
 {

@@ -55,13 +55,13 @@ done_none : {Own : Type 0} (judged : Bool) (stop : Bool) (checkpoint : Option (L
 done_none true stop checkpoint rest = refl
 done_none false stop checkpoint rest = refl
 
-none_stays : (Own : Type 0) (judged : Bool) (left : ℕ) (given : Option ℕ) (end : End) (next : Next) → (turn_from {State = Asking Own} (oracle judged) left given end None next).state ≡ None
+none_stays : (Own : Type 0) (judged : Bool) (left : ℕ) (given : Option ℕ) (end : End) (next : Next) → (turn_from {State = Asking Own} (oracle judged) left given end [] None next).state ≡ None
 unfolding turn_from oracle
 none_stays Own judged zero given end (Framed frame rest pieces) = refl
 none_stays Own judged zero given end (Faulty fault) = refl
 none_stays Own judged zero given end Over = refl
 none_stays Own judged (suc left) given end (Framed (frames.Message dpid bytes) rest pieces) =
-    told_none (is_none_left given) Unknown (turn_from {State = Asking Own} (oracle judged) left (one_fewer given) end None (next_of rest pieces)) (none_stays Own judged left (one_fewer given) end (next_of rest pieces))
+    told_none (is_none_left given) Unknown (turn_from {State = Asking Own} (oracle judged) left (one_fewer given) end [] None (next_of rest pieces)) (none_stays Own judged left (one_fewer given) end (next_of rest pieces))
 none_stays Own judged (suc left) given end (Framed (frames.Done stop checkpoint) rest pieces) = done_none judged stop checkpoint rest
 none_stays Own judged (suc left) given end (Framed frames.Save rest pieces) = refl
 none_stays Own judged (suc left) given end (Framed frames.Keep rest pieces) = refl
@@ -106,39 +106,39 @@ same_message table s P d dpid b bytes first second holds =
 
 abbrev Later : {State : Type 0} → (Own : Type 0) → Table State → Bool → ℕ → Option ℕ → End → Next → State → Type 0
 Later Own table judged left given end next final =
-    (ys : List (Exchange Own)) (u : _) (others : List Answer) (ending : Outcome) → Agrees table ys u final → turn_from (oracle judged) left given end (Some ys) next ≡ played_is others ending
-    → turn_from table left given end u next ≡ played_on final others ending
+    (ys : List (Exchange Own)) (u : _) (others : List Answer) (ending : Outcome) → Agrees table ys u final → turn_from (oracle judged) left given end [] (Some ys) next ≡ played_is others ending
+    → turn_from table left given end [] u next ≡ played_on final others ending
 
 message_at : {State Own : Type 0} (table : Table State) (judged : Bool) (left : ℕ) (given : Option ℕ) (end : End) (x : Exchange Own) (xs : List (Exchange Own)) (dpid : ℕ) (bytes : List ℕ) (next : Next) (s final : State)
     (answers : List Answer) (outcome : Outcome) (test : Bool) → (x.dpid == dpid && same_bytes x.bytes bytes) ≡ test → Later Own table judged left (one_fewer given) end next final → Agrees table (x ∷ xs) s final
-    → told_to (is_none_left given) (next_asked dpid bytes (Some (x ∷ xs))) (turn_from (oracle judged) left (one_fewer given) end (next_asked dpid bytes (Some (x ∷ xs))).1 next) ≡ played_is answers outcome
-    → told_to (is_none_left given) (table.answer s dpid bytes) (turn_from table left (one_fewer given) end (table.answer s dpid bytes).1 next) ≡ played_on final answers outcome
+    → told_to (is_none_left given) (next_asked dpid bytes (Some (x ∷ xs))) (turn_from (oracle judged) left (one_fewer given) end [] (next_asked dpid bytes (Some (x ∷ xs))).1 next) ≡ played_is answers outcome
+    → told_to (is_none_left given) (table.answer s dpid bytes) (turn_from table left (one_fewer given) end [] (table.answer s dpid bytes).1 next) ≡ played_on final answers outcome
 message_at {State = State} {Own = Own} table judged left given end x xs dpid bytes next s final answers outcome true t later agrees is =
     let both = and_parts (x.dpid == dpid) (same_bytes x.bytes bytes) t in
     let d : x.dpid ≡ dpid = eqb-true x.dpid dpid both.0 in
     let b : x.bytes ≡ bytes = same_bytes_is x.bytes bytes both.1 in
     let answered_is : (table.answer s dpid bytes).0 ≡ x.answer = same_message table s (λ (p : Answer × State). p.0 ≡ x.answer) x.dpid dpid x.bytes bytes d b agrees.0 in
     let goes_on : Agrees table xs (table.answer s dpid bytes).1 final = same_message table s (λ (p : Answer × State). Agrees table xs p.1 final) x.dpid dpid x.bytes bytes d b agrees.1 in
-    told_is table (is_none_left given) x.answer xs (table.answer s dpid bytes) final (turn_from (oracle judged) left (one_fewer given) end (Some xs) next) (turn_from table left (one_fewer given) end (table.answer s dpid bytes).1 next)
+    told_is table (is_none_left given) x.answer xs (table.answer s dpid bytes) final (turn_from (oracle judged) left (one_fewer given) end [] (Some xs) next) (turn_from table left (one_fewer given) end [] (table.answer s dpid bytes).1 next)
     answers outcome answered_is goes_on (λ others ending e. later xs (table.answer s dpid bytes).1 others ending goes_on e) (rw t at is)
 message_at {Own = Own} table judged left given end x xs dpid bytes next s final answers outcome false t later agrees is =
-    absurd (no_none (told_to (is_none_left given) (Unknown, None) (turn_from {State = Asking Own} (oracle judged) left (one_fewer given) end None next)) answers outcome
-    (told_none (is_none_left given) Unknown (turn_from {State = Asking Own} (oracle judged) left (one_fewer given) end None next) (none_stays Own judged left (one_fewer given) end next)) (rw t at is))
+    absurd (no_none (told_to (is_none_left given) (Unknown, None) (turn_from {State = Asking Own} (oracle judged) left (one_fewer given) end [] None next)) answers outcome
+    (told_none (is_none_left given) Unknown (turn_from {State = Asking Own} (oracle judged) left (one_fewer given) end [] None next) (none_stays Own judged left (one_fewer given) end next)) (rw t at is))
 
 message_is : {State Own : Type 0} (table : Table State) (judged : Bool) (left : ℕ) (given : Option ℕ) (end : End) (xs : List (Exchange Own)) (dpid : ℕ) (bytes : List ℕ) (next : Next) (s final : State)
     (answers : List Answer) (outcome : Outcome) → Later Own table judged left (one_fewer given) end next final → Agrees table xs s final
-    → told_to (is_none_left given) (next_asked dpid bytes (Some xs)) (turn_from (oracle judged) left (one_fewer given) end (next_asked dpid bytes (Some xs)).1 next) ≡ played_is answers outcome
-    → told_to (is_none_left given) (table.answer s dpid bytes) (turn_from table left (one_fewer given) end (table.answer s dpid bytes).1 next) ≡ played_on final answers outcome
+    → told_to (is_none_left given) (next_asked dpid bytes (Some xs)) (turn_from (oracle judged) left (one_fewer given) end [] (next_asked dpid bytes (Some xs)).1 next) ≡ played_is answers outcome
+    → told_to (is_none_left given) (table.answer s dpid bytes) (turn_from table left (one_fewer given) end [] (table.answer s dpid bytes).1 next) ≡ played_on final answers outcome
 message_is {Own = Own} table judged left given end [] dpid bytes next s final answers outcome later agrees is =
-    absurd (no_none (told_to (is_none_left given) (Unknown, None) (turn_from {State = Asking Own} (oracle judged) left (one_fewer given) end None next)) answers outcome
-    (told_none (is_none_left given) Unknown (turn_from {State = Asking Own} (oracle judged) left (one_fewer given) end None next) (none_stays Own judged left (one_fewer given) end next)) is)
+    absurd (no_none (told_to (is_none_left given) (Unknown, None) (turn_from {State = Asking Own} (oracle judged) left (one_fewer given) end [] None next)) answers outcome
+    (told_none (is_none_left given) Unknown (turn_from {State = Asking Own} (oracle judged) left (one_fewer given) end [] None next) (none_stays Own judged left (one_fewer given) end next)) is)
 message_is table judged left given end (x ∷ xs) dpid bytes next s final answers outcome later agrees is =
     message_at table judged left given end x xs dpid bytes next s final answers outcome (x.dpid == dpid && same_bytes x.bytes bytes) refl later agrees is
 
 -- ---- The turn
 
 plays_alike : {State Own : Type 0} (table : Table State) (judged : Bool) (left : ℕ) (given : Option ℕ) (end : End) (xs : List (Exchange Own)) (next : Next) (s final : State) (answers : List Answer) (outcome : Outcome)
-    → Agrees table xs s final → table.allows final ≡ judged → turn_from (oracle judged) left given end (Some xs) next ≡ played_is answers outcome → turn_from table left given end s next ≡ played_on final answers outcome
+    → Agrees table xs s final → table.allows final ≡ judged → turn_from (oracle judged) left given end [] (Some xs) next ≡ played_is answers outcome → turn_from table left given end [] s next ≡ played_on final answers outcome
 unfolding turn_from oracle
 plays_alike table judged zero given end xs (Framed frame rest pieces) s final answers outcome agrees allows is = over_is table xs s final (Failed causes.Budget) answers outcome agrees is
 plays_alike table judged zero given end xs (Faulty fault) s final answers outcome agrees allows is = over_is table xs s final (Failed (causes.Garbled fault)) answers outcome agrees is

@@ -91,8 +91,8 @@ same_bytes_refl [] = refl
 same_bytes_refl (b ∷ bytes) = rw (same b) (same_bytes_refl bytes)
 
 turn_message : {Own : Type 0} (judged : Bool) (left : ℕ) (answers : Option ℕ) (end : End) (x : Exchange Own) (xs : List (Exchange Own)) (rest : List ℕ) (ps : List (List ℕ))
-    → turn_from (oracle judged) (suc left) answers end (Some (x ∷ xs)) (Framed (frames.Message x.dpid x.bytes) rest ps)
-    ≡ told_to (is_none_left answers) (x.answer, Some xs) (turn_from (oracle judged) left (one_fewer answers) end (Some xs) (next_of rest ps))
+    → turn_from (oracle judged) (suc left) answers end [] (Some (x ∷ xs)) (Framed (frames.Message x.dpid x.bytes) rest ps)
+    ≡ told_to (is_none_left answers) (x.answer, Some xs) (turn_from (oracle judged) left (one_fewer answers) end [] (Some xs) (next_of rest ps))
 unfolding turn_from oracle
 turn_message judged left answers end x xs rest ps = rw (same x.dpid, same_bytes_refl x.bytes) refl
 
@@ -114,15 +114,15 @@ exchanged_played {Own = Own} judged app left rest here frame x acts xs answers o
     let given = answers_given (Gave app frame ∷ acts) in
     let end = end_from Untold acts in
     let ps = pieces acts in
-    let later = turn_from (oracle judged) left (one_fewer given) end (Some xs) (next_of here ps) in
-    ap (λ (n : Next). turn_from (oracle judged) (suc left) given end (Some (x ∷ xs)) n) (next_framed (frames.Message x.dpid x.bytes) rest here ps next)
+    let later = turn_from (oracle judged) left (one_fewer given) end [] (Some xs) (next_of here ps) in
+    ap (λ (n : Next). turn_from (oracle judged) (suc left) given end [] (Some (x ∷ xs)) n) (next_framed (frames.Message x.dpid x.bytes) rest here ps next)
     ∙ turn_message judged left given end x xs here ps
     ∙ ap (λ (b : Bool). told_to b (x.answer, Some xs) later) (none_left_gave app frame acts (any_gone acts) refl)
-    ∙ ap (λ (a : Option ℕ). answered x.answer (turn_from (oracle judged) left a end (Some xs) (next_of here ps))) (one_fewer_gave app frame acts (any_gone acts) refl)
+    ∙ ap (λ (a : Option ℕ). answered x.answer (turn_from (oracle judged) left a end [] (Some xs) (next_of here ps))) (one_fewer_gave app frame acts (any_gone acts) refl)
     ∙ ap (λ (p : Played (Asking Own)). answered x.answer p) then_is
 
 heard_message : (told : Bool) (left : ℕ) (answers : Option ℕ) (dpid : ℕ) (bytes rest : List ℕ) (ps : List (List ℕ))
-    → (told || settles (suc left) answers (Framed (frames.Message dpid bytes) rest ps)) ≡ (told || (is_none_left answers || settles left (one_fewer answers) (next_of rest ps)))
+    → (told || settles (suc left) 0 answers (Framed (frames.Message dpid bytes) rest ps)) ≡ (told || (is_none_left answers || settles left 0 (one_fewer answers) (next_of rest ps)))
 unfolding settles
 heard_message told left answers dpid bytes rest ps = refl
 
@@ -131,10 +131,10 @@ exchanged_heard app left dpid bytes rest here frame acts next then_is =
     let given = answers_given (Gave app frame ∷ acts) in
     let told = is_told (end_from Untold acts) in
     let ps = pieces acts in
-    ap (λ (n : Next). told || settles (suc left) given n) (next_framed (frames.Message dpid bytes) rest here ps next)
+    ap (λ (n : Next). told || settles (suc left) 0 given n) (next_framed (frames.Message dpid bytes) rest here ps next)
     ∙ heard_message told left given dpid bytes here ps
-    ∙ ap (λ (b : Bool). told || (b || settles left (one_fewer given) (next_of here ps))) (none_left_gave app frame acts (any_gone acts) refl)
-    ∙ ap (λ (a : Option ℕ). told || settles left a (next_of here ps)) (one_fewer_gave app frame acts (any_gone acts) refl)
+    ∙ ap (λ (b : Bool). told || (b || settles left 0 (one_fewer given) (next_of here ps))) (none_left_gave app frame acts (any_gone acts) refl)
+    ∙ ap (λ (a : Option ℕ). told || settles left 0 a (next_of here ps)) (one_fewer_gave app frame acts (any_gone acts) refl)
     ∙ then_is
 
 pub given_more : (app : ℕ) (frame : List ℕ) (acts : List Act) (frames : List (List ℕ)) → inputs app acts ≡ frames → inputs app (Gave app frame ∷ acts) ≡ frame ∷ frames
@@ -175,12 +175,12 @@ given_none app frame = refl
 unanswered_played : {Own : Type 0} (judged : Bool) (app left : ℕ) (rest here frame : List ℕ) (x : Exchange Own) → IsNext (frames.Message x.dpid x.bytes) rest here
     → played_by judged (suc left) rest (Gone app frame ∷ []) (x ∷ []) ≡ played_is [] (Failed causes.Closed)
 unanswered_played judged app left rest here frame x next =
-    ap (λ (n : Next). turn_from (oracle judged) (suc left) (Some 0) Untold (Some (x ∷ [])) n) (next_framed (frames.Message x.dpid x.bytes) rest here [] next)
+    ap (λ (n : Next). turn_from (oracle judged) (suc left) (Some 0) Untold [] (Some (x ∷ [])) n) (next_framed (frames.Message x.dpid x.bytes) rest here [] next)
     ∙ turn_message judged left (Some 0) Untold x [] here []
 
 unanswered_heard : (app left dpid : ℕ) (bytes rest here frame : List ℕ) → IsNext (frames.Message dpid bytes) rest here → heard_by (suc left) rest (Gone app frame ∷ []) ≡ true
 unfolding settles
-unanswered_heard app left dpid bytes rest here frame next = ap (λ (n : Next). settles (suc left) (Some 0) n) (next_framed (frames.Message dpid bytes) rest here [] next)
+unanswered_heard app left dpid bytes rest here frame next = ap (λ (n : Next). settles (suc left) 0 (Some 0) n) (next_framed (frames.Message dpid bytes) rest here [] next)
 
 pub ends_unanswered : {Own : Type 0} (Tells : Type 0) (accepts : List TableView → Bool) (app dpid : ℕ) (bytes rest here : List ℕ) (old new : Seen Own) (net now_net : NetState) → IsNext (frames.Message dpid bytes) rest here
     → Exchanges Tells app dpid bytes false old new net now_net → EndsSo Tells accepts app rest here old new net now_net (plays.Failed causes.Closed)
@@ -215,7 +215,7 @@ leads_exchanged {app = app} {dpid = dpid} {bytes = bytes} {old = old} {new = new
 
 -- ---- A frame that ends the turn
 
-others_settle : (left : ℕ) (frame : AppFrame) (here : List ℕ) → is_message frame ≡ false → settles (suc left) None (Framed frame here []) ≡ true
+others_settle : (left : ℕ) (frame : AppFrame) (here : List ℕ) → is_message frame ≡ false → settles (suc left) 0 None (Framed frame here []) ≡ true
 unfolding settles
 others_settle left (frames.Message dpid bytes) here no_message = absurd (true≢false no_message)
 others_settle left (frames.Done stop checkpoint) here no_message = refl
@@ -225,7 +225,7 @@ others_settle left frames.Undo here no_message = refl
 others_settle left frames.Ready here no_message = refl
 
 ends_at : {Own : Type 0} (Tells : Type 0) (accepts : List TableView → Bool) (app : ℕ) (frame : AppFrame) (rest here : List ℕ) (seen : Seen Own) (net : NetState) (end : PlayEnd) (outcome : Outcome) → IsNext frame rest here
-    → ((left : ℕ) → turn_from {State = Asking Own} (oracle (accepts net.views)) (suc left) None Untold (Some []) (Framed frame here []) ≡ played_is [] outcome) → is_message frame ≡ false → IsPlayEnd end here outcome → (is_done (turn_end end) ≡ true → Passes rest here) → EndsSo Tells accepts app rest here seen seen net net end
+    → ((left : ℕ) → turn_from {State = Asking Own} (oracle (accepts net.views)) (suc left) None Untold [] (Some []) (Framed frame here []) ≡ played_is [] outcome) → is_message frame ≡ false → IsPlayEnd end here outcome → (is_done (turn_end end) ≡ true → Passes rest here) → EndsSo Tells accepts app rest here seen seen net net end
 unfolding inputs
 ends_at {Own = Own} Tells accepts app frame rest here seen net end outcome next plays no_message is passes = record {
   turn = λ left. record {
@@ -233,22 +233,22 @@ ends_at {Own = Own} Tells accepts app frame rest here seen net end outcome next 
     chain = (refl, refl);
     answers = [];
     outcome = outcome;
-    played = ap (λ (n : Next). turn_from {State = Asking Own} (oracle (accepts net.views)) (suc left) None Untold (Some []) n) (next_framed frame rest here [] next) ∙ plays left;
+    played = ap (λ (n : Next). turn_from {State = Asking Own} (oracle (accepts net.views)) (suc left) None Untold [] (Some []) n) (next_framed frame rest here [] next) ∙ plays left;
     ends = is;
     given = refl;
-    heard = ap (λ (n : Next). settles (suc left) None n) (next_framed frame rest here [] next) ∙ others_settle left frame here no_message;
+    heard = ap (λ (n : Next). settles (suc left) 0 None n) (next_framed frame rest here [] next) ∙ others_settle left frame here no_message;
     within = tt;
     speaks = λ tells since none. record { after = before rest since; converses = Converses-refl app (before rest since) seen seen refl; runs = λ done. refl; passes = passes };
   };
 }
 
 done_plays : (Own : Type 0) (judged : Bool) (left : ℕ) (stop : Bool) (checkpoint : Option (List ℕ)) (here : List ℕ) → judged ≡ true
-    → turn_from {State = Asking Own} (oracle judged) (suc left) None Untold (Some []) (Framed (frames.Done stop checkpoint) here []) ≡ played_is [] (Completed stop checkpoint here)
+    → turn_from {State = Asking Own} (oracle judged) (suc left) None Untold [] (Some []) (Framed (frames.Done stop checkpoint) here []) ≡ played_is [] (Completed stop checkpoint here)
 unfolding turn_from oracle
 done_plays Own judged left stop checkpoint here is = rw is refl
 
 judged_plays : (Own : Type 0) (judged : Bool) (left : ℕ) (stop : Bool) (checkpoint : Option (List ℕ)) (here : List ℕ) → judged ≡ false
-    → turn_from {State = Asking Own} (oracle judged) (suc left) None Untold (Some []) (Framed (frames.Done stop checkpoint) here []) ≡ played_is [] (Failed causes.Judged)
+    → turn_from {State = Asking Own} (oracle judged) (suc left) None Untold [] (Some []) (Framed (frames.Done stop checkpoint) here []) ≡ played_is [] (Failed causes.Judged)
 unfolding turn_from oracle
 judged_plays Own judged left stop checkpoint here is = rw is refl
 
@@ -282,7 +282,7 @@ IsUnbalanced frames.Undo = Unit {0}
 IsUnbalanced frames.Ready = Unit {0}
 
 unbalanced_plays : (Own : Type 0) (judged : Bool) (left : ℕ) (frame : AppFrame) (here : List ℕ) → IsUnbalanced frame
-    → turn_from {State = Asking Own} (oracle judged) (suc left) None Untold (Some []) (Framed frame here []) ≡ played_is [] (Failed causes.Unbalanced)
+    → turn_from {State = Asking Own} (oracle judged) (suc left) None Untold [] (Some []) (Framed frame here []) ≡ played_is [] (Failed causes.Unbalanced)
 unfolding turn_from
 unbalanced_plays Own judged left (frames.Message dpid bytes) here is = absurd is
 unbalanced_plays Own judged left (frames.Done stop checkpoint) here is = absurd is
@@ -309,31 +309,31 @@ plays_unbalanced {Own = Own} Tells accepts app frame seen net is = record {
 
 -- ---- No frame comes, or one too many
 
-faulty_plays : (Own : Type 0) (judged : Bool) (left : ℕ) (fault : FrameFault) → turn_from {State = Asking Own} (oracle judged) left None Untold (Some []) (Faulty fault) ≡ played_is [] (Failed (causes.Garbled fault))
+faulty_plays : (Own : Type 0) (judged : Bool) (left : ℕ) (fault : FrameFault) → turn_from {State = Asking Own} (oracle judged) left None Untold [] (Some []) (Faulty fault) ≡ played_is [] (Failed (causes.Garbled fault))
 unfolding turn_from
 faulty_plays Own judged zero fault = refl
 faulty_plays Own judged (suc left) fault = refl
 
-closed_plays : (Own : Type 0) (judged : Bool) (left : ℕ) → turn_from {State = Asking Own} (oracle judged) left None Closes (Some []) Over ≡ played_is [] (Failed causes.Closed)
+closed_plays : (Own : Type 0) (judged : Bool) (left : ℕ) → turn_from {State = Asking Own} (oracle judged) left None Closes [] (Some []) Over ≡ played_is [] (Failed causes.Closed)
 unfolding turn_from
 closed_plays Own judged zero = refl
 closed_plays Own judged (suc left) = refl
 
-silent_plays : (Own : Type 0) (judged : Bool) (left : ℕ) → turn_from {State = Asking Own} (oracle judged) left None Stalls (Some []) Over ≡ played_is [] (Failed causes.Silent)
+silent_plays : (Own : Type 0) (judged : Bool) (left : ℕ) → turn_from {State = Asking Own} (oracle judged) left None Stalls [] (Some []) Over ≡ played_is [] (Failed causes.Silent)
 unfolding turn_from
 silent_plays Own judged zero = refl
 silent_plays Own judged (suc left) = refl
 
-spent_plays : (Own : Type 0) (judged : Bool) (frame : AppFrame) (here : List ℕ) → turn_from {State = Asking Own} (oracle judged) zero None Untold (Some []) (Framed frame here []) ≡ played_is [] (Failed causes.Budget)
+spent_plays : (Own : Type 0) (judged : Bool) (frame : AppFrame) (here : List ℕ) → turn_from {State = Asking Own} (oracle judged) zero None Untold [] (Some []) (Framed frame here []) ≡ played_is [] (Failed causes.Budget)
 unfolding turn_from
 spent_plays Own judged frame here = refl
 
-faulty_settles : (left : ℕ) (fault : FrameFault) → settles left None (Faulty fault) ≡ true
+faulty_settles : (left : ℕ) (fault : FrameFault) → settles left 0 None (Faulty fault) ≡ true
 unfolding settles
 faulty_settles zero fault = refl
 faulty_settles (suc left) fault = refl
 
-spent_settles : (frame : AppFrame) (here : List ℕ) → settles zero None (Framed frame here []) ≡ true
+spent_settles : (frame : AppFrame) (here : List ℕ) → settles zero 0 None (Framed frame here []) ≡ true
 unfolding settles
 spent_settles frame here = refl
 
@@ -352,10 +352,10 @@ came_over {Own = Own} Tells accepts app left (comes.Frame frame) rest here unrea
   chain = (so.1, refl);
   answers = [];
   outcome = Failed causes.Budget;
-  played = ap (λ (n : Next). turn_from {State = Asking Own} (oracle (accepts net.views)) zero None Untold (Some []) n) (next_framed frame rest here [] so.0) ∙ spent_plays Own (accepts net.views) frame here;
+  played = ap (λ (n : Next). turn_from {State = Asking Own} (oracle (accepts net.views)) zero None Untold [] (Some []) n) (next_framed frame rest here [] so.0) ∙ spent_plays Own (accepts net.views) frame here;
   ends = refl;
   given = refl;
-  heard = ap (λ (n : Next). settles zero None n) (next_framed frame rest here [] so.0) ∙ spent_settles frame here;
+  heard = ap (λ (n : Next). settles zero 0 None n) (next_framed frame rest here [] so.0) ∙ spent_settles frame here;
   within = tt;
   speaks = λ tells since none. record { after = before rest since; converses = Converses-refl app (before rest since) old new so.1; runs = λ done. refl; passes = λ done. absurd (true≢false (sym done)) };
 })
@@ -364,10 +364,10 @@ came_over {Own = Own} Tells accepts app left (comes.Refused fault) rest here unr
   chain = (so.1, refl);
   answers = [];
   outcome = Failed (causes.Garbled fault);
-  played = ap (λ (n : Next). turn_from {State = Asking Own} (oracle (accepts net.views)) left None Untold (Some []) n) (next_faulty fault rest [] so.0) ∙ faulty_plays Own (accepts net.views) left fault;
+  played = ap (λ (n : Next). turn_from {State = Asking Own} (oracle (accepts net.views)) left None Untold [] (Some []) n) (next_faulty fault rest [] so.0) ∙ faulty_plays Own (accepts net.views) left fault;
   ends = refl;
   given = refl;
-  heard = ap (λ (n : Next). settles left None n) (next_faulty fault rest [] so.0) ∙ faulty_settles left fault;
+  heard = ap (λ (n : Next). settles left 0 None n) (next_faulty fault rest [] so.0) ∙ faulty_settles left fault;
   within = tt;
   speaks = λ tells since none. record { after = before rest since; converses = Converses-refl app (before rest since) old new so.1; runs = λ done. refl; passes = λ done. absurd (true≢false (sym done)) };
 }
@@ -376,7 +376,7 @@ came_over {Own = Own} Tells accepts app left comes.Closed rest here unread old n
   chain = (same app, (new, (so.1, (refl, refl))));
   answers = [];
   outcome = Failed causes.Closed;
-  played = ap (λ (n : Next). turn_from {State = Asking Own} (oracle (accepts net.views)) left None Closes (Some []) n) (next_over rest so.0) ∙ closed_plays Own (accepts net.views) left;
+  played = ap (λ (n : Next). turn_from {State = Asking Own} (oracle (accepts net.views)) left None Closes [] (Some []) n) (next_over rest so.0) ∙ closed_plays Own (accepts net.views) left;
   ends = refl;
   given = refl;
   heard = refl;
@@ -395,7 +395,7 @@ came_over {Own = Own} Tells accepts app left comes.Silent rest here unread old n
   chain = (same app, (new, (so.1, (refl, refl))));
   answers = [];
   outcome = Failed causes.Silent;
-  played = ap (λ (n : Next). turn_from {State = Asking Own} (oracle (accepts net.views)) left None Stalls (Some []) n) (next_over rest so.0) ∙ silent_plays Own (accepts net.views) left;
+  played = ap (λ (n : Next). turn_from {State = Asking Own} (oracle (accepts net.views)) left None Stalls [] (Some []) n) (next_over rest so.0) ∙ silent_plays Own (accepts net.views) left;
   ends = refl;
   given = refl;
   heard = refl;

@@ -44,38 +44,38 @@ next_of-more bytes (piece ∷ pieces) more whole =
 -- ---- A turn
 
 -- what settles a turn is a whole frame or a fault
-settles-whole : (left : ℕ) (answers : Option ℕ) (next : Next) → settles left answers next ≡ true → is_whole next ≡ true
+settles-whole : (left saved : ℕ) (answers : Option ℕ) (next : Next) → settles left saved answers next ≡ true → is_whole next ≡ true
 unfolding settles
-settles-whole left answers Over is = absurd cc
-settles-whole left answers (Faulty fault) is = refl
-settles-whole left answers (Framed frame rest pieces) is = refl
+settles-whole left saved answers Over is = absurd cc
+settles-whole left saved answers (Faulty fault) is = refl
+settles-whole left saved answers (Framed frame rest pieces) is = refl
 
 told-same : {State : Type 0} (gone : Bool) (settled : Bool) (played : Answer × State) (first second : Played State) → (settled ≡ true → first ≡ second) → (gone || settled) ≡ true → told_to gone played first ≡ told_to gone played second
 told-same true settled played first second same is = refl
 told-same false settled played first second same is = ap (told_to false played) (same is)
 
 -- the rest of a turn that is settled goes the same, whatever pieces follow and however they end
-pub turn_from-more : {State : Type 0} (table : Table State) (left : ℕ) (answers : Option ℕ) (end other : End) (state : State) (next : Next) (more : List (List ℕ)) → settles left answers next ≡ true
-    → turn_from table left answers other state (behind next more) ≡ turn_from table left answers end state next
+pub turn_from-more : {State : Type 0} (table : Table State) (left : ℕ) (answers : Option ℕ) (end other : End) (saved : List State) (state : State) (next : Next) (more : List (List ℕ)) → settles left (length saved) answers next ≡ true
+    → turn_from table left answers other saved state (behind next more) ≡ turn_from table left answers end saved state next
 unfolding turn_from settles
-turn_from-more table zero answers end other state (Framed frame rest pieces) more is = refl
-turn_from-more table zero answers end other state (Faulty fault) more is = refl
-turn_from-more table zero answers end other state Over more is = absurd cc
-turn_from-more table (suc left) answers end other state (Framed (Message dpid bytes) rest pieces) more is =
+turn_from-more table zero answers end other saved state (Framed frame rest pieces) more is = refl
+turn_from-more table zero answers end other saved state (Faulty fault) more is = refl
+turn_from-more table zero answers end other saved state Over more is = absurd cc
+turn_from-more table (suc left) answers end other saved state (Framed (Message dpid bytes) rest pieces) more is =
     let played = table.answer state dpid bytes in
     let fewer = one_fewer answers in
     let next = next_of rest pieces in
-    told-same (is_none_left answers) (settles left fewer next) played (turn_from table left fewer other played.1 (next_of rest (pieces ++ more))) (turn_from table left fewer end played.1 next)
+    told-same (is_none_left answers) (settles left (length saved) fewer next) played (turn_from table left fewer other saved played.1 (next_of rest (pieces ++ more))) (turn_from table left fewer end saved played.1 next)
     (λ settled.
-    ap (λ (n : Next). turn_from table left fewer other played.1 n) (next_of-more rest pieces more (settles-whole left fewer next settled))
-    ∙ turn_from-more table left fewer end other played.1 next more settled) is
-turn_from-more table (suc left) answers end other state (Framed (Done stop checkpoint) rest pieces) more is = refl
-turn_from-more table (suc left) answers end other state (Framed Save rest pieces) more is = refl
-turn_from-more table (suc left) answers end other state (Framed Keep rest pieces) more is = refl
-turn_from-more table (suc left) answers end other state (Framed Undo rest pieces) more is = refl
-turn_from-more table (suc left) answers end other state (Framed Ready rest pieces) more is = refl
-turn_from-more table (suc left) answers end other state (Faulty fault) more is = refl
-turn_from-more table (suc left) answers end other state Over more is = absurd cc
+    ap (λ (n : Next). turn_from table left fewer other saved played.1 n) (next_of-more rest pieces more (settles-whole left (length saved) fewer next settled))
+    ∙ turn_from-more table left fewer end other saved played.1 next more settled) is
+turn_from-more table (suc left) answers end other saved state (Framed (Done stop checkpoint) rest pieces) more is = refl
+turn_from-more table (suc left) answers end other saved state (Framed Save rest pieces) more is = refl
+turn_from-more table (suc left) answers end other saved state (Framed Keep rest pieces) more is = refl
+turn_from-more table (suc left) answers end other saved state (Framed Undo rest pieces) more is = refl
+turn_from-more table (suc left) answers end other saved state (Framed Ready rest pieces) more is = refl
+turn_from-more table (suc left) answers end other saved state (Faulty fault) more is = refl
+turn_from-more table (suc left) answers end other saved state Over more is = absurd cc
 
 -- what is told of an end is what is said of it
 looked-ended : (told : List (List ℕ)) (end : End) (said : List (List ℕ)) (said_end : End) → IsLookedAt told end said said_end → is_told end ≡ true → (said ≡ told) × (said_end ≡ end)
@@ -89,23 +89,23 @@ looked-ended told end said said_end (more, longer, inr both) is = (longer ∙ ap
 
 -- a turn that was given its event
 turn-given : {State : Type 0} (table : Table State) (budget : ℕ) (rest : List ℕ) (answers : Option ℕ) (told : List (List ℕ)) (end : End) (said : List (List ℕ)) (said_end : End) (state : State) (ended : Bool) → is_told end ≡ ended
-    → (ended || settles budget answers (next_of rest told)) ≡ true → IsLookedAt told end said said_end
-    → turn_from table budget answers said_end state (next_of rest said) ≡ turn_from table budget answers end state (next_of rest told)
+    → (ended || settles budget 0 answers (next_of rest told)) ≡ true → IsLookedAt told end said said_end
+    → turn_from table budget answers said_end [] state (next_of rest said) ≡ turn_from table budget answers end [] state (next_of rest told)
 turn-given table budget rest answers told end said said_end state true ended is looked =
     let same = looked-ended told end said said_end looked ended in
-    ap₂ (λ (e : End) (ps : List (List ℕ)). turn_from table budget answers e state (next_of rest ps)) same.1 same.0
+    ap₂ (λ (e : End) (ps : List (List ℕ)). turn_from table budget answers e [] state (next_of rest ps)) same.1 same.0
 turn-given table budget rest answers told end said said_end state false ended is looked =
     let next = next_of rest told in
-    ap (λ (ps : List (List ℕ)). turn_from table budget answers said_end state (next_of rest ps)) looked.1
-    ∙ ap (λ (n : Next). turn_from table budget answers said_end state n) (next_of-more rest told looked.0 (settles-whole budget answers next is))
-    ∙ turn_from-more table budget answers end said_end state next looked.0 is
+    ap (λ (ps : List (List ℕ)). turn_from table budget answers said_end [] state (next_of rest ps)) looked.1
+    ∙ ap (λ (n : Next). turn_from table budget answers said_end [] state n) (next_of-more rest told looked.0 (settles-whole budget 0 answers next is))
+    ∙ turn_from-more table budget answers end said_end [] state next looked.0 is
 
 turn-by : {State : Type 0} (table : Table State) (budget : ℕ) (rest : List ℕ) (told said : Reply) (state : State) (given : Bool) → told.given ≡ given
-    → (not given || is_heard_from budget told.answers told.end (next_of rest told.pieces)) ≡ true → IsFront told said → turn_of table budget rest said state ≡ turn_of table budget rest told state
+    → (not given || is_heard_from budget 0 told.answers told.end (next_of rest told.pieces)) ≡ true → IsFront told said → turn_of table budget rest said state ≡ turn_of table budget rest told state
 unfolding turn_of
 turn-by table budget rest told said state true given heard front =
     let said_given : said.given ≡ true = front.given ∙ given in
-    rw (said_given, given) (ap (λ (o : Option ℕ). turn_from table budget o said.end state (next_of rest said.pieces)) front.answers
+    rw (said_given, given) (ap (λ (o : Option ℕ). turn_from table budget o said.end [] state (next_of rest said.pieces)) front.answers
     ∙ turn-given table budget rest told.answers told.pieces told.end said.pieces said.end state (is_told told.end) refl heard front.front)
 turn-by table budget rest told said state false given heard front =
     let said_given : said.given ≡ false = front.given ∙ given in

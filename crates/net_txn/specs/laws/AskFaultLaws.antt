@@ -20,12 +20,11 @@ use Rattle.lego_model.specs.declared.fault.TxnFault.{TxnFault}
 use Rattle.lego_model.specs.declared.fault.TxnFault.TheVariants.{SwitchBroke, Diverged, Flooded, NoMemory}
 use Rattle.lego_model.specs.declared.wait.Awaited.{Awaited}
 use Rattle.net_txn.specs.Causes.{IsCause}
-use Rattle.net_txn.specs.Waits.{Floods, IfFlooded}
+use Rattle.net_txn.specs.Waits.{Brought, Floods, IfFlooded}
 use Rattle.lego_model.specs.BarrierWaits.{wait_steps, barrier_sent, next_xid}
 use Rattle.net_txn.specs.laws.HeardLaws.{next_xid-lt}
 use Rattle.net_txn.specs.Asks.{IsRefusal, IsRepliesFault, IsAskCause, Asks}
 use Rattle.of_wire.specs.laws.ReadingLaws.{reading_of-message_bytes}
-use Rattle.lego_model.specs.declared.wait.Refusal.{Refusal}
 use Rattle.lego_model.specs.History.{lost_of}
 use Rattle.net_txn.specs.declared.halt.Halt.{Halt}
 use Rattle.net_txn.specs.declared.halt.Halt.TheVariants.{Lost, Fault}
@@ -205,12 +204,12 @@ asked_halts {Tells = Tells} d xid a frame old new before came kept now_kept halt
     ask_halts Tells d xid old new kept now_kept halt (breaks_halts (flows_request xid ∷ []) halt (next_xid-lt xid lt) (none_released d xid lt) b2)
 
 -- no memory was left behind the reply
-pub asked_short : {Own : Type 0} {Tells : Type 0} (d xid : ℕ) (a : Awaited) (frames : List (List ℕ)) (old new : Seen Own) (before came kept now_kept : List (ℕ × List ℕ)) (answer : Option Refusal) → Replied Tells a frames Growing [] old new before came answer
+pub asked_short : {Own : Type 0} {Tells : Type 0} (d xid : ℕ) (a : Awaited) (frames : List (List ℕ)) (old new : Seen Own) (before came kept now_kept : List (ℕ × List ℕ)) (answer : Brought) → Replied Tells a frames Growing [] old new before came answer
     → AskHalts Tells d xid old new kept now_kept (Fault NoMemory)
 asked_short d xid a frames old new before came kept now_kept answer r = (inl tt, tt, replied_none_lost a frames r)
 
 -- what came is at fault
-pub asked_broke : {Own : Type 0} {Tells : Type 0} (d xid : ℕ) (a : Awaited) (frames : List (List ℕ)) (old new : Seen Own) (before came kept now_kept : List (ℕ × List ℕ)) (answer : Option Refusal) (request reply : List ℕ) (parts refusals : List (List ℕ)) (fault : TxnFault)
+pub asked_broke : {Own : Type 0} {Tells : Type 0} (d xid : ℕ) (a : Awaited) (frames : List (List ℕ)) (old new : Seen Own) (before came kept now_kept : List (ℕ × List ℕ)) (answer : Brought) (request reply : List ℕ) (parts refusals : List (List ℕ)) (fault : TxnFault)
     → Replied Tells a frames Growing [] old new before came answer → IsAskCause Tells d xid old new kept now_kept fault → IsRepliesFault d request reply parts refusals fault → AskHalts Tells d xid old new kept now_kept (Fault fault)
 asked_broke {Tells = Tells} d xid a frames old new before came kept now_kept answer request reply parts refusals fault r cause is =
     (cause, no_flood_of Tells d xid (asked_from d xid) (request_sent d xid ∷ barrier_sent (asked_from d xid) ∷ []) old new request reply parts refusals fault is, replied_none_lost a frames r)

@@ -17,9 +17,8 @@ use Rattle.outside.specs.Seen.{Seen}
 use Rattle.lego_model.specs.declared.fault.TxnFault.{TxnFault}
 use Rattle.lego_model.specs.declared.fault.TxnFault.TheVariants.{SwitchBroke, Diverged, Flooded, NoMemory}
 use Rattle.lego_model.specs.declared.wait.Awaited.{Awaited}
-use Rattle.lego_model.specs.declared.wait.Refusal.{Refusal}
 use Rattle.net_txn.specs.declared.halt.Halt.{Halt}
-use Rattle.net_txn.specs.Waits.{Waits, IfFlooded, KeptMore}
+use Rattle.net_txn.specs.Waits.{Brought, Waits, IfFlooded, KeptMore}
 use Rattle.lego_model.specs.BarrierWaits.{barrier_sent, next_xid}
 use Rattle.net_txn.specs.laws.WaitLaws.{waits_kept, of_switch}
 use Rattle.net_txn.specs.laws.ChangeLaws.{kept_for}
@@ -83,12 +82,12 @@ sorted_some d xid n came kept now_kept more is =
 
 -- ---- The whole
 
-pub came_more : {Own : Type 0} (Tells : Type 0) (d xid : ℕ) (a : Awaited) (front : List WorldStep) (old new : Seen Own) (before came : List (ℕ × List ℕ)) (result : Result (Option Refusal) Halt)
+pub came_more : {Own : Type 0} (Tells : Type 0) (d xid : ℕ) (a : Awaited) (front : List WorldStep) (old new : Seen Own) (before came : List (ℕ × List ℕ)) (result : Result Brought Halt)
     → a ≡ asked_from d xid → before ≡ [] → IfOk result (Waits Tells a front old new before came) → OnErr result (KeptMore a.dpid before came) → KeptMore d [] came
 came_more Tells d xid a front old new before came (Ok answer) is none ok err = kept_for d a.dpid before [] came (ap (λ (x : Awaited). x.dpid) is) none (waits_kept ok)
 came_more Tells d xid a front old new before came (Err fault) is none ok err = kept_for d a.dpid before [] came (ap (λ (x : Awaited). x.dpid) is) none err
 
-pub asked_waits : {Own : Type 0} {Tells : Type 0} (d xid : ℕ) (a : Awaited) (frame : List ℕ) (old new : Seen Own) (before came : List (ℕ × List ℕ)) (refusal : Option Refusal)
+pub asked_waits : {Own : Type 0} {Tells : Type 0} (d xid : ℕ) (a : Awaited) (frame : List ℕ) (old new : Seen Own) (before came : List (ℕ × List ℕ)) (refusal : Brought)
     → a ≡ asked_from d xid → frame ≡ flows_request xid → before ≡ [] → Waits Tells a (Acted (Sent a.dpid frame) ∷ barrier_sent a ∷ []) old new before came refusal
     → Waits Tells (asked_from d xid) (request_sent d xid ∷ barrier_sent (asked_from d xid) ∷ []) old new [] came refusal
 asked_waits {Tells = Tells} d xid a frame old new before came refusal is spelled none w =

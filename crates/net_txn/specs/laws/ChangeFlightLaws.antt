@@ -22,6 +22,7 @@ use Rattle.lego_model.specs.declared.fault.TxnFault.{TxnFault}
 use Rattle.net_txn.specs.declared.halt.Halt.{Halt}
 use Rattle.net_txn.specs.declared.halt.Halt.TheVariants.{Lost, Fault}
 use Rattle.lego_model.specs.declared.wait.Awaited.{Awaited}
+use Rattle.lego_model.specs.declared.wait.Refusal.{Refusal}
 use Rattle.lego_model.specs.BarrierWaits.{next_xid}
 use Rattle.net_txn.specs.declared.queue.Storage.TheVariants.{Growing}
 use Rattle.net_txn.specs.declared.logged.Logged.{Logged}
@@ -32,7 +33,7 @@ use Rattle.net_txn.specs.Net.{NetState, awaited_from}
 use Rattle.net_txn.specs.Said.{Said, Says, Hears, said_steps, Calls, unsaid, unheard, last_said, wait_said, frames_said, barrier_of, reply_heard, Replied, Breaks, BreaksBy}
 use Rattle.net_txn.specs.Answering.{BreaksOff, InFlight, MayMove}
 use Rattle.net_txn.specs.Making.{Halts}
-use Rattle.net_txn.specs.Waits.{KeptMore}
+use Rattle.net_txn.specs.Waits.{Brought, KeptMore}
 use Rattle.net_txn.specs.laws.SaidLaws.{joined_after, steps_append, Calls-moves, wait_said_steps}
 use Rattle.net_txn.specs.laws.LostLaws.{is_link, fault_is_none, packets_said, breaks_halts, breaks_none_lost, replied_none_lost}
 use Rattle.net_txn.specs.laws.HeardLaws.{IsMessage-barrier, next_xid-lt}
@@ -56,15 +57,21 @@ broke_by {Tells = Tells} d m net a frame kept now_kept old new halt is spelled s
     let b2 = subst (λ (f : List ℕ). BreaksBy Tells here ((f ∷ []) ++ barrier_of here ∷ []) old new kept now_kept halt) first b1 in
     subst (λ (k : List (ℕ × List ℕ)). BreaksBy Tells here ((change_bytes net.xid m ∷ []) ++ barrier_of here ∷ []) old new k now_kept halt) same b2
 
+abbrev brought : Option Refusal → List (List ℕ) → Brought
+brought refusal notices = record { refusal = refusal; notices = notices }
+
 pub replied_then : {Own : Type 0} {Tells : Type 0} (d : ℕ) (m : Change) (net : NetState) (a : Awaited) (frame : List ℕ) (kept now_kept : List (ℕ × List ℕ)) (old new : Seen Own) (halt : Halt)
-    → a ≡ awaited_from d net.xid → frame ≡ change_bytes a.first m → kept ≡ net.kept → Replied Tells a ((frame ∷ []) ++ barrier_of a ∷ []) Growing [] old new kept now_kept None
+    → a ≡ awaited_from d net.xid → frame ≡ change_bytes a.first m → kept ≡ net.kept → (answer : Brought) → answer.refusal ≡ None → Replied Tells a ((frame ∷ []) ++ barrier_of a ∷ []) Growing [] old new kept now_kept answer
     → BreaksOff Tells (awaited_from d net.xid) (change_bytes net.xid m ∷ []) old new net.kept now_kept halt
-replied_then {Tells = Tells} d m net a frame kept now_kept old new halt is spelled same r =
+replied_then {Tells = Tells} d m net a frame kept now_kept old new halt is spelled same answer none r =
     let here = awaited_from d net.xid in
+    let well : Brought = record { refusal = None; notices = answer.notices } in
+    let is_well : answer ≡ well = ap (λ (o : Option Refusal). brought o answer.notices) none in
     let first : frame ≡ change_bytes net.xid m = spelled ∙ ap (λ (x : Awaited). change_bytes x.first m) is in
-    let r1 = subst (λ (x : Awaited). Replied Tells x ((frame ∷ []) ++ barrier_of x ∷ []) Growing [] old new kept now_kept None) is r in
-    let r2 = subst (λ (f : List ℕ). Replied Tells here ((f ∷ []) ++ barrier_of here ∷ []) Growing [] old new kept now_kept None) first r1 in
-    inr (subst (λ (k : List (ℕ × List ℕ)). Replied Tells here ((change_bytes net.xid m ∷ []) ++ barrier_of here ∷ []) Growing [] old new k now_kept None) same r2)
+    let r0 = subst (λ (b : Brought). Replied Tells a ((frame ∷ []) ++ barrier_of a ∷ []) Growing [] old new kept now_kept b) is_well r in
+    let r1 = subst (λ (x : Awaited). Replied Tells x ((frame ∷ []) ++ barrier_of x ∷ []) Growing [] old new kept now_kept well) is r0 in
+    let r2 = subst (λ (f : List ℕ). Replied Tells here ((f ∷ []) ++ barrier_of here ∷ []) Growing [] old new kept now_kept well) first r1 in
+    inr (record { notices = answer.notices; replied = subst (λ (k : List (ℕ × List ℕ)). Replied Tells here ((change_bytes net.xid m ∷ []) ++ barrier_of here ∷ []) Growing [] old new k now_kept well) same r2 })
 
 -- what is sent releases no packet
 change_none : (d xid : ℕ) (m : Change) → xid < 2 ^ 32 → IsMessage (FlowMod m) → packets_said (frames_said d (change_bytes xid m ∷ [])) ≡ []
@@ -72,19 +79,20 @@ unfolding packets_said
 change_none d xid m small is = rw (reading_of-as_sent xid m small is) refl
 
 pub halts_then : {Own : Type 0} {Tells : Type 0} (d : ℕ) (m : Change) (log : List Logged) (net now_net : NetState) (a : Awaited) (frame : List ℕ) (kept : List (ℕ × List ℕ)) (old new : Seen Own) (halt : Halt) → a ≡ awaited_from d net.xid → frame ≡ change_bytes a.first m
-    → kept ≡ net.kept → IsMessage (FlowMod m) → net.xid < 2 ^ 32 → now_net.views ≡ net.views → now_net.log ≡ log → KeptMore d net.kept now_net.kept → BreaksBy Tells a ((frame ∷ []) ++ barrier_of a ∷ []) old new kept now_net.kept halt
+    → kept ≡ net.kept → IsMessage (FlowMod m) → net.xid < 2 ^ 32 → now_net.views ≡ net.views → now_net.log ≡ log → KeptMore d net.kept now_net.kept → now_net.held ≡ net.held → BreaksBy Tells a ((frame ∷ []) ++ barrier_of a ∷ []) old new kept now_net.kept halt
     → Halts Tells d m log old new net now_net halt
-halts_then {Tells = Tells} d m log net now_net a frame kept old new Lost is spelled same message small views log_is more b =
+halts_then {Tells = Tells} d m log net now_net a frame kept old new Lost is spelled same message small views log_is more held b =
     let c = broke_by d m net a frame kept now_net.kept old new Lost is spelled same b in
     let h = breaks_halts (change_bytes net.xid m ∷ []) Lost (next_xid-lt net.xid small) (change_none d net.xid m small message) c in
-    record { is_lost = h.0; read = h.1; views = views; log_is = log_is; kept = more }
-halts_then d m log net now_net a frame kept old new (Fault fault) is spelled same message small views log_is more b = inr (record {
+    record { is_lost = h.0; read = h.1; views = views; log_is = log_is; kept = more; held = held }
+halts_then d m log net now_net a frame kept old new (Fault fault) is spelled same message small views log_is more held b = inr (record {
   message = message;
   is_xid = small;
   said = inl (broke_by d m net a frame kept now_net.kept old new (Fault fault) is spelled same b);
   views = inl views;
   log_is = log_is;
   kept = more;
+  held = held;
 })
 
 -- a fault of a change loses no switch
@@ -94,7 +102,7 @@ flight_none_lost d m log old new net now_net fault flight told =
     let frames = change_bytes net.xid m ∷ barrier_of a ∷ [] in
     elim flight.said [
       | inl broke ↦ breaks_none_lost a frames broke.buf broke.trouble (fault_is_none d broke.trouble broke.buf fault broke.halt_is) broke.breaks told
-      | inr replied ↦ replied_none_lost a frames replied told
+      | inr well ↦ replied_none_lost a frames well.replied told
     ]
 
 -- ---- What moves no switch
@@ -230,8 +238,9 @@ flight_moves d m log old new net now_net fault told flight =
     let a = awaited_from d net.xid in
     elim flight.said [
       | inl broke ↦ breaks_move d net.xid m old new net.kept now_net.kept broke.buf broke.trouble told flight.is_xid flight.message (fault_is_none d broke.trouble broke.buf fault broke.halt_is) broke.breaks
-      | inr replied ↦
-          (let frames = change_bytes net.xid m ∷ barrier_of a ∷ [] in
+      | inr well ↦
+          (let replied = well.replied in
+          let frames = change_bytes net.xid m ∷ barrier_of a ∷ [] in
           let last = wait_said a replied.got ++ reply_heard a ∷ [] in
           moves_by d (as_sent (FlowMod m)) (frames_said d frames ++ last) old new told replied.calls
           (front_moves d net.xid m flight.is_xid flight.message frames last (both_front d net.xid m flight.is_xid flight.message) (stays_then d (wait_said a replied.got) (reply_heard a ∷ []) (stays_wait a replied.got) (stays_reply a))))

@@ -17,7 +17,7 @@ use Rattle.of_wire.specs.Spelling.{message_bytes}
 use Rattle.of_wire.specs.Grammar.{IsMessage, enveloped}
 use Rattle.app_frames.specs.declared.frame.Answer.{Answer}
 use Rattle.app_frames.specs.declared.frame.Answer.TheVariants.{Fine, Error, Unknown, Statistics}
-use Rattle.lego_model.specs.Packets.{Held, holds}
+use Rattle.lego_model.specs.Packets.{Held, holds, HeldBack}
 use Rattle.lego_model.specs.History.{lost_of}
 use Rattle.lego_model.specs.Answers.{rows_of_view, as_sent, host_answer_read, host_answer}
 use Rattle.outside.specs.declared.step.WorldStep.TheVariants.{Acted}
@@ -38,7 +38,7 @@ use Rattle.flow_table.specs.Change.{key_in}
 use Rattle.flow_table.specs.declared.view.ViewRow.{ViewRow}
 use Rattle.flow_table.specs.View.{TableView}
 use Rattle.net_txn.specs.declared.logged.Logged.{Logged}
-use Rattle.net_txn.specs.Waits.{Waits, Floods, KeptMore}
+use Rattle.net_txn.specs.Waits.{Brought, Waits, Floods, KeptMore}
 use Rattle.lego_model.specs.BarrierWaits.{barrier_sent}
 use Rattle.net_txn.specs.Views.{rows_at, is_row_at, with_rows, with_added, rows_after}
 use Rattle.net_txn.specs.laws.ViewLaws.{rows_at-stays}
@@ -54,7 +54,7 @@ use Rattle.net_txn.specs.laws.LostLaws.{waits_none_lost}
 use Rattle.net_txn.specs.laws.ChangeFlightLaws.{flight_none_lost}
 use Rattle.net_txn.specs.laws.ConsequenceLaws.{IfAsked, AnswersSo, reaches, steps}
 
-pub sent_waits : {Own : Type 0} {Tells : Type 0} (d : ℕ) (m : Change) (net : NetState) (a : Awaited) (frame : List ℕ) (kept now_kept : List (ℕ × List ℕ)) (old new : Seen Own) (refusal : Option Refusal)
+pub sent_waits : {Own : Type 0} {Tells : Type 0} (d : ℕ) (m : Change) (net : NetState) (a : Awaited) (frame : List ℕ) (kept now_kept : List (ℕ × List ℕ)) (old new : Seen Own) (refusal : Brought)
     → a ≡ awaited_from d net.xid → frame ≡ message_bytes a.first (as_sent (FlowMod m)) → kept ≡ net.kept
     → Waits Tells a (Acted (Sent a.dpid frame) ∷ barrier_sent a ∷ []) old new kept now_kept refusal
     → Waits Tells (awaited_from d net.xid) (change_sent d net.xid m ∷ barrier_sent (awaited_from d net.xid) ∷ []) old new net.kept now_kept refusal
@@ -102,7 +102,7 @@ some_is a b e = cc
 
 -- the net with a packet more, or as it is
 abbrev pub holding : ℕ → List ℕ → Answer → NetState → NetState
-holding d bytes answer net = record net { held = net.held ++ holds d bytes answer }
+holding d bytes answer net = record net { held = record net.held { packets = net.held.packets ++ holds d bytes answer } }
 
 -- the host answers, with nothing sent
 held_joined : {Own : Type 0} {Tells : Type 0} (d : ℕ) (bytes : List ℕ) (seen : Seen Own) (net : NetState) (answer : Answer) → answer_of_host d bytes net ≡ Some answer
@@ -112,6 +112,7 @@ held_joined {Tells = Tells} d bytes seen net answer is = record {
   ports = refl;
   left = refl;
   held = refl;
+  unheld = tt;
   by_host = λ other h. record { answers = some_is answer other (sym is ∙ h); fault = tt; world = refl; stays = refl };
   by_switch = λ xid m none read. absurd (no_answer answer (sym is ∙ none));
   flooded = λ xid m none read. tt;
@@ -145,10 +146,11 @@ short_joined {Tells = Tells} d bytes seen net = record {
   ports = refl;
   left = refl;
   held = refl;
+  unheld = refl;
   by_host = λ other h. record { answers = tt; fault = refl; world = refl; stays = refl };
-  by_switch = λ xid m none read. inl (record { world = refl; views = refl; log = refl; kept = refl });
+  by_switch = λ xid m none read. inl (record { world = refl; views = refl; log = refl; kept = refl; held = refl });
   flooded = λ xid m none read. tt;
-  in_flight = λ xid m none read. inl (record { world = refl; views = refl; log = refl; kept = refl });
+  in_flight = λ xid m none read. inl (record { world = refl; views = refl; log = refl; kept = refl; held = refl });
   reached = λ xid m told none read. tt;
   in_step = λ xid m told none read keeps waits agrees. tt;
   losses = λ told. refl;
@@ -224,10 +226,12 @@ packet_held d xid bytes packet read = rw read refl
 
 -- the net stays as it is
 pub holds_nothing : (d : ℕ) (bytes : List ℕ) (answer : Answer) (net : NetState) → holds d bytes answer ≡ [] → net ≡ holding d bytes answer net
-holds_nothing d bytes answer net none = let e : net.held ≡ net.held ++ holds d bytes answer = rw none (sym (append-nil net.held)) in ap (λ (h : List Held). record net { held = h }) e
+holds_nothing d bytes answer net none =
+    let e : net.held.packets ≡ net.held.packets ++ holds d bytes answer = rw none (sym (append-nil net.held.packets)) in
+    ap (λ (packets : List Held). record net { held = record net.held { packets = packets } }) e
 
-pub holds_packet : (d : ℕ) (bytes : List ℕ) (packet : Packet) (net : NetState) → holds d bytes Fine ≡ (d, packet) ∷ [] → record net { held = net.held ++ (d, packet) ∷ [] } ≡ holding d bytes Fine net
-holds_packet d bytes packet net one = ap (λ (more : List Held). record net { held = net.held ++ more }) (sym one)
+pub holds_packet : (d : ℕ) (bytes : List ℕ) (packet : Packet) (net : NetState) → holds d bytes Fine ≡ (d, packet) ∷ [] → record net { held = record net.held { packets = net.held.packets ++ (d, packet) ∷ [] } } ≡ holding d bytes Fine net
+holds_packet d bytes packet net one = ap (λ (more : List Held). record net { held = record net.held { packets = net.held.packets ++ more } }) (sym one)
 
 -- the views keep their switches
 
@@ -251,7 +255,7 @@ stopped_is : {Own : Type 0} (Tells : Type 0) (d : ℕ) (m : Change) (old new : S
     → MatchResult result (Asked Tells d m old new net now_net) (λ f. Stopped d m old new net now_net)
 stopped_is Tells d m old new net now_net (Ok answer) does = does
 stopped_is Tells d m old new net now_net (Err f) (inl unsent) = inl unsent
-stopped_is Tells d m old new net now_net (Err f) (inr flight) = inr (record { views = flight.views; log = flight.log_is; kept = flight.kept })
+stopped_is Tells d m old new net now_net (Err f) (inr flight) = inr (record { views = flight.views; log = flight.log_is; kept = flight.kept; held = flight.held })
 
 in_flight_is : {Own : Type 0} (Tells : Type 0) (d : ℕ) (m : Change) (old new : Seen Own) (net now_net : NetState) (result : Result Answer TxnFault) → Judged Tells d m old new net now_net result
     → IfErr result (λ f. Unsent old new net now_net ⊎ InFlight Tells d m (log_in_flight d m net.views net.log) old new net now_net (Fault f))
@@ -274,7 +278,7 @@ cut_flight : {Own : Type 0} {Tells : Type 0} (d : ℕ) (m : Change) (old new : S
     → Unsent old new net mid ⊎ InFlight Tells d m (with_logged (logged_by d m) net.log) old new net mid (Fault fault)
     → Unsent old new net (record mid { log = take n mid.log }) ⊎ InFlight Tells d m (log_in_flight d m net.views net.log) old new net (record mid { log = take n mid.log }) (Fault fault)
 cut_flight d m old new net mid n fault longer known (inl unsent) =
-    inl (record { world = unsent.world; views = unsent.views; log = ap (take n) unsent.log ∙ take_all n net.log (omega (arith, longer)); kept = unsent.kept })
+    inl (record { world = unsent.world; views = unsent.views; log = ap (take n) unsent.log ∙ take_all n net.log (omega (arith, longer)); kept = unsent.kept; held = unsent.held })
 cut_flight d m old new net mid n fault longer known (inr flight) = inr (record {
   message = flight.message;
   is_xid = flight.is_xid;
@@ -282,6 +286,7 @@ cut_flight d m old new net mid n fault longer known (inr flight) = inr (record {
   views = flight.views;
   log_is = cut_log d m net.log mid.log n longer flight.log_is ∙ sym (rw known refl);
   kept = flight.kept;
+  held = flight.held;
 })
 
 -- how it halts, with a log that may have been cut back
@@ -298,6 +303,7 @@ forgotten Tells d m old new net mid now n known (Err Lost) forgot longer row sam
       views = made.views;
       log_is = cut_log d m net.log mid.log n longer made.log_is;
       kept = made.kept;
+      held = made.held;
     })
 forgotten Tells d m old new net mid now n known (Err (Fault fault)) forgot longer row same made =
     subst (λ (x : NetState). Unsent old new net x ⊎ InFlight Tells d m (log_in_flight d m net.views net.log) old new net x (Fault fault)) (sym same) (cut_flight d m old new net mid n fault longer (sym row ∙ forgot) made)
@@ -315,16 +321,18 @@ forget_kept d kept now_kept more =
     ∙ append-nil (filter keeps kept)
 
 -- what is left of a net without the switch, with these
-left_of : ℕ → NetState → List TableView → List Logged → ℕ → List (ℕ × List ℕ) → NetState
-left_of d net views log xid kept = record (lost_net d net) { views = filter (λ v. not (v.dpid == d)) views; log = log; xid = xid; kept = kept }
+left_of : ℕ → NetState → List TableView → List Logged → HeldBack → ℕ → List (ℕ × List ℕ) → NetState
+left_of d net views log held xid kept = record (lost_net d net) { views = filter (λ v. not (v.dpid == d)) views; log = log; held = held; xid = xid; kept = kept }
 
 lost_after : {Own : Type 0} {Tells : Type 0} {d : ℕ} {old new : Seen Own} (net mid : NetState) → StaysBut net mid → LosesSo Tells d net.log old new net mid → lost_net d mid ≡ record (lost_net d net) { xid = mid.xid }
 unfolding left_of
 lost_after {d = d} net mid stays l =
+    let here = record net.held { notices = mid.held.notices } in
     ap (λ (n : NetState). lost_net d n) stays
-    ∙ ap (λ (vs : List TableView). left_of d net vs mid.log mid.xid (filter (λ m. not (m.0 == d)) mid.kept)) l.views
-    ∙ ap (λ (log : List Logged). left_of d net net.views log mid.xid (filter (λ m. not (m.0 == d)) mid.kept)) l.log_is
-    ∙ ap (λ (kept : List (ℕ × List ℕ)). left_of d net net.views net.log mid.xid kept) (forget_kept d net.kept mid.kept l.kept)
+    ∙ ap (λ (vs : List TableView). left_of d net vs mid.log here mid.xid (filter (λ m. not (m.0 == d)) mid.kept)) l.views
+    ∙ ap (λ (log : List Logged). left_of d net net.views log here mid.xid (filter (λ m. not (m.0 == d)) mid.kept)) l.log_is
+    ∙ ap (λ (held : HeldBack). left_of d net net.views net.log (record net.held { notices = held.notices }) mid.xid (filter (λ m. not (m.0 == d)) mid.kept)) l.held
+    ∙ ap (λ (kept : List (ℕ × List ℕ)). left_of d net net.views net.log net.held mid.xid kept) (forget_kept d net.kept mid.kept l.kept)
 
 pub makes_lost : {Own : Type 0} {Tells : Type 0} {d : ℕ} {old new : Seen Own} (net mid now : NetState) → StaysBut net mid → LosesSo Tells d net.log old new net mid → now ≡ lost_net d mid → MakesLost Tells d old new net now
 makes_lost {Tells = Tells} {d = d} {old = old} {new = new} net mid now stays l gone =
@@ -338,9 +346,14 @@ makes_lost {Tells = Tells} {d = d} {old = old} {new = new} net mid now stays l g
 -- ---- The whole
 
 -- a change is no packet
-nothing_held : (d : ℕ) (bytes : List ℕ) (xid : ℕ) (m : Change) (result : Result Answer TxnFault) (held : List Held) → reading_of bytes ≡ Ok (enveloped xid (FlowMod m)) → held ≡ held_after d bytes result held
-nothing_held d bytes xid m (Ok answer) held read = sym (append-nil held) ∙ ap (λ (more : List Held). held ++ more) (no_packet d xid m bytes answer read)
-nothing_held d bytes xid m (Err fault) held read = refl
+no_packet_held : (d : ℕ) (bytes : List ℕ) (xid : ℕ) (m : Change) (result : Result Answer TxnFault) (held : HeldBack) → reading_of bytes ≡ Ok (enveloped xid (FlowMod m)) → held.packets ≡ (held_after d bytes result held).packets
+no_packet_held d bytes xid m (Ok answer) held read = sym (append-nil held.packets) ∙ ap (λ (more : List Held). held.packets ++ more) (no_packet d xid m bytes answer read)
+no_packet_held d bytes xid m (Err fault) held read = refl
+
+unheld_is : {Own : Type 0} (Tells : Type 0) (d : ℕ) (m : Change) (old new : Seen Own) (net now_net : NetState) (result : Result Answer TxnFault) → Judged Tells d m old new net now_net result → IfErr result (λ f. now_net.held ≡ net.held)
+unheld_is Tells d m old new net now_net (Ok answer) does = tt
+unheld_is Tells d m old new net now_net (Err f) (inl unsent) = unsent.held
+unheld_is Tells d m old new net now_net (Err f) (inr flight) = flight.held
 
 judged_losses : {Own : Type 0} {Tells : Type 0} (d : ℕ) (m : Change) (old new : Seen Own) (net now_net : NetState) (result : Result Answer TxnFault) → Judged Tells d m old new net now_net result → Tells → lost_of new ≡ lost_of old
 judged_losses d m old new net now_net (Ok answer) asked told = waits_none_lost (change_sent d net.xid m ∷ barrier_sent (awaited_from d net.xid) ∷ []) (refl, (refl, tt)) refl asked.waits told
@@ -360,7 +373,8 @@ module _ {Own : Type 0} (Tells : Type 0) (d : ℕ) (bytes : List ℕ) (old new :
     switches = λ e. made_switches Tells d e m old new net now_net result (stopped_is Tells d m old new net now_net result j.judged);
     ports = ap (λ (n : NetState). n.ports) j.stays;
     left = ap (λ (n : NetState). n.left) j.stays;
-    held = ap (λ (n : NetState). n.held) j.stays ∙ nothing_held d bytes xid m result net.held read;
+    held = ap (λ (n : NetState). n.held.packets) j.stays ∙ no_packet_held d bytes xid m result net.held read;
+    unheld = unheld_is Tells d m old new net now_net result j.judged;
     by_host = λ answer h. absurd (no_answer answer (sym h ∙ none));
     by_switch = answers_is j.judged;
     flooded = flooded_is j.flooded;

@@ -6,7 +6,6 @@ use Rattle.of_types.specs.Fields.{number_at}
 use Rattle.of_match.specs.declared.key.Key.{Key}
 use Rattle.outside.specs.Seen.{Seen}
 use Rattle.lego_model.specs.declared.wait.Awaited.{Awaited}
-use Rattle.lego_model.specs.declared.wait.Refusal.{Refusal}
 use Rattle.lego_model.specs.declared.wait.Heard.{Heard}
 use Rattle.lego_model.specs.declared.wait.Heard.TheVariants.{Reply}
 use Rattle.lego_model.specs.BarrierWaits.{flood, heard, is_reply, kept_by, kept_of}
@@ -15,8 +14,8 @@ use Rattle.net_txn.specs.declared.queue.Storage.TheVariants.{Growing, Reserved}
 use Rattle.net_txn.specs.declared.trouble.Trouble.{Trouble}
 use Rattle.net_txn.specs.declared.trouble.Trouble.TheVariants as troubles
 use Rattle.net_txn.specs.laws.MessageStoreLaws.{where_fit_then}
-use Rattle.net_txn.specs.Waits.{IsRead, refusal_in, first_of}
-use Rattle.net_txn.specs.laws.WaitLaws.{is_Reply, reply_is, answer_more, first_of_none}
+use Rattle.net_txn.specs.Waits.{Brought, nothing_brought, with_heard, IsRead}
+use Rattle.net_txn.specs.laws.WaitLaws.{is_Reply, reply_is, answer_more, brings_none}
 use Rattle.lego_model.specs.UndoFaults.{key_refused}
 use Rattle.net_txn.specs.Said.{Says, Hears, Calls, unsaid, unheard, IsOfLink, IsOfHearing, HearsMessage, KeptAs, said_by, heard_said, wait_said, IsUntreated, Treats, TreatsNot, IsBreak, IsBreakBehind, HearsNext, HearsLast, WaitsOn, reply_heard, Replied, Breaks, Exchanges}
 use Rattle.net_txn.specs.laws.SaidLaws.{all_two, Calls-none, Calls-then, Calls-same}
@@ -63,13 +62,13 @@ untreated_breaks sent storage bytes troubles.Short buf is = tt
 untreated_breaks sent storage bytes troubles.Full buf is = is
 
 -- what a message is to the wait was done
-pub treats_by : {Own : Type 0} {Tells : Type 0} {a : Awaited} {storage : Storage} {bytes : List ℕ} {old new : Seen Own} {kept now_kept : List (ℕ × List ℕ)} {answer now_answer : Option Refusal} {ended : Bool} (h : Heard) → heard a bytes ≡ h → ended ≡ is_reply h
-    → Calls Tells a.dpid (said_by a.dpid h bytes) old new → KeptAs storage kept (kept_by a.dpid h bytes) now_kept → now_answer ≡ first_of answer (refusal_in h) → Treats Tells a storage bytes old new kept now_kept answer now_answer ended
+pub treats_by : {Own : Type 0} {Tells : Type 0} {a : Awaited} {storage : Storage} {bytes : List ℕ} {old new : Seen Own} {kept now_kept : List (ℕ × List ℕ)} {answer now_answer : Brought} {ended : Bool} (h : Heard) → heard a bytes ≡ h → ended ≡ is_reply h
+    → Calls Tells a.dpid (said_by a.dpid h bytes) old new → KeptAs storage kept (kept_by a.dpid h bytes) now_kept → now_answer ≡ with_heard a.notices h bytes answer → Treats Tells a storage bytes old new kept now_kept answer now_answer ended
 treats_by {Tells = Tells} {a = a} {storage = storage} {bytes = bytes} {old = old} {new = new} {kept = kept} {now_kept = now_kept} {answer = answer} {now_answer = now_answer} h is ends calls kept_is answer_is = record {
   ends = ends ∙ ap is_reply (sym is);
   calls = subst (λ (x : Heard). Calls Tells a.dpid (said_by a.dpid x bytes) old new) (sym is) calls;
   kept_is = subst (λ (x : Heard). KeptAs storage kept (kept_by a.dpid x bytes) now_kept) (sym is) kept_is;
-  answer_is = answer_is ∙ ap (λ (x : Heard). first_of answer (refusal_in x)) (sym is);
+  answer_is = answer_is ∙ ap (λ (x : Heard). with_heard a.notices x bytes answer) (sym is);
 }
 
 -- none came
@@ -83,7 +82,7 @@ pub hears_refusal : {Own : Type 0} {Tells : Type 0} {a : Awaited} {old new : See
 hears_refusal {buf = buf} {n = n} storage sent kept key xid h refused is = record { by = Some (take n buf); why = (h.read, (refl, sym refused, is)); calls = h.calls; kept_is = refl }
 
 -- one was treated, or not
-pub hears_then : {Own : Type 0} {Tells : Type 0} {old mid : Seen Own} {buf : List ℕ} {n : ℕ} (a : Awaited) (new : Seen Own) (storage : Storage) (sent : List (ℕ × Key)) (kept now_kept : List (ℕ × List ℕ)) (answer now_answer : Option Refusal) (result : Result Bool Trouble)
+pub hears_then : {Own : Type 0} {Tells : Type 0} {old mid : Seen Own} {buf : List ℕ} {n : ℕ} (a : Awaited) (new : Seen Own) (storage : Storage) (sent : List (ℕ × Key)) (kept now_kept : List (ℕ × List ℕ)) (answer now_answer : Brought) (result : Result Bool Trouble)
     → HearsMessage Tells a.dpid old mid buf n → None ≡ key_refused sent (take n buf) → (now_buf : List ℕ)
     → MatchResult result (Treats Tells a storage (take n buf) mid new kept now_kept answer now_answer) (TreatsNot Tells a storage mid new kept now_kept)
     → MatchResult result (HearsNext Tells a storage sent old new kept now_kept answer now_answer) (HearsLast Tells a storage sent old new kept now_kept now_buf)
@@ -105,7 +104,7 @@ hears_then {buf = buf} {n = n} a new storage sent kept now_kept answer now_answe
 
 -- ---- A wait
 
-pub none_yet : {Own : Type 0} {Tells : Type 0} (a : Awaited) (storage : Storage) (sent : List (ℕ × Key)) (seen : Seen Own) (kept : List (ℕ × List ℕ)) → WaitsOn Tells a storage sent seen seen kept kept None 0
+pub none_yet : {Own : Type 0} {Tells : Type 0} (a : Awaited) (storage : Storage) (sent : List (ℕ × Key)) (seen : Seen Own) (kept : List (ℕ × List ℕ)) → WaitsOn Tells a storage sent seen seen kept kept nothing_brought 0
 none_yet {Tells = Tells} a storage sent seen kept = record {
   got = [];
   count = refl;
@@ -115,7 +114,7 @@ none_yet {Tells = Tells} a storage sent seen kept = record {
   calls = Calls-none Tells a.dpid seen;
 }
 
-pub one_more : {Own : Type 0} {Tells : Type 0} {a : Awaited} {storage : Storage} {sent : List (ℕ × Key)} {old mid new : Seen Own} {kept kept1 kept2 : List (ℕ × List ℕ)} {answer1 answer2 : Option Refusal} {n : ℕ}
+pub one_more : {Own : Type 0} {Tells : Type 0} {a : Awaited} {storage : Storage} {sent : List (ℕ × Key)} {old mid new : Seen Own} {kept kept1 kept2 : List (ℕ × List ℕ)} {answer1 answer2 : Brought} {n : ℕ}
     → WaitsOn Tells a storage sent old mid kept kept1 answer1 n → HearsNext Tells a storage sent mid new kept1 kept2 answer1 answer2 false → WaitsOn Tells a storage sent old new kept kept2 answer2 (n + 1)
 one_more {a = a} {storage = storage} {sent = sent} {kept = kept} {kept1 = kept1} {kept2 = kept2} w h =
     let b = h.bytes in
@@ -129,7 +128,7 @@ one_more {a = a} {storage = storage} {sent = sent} {kept = kept} {kept1 = kept1}
       };
       kept_is = subst (λ (ms : List (ℕ × List ℕ)). KeptAs storage kept ms kept2) (flat_map_more (λ x. kept_by a.dpid (heard a x) x) [] w.got b)
           (kept_then storage (kept_of a w.got) (kept_by a.dpid (heard a b) b) kept kept1 kept2 w.kept_is h.kept_is);
-      answer_is = h.answer_is ∙ ap (λ (o : Option Refusal). first_of o (refusal_in (heard a b))) w.answer_is ∙ sym (answer_more a w.got b);
+      answer_is = h.answer_is ∙ ap (with_heard a.notices (heard a b) b) w.answer_is ∙ sym (answer_more a w.got b);
       calls = Calls-same (flat_map_more (heard_said a) [] w.got b) (Calls-then w.calls h.calls);
     }
 
@@ -139,7 +138,7 @@ reply_said a bytes is =
     rw h (ap (λ (b : List ℕ). Hears a.dpid b ∷ []) (reply_is a bytes is))
 
 -- the reply came
-pub replied : {Own : Type 0} {Tells : Type 0} {a : Awaited} {storage : Storage} {sent : List (ℕ × Key)} {old mid new : Seen Own} {kept kept1 kept2 : List (ℕ × List ℕ)} {answer1 answer2 : Option Refusal} {n : ℕ}
+pub replied : {Own : Type 0} {Tells : Type 0} {a : Awaited} {storage : Storage} {sent : List (ℕ × Key)} {old mid new : Seen Own} {kept kept1 kept2 : List (ℕ × List ℕ)} {answer1 answer2 : Brought} {n : ℕ}
     → WaitsOn Tells a storage sent old mid kept kept1 answer1 n → n ≤ 65535 → HearsNext Tells a storage sent mid new kept1 kept2 answer1 answer2 true → Replied Tells a [] storage sent old new kept kept2 answer2
 replied {a = a} {storage = storage} {kept = kept} {kept1 = kept1} {kept2 = kept2} {answer1 = answer1} w few h =
     let b = h.bytes in
@@ -150,7 +149,7 @@ replied {a = a} {storage = storage} {kept = kept} {kept1 = kept1} {kept2 = kept2
       few = omega (arith, w.count, few);
       before = w.before;
       kept_is = subst (λ (k : List (ℕ × List ℕ)). KeptAs storage kept (kept_of a w.got) k) (sym kept_same) w.kept_is;
-      answer_is = h.answer_is ∙ ap (λ (x : Heard). first_of answer1 (refusal_in x)) is ∙ first_of_none answer1 ∙ w.answer_is;
+      answer_is = h.answer_is ∙ ap (λ (x : Heard). with_heard a.notices x b answer1) is ∙ sym (brings_none answer1) ∙ w.answer_is;
       calls = Calls-then w.calls (Calls-same (reply_said a b (sym h.ends)) h.calls);
     }
 
@@ -164,7 +163,7 @@ later_break sent storage n None troubles.Short buf why = tt
 later_break sent storage n None troubles.Full buf why = absurd why
 
 -- it failed
-pub unreplied : {Own : Type 0} {Tells : Type 0} {a : Awaited} {storage : Storage} {sent : List (ℕ × Key)} {old mid new : Seen Own} {kept kept1 kept2 : List (ℕ × List ℕ)} {answer : Option Refusal} {n : ℕ} {buf : List ℕ} {t : Trouble}
+pub unreplied : {Own : Type 0} {Tells : Type 0} {a : Awaited} {storage : Storage} {sent : List (ℕ × Key)} {old mid new : Seen Own} {kept kept1 kept2 : List (ℕ × List ℕ)} {answer : Brought} {n : ℕ} {buf : List ℕ} {t : Trouble}
     → a.barrier < 2 ^ 32 → WaitsOn Tells a storage sent old mid kept kept1 answer n → HearsLast Tells a storage sent mid new kept1 kept2 buf t → Breaks Tells a [] storage sent old new kept kept2 buf t
 unreplied {a = a} {storage = storage} {sent = sent} {kept = kept} {buf = buf} {t = t} small w h = inr (record {
   is_xid = small;
@@ -177,7 +176,7 @@ unreplied {a = a} {storage = storage} {sent = sent} {kept = kept} {buf = buf} {t
 })
 
 -- too many messages came
-pub flooded : {Own : Type 0} {Tells : Type 0} {a : Awaited} {storage : Storage} {sent : List (ℕ × Key)} {old new : Seen Own} {kept now_kept : List (ℕ × List ℕ)} {answer : Option Refusal} {n : ℕ} (buf : List ℕ)
+pub flooded : {Own : Type 0} {Tells : Type 0} {a : Awaited} {storage : Storage} {sent : List (ℕ × Key)} {old new : Seen Own} {kept now_kept : List (ℕ × List ℕ)} {answer : Brought} {n : ℕ} (buf : List ℕ)
     → a.barrier < 2 ^ 32 → n ≡ flood → WaitsOn Tells a storage sent old new kept now_kept answer n → Breaks Tells a [] storage sent old new kept now_kept buf troubles.Flooded
 flooded {a = a} buf small many w = inr (record {
   is_xid = small;
@@ -196,7 +195,7 @@ pub unsent : {Own : Type 0} {Tells : Type 0} {a : Awaited} {old new : Seen Own} 
     → (IsOfLink t × Calls Tells a.dpid (unsaid a.dpid t) old new) → Breaks Tells a frames storage sent old new kept kept buf t
 unsent frames storage sent kept buf t s = inl (record { first = []; rest = frames; frames_is = refl; why = s.0; calls = s.1; kept_is = refl })
 
-pub replied_behind : {Own : Type 0} {Tells : Type 0} {a : Awaited} {frames : List (List ℕ)} {storage : Storage} {sent : List (ℕ × Key)} {old mid new : Seen Own} {kept now_kept : List (ℕ × List ℕ)} {answer : Option Refusal} (frame : List ℕ)
+pub replied_behind : {Own : Type 0} {Tells : Type 0} {a : Awaited} {frames : List (List ℕ)} {storage : Storage} {sent : List (ℕ × Key)} {old mid new : Seen Own} {kept now_kept : List (ℕ × List ℕ)} {answer : Brought} (frame : List ℕ)
     → Calls Tells a.dpid (Says a.dpid frame ∷ []) old mid → Replied Tells a frames storage sent mid new kept now_kept answer → Replied Tells a (frame ∷ frames) storage sent old new kept now_kept answer
 replied_behind frame before r = record { got = r.got; few = r.few; before = r.before; kept_is = r.kept_is; answer_is = r.answer_is; calls = Calls-then before r.calls }
 
@@ -213,7 +212,7 @@ breaks_behind frame before (inl u) = inl (record {
 breaks_behind frame before (inr u) = inr (record { is_xid = u.is_xid; got = u.got; before = u.before; kept_is = u.kept_is; by = u.by; why = u.why; calls = Calls-then before u.calls })
 
 -- a message was sent before
-pub behind : {Own : Type 0} {Tells : Type 0} {old mid : Seen Own} (a : Awaited) (frames : List (List ℕ)) (storage : Storage) (sent : List (ℕ × Key)) (new : Seen Own) (kept now_kept : List (ℕ × List ℕ)) (buf : List ℕ) (frame : List ℕ) (result : Result (Option Refusal) Trouble)
+pub behind : {Own : Type 0} {Tells : Type 0} {old mid : Seen Own} (a : Awaited) (frames : List (List ℕ)) (storage : Storage) (sent : List (ℕ × Key)) (new : Seen Own) (kept now_kept : List (ℕ × List ℕ)) (buf : List ℕ) (frame : List ℕ) (result : Result Brought Trouble)
     → Calls Tells a.dpid (Says a.dpid frame ∷ []) old mid → Exchanges Tells a frames storage sent mid new kept now_kept buf result → Exchanges Tells a (frame ∷ frames) storage sent old new kept now_kept buf result
 behind a frames storage sent new kept now_kept buf frame (Ok answer) before e = replied_behind frame before e
 behind a frames storage sent new kept now_kept buf frame (Err t) before e = breaks_behind frame before e

@@ -31,7 +31,7 @@ use Rattle.outside.specs.laws.LinkLaws.{switch_of-sent_other, waits_of-sent_othe
 use Rattle.outside.specs.Conforming.{MaySteps, Conforming}
 use Rattle.lego_model.specs.declared.wait.Refusal.{Refusal}
 use Rattle.lego_model.specs.declared.wait.Heard.TheVariants.{Refused}
-use Rattle.net_txn.specs.Waits.{answer_of}
+use Rattle.net_txn.specs.Waits.{Brought, first_refusal, notices_of}
 use Rattle.lego_model.specs.BarrierWaits.{heard, is_reply, kept_of, wait_steps, barrier_sent, reply_got, next_xid}
 use Rattle.net_txn.specs.Views.{rows_at, rows_after}
 use Rattle.net_txn.specs.laws.ViewLaws.{rows_at-same, rows_at-other}
@@ -40,7 +40,9 @@ use Rattle.net_txn.specs.laws.SentLaws.{reading_of-as_sent}
 use Rattle.net_txn.specs.laws.RowLaws.{sent, known_command, rows_agree, no_notices}
 use Rattle.net_txn.specs.laws.HeardLaws.{IsMessage-barrier, IsSmall, small_refusal, next_xid-lt, heard-error}
 use Rattle.net_txn.specs.laws.StepLaws.{told_switch, told_waits, barrier_sends, barrier_stays, gots, gots_switch, gots_other, gots_other_waits, gots_empty, got_rest, reply_alone, error_alone}
-use Rattle.net_txn.specs.Answering.{known_rows, answer_of_host, error_in, views_by, change_sent, Asked}
+use Rattle.net_txn.specs.Answering.{known_rows, answer_of_host, error_in, views_by, held_by, change_sent, Asked}
+use Rattle.lego_model.specs.Packets.{HeldBack}
+use Rattle.app_frames.specs.declared.frame.Event.{Event}
 use Rattle.net_txn.specs.ChangeSteps.{Agrees, InStep}
 
 -- ---- Before the messages that were got: the change and the barrier were sent.
@@ -93,8 +95,9 @@ taken_table m s is = rw is refl
 
 -- what is left when the reply came
 pub record Played (d xid : ℕ) (m : Change) (s : SwitchState) (got : List (List ℕ)) (before after : State) : Type 0 where
-  pub refused : error_in (answer_of (awaited_from d xid) got) ≡ message_refusal s (as_sent (FlowMod m))
+  pub refused : error_in (first_refusal (awaited_from d xid) got) ≡ message_refusal s (as_sent (FlowMod m))
   pub none_kept : kept_of (awaited_from d xid) got ≡ []
+  pub none_noticed : notices_of (awaited_from d xid) got ≡ []
   pub switch : switch_of d after ≡ Some (after_message (as_sent (FlowMod m)) s)
   pub waits : waits_of d after ≡ []
   pub others : (e : ℕ) → e ≢ d → switch_of e after ≡ switch_of e before
@@ -108,10 +111,11 @@ small_of e is = is.small
 
 -- where all that waited was got
 reverted_all : (d xid : ℕ) (m : Change) (s : SwitchState) (got ws : List (List ℕ)) (before mid after : State) → Sending d xid m s before mid → waits_of d mid ≡ ws → after ≡ after_steps (gots d ws) mid
-    → error_in (answer_of (awaited_from d xid) got) ≡ message_refusal s (as_sent (FlowMod m)) → kept_of (awaited_from d xid) got ≡ [] → Played d xid m s got before after
-reverted_all d xid m s got ws before mid after sending waits is refused kept = record {
+    → error_in (first_refusal (awaited_from d xid) got) ≡ message_refusal s (as_sent (FlowMod m)) → kept_of (awaited_from d xid) got ≡ [] → notices_of (awaited_from d xid) got ≡ [] → Played d xid m s got before after
+reverted_all d xid m s got ws before mid after sending waits is refused kept noticed = record {
   refused = refused;
   none_kept = kept;
+  none_noticed = noticed;
   switch = ap (switch_of d) is ∙ gots_switch d ws mid ∙ sending.switch;
   waits = ap (waits_of d) is ∙ gots_empty d ws mid waits;
   others = λ e other. ap (switch_of e) is ∙ gots_other d e ws mid other ∙ sending.others e other;
@@ -127,7 +131,7 @@ reverted_by declared d xid m s got before mid after lt sending none before_reply
     let got_is : got ≡ [] = reply_alone declared a got mid waits may before_reply in
     let steps : wait_steps a got ++ reply_got a ∷ [] ≡ gots d (reply_to xid ∷ []) = ap (λ (gs : List (List ℕ)). wait_steps a gs ++ reply_got a ∷ []) got_is in
     reverted_all d xid m s got (reply_to xid ∷ []) before mid after sending waits (is ∙ ap (λ (xs : List WorldStep). after_steps xs mid) steps)
-    (ap (λ (gs : List (List ℕ)). error_in (answer_of a gs)) got_is ∙ sym refusal) (ap (kept_of a) got_is)
+    (ap (λ (gs : List (List ℕ)). error_in (first_refusal a gs)) got_is ∙ sym refusal) (ap (kept_of a) got_is) (ap (notices_of a) got_is)
 reverted_by declared d xid m s got before mid after lt sending none before_reply may is (Some e) refusal =
     let a = awaited_from d xid in
     let error = error_bytes xid (as_sent (FlowMod m)) e in
@@ -137,10 +141,11 @@ reverted_by declared d xid m s got before mid after lt sending none before_reply
     let waits : waits_of d mid ≡ error ∷ reply_to xid ∷ [] = sending.waits ∙ ap (λ (ws : List (List ℕ)). ws ++ reply_to xid ∷ []) (refused_sent xid (as_sent (FlowMod m)) s e refusal) in
     let got_is : got ≡ error ∷ [] = error_alone declared a error r got mid waits refused may before_reply in
     let steps : wait_steps a got ++ reply_got a ∷ [] ≡ gots d (error ∷ reply_to xid ∷ []) = ap (λ (gs : List (List ℕ)). wait_steps a gs ++ reply_got a ∷ []) got_is ∙ got_rest a error r [] refused in
-    let answer : error_in (answer_of a (error ∷ [])) ≡ Some e = rw refused refl in
+    let answer : error_in (first_refusal a (error ∷ [])) ≡ Some e = rw refused refl in
     let kept : kept_of a (error ∷ []) ≡ [] = rw refused refl in
+    let noticed : notices_of a (error ∷ []) ≡ [] = rw refused refl in
     reverted_all d xid m s got (error ∷ reply_to xid ∷ []) before mid after sending waits (is ∙ ap (λ (xs : List WorldStep). after_steps xs mid) steps)
-    (ap (λ (gs : List (List ℕ)). error_in (answer_of a gs)) got_is ∙ answer ∙ sym refusal) (ap (kept_of a) got_is ∙ kept)
+    (ap (λ (gs : List (List ℕ)). error_in (first_refusal a gs)) got_is ∙ answer ∙ sym refusal) (ap (kept_of a) got_is ∙ kept) (ap (notices_of a) got_is ∙ noticed)
 
 -- ---- What the host let pass
 
@@ -196,6 +201,12 @@ views_other : (refusal : Option Refusal) (d e : ℕ) (m : Change) (views : List 
 views_other None d e m views other = rows_at-other d e (rows_after m) views other
 views_other (Some r) d e m views other = refl
 
+-- ---- What is held
+
+none_held : (refusal : Option Refusal) (d : ℕ) (views : List TableView) (notices : List (List ℕ)) (held : HeldBack) → notices ≡ [] → held_by refusal d views notices held ≡ held
+none_held None d views notices held none = rw none (ap (λ (events : List Event). record held { notices = events }) (append-nil held.notices))
+none_held (Some r) d views notices held none = refl
+
 -- ---- The whole
 
 pub in_step : {Own : Type 0} {Tells : Type 0} (d : ℕ) (bytes : List ℕ) (old new : Seen Own) (net now_net : NetState) (answer : Answer) (m : Change) (xid : ℕ) → Tells → Asked Tells d m old new net now_net answer
@@ -215,7 +226,7 @@ in_step d bytes old new net now_net answer m xid told asked host read keeps wait
     let sending = both_sent d net.xid m s (state old) (reading_of-as_sent net.xid m asked.is_xid.1 asked.message) (next_xid-lt net.xid asked.is_xid.1) joined.1 waits in
     let reverted = reverted_by old.given.declared d net.xid m s asked.waits.got (state old) (after_both d net.xid m (state old)) (state new) asked.is_xid.1 sending none_touched hears.before_reply may.1.1 after
     (message_refusal s (as_sent (FlowMod m))) refl in
-    let refused : error_in asked.refusal ≡ message_refusal s (as_sent (FlowMod m)) = ap error_in hears.answer_is ∙ reverted.refused in
+    let refused : error_in asked.refusal ≡ message_refusal s (as_sent (FlowMod m)) = ap (λ (b : Brought). error_in b.refusal) hears.answer_is ∙ reverted.refused in
     let shown : rows_of_view rows ≡ shown_by s = seen.2 ∙ sym joined.2 in
     let there : rows_at d now_net.views ≡ Some (rows_by asked.refusal m rows) = ap (rows_at d) asked.views ∙ views_at asked.refusal d m net.views rows seen.1 in
     let same = agreed m s rows asked.refusal refused shown p.command (ap (would_touch m) seen.2 ∙ p.touches_none) in
@@ -226,6 +237,7 @@ in_step d bytes old new net now_net answer m xid told asked host read keeps wait
       others = reverted.others;
       others_wait = reverted.others_wait;
       kept = hears.kept_is ∙ ap (λ (more : List (ℕ × List ℕ)). net.kept ++ more) reverted.none_kept ∙ append-nil net.kept;
+      held = asked.held ∙ none_held asked.refusal d net.views asked.notices net.held (ap (λ (b : Brought). b.notices) hears.answer_is ∙ reverted.none_noticed);
       agrees = rw (there, reverted.switch) (ap (λ (r : Rows). some_rows r) same);
       others_agree = λ e other before. ap (λ (v : Option (List ViewRow)). option_map rows_of_view v) (ap (rows_at e) asked.views ∙ views_other asked.refusal d e m net.views other) ∙ before ∙ ap (λ (o : Option SwitchState). option_map shown_by o) (sym (reverted.others e other));
     }

@@ -15,8 +15,7 @@ use Rattle.lego_model.specs.declared.fault.TxnFault.{TxnFault}
 use Rattle.lego_model.specs.declared.fault.TxnFault.TheVariants.{SwitchBroke, Diverged, Flooded, NoMemory}
 use Rattle.lego_model.specs.declared.wait.Awaited.{Awaited}
 use Rattle.net_txn.specs.Causes.{IsCause, IsPlain}
-use Rattle.net_txn.specs.Waits.{Waits, Floods, IfFlooded}
-use Rattle.lego_model.specs.declared.wait.Refusal.{Refusal}
+use Rattle.net_txn.specs.Waits.{Brought, Waits, Floods, IfFlooded}
 use Rattle.lego_model.specs.BarrierWaits.{wait_steps, barrier_sent, next_xid}
 use Rattle.flow_table.specs.View.{TableView}
 use Rattle.net_txn.specs.declared.ports.KnownPorts.{KnownPorts}
@@ -54,7 +53,7 @@ greeted_halts {Tells = Tells} d xid a first second old new kept now_kept halt lt
     let b3 = subst (λ (f : List ℕ). BreaksBy Tells here (one ∷ f ∷ barrier_of here ∷ []) old new kept now_kept halt) second_is b2 in
     breaks_halts (one ∷ two ∷ []) halt (next_xid-lt (next_xid xid) (next_xid-lt xid lt)) (none_released d xid lt) b3
 
-pub greeted_waits : {Own : Type 0} (Tells : Type 0) (d xid : ℕ) (a : Awaited) (first second : List ℕ) (old new : Seen Own) (kept net_kept now_kept : List (ℕ × List ℕ)) (answer : Option Refusal) → a ≡ greeted_from d xid → first ≡ message_bytes xid (FlowMod delete_all)
+pub greeted_waits : {Own : Type 0} (Tells : Type 0) (d xid : ℕ) (a : Awaited) (first second : List ℕ) (old new : Seen Own) (kept net_kept now_kept : List (ℕ × List ℕ)) (answer : Brought) → a ≡ greeted_from d xid → first ≡ message_bytes xid (FlowMod delete_all)
     → second ≡ message_bytes (next_xid xid) (SetConfig first_config) → kept ≡ net_kept → Waits Tells a (Acted (Sent a.dpid first) ∷ Acted (Sent a.dpid second) ∷ barrier_sent a ∷ []) old new kept now_kept answer
     → Waits Tells (greeted_from d xid) (greeting d xid) old new net_kept now_kept answer
 greeted_waits Tells d xid a first second old new kept net_kept now_kept answer is first_is second_is kept_is f =
@@ -98,7 +97,7 @@ join_plain d xid old new NoMemory lt told later keeps none f cause = tt
 -- ---- Where memory ran out
 
 -- behind the reply
-pub short_behind : {Own : Type 0} {Tells : Type 0} (d : ℕ) (a : Awaited) (frames : List (List ℕ)) (old new : Seen Own) (net now_net : NetState) (kept now_kept : List (ℕ × List ℕ)) (answer : Option Refusal) → Replied Tells a frames Growing [] old new kept now_kept answer → DoesNotJoin d net now_net
+pub short_behind : {Own : Type 0} {Tells : Type 0} (d : ℕ) (a : Awaited) (frames : List (List ℕ)) (old new : Seen Own) (net now_net : NetState) (kept now_kept : List (ℕ × List ℕ)) (answer : Brought) → Replied Tells a frames Growing [] old new kept now_kept answer → DoesNotJoin d net now_net
     → JoinHalts Tells d old new net now_net (Fault NoMemory)
 short_behind d a frames old new net now_net kept now_kept answer r not = record { not_joined = not; halts = (tt, tt, replied_none_lost a frames r) }
 

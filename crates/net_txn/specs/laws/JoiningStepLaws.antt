@@ -222,7 +222,7 @@ reverted declared d xid s got mid g before may =
     ap (λ (ws : List (List ℕ)). wait_steps a ws ++ reply_got a ∷ []) same ∙ ap (λ (xs : List WorldStep). xs ++ reply_got a ∷ []) (notices_steps a g.notices g.are_notices) ∙ sym (map-append of_switch g.notices (reply ∷ [])) in
     let end : after_steps (wait_steps a got ++ reply_got a ∷ []) mid ≡ after_steps (gots d (g.notices ++ reply ∷ [])) mid = ap (λ (xs : List WorldStep). after_steps xs mid) steps in
     record {
-      none_kept = ap (kept_of a) same ∙ notices_kept a g.notices g.are_notices;
+      none_kept = ap (kept_of a) same ∙ notices_kept a g.notices refl g.are_notices;
       switch = ap (switch_of d) end ∙ gots_switch d (g.notices ++ reply ∷ []) mid ∙ g.switch;
       waits = ap (waits_of d) end ∙ gots_empty d (g.notices ++ reply ∷ []) mid g.waits;
     }

@@ -38,7 +38,7 @@ barred_keeps declared d xid got s older t kept now_kept is may l some =
     let u = after_step (barrier_sent a) t in
     let waits : waits_of d u ≡ waits_of d t ++ message_bytes xid BarrierReply ∷ [] = told_waits d xid BarrierRequest (message_bytes xid BarrierRequest) t now read l.switch ∙ ap (λ (ws : List (List ℕ)). waits_of d t ++ ws) (barrier_sends xid now) in
     let same : got ≡ waits_of d t = notices_alone declared a (waits_of d t) got u l.notices waits may.1 is.before.before_reply in
-    let none : kept_of a got ≡ [] = ap (kept_of a) same ∙ notices_kept a (waits_of d t) l.notices in
+    let none : kept_of a got ≡ [] = ap (kept_of a) same ∙ notices_kept a (waits_of d t) refl l.notices in
     subst (λ (ms : List (ℕ × List ℕ)). KeptWhereFit kept ms now_kept) none some
 
 -- what is kept, of the switches that are not lost

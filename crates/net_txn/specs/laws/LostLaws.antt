@@ -36,12 +36,11 @@ use Rattle.lego_model.specs.declared.fault.TxnFault.TheVariants.{NoMemory}
 use Rattle.net_txn.specs.declared.queue.Storage.TheVariants.{Growing}
 use Rattle.net_txn.specs.declared.trouble.Trouble.{Trouble}
 use Rattle.net_txn.specs.declared.trouble.Trouble.TheVariants as troubles
-use Rattle.net_txn.specs.Waits.{IsRead, Waits}
+use Rattle.net_txn.specs.Waits.{Brought, IsRead, Waits}
 use Rattle.net_txn.specs.LinkSteps.{AreLinkSteps}
 use Rattle.net_txn.specs.laws.LinkStepLaws.{links_append, wait_links}
 use Rattle.net_txn.specs.Losing.{GoesOut, SaysNone, IsLost, SaysHalt, WaitHalts}
 use Rattle.net_txn.specs.Said.{Said, Says, Hears, HearsNoise, CannotSay, CannotHear, LacksMemory, steps_in, joined_behind, said_steps, IsSaid, IsSaidTo, AreSaidTo, Calls, unsaid, unheard, last_said, said_by, heard_said, wait_said, frames_said, barrier_of, IsOfLink, reply_heard, IsBreak, Replied, Breaks, BreaksBy, IsHaltBy, SaysNot}
-use Rattle.lego_model.specs.declared.wait.Refusal.{Refusal}
 use Rattle.net_txn.specs.laws.EchoLaws.{echo_reply-reading}
 use Rattle.net_txn.specs.laws.HeardLaws.{IsMessage-barrier}
 use Rattle.net_txn.specs.laws.LinkPresenceLaws.{losses_by, lost_none_all, loses-append}
@@ -449,7 +448,7 @@ breaks_halts {a = a} first (Fault fault) small none b = (
   breaks_none_lost a (first ++ barrier_of a ∷ []) b.buf b.trouble (fault_is_none a.dpid b.trouble b.buf fault b.halt_is) b.breaks,
 )
 
-pub replied_none_lost : {Own : Type 0} {Tells : Type 0} {old new : Seen Own} {kept now_kept : List (ℕ × List ℕ)} {answer : Option Refusal} (a : Awaited) (frames : List (List ℕ)) → Replied Tells a frames Growing [] old new kept now_kept answer → Tells → lost_of new ≡ lost_of old
+pub replied_none_lost : {Own : Type 0} {Tells : Type 0} {old new : Seen Own} {kept now_kept : List (ℕ × List ℕ)} {answer : Brought} (a : Awaited) (frames : List (List ℕ)) → Replied Tells a frames Growing [] old new kept now_kept answer → Tells → lost_of new ≡ lost_of old
 replied_none_lost {old = old} {new = new} a frames r =
     let d = a.dpid in
     let xs = frames_said d frames in
@@ -457,7 +456,7 @@ replied_none_lost {old = old} {new = new} a frames r =
     let last = reply_heard a ∷ [] in
     losses_none (xs ++ (ys ++ last)) old new r.calls (all_two (λ x. is_fine x ≡ true) xs (ys ++ last) (fine_frames d frames) (all_two (λ x. is_fine x ≡ true) ys last (fine_wait a r.got) (refl, tt)))
 
-pub waits_none_lost : {Own : Type 0} {Tells : Type 0} {a : Awaited} {old new : Seen Own} {kept now_kept : List (ℕ × List ℕ)} {answer : Option Refusal} (front : List WorldStep) → AreLinkSteps front → list_any loses front ≡ false → Waits Tells a front old new kept now_kept answer
+pub waits_none_lost : {Own : Type 0} {Tells : Type 0} {a : Awaited} {old new : Seen Own} {kept now_kept : List (ℕ × List ℕ)} {answer : Brought} (front : List WorldStep) → AreLinkSteps front → list_any loses front ≡ false → Waits Tells a front old new kept now_kept answer
     → Tells → lost_of new ≡ lost_of old
 waits_none_lost {a = a} {old = old} {new = new} front links none w told =
     let behind = wait_steps a w.got ++ reply_got a ∷ [] in

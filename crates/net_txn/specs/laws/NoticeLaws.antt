@@ -30,7 +30,7 @@ use Rattle.undo_laws.specs.laws.RemovalLaws.{removal-changed, removal-entries, r
 use Rattle.lego_model.specs.declared.wait.Awaited.{Awaited}
 use Rattle.lego_model.specs.declared.wait.Heard.TheVariants as hearing
 use Rattle.lego_model.specs.UndoFaults.{delete_strict}
-use Rattle.lego_model.specs.BarrierWaits.{heard, is_reply, heard_steps, wait_steps, kept_of, reply_got}
+use Rattle.lego_model.specs.BarrierWaits.{is_apart, heard, is_reply, heard_steps, wait_steps, kept_of, reply_got}
 use Rattle.net_txn.specs.laws.StepLaws.{gots, first_got, reply_alone}
 
 -- ---- The switch
@@ -136,26 +136,40 @@ no_reply xid bytes is same =
     let kind = ap (number_at 1 1) same ∙ reply_kind xid in
     absurd (omega (arith, is.kind, kind))
 
-heard-notice : (a : Awaited) (bytes : List ℕ) → IsNotice bytes → heard a bytes ≡ hearing.Notice
+-- it is no message as any other, where such ones are held or dropped
+heard-notice : (a : Awaited) (bytes : List ℕ) → is_apart a.notices ≡ true → IsNotice bytes → heard a bytes ≡ hearing.Notice
 unfolding heard
-heard-notice a bytes is =
+heard-notice a bytes apart is =
     let reply = message_bytes a.barrier BarrierReply in
     elim (cases_Bool (bytes_eq bytes reply)) [
       | inl same ↦ absurd (no_reply a.barrier bytes is ((bytes_eq-Decides bytes reply).0 same))
-      | inr other ↦ rw (other, is.kind, is.reason) refl
+      | inr other ↦ rw (other, apart, is.kind, is.reason) refl
+    ]
+
+heard-other : (a : Awaited) (bytes : List ℕ) → is_apart a.notices ≡ false → IsNotice bytes → heard a bytes ≡ hearing.Other
+unfolding heard
+heard-other a bytes apart is =
+    let reply = message_bytes a.barrier BarrierReply in
+    elim (cases_Bool (bytes_eq bytes reply)) [
+      | inl same ↦ absurd (no_reply a.barrier bytes is ((bytes_eq-Decides bytes reply).0 same))
+      | inr other ↦ rw (other, apart, is.kind) refl
     ]
 
 pub notice_steps : (a : Awaited) (bytes : List ℕ) → IsNotice bytes → heard_steps a bytes ≡ Acted (Got a.dpid bytes) ∷ []
-notice_steps a bytes is = rw (heard-notice a bytes is) refl
+notice_steps a bytes is =
+    elim (cases_Bool (is_apart a.notices)) [
+      | inl apart ↦ rw (heard-notice a bytes apart is) refl
+      | inr kept ↦ rw (heard-other a bytes kept is) refl
+    ]
 
 pub notices_steps : (a : Awaited) (ws : List (List ℕ)) → AllNotices ws → wait_steps a ws ≡ gots a.dpid ws
 notices_steps a [] all = refl
 notices_steps a (w ∷ ws) all = ap (λ (steps : List WorldStep). steps ++ wait_steps a ws) (notice_steps a w all.0) ∙ ap (λ (steps : List WorldStep). Acted (Got a.dpid w) ∷ steps) (notices_steps a ws all.1)
 
--- they are not kept
-pub notices_kept : (a : Awaited) (ws : List (List ℕ)) → AllNotices ws → kept_of a ws ≡ []
-notices_kept a [] all = refl
-notices_kept a (w ∷ ws) all = rw (heard-notice a w all.0) (notices_kept a ws all.1)
+-- they are not kept there
+pub notices_kept : (a : Awaited) (ws : List (List ℕ)) → is_apart a.notices ≡ true → AllNotices ws → kept_of a ws ≡ []
+notices_kept a [] apart all = refl
+notices_kept a (w ∷ ws) apart all = rw (heard-notice a w apart all.0) (notices_kept a ws apart all.1)
 
 -- where notices wait before the reply, they alone came before it
 pub notices_alone : (declared : List Declared) (a : Awaited) (ws got : List (List ℕ)) (t : State) → AllNotices ws → waits_of a.dpid t ≡ ws ++ message_bytes a.barrier BarrierReply ∷ [] → MaySteps declared (wait_steps a got ++ reply_got a ∷ []) t

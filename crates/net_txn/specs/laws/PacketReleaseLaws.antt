@@ -18,7 +18,6 @@ use Rattle.outside.specs.laws.InOrderLaws.{messages-none, messages-then}
 use Rattle.lego_model.specs.declared.fault.TxnFault.{TxnFault}
 use Rattle.lego_model.specs.declared.fault.TxnFault.TheVariants.{NoMemory}
 use Rattle.lego_model.specs.declared.wait.Awaited.{Awaited}
-use Rattle.lego_model.specs.declared.wait.Refusal.{Refusal}
 use Rattle.lego_model.specs.BarrierWaits.{next_xid}
 use Rattle.lego_model.specs.Journal.{released, losses}
 use Rattle.lego_model.specs.History.{lost_of}
@@ -29,7 +28,7 @@ use Rattle.net_txn.specs.declared.queue.Storage.TheVariants.{Growing}
 use Rattle.net_txn.specs.declared.trouble.Trouble.{Trouble}
 use Rattle.net_txn.specs.declared.trouble.Trouble.TheVariants as troubles
 use Rattle.net_txn.specs.Causes.{halt_by, IsCause}
-use Rattle.net_txn.specs.Waits.{IfFlooded}
+use Rattle.net_txn.specs.Waits.{Brought, IfFlooded}
 use Rattle.net_txn.specs.Views.{is_viewed}
 use Rattle.net_txn.specs.Net.{NetState}
 use Rattle.net_txn.specs.Losing.{lost_net, IsLost}
@@ -59,7 +58,7 @@ pub says_packet : {Own : Type 0} (Tells : Type 0) (d xid : ℕ) (packet : Packet
 says_packet Tells d xid packet frame old new (Ok x) is c = subst (λ (b : List ℕ). Calls Tells d (Says d b ∷ []) old new) is c
 says_packet Tells d xid packet frame old new (Err halt) is s = inr s
 
-pub barrier_passed : {Own : Type 0} {Tells : Type 0} (a : Awaited) (old new : Seen Own) (before now_kept came : List (ℕ × List ℕ)) (refusal : Option Refusal) → before ≡ [] → came ≡ now_kept → Replied Tells a (barrier_of a ∷ []) Growing [] old new before now_kept refusal
+pub barrier_passed : {Own : Type 0} {Tells : Type 0} (a : Awaited) (old new : Seen Own) (before now_kept came : List (ℕ × List ℕ)) (refusal : Brought) → before ≡ [] → came ≡ now_kept → Replied Tells a (barrier_of a ∷ []) Growing [] old new before now_kept refusal
     → BarrierPassed Tells a old new came
 barrier_passed {Tells = Tells} a old new before now_kept came refusal none same r =
     let r1 = subst (λ (k : List (ℕ × List ℕ)). Replied Tells a (barrier_of a ∷ []) Growing [] old new k now_kept refusal) none r in

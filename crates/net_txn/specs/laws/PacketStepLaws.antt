@@ -22,12 +22,11 @@ use Rattle.outside.specs.Conforming.{MaySteps, Conforming}
 use Rattle.lego_model.specs.declared.fault.TxnFault.{TxnFault}
 use Rattle.lego_model.specs.declared.fault.TxnFault.TheVariants.{SwitchBroke, Diverged, Flooded, NoMemory}
 use Rattle.lego_model.specs.declared.wait.Awaited.{Awaited}
-use Rattle.lego_model.specs.declared.wait.Refusal.{Refusal}
 use Rattle.lego_model.specs.declared.wait.Heard.TheVariants.{Reply, Other}
 use Rattle.lego_model.specs.BarrierWaits.{flood, next_xid, heard, is_reply, heard_steps, wait_steps, kept_of, reply_got}
 use Rattle.lego_model.specs.Controller.{events_of}
 use Rattle.net_txn.specs.Causes.{IsCause, IsPlain}
-use Rattle.net_txn.specs.Waits.{Waits, Floods, IfFlooded}
+use Rattle.net_txn.specs.Waits.{Brought, Waits, Floods, IfFlooded}
 use Rattle.net_txn.specs.Net.{NetState}
 use Rattle.net_txn.specs.Undos.{SameSwitch}
 use Rattle.net_txn.specs.Releases.{Knows, packet_awaited, packet_steps, takes_all, PacketInStep, IsFloodBy}
@@ -133,7 +132,7 @@ same_but_xid net now_net xid is = let x : now_net.xid ≡ xid = ap (λ (n : NetS
 
 -- ---- The whole
 
-pub packet_in_step : {Own : Type 0} {Tells : Type 0} (d : ℕ) (packet : Packet) (s : SwitchState) (old new : Seen Own) (net now_net : NetState) (queue now_queue : List Event) (came : List (ℕ × List ℕ)) (refusal : Option Refusal)
+pub packet_in_step : {Own : Type 0} {Tells : Type 0} (d : ℕ) (packet : Packet) (s : SwitchState) (old new : Seen Own) (net now_net : NetState) (queue now_queue : List Event) (came : List (ℕ × List ℕ)) (refusal : Brought)
     → net.xid < 2 ^ 32 → IsMessage (PacketOut packet) → Waits Tells (packet_awaited d net.xid) (packet_steps d net.xid packet) old new [] came refusal
     → (now_net, now_queue) ≡ takes_all came (with_xid net (next_xid (next_xid net.xid)), queue)
     → Tells → Conforming new → switch_of d (state old) ≡ Some s → waits_of d (state old) ≡ [] → PacketInStep d packet s old new net now_net queue now_queue

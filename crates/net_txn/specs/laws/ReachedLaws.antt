@@ -24,7 +24,7 @@ use Rattle.outside.specs.laws.SeenLaws.{journal-append}
 use Rattle.lego_model.specs.declared.wait.Awaited.{Awaited}
 use Rattle.lego_model.specs.declared.wait.Heard.{Heard}
 use Rattle.lego_model.specs.declared.wait.Heard.TheVariants.{Reply, Refused, Notice, Echo, Other}
-use Rattle.net_txn.specs.Waits.{IsRead, refusal_in, first_of, answer_of}
+use Rattle.net_txn.specs.Waits.{IsRead, refusal_in, first_of, first_refusal, Brought}
 use Rattle.lego_model.specs.BarrierWaits.{heard, steps_by, heard_steps, wait_steps, barrier_sent, reply_got, echo_reply, next_xid}
 use Rattle.net_txn.specs.laws.EchoLaws.{echo_reply-reading}
 use Rattle.net_txn.specs.Net.{NetState, awaited_from}
@@ -89,7 +89,7 @@ first_then Echo later refusal is = is
 first_then Other later refusal is = is
 
 -- of messages in a wait, and acts behind it that have none
-first_waited : (a : Awaited) (got : List (List ℕ)) (last : List Act) → filter_map (error_got a) last ≡ [] → slice_get (filter_map (error_got a) (journal (wait_steps a got) ++ last)) 0 ≡ error_in (answer_of a got)
+first_waited : (a : Awaited) (got : List (List ℕ)) (last : List Act) → filter_map (error_got a) last ≡ [] → slice_get (filter_map (error_got a) (journal (wait_steps a got) ++ last)) 0 ≡ error_in (first_refusal a got)
 unfolding journal
 first_waited a [] last none = ap (λ (es : List OfError). slice_get es 0) none
 first_waited a (b ∷ bs) last none =
@@ -97,13 +97,13 @@ first_waited a (b ∷ bs) last none =
     let rest = journal (wait_steps a bs) ++ last in
     ap (λ (acts : List Act). slice_get (filter_map (error_got a) acts) 0) (ap (λ (acts : List Act). acts ++ last) (journal-append (heard_steps a b) (wait_steps a bs)) ∙ append_assoc here (journal (wait_steps a bs)) last)
     ∙ ap (λ (es : List OfError). slice_get es 0) (filter_map-append (error_got a) here rest ∙ ap (λ (es : List OfError). es ++ filter_map (error_got a) rest) (errors_heard a b))
-    ∙ first_then (heard a b) (filter_map (error_got a) rest) (answer_of a bs) (first_waited a bs last none)
+    ∙ first_then (heard a b) (filter_map (error_got a) rest) (first_refusal a bs) (first_waited a bs last none)
 
 reply_no_error : (a : Awaited) → filter_map (error_got a) (Got a.dpid (message_bytes a.barrier BarrierReply) ∷ []) ≡ []
 unfolding journal errors_of
 reply_no_error a = errors_at a (message_bytes a.barrier BarrierReply) Reply (got_said a (message_bytes a.barrier BarrierReply) ∙ ap error_said (heard-reply a))
 
-first_behind : (a : Awaited) (got : List (List ℕ)) → slice_get (filter_map (error_got a) (journal (wait_steps a got ++ reply_got a ∷ []))) 0 ≡ error_in (answer_of a got)
+first_behind : (a : Awaited) (got : List (List ℕ)) → slice_get (filter_map (error_got a) (journal (wait_steps a got ++ reply_got a ∷ []))) 0 ≡ error_in (first_refusal a got)
 unfolding journal
 first_behind a got =
     ap (λ (acts : List Act). slice_get (filter_map (error_got a) acts) 0) (journal-append (wait_steps a got) (reply_got a ∷ []))
@@ -143,6 +143,6 @@ reached d old new net now_net answer m told asked =
         alone = rw (change, barrier, none) refl;
       };
       error = error_in asked.refusal;
-      error_is = ap error_in hears.answer_is ∙ sym (first_behind a got);
+      error_is = ap (λ (b : Brought). error_in b.refusal) hears.answer_is ∙ sym (first_behind a got);
       answer_is = asked.answer_is;
     }

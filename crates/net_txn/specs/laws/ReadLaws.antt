@@ -20,13 +20,12 @@ use Rattle.outside.specs.InOrder.{brings_message, BringMessages, MessagesSince}
 use Rattle.outside.specs.laws.InOrderLaws.{messages-append, messages-by}
 use Rattle.lego_model.specs.declared.fault.TxnFault.{TxnFault}
 use Rattle.lego_model.specs.declared.wait.Awaited.{Awaited}
-use Rattle.lego_model.specs.declared.wait.Refusal.{Refusal}
 use Rattle.lego_model.specs.declared.wait.Heard.{Heard}
 use Rattle.lego_model.specs.declared.wait.Heard.TheVariants.{Reply, Refused, Notice, Echo, Other}
 use Rattle.net_txn.specs.Net.{NetState}
 use Rattle.lego_model.specs.BarrierWaits.{next_xid, heard, steps_by, wait_steps, reply_got}
 use Rattle.net_txn.specs.laws.HeardLaws.{next_xid-lt}
-use Rattle.net_txn.specs.Waits.{IsRead, Waits}
+use Rattle.net_txn.specs.Waits.{Brought, IsRead, Waits}
 use Rattle.net_txn.specs.Changes.{Asked, Stopped}
 use Rattle.net_txn.specs.Arriving.{arrival_steps, Becomes, ArrivesLost, Arrives}
 use Rattle.net_txn.specs.Joining.{Joins}
@@ -64,7 +63,7 @@ all_read (b ∷ bs) read = (read.0.1, all_read bs read.1)
 
 -- ---- A wait that ended by the reply
 
-pub waits_read : {Own : Type 0} {Tells : Type 0} {a : Awaited} {old new : Seen Own} {kept now_kept : List (ℕ × List ℕ)} {answer : Option Refusal} (front : List WorldStep) → BringMessages front → a.barrier < 2 ^ 32 → Waits Tells a front old new kept now_kept answer → Tells
+pub waits_read : {Own : Type 0} {Tells : Type 0} {a : Awaited} {old new : Seen Own} {kept now_kept : List (ℕ × List ℕ)} {answer : Brought} (front : List WorldStep) → BringMessages front → a.barrier < 2 ^ 32 → Waits Tells a front old new kept now_kept answer → Tells
     → MessagesSince old new
 waits_read {a = a} {old = old} {new = new} front sent small w told =
     messages-by old new (front ++ (wait_steps a w.got ++ reply_got a ∷ [])) (w.hears.told told)

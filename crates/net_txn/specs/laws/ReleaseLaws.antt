@@ -1,5 +1,5 @@
 -- The laws of a commit: how its parts make the whole.
-use Rattle.std.specs.Prelude.{◌≡◌, ℕ, Bool, List, [], ◌∷◌, map, drop, Result, Ok, Err, refl}
+use Rattle.std.specs.Prelude.{◌≡◌, ℕ, Bool, List, [], ◌∷◌, ◌++◌, map, drop, Result, Ok, Err, refl}
 use Rattle.std.proofs.Common.{ap, ◌∙◌, inl, inr}
 use Rattle.flow_table.specs.View.{TableView}
 use Rattle.app_frames.specs.declared.frame.Event.{Event}
@@ -42,7 +42,7 @@ commits_undone start old new net now_net queue result u =
     }
 
 -- all were released
-pub commits_all : {Own : Type 0} {Tells : Type 0} (start : ℕ) (old new : Seen Own) (net now_net : NetState) (queue now_queue : List Event) (sizes : List (ℕ × ℕ)) → ReleasedFront Tells net.held old new (committed start net) now_net queue now_queue sizes
+pub commits_all : {Own : Type 0} {Tells : Type 0} (start : ℕ) (old new : Seen Own) (net now_net : NetState) (queue now_queue : List Event) (sizes : List (ℕ × ℕ)) → ReleasedFront Tells net.held.packets old new (committed start net) now_net (queue ++ net.held.notices) now_queue sizes
     → Commits Tells start old new net now_net queue now_queue (Ok sizes)
 commits_all start old new net now_net queue now_queue sizes r = record {
   continues = r.calls.continues;
@@ -59,7 +59,7 @@ commits_all start old new net now_net queue now_queue sizes r = record {
 }
 
 -- the release stopped
-pub commits_stopped : {Own : Type 0} {Tells : Type 0} (start : ℕ) (old new : Seen Own) (net now_net : NetState) (queue now_queue : List Event) (fault : TxnFault) → StopsBehind Tells net.held old new (committed start net) now_net queue fault
+pub commits_stopped : {Own : Type 0} {Tells : Type 0} (start : ℕ) (old new : Seen Own) (net now_net : NetState) (queue now_queue : List Event) (fault : TxnFault) → StopsBehind Tells net.held.packets old new (committed start net) now_net (queue ++ net.held.notices) fault
     → Commits Tells start old new net now_net queue now_queue (Err fault)
 commits_stopped start old new net now_net queue now_queue fault r = record {
   continues = r.calls.continues;

@@ -15,7 +15,6 @@ use Rattle.lego_model.specs.declared.fault.TxnFault.TheVariants.{NoMemory}
 use Rattle.net_txn.specs.declared.halt.Halt.{Halt}
 use Rattle.net_txn.specs.declared.halt.Halt.TheVariants.{Lost, Fault}
 use Rattle.lego_model.specs.declared.wait.Awaited.{Awaited}
-use Rattle.lego_model.specs.declared.wait.Refusal.{Refusal}
 use Rattle.lego_model.specs.BarrierWaits.{flood, wait_steps, barrier_sent, reply_got}
 use Rattle.net_txn.specs.declared.queue.Storage.TheVariants.{Growing}
 use Rattle.net_txn.specs.declared.trouble.Trouble.{Trouble}
@@ -23,7 +22,7 @@ use Rattle.net_txn.specs.declared.trouble.Trouble.TheVariants as troubles
 use Rattle.net_txn.specs.LinkSteps.{OnLinks, AsksWithoutStrays}
 use Rattle.lego_model.specs.UndoFaults.{GoesWithoutStrays, key_sent, key_refused}
 use Rattle.net_txn.specs.Causes.{EndsByGot, IsHaltCause, IsLinkCause}
-use Rattle.net_txn.specs.Waits.{Waits, IfFlooded, KeptMore}
+use Rattle.net_txn.specs.Waits.{Brought, Waits, IfFlooded, KeptMore}
 use Rattle.net_txn.specs.Undos.{halt_by}
 use Rattle.net_txn.specs.Said.{Said, Says, HearsNoise, Speaks, said_steps, IsSaid, Calls, unsaid, wait_said, last_said, IsOfLink, IsBreak, frames_said, barrier_of, reply_heard, Replied, Breaks, IsHaltBy, BreaksBy, Talks, SaysNot, SaysTo}
 use Rattle.net_txn.specs.laws.WaitLaws.{kept_of_more}
@@ -35,7 +34,7 @@ use Rattle.net_txn.specs.laws.ExchangeLaws.{replied_behind, breaks_behind}
 
 -- ---- A message before
 
-pub talks_behind : {Own : Type 0} {Tells : Type 0} {old mid : Seen Own} (a : Awaited) (first : List (List ℕ)) (new : Seen Own) (kept now_kept : List (ℕ × List ℕ)) (frame : List ℕ) (result : Result (Option Refusal) Halt)
+pub talks_behind : {Own : Type 0} {Tells : Type 0} {old mid : Seen Own} (a : Awaited) (first : List (List ℕ)) (new : Seen Own) (kept now_kept : List (ℕ × List ℕ)) (frame : List ℕ) (result : Result Brought Halt)
     → Calls Tells a.dpid (Says a.dpid frame ∷ []) old mid → Talks Tells a first mid new kept now_kept result → Talks Tells a (frame ∷ first) old new kept now_kept result
 talks_behind a first new kept now_kept frame (Ok answer) before t = replied_behind frame before t
 talks_behind a first new kept now_kept frame (Err halt) before t = record { trouble = t.trouble; buf = t.buf; breaks = breaks_behind frame before t.breaks; halt_is = t.halt_is }
@@ -53,7 +52,7 @@ talks_not {a = a} first kept halt s = record {
 pub speaks_none : {Own : Type 0} (Tells : Type 0) (d : ℕ) (seen : Seen Own) → Speaks Tells d seen seen
 speaks_none Tells d seen = record { said = []; calls = Calls-none Tells d seen; goes = goes_none d }
 
-replied_speaks : {Own : Type 0} {Tells : Type 0} (a : Awaited) (first : List (List ℕ)) (old new : Seen Own) (kept now_kept : List (ℕ × List ℕ)) (answer : Option Refusal)
+replied_speaks : {Own : Type 0} {Tells : Type 0} (a : Awaited) (first : List (List ℕ)) (old new : Seen Own) (kept now_kept : List (ℕ × List ℕ)) (answer : Brought)
     → Replied Tells a (first ++ barrier_of a ∷ []) Growing [] old new kept now_kept answer → Speaks Tells a.dpid old new
 replied_speaks a first old new kept now_kept answer r =
     let d = a.dpid in
@@ -80,7 +79,7 @@ breaks_speaks a first old new kept now_kept buf t (inr u) = record {
   goes = whole_goes a first u.got u.by t buf u.is_xid u.before.before_reply;
 }
 
-pub talks_speak : {Own : Type 0} {Tells : Type 0} {old new : Seen Own} (a : Awaited) (kept now_kept : List (ℕ × List ℕ)) (d : ℕ) (first : List (List ℕ)) (result : Result (Option Refusal) Halt) → a.dpid ≡ d
+pub talks_speak : {Own : Type 0} {Tells : Type 0} {old new : Seen Own} (a : Awaited) (kept now_kept : List (ℕ × List ℕ)) (d : ℕ) (first : List (List ℕ)) (result : Result Brought Halt) → a.dpid ≡ d
     → Talks Tells a first old new kept now_kept result → Speaks Tells d old new
 talks_speak {Tells = Tells} {old = old} {new = new} a kept now_kept d first (Ok answer) is r =
     subst (λ (x : ℕ). Speaks Tells x old new) is (replied_speaks a first old new kept now_kept answer r)
@@ -117,7 +116,7 @@ frames_steps : (joined : Bool) (d : ℕ) (frames : List (List ℕ)) → said_ste
 frames_steps joined d [] = refl
 frames_steps joined d (f ∷ fs) = ap (λ (s : List WorldStep). Acted (Sent d f) ∷ s) (frames_steps joined d fs)
 
-pub talks_waits : {Own : Type 0} {Tells : Type 0} {a : Awaited} {old new : Seen Own} {kept now_kept : List (ℕ × List ℕ)} {answer : Option Refusal} (first : List (List ℕ))
+pub talks_waits : {Own : Type 0} {Tells : Type 0} {a : Awaited} {old new : Seen Own} {kept now_kept : List (ℕ × List ℕ)} {answer : Brought} (first : List (List ℕ))
     → Replied Tells a (first ++ barrier_of a ∷ []) Growing [] old new kept now_kept answer → Waits Tells a (front_steps a first) old new kept now_kept answer
 talks_waits {a = a} {old = old} first r = record {
   got = r.got;
@@ -134,7 +133,7 @@ talks_waits {a = a} {old = old} first r = record {
   };
 }
 
-pub talks_ok : {Own : Type 0} (Tells : Type 0) (a : Awaited) (old new : Seen Own) (kept now_kept : List (ℕ × List ℕ)) (first : List (List ℕ)) (result : Result (Option Refusal) Halt) → Talks Tells a first old new kept now_kept result
+pub talks_ok : {Own : Type 0} (Tells : Type 0) (a : Awaited) (old new : Seen Own) (kept now_kept : List (ℕ × List ℕ)) (first : List (List ℕ)) (result : Result Brought Halt) → Talks Tells a first old new kept now_kept result
     → IfOk result (Waits Tells a (front_steps a first) old new kept now_kept)
 talks_ok Tells a old new kept now_kept first (Ok answer) t = talks_waits first t
 talks_ok Tells a old new kept now_kept first (Err halt) t = tt
@@ -279,6 +278,6 @@ breaks_kept a frames old new kept now_kept buf t (inr u) =
 pub talks_kept : {Own : Type 0} {Tells : Type 0} {a : Awaited} {frames : List (List ℕ)} {old new : Seen Own} {kept now_kept : List (ℕ × List ℕ)} {halt : Halt} → BreaksBy Tells a frames old new kept now_kept halt → KeptMore a.dpid kept now_kept
 talks_kept {a = a} {frames = frames} {old = old} {new = new} {kept = kept} {now_kept = now_kept} b = breaks_kept a frames old new kept now_kept b.buf b.trouble b.breaks
 
-pub talks_err : {Own : Type 0} (Tells : Type 0) (a : Awaited) (old new : Seen Own) (kept now_kept : List (ℕ × List ℕ)) (first : List (List ℕ)) (result : Result (Option Refusal) Halt) → Talks Tells a first old new kept now_kept result → OnErr result (KeptMore a.dpid kept now_kept)
+pub talks_err : {Own : Type 0} (Tells : Type 0) (a : Awaited) (old new : Seen Own) (kept now_kept : List (ℕ × List ℕ)) (first : List (List ℕ)) (result : Result Brought Halt) → Talks Tells a first old new kept now_kept result → OnErr result (KeptMore a.dpid kept now_kept)
 talks_err Tells a old new kept now_kept first (Ok answer) t = tt
 talks_err Tells a old new kept now_kept first (Err halt) t = talks_kept t

@@ -21,7 +21,6 @@ use Rattle.outside.specs.InOrder.{BringMessages, MayCome, MayComeAll}
 use Rattle.lego_model.specs.declared.fault.TxnFault.{TxnFault}
 use Rattle.lego_model.specs.declared.fault.TxnFault.TheVariants.{SwitchBroke, Diverged, Flooded, NoMemory}
 use Rattle.lego_model.specs.declared.wait.Awaited.{Awaited}
-use Rattle.lego_model.specs.declared.wait.Refusal.{Refusal}
 use Rattle.lego_model.specs.Journal.{losses, released}
 use Rattle.lego_model.specs.BarrierWaits.{kept_of, wait_steps, reply_got, barrier_sent}
 use Rattle.net_txn.specs.declared.halt.Halt.{Halt}
@@ -31,7 +30,7 @@ use Rattle.net_txn.specs.declared.trouble.Trouble.{Trouble}
 use Rattle.net_txn.specs.declared.trouble.Trouble.TheVariants as troubles
 use Rattle.lego_model.specs.UndoFaults.{inverse_bytes, Goes, GoesWithoutStrays, key_refused, AreBefore}
 use Rattle.net_txn.specs.MessageStore.{KeptWhereFit}
-use Rattle.net_txn.specs.Waits.{IsRead, KeptMore}
+use Rattle.net_txn.specs.Waits.{Brought, IsRead, KeptMore}
 use Rattle.net_txn.specs.Undos.{halt_by, alone, Moves, IsFaultOf, IsHaltOf, GoesOutBy, LosesBy, Fails, AwaitsReplies, PassesBarrier}
 use Rattle.net_txn.specs.Said.{Said, Says, Hears, HearsNoise, CannotSay, CannotHear, LacksMemory, IsSaid, Calls, steps_in, said_steps, unsaid, unheard, wait_said, last_said, IsOfLink, IsBreak, AreHeard, frames_said, barrier_of, reply_heard, Replied, Breaks}
 use Rattle.net_txn.specs.laws.WaitLaws.{of_switch, kept_of_more}
@@ -182,7 +181,7 @@ says_fails {d = d} {old = old} {new = new} sent t buf s = unsent_fails d sent []
 before_of : (a : Awaited) (sent : List (ℕ × Key)) (got : List (List ℕ)) → AreHeard a sent got → AreBefore a sent got
 before_of a sent got h = record { read = all_weaker IsRead (λ b. IsOk (reading_of b)) (λ b r. r.1) got h.read; before_reply = h.before_reply; unrefused = h.unrefused }
 
-replies : {Own : Type 0} {Tells : Type 0} (a : Awaited) (sent : List (ℕ × Key)) (old new : Seen Own) (kept now_kept : List (ℕ × List ℕ)) (answer : Option Refusal) → Replied Tells a (barrier_of a ∷ []) Reserved sent old new kept now_kept answer
+replies : {Own : Type 0} {Tells : Type 0} (a : Awaited) (sent : List (ℕ × Key)) (old new : Seen Own) (kept now_kept : List (ℕ × List ℕ)) (answer : Brought) → Replied Tells a (barrier_of a ∷ []) Reserved sent old new kept now_kept answer
     → AwaitsReplies Tells a (barrier_sent a ∷ []) sent old new kept now_kept
 replies a sent old new kept now_kept answer r = record {
   got = r.got;
@@ -306,7 +305,7 @@ breaks_kept : {Own : Type 0} {Tells : Type 0} (a : Awaited) (sent : List (ℕ ×
 breaks_kept a sent old new kept now_kept buf t (inl u) = ([], u.kept_is ∙ sym (append-nil kept))
 breaks_kept a sent old new kept now_kept buf t (inr u) = kept_fit a u.got kept now_kept u.kept_is
 
-pub passes_ok : {Own : Type 0} {Tells : Type 0} {sent : List (ℕ × Key)} {old new : Seen Own} {kept now_kept : List (ℕ × List ℕ)} (d xid : ℕ) (answer : Option Refusal) (buf : List ℕ) → Replied Tells (alone d xid) (barrier_of (alone d xid) ∷ []) Reserved sent old new kept now_kept answer
+pub passes_ok : {Own : Type 0} {Tells : Type 0} {sent : List (ℕ × Key)} {old new : Seen Own} {kept now_kept : List (ℕ × List ℕ)} (d xid : ℕ) (answer : Brought) (buf : List ℕ) → Replied Tells (alone d xid) (barrier_of (alone d xid) ∷ []) Reserved sent old new kept now_kept answer
     → PassesBarrier Tells d xid sent old new kept now_kept buf (Ok tt)
 passes_ok {sent = sent} {old = old} {new = new} {kept = kept} {now_kept = now_kept} d xid answer buf r = record {
   replied = replies (alone d xid) sent old new kept now_kept answer r;

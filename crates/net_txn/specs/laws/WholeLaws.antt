@@ -3,6 +3,7 @@ use Rattle.std.specs.Prelude.{◌≡◌, ◌==◌, ℕ, Bool, true, false, not, 
 use Rattle.std.proofs.Common.{sym, ap, ◌∙◌, subst}
 use Rattle.std.proofs.lemmas.List.Elements.{filter_agree}
 use Rattle.flow_table.specs.View.{TableView}
+use Rattle.lego_model.specs.Packets.{nothing_held}
 use Rattle.net_txn.specs.Ports.{PortLists, ports_lost}
 use Rattle.net_txn.specs.Losing.{is_among}
 use Rattle.of_match.specs.declared.key.Key.{Key}
@@ -50,14 +51,14 @@ lost_alike : {Own : Type 0} {Tells : Type 0} {views : List TableView} {old new :
 lost_alike {old = old} {new = new} f d = ap not ((f.undoing.stands d).out ∙ sym (among_out old.counts new.counts d f.parts (λ c. (f.undoing.stands c).run)))
 
 -- what the host keeps where the log was undone
-now_alike : (net now : NetState) (views : List TableView) (log : List Logged) (kept : List (ℕ × List ℕ)) (ports : PortLists) (xid : ℕ) → now.views ≡ views → now.log ≡ log → now.held ≡ [] → now.kept ≡ kept → ports_in now ≡ ports → now.xid ≡ xid → now.moment ≡ net.moment
-    → now ≡ record { views = views; ports = ports.known; log = log; held = []; xid = xid; moment = net.moment; kept = kept; room = now.room; left = ports.left }
+now_alike : (net now : NetState) (views : List TableView) (log : List Logged) (kept : List (ℕ × List ℕ)) (ports : PortLists) (xid : ℕ) → now.views ≡ views → now.log ≡ log → now.held ≡ nothing_held → now.kept ≡ kept → ports_in now ≡ ports → now.xid ≡ xid → now.moment ≡ net.moment
+    → now ≡ record { views = views; ports = ports.known; log = log; held = nothing_held; xid = xid; moment = net.moment; kept = kept; room = now.room; left = ports.left }
 now_alike net now views log kept ports xid same_views same_log none_held same_kept same_ports same_xid same_moment =
     rw (sym same_views, sym same_log, sym same_kept, sym same_ports, sym same_xid, sym same_moment, sym none_held) refl
 
 pub undoes : {Own : Type 0} {Tells : Type 0} (start from : ℕ) (old new : Seen Own) (net now : NetState) (result : Result (Unit {0}) TxnFault) → take from net.log ≡ take start net.log → drop from net.log ≡ drop start net.log
     → UndoesLog Tells net.views now.views old new net.kept now.kept (ports_in net) (ports_in now) net.xid now.xid (map key_logged (drop from net.log)) result
-    → now.log ≡ take from net.log → now.held ≡ [] → now.moment ≡ net.moment → (net.room ≤ now.room + 1) × (IsOk result → now.room ≡ net.room) → Undoes Tells start old new net now result
+    → now.log ≡ take from net.log → now.held ≡ nothing_held → now.moment ≡ net.moment → (net.room ≤ now.room + 1) × (IsOk result → now.room ≡ net.room) → Undoes Tells start old new net now result
 undoes {Tells = Tells} start from old new net now result front rest u log_is none_held same_moment fits =
     let f = u.further in
     let parts = f.parts in

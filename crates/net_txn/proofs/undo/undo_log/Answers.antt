@@ -18,7 +18,7 @@ returns-clause-undoing g c =
     let old = g.W.World.seen c.args.world.now in
     let new = g.W.World.seen c.undo-undone.new.world in
     let result = c.undo-undone.result in
-    let mid : NetState = record { views = plains s.views.items; ports = s.ports.known; log = s.log.items; held = s.held.items; xid = s.xid; moment = s.moment; kept = s.kept; room = vec_len s.rooms; left = s.ports.left } in
+    let mid : NetState = record { views = plains s.views.items; ports = s.ports.known; log = s.log.items; held = record { packets = s.held.items; notices = s.notices }; xid = s.xid; moment = s.moment; kept = s.kept; room = vec_len s.rooms; left = s.ports.left } in
     let now : NetState = record mid { views = plains c.forget_lost.new.views.items; kept = c.forget_lost.new.kept } in
     let is = sym c.net.view_is in
     let undoing = subst (λ (n : NetState). (fault : Option TxnFault) × (result ≡ ended_by fault) × Further g.W.World.Tells net.views old new net.kept n.kept (ports_in net) (ports_in n) net.xid n.xid (switches_of net.views) (drop from n.log) fault) is e.undoing in

@@ -6,7 +6,7 @@ use Rattle.net_txn.proofs.wait.wait.Goals as goal
 
 pub loop-heard-init : goal.loop-heard-init
 loop-heard-init g c = record {
-  heard = none_yet c.args.awaited.now c.args.storage (inverses_in c.args.awaited.now.dpid c.args.reverted.now) (g.W.World.seen c.args.world.now) c.args.kept.now;
+  heard = rw c.new-answer.ensures (none_yet c.args.awaited.now c.args.storage (inverses_in c.args.awaited.now.dpid c.args.reverted.now) (g.W.World.seen c.args.world.now) c.args.kept.now);
   room = refl;
 }
 

@@ -10,9 +10,10 @@ use Rattle.net_txn.specs.laws.ChangeFlightLaws.{replied_then, halts_then}
 use Rattle.net_txn.specs.laws.TalkLaws.{speaks_none, talks_speak, talks_waits, talks_cause, talks_flooded, talks_kept}
 use Rattle.net_txn.proofs.net.Net.make.Goals as goal
 
-pub returns-in_err-put_added-in-None-clause-result : goal.returns-in_err-put_added-in-None-clause-result
-returns-in_err-put_added-in-None-clause-result g c =
-    let p = err_from_is_err_and c.from_residual-in_err-put_added-in-None.result c.from_residual-in_err-put_added-in-None.ensures.1 in
+pub returns-in_err-take_effect-in-None-clause-result : goal.returns-in_err-take_effect-in-None-clause-result
+unfolding rows_after
+returns-in_err-take_effect-in-None-clause-result g c =
+    let p = err_from_is_err_and c.from_residual-in_err-take_effect-in-None.result c.from_residual-in_err-take_effect-in-None.ensures.1 in
     let v = c.self.view_is in
     let a : c.await_from-awaited.result ≡ awaited_from c.args.dpid c.args.self.now.xid = c.await_from-awaited.ensures ∙ ap (λ (n : NetState). awaited_from c.args.dpid n.xid) v in
     let small : c.args.self.now.xid < 2 ^ 32 = rw (← ap (λ (n : NetState). n.xid) v) (omega arith) in
@@ -20,10 +21,14 @@ returns-in_err-put_added-in-None-clause-result g c =
       message = c.requires;
       is_xid = small;
       said = replied_then c.args.dpid c.args.flow c.args.self.now c.await_from-awaited.result c.as_slice.result.now _ c.ask.new.kept (g.W.World.seen c.args.world.now) (g.W.World.seen c.ask.new.world) _
-          a (c.as_slice.ensures ∙ c.in_ok-frame.ensures.frame) (ap (λ (n : NetState). n.kept) v) (rw c.in-None.is at c.in_ok-refusal.ensures);
-      views = inl (c.in_err-put_added-in-None.ensures.err ∙ c.make_room.ensures ∙ ap (λ (n : NetState). n.views) v);
+          a (c.as_slice.ensures ∙ c.in_ok-frame.ensures.frame) (ap (λ (n : NetState). n.kept) v) c.in_ok-answer.answer c.in-None.is c.in_ok-answer.ensures;
+      views = elim c.in_err-take_effect-in-None.ensures.err [
+        | inl same ↦ inl (same ∙ c.make_room.ensures ∙ ap (λ (n : NetState). n.views) v)
+        | inr moved ↦ inr (moved ∙ same_views c.args.dpid _ _ _ _ c.in_ok-frame.ensures.row (c.make_room.ensures ∙ ap (λ (n : NetState). n.views) v))
+      ];
       log_is = c.in_ok-push_logged.ensures.ok ∙ same_log _ _ _ _ c.in_ok-frame.ensures.logged (ap (λ (n : NetState). n.log) v);
-      kept = kept_for c.args.dpid c.await_from-awaited.result.dpid _ c.args.self.now.kept c.ask.new.kept (ap (λ (a : Awaited). a.dpid) c.await_from-awaited.ensures) (ap (λ (n : NetState). n.kept) v) (waits_kept (talks_waits (c.as_slice.result.now ∷ []) c.in_ok-refusal.ensures));
+      kept = kept_for c.args.dpid c.await_from-awaited.result.dpid _ c.args.self.now.kept c.ask.new.kept (ap (λ (a : Awaited). a.dpid) c.await_from-awaited.ensures) (ap (λ (n : NetState). n.kept) v) (waits_kept (talks_waits (c.as_slice.result.now ∷ []) c.in_ok-answer.ensures));
+      held = held_same c.args.self.now c.take_effect.new.held c.in_err-take_effect-in-None.ensures.unheld v;
     }))
 
 pub returns-in-None-clause-result : goal.returns-in-None-clause-result
@@ -36,10 +41,11 @@ returns-in-None-clause-result g c =
       message = c.requires;
       is_xid = is_xid;
       refusal = None;
+      notices = c.in_ok-answer.answer.notices;
       waits = sent_waits c.args.dpid c.args.flow c.args.self.now c.await_from-awaited.result c.as_slice.result.now _ c.ask.new.kept (g.W.World.seen c.args.world.now) (g.W.World.seen c.ask.new.world) None
-          a (c.as_slice.ensures ∙ c.in_ok-frame.ensures.frame) (ap (λ (n : NetState). n.kept) v) (talks_waits (c.as_slice.result.now ∷ []) (rw c.in-None.is at c.in_ok-refusal.ensures));
+          a (c.as_slice.ensures ∙ c.in_ok-frame.ensures.frame) (ap (λ (n : NetState). n.kept) v) (talks_waits (c.as_slice.result.now ∷ []) (rw c.in-None.is at c.in_ok-answer.ensures));
       answer_is = refl;
-      views = c.in_ok-put_added-in-None.ensures.ok ∙ same_views c.args.dpid _ _ _ _ c.in_ok-frame.ensures.row (c.make_room.ensures ∙ ap (λ (n : NetState). n.views) v);
+      views = c.in_ok-take_effect-in-None.ensures.ok ∙ same_views c.args.dpid _ _ _ _ c.in_ok-frame.ensures.row (c.make_room.ensures ∙ ap (λ (n : NetState). n.views) v);
       log = c.in_ok-push_logged.ensures.ok ∙ same_log _ _ _ _ c.in_ok-frame.ensures.logged (ap (λ (n : NetState). n.log) v);
       xid = c.following-self-inside.ensures.next ∙ ap (λ (x : Awaited). next_xid x.barrier) a;
     }
@@ -54,44 +60,44 @@ returns-clause-result g c =
       is_xid = is_xid;
       refusal = Some c.in-Some.refusal;
       waits = sent_waits c.args.dpid c.args.flow c.args.self.now c.await_from-awaited.result c.as_slice.result.now _ c.ask.new.kept (g.W.World.seen c.args.world.now) (g.W.World.seen c.ask.new.world) (Some c.in-Some.refusal)
-          a (c.as_slice.ensures ∙ c.in_ok-frame.ensures.frame) (ap (λ (n : NetState). n.kept) v) (talks_waits (c.as_slice.result.now ∷ []) (rw c.in-Some.is at c.in_ok-refusal.ensures));
+          a (c.as_slice.ensures ∙ c.in_ok-frame.ensures.frame) (ap (λ (n : NetState). n.kept) v) (talks_waits (c.as_slice.result.now ∷ []) (rw c.in-Some.is at c.in_ok-answer.ensures));
       answer_is = refl;
       views = c.make_room.ensures ∙ ap (λ (n : NetState). n.views) v;
       log = c.truncate.ensures.items ∙ log_cut _ c.self.inside.log.items _ c.len-before.result (c.len-before.ensures ∙ c.self.inside.log.ok.0) c.in_ok-push_logged.ensures.ok ∙ ap (λ (n : NetState). n.log) v;
       xid = c.following-self-inside.ensures.next ∙ ap (λ (x : Awaited). next_xid x.barrier) a;
     }
 
-pub returns-in_err-refusal-clause-flooded : goal.returns-in_err-refusal-clause-flooded
-returns-in_err-refusal-clause-flooded g c =
-    let p = err_from_is_err_and c.from_residual-in_err-refusal.result c.from_residual-in_err-refusal.ensures.1 in
+pub returns-in_err-answer-clause-flooded : goal.returns-in_err-answer-clause-flooded
+returns-in_err-answer-clause-flooded g c =
+    let p = err_from_is_err_and c.from_residual-in_err-answer.result c.from_residual-in_err-answer.ensures.1 in
     let v = c.self.view_is in
     let a : c.await_from-awaited.result ≡ awaited_from c.args.dpid c.args.self.now.xid = c.await_from-awaited.ensures ∙ ap (λ (n : NetState). awaited_from c.args.dpid n.xid) v in
     let small : c.args.self.now.xid < 2 ^ 32 = rw (← ap (λ (n : NetState). n.xid) v) (omega arith) in
-    rw (p.1, p.2) (given_up g.W.World.Tells c.args.dpid c.args.flow c.args.self.now c.await_from-awaited.result c.as_slice.result.now (g.W.World.seen c.args.world.now) (g.W.World.seen c.ask.new.world) c.in_err-refusal.field-0.0
-    a (c.as_slice.ensures ∙ c.in_ok-frame.ensures.frame) c.requires small (talks_flooded (c.as_slice.result.now ∷ []) c.in_err-refusal.field-0.0 c.in_err-refusal.ensures))
+    rw (p.1, p.2) (given_up g.W.World.Tells c.args.dpid c.args.flow c.args.self.now c.await_from-awaited.result c.as_slice.result.now (g.W.World.seen c.args.world.now) (g.W.World.seen c.ask.new.world) c.in_err-answer.field-0.0
+    a (c.as_slice.ensures ∙ c.in_ok-frame.ensures.frame) c.requires small (talks_flooded (c.as_slice.result.now ∷ []) c.in_err-answer.field-0.0 c.in_err-answer.ensures))
 
-pub returns-in_err-refusal-clause-result : goal.returns-in_err-refusal-clause-result
-returns-in_err-refusal-clause-result g c =
-    let p = err_from_is_err_and c.from_residual-in_err-refusal.result c.from_residual-in_err-refusal.ensures.1 in
+pub returns-in_err-answer-clause-result : goal.returns-in_err-answer-clause-result
+returns-in_err-answer-clause-result g c =
+    let p = err_from_is_err_and c.from_residual-in_err-answer.result c.from_residual-in_err-answer.ensures.1 in
     let v = c.self.view_is in
     let a : c.await_from-awaited.result ≡ awaited_from c.args.dpid c.args.self.now.xid = c.await_from-awaited.ensures ∙ ap (λ (n : NetState). awaited_from c.args.dpid n.xid) v in
     let small : c.args.self.now.xid < 2 ^ 32 = rw (← ap (λ (n : NetState). n.xid) v) (omega arith) in
-    rw (p.1, p.2) (halts_then c.args.dpid c.args.flow _ c.args.self.now _ c.await_from-awaited.result c.as_slice.result.now _ (g.W.World.seen c.args.world.now) (g.W.World.seen c.ask.new.world) c.in_err-refusal.field-0.0
+    rw (p.1, p.2) (halts_then c.args.dpid c.args.flow _ c.args.self.now _ c.await_from-awaited.result c.as_slice.result.now _ (g.W.World.seen c.args.world.now) (g.W.World.seen c.ask.new.world) c.in_err-answer.field-0.0
     a (c.as_slice.ensures ∙ c.in_ok-frame.ensures.frame) (ap (λ (n : NetState). n.kept) v) c.requires small (c.make_room.ensures ∙ ap (λ (n : NetState). n.views) v)
     (c.in_ok-push_logged.ensures.ok ∙ same_log _ _ _ _ c.in_ok-frame.ensures.logged (ap (λ (n : NetState). n.log) v))
-    (kept_for c.args.dpid c.await_from-awaited.result.dpid _ c.args.self.now.kept c.ask.new.kept (ap (λ (a : Awaited). a.dpid) c.await_from-awaited.ensures) (ap (λ (n : NetState). n.kept) v) (talks_kept c.in_err-refusal.ensures))
-    c.in_err-refusal.ensures)
+    (kept_for c.args.dpid c.await_from-awaited.result.dpid _ c.args.self.now.kept c.ask.new.kept (ap (λ (a : Awaited). a.dpid) c.await_from-awaited.ensures) (ap (λ (n : NetState). n.kept) v) (talks_kept c.in_err-answer.ensures))
+    c.in_err-answer.ensures)
 
-pub returns-in_err-refusal-clause-cause : goal.returns-in_err-refusal-clause-cause
-returns-in_err-refusal-clause-cause g c =
-    let p = err_from_is_err_and c.from_residual-in_err-refusal.result c.from_residual-in_err-refusal.ensures.1 in
-    rw (p.1, p.2) (talks_cause c.args.dpid (c.as_slice.result.now ∷ []) c.in_err-refusal.field-0.0 (ap (λ (a : Awaited). a.dpid) c.await_from-awaited.ensures) c.in_err-refusal.ensures)
+pub returns-in_err-answer-clause-cause : goal.returns-in_err-answer-clause-cause
+returns-in_err-answer-clause-cause g c =
+    let p = err_from_is_err_and c.from_residual-in_err-answer.result c.from_residual-in_err-answer.ensures.1 in
+    rw (p.1, p.2) (talks_cause c.args.dpid (c.as_slice.result.now ∷ []) c.in_err-answer.field-0.0 (ap (λ (a : Awaited). a.dpid) c.await_from-awaited.ensures) c.in_err-answer.ensures)
 
-pub returns-in_err-refusal-clause-speaks : goal.returns-in_err-refusal-clause-speaks
-returns-in_err-refusal-clause-speaks g c = talks_speak _ _ _ c.args.dpid (c.as_slice.result.now ∷ []) c.ask.result (ap (λ (a : Awaited). a.dpid) c.await_from-awaited.ensures) c.ask.ensures
+pub returns-in_err-answer-clause-speaks : goal.returns-in_err-answer-clause-speaks
+returns-in_err-answer-clause-speaks g c = talks_speak _ _ _ c.args.dpid (c.as_slice.result.now ∷ []) c.ask.result (ap (λ (a : Awaited). a.dpid) c.await_from-awaited.ensures) c.ask.ensures
 
-pub returns-in_err-put_added-in-None-clause-speaks : goal.returns-in_err-put_added-in-None-clause-speaks
-returns-in_err-put_added-in-None-clause-speaks g c = talks_speak _ _ _ c.args.dpid (c.as_slice.result.now ∷ []) c.ask.result (ap (λ (a : Awaited). a.dpid) c.await_from-awaited.ensures) c.ask.ensures
+pub returns-in_err-take_effect-in-None-clause-speaks : goal.returns-in_err-take_effect-in-None-clause-speaks
+returns-in_err-take_effect-in-None-clause-speaks g c = talks_speak _ _ _ c.args.dpid (c.as_slice.result.now ∷ []) c.ask.result (ap (λ (a : Awaited). a.dpid) c.await_from-awaited.ensures) c.ask.ensures
 
 pub returns-in-None-clause-speaks : goal.returns-in-None-clause-speaks
 returns-in-None-clause-speaks g c = talks_speak _ _ _ c.args.dpid (c.as_slice.result.now ∷ []) c.ask.result (ap (λ (a : Awaited). a.dpid) c.await_from-awaited.ensures) c.ask.ensures

@@ -17,7 +17,7 @@ returns-in_err-sent g c =
     let s = c.self.inside in
     let old = g.W.World.seen c.args.world.now in
     let new = g.W.World.seen c.release_all.new.world in
-    let net : NetState = record { views = plains s.views.items; ports = s.ports.known; left = s.ports.left; log = s.log.items; held = s.held.items; xid = s.xid; moment = s.moment; kept = s.kept; room = vec_len s.rooms } in
+    let net : NetState = record { views = plains s.views.items; ports = s.ports.known; left = s.ports.left; log = s.log.items; held = record { packets = s.held.items; notices = s.notices }; xid = s.xid; moment = s.moment; kept = s.kept; room = vec_len s.rooms } in
     let mid : NetState = record net { log = c.truncate.new.self.items; held = c.replace-held.new.dest.items } in
     let held : c.replace-held.result.items ≡ net.held = search rules in
     let none : c.replace-held.new.dest.items ≡ [] = search rules in
@@ -34,7 +34,7 @@ returns g c =
     let s = c.self.inside in
     let old = g.W.World.seen c.args.world.now in
     let new = g.W.World.seen c.release_all.new.world in
-    let net : NetState = record { views = plains s.views.items; ports = s.ports.known; left = s.ports.left; log = s.log.items; held = s.held.items; xid = s.xid; moment = s.moment; kept = s.kept; room = vec_len s.rooms } in
+    let net : NetState = record { views = plains s.views.items; ports = s.ports.known; left = s.ports.left; log = s.log.items; held = record { packets = s.held.items; notices = s.notices }; xid = s.xid; moment = s.moment; kept = s.kept; room = vec_len s.rooms } in
     let mid : NetState = record net { log = c.truncate.new.self.items; held = c.replace-held.new.dest.items } in
     let held : c.replace-held.result.items ≡ net.held = search rules in
     let none : c.replace-held.new.dest.items ≡ [] = search rules in

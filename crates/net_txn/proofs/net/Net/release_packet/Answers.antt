@@ -22,7 +22,7 @@ pub returns-in_ok-take_until_reply-in-Ok : goal.returns-in_ok-take_until_reply-i
 returns-in_ok-take_until_reply-in-Ok g c =
     let s = c.self.inside in
     let old = g.W.World.seen c.args.world.now in
-    let net : NetState = record { views = plains s.views.items; ports = s.ports.known; left = s.ports.left; log = s.log.items; held = s.held.items; xid = s.xid; moment = s.moment; kept = s.kept; room = vec_len s.rooms } in
+    let net : NetState = record { views = plains s.views.items; ports = s.ports.known; left = s.ports.left; log = s.log.items; held = record { packets = s.held.items; notices = s.notices }; xid = s.xid; moment = s.moment; kept = s.kept; room = vec_len s.rooms } in
     let xid = c.following-self-inside.result in
     let known : c.is_viewed.result ≡ true = search rules in
     let viewed : is_viewed c.args.dpid net.views ≡ true = sym (c.is_viewed.ensures ∙ ap (λ (vs : List Lent). is_viewed c.args.dpid (plains vs)) c.deref.ensures.value) ∙ known in
@@ -38,7 +38,7 @@ returns-in_err-take_until_reply-in-Ok g c =
     let p = err_from_is_err_and c.from_residual.result c.from_residual.ensures.1 in
     let s = c.self.inside in
     let old = g.W.World.seen c.args.world.now in
-    let net : NetState = record { views = plains s.views.items; ports = s.ports.known; left = s.ports.left; log = s.log.items; held = s.held.items; xid = s.xid; moment = s.moment; kept = s.kept; room = vec_len s.rooms } in
+    let net : NetState = record { views = plains s.views.items; ports = s.ports.known; left = s.ports.left; log = s.log.items; held = record { packets = s.held.items; notices = s.notices }; xid = s.xid; moment = s.moment; kept = s.kept; room = vec_len s.rooms } in
     let xid = c.following-self-inside.result in
     let known : c.is_viewed.result ≡ true = search rules in
     let viewed : is_viewed c.args.dpid net.views ≡ true = sym (c.is_viewed.ensures ∙ ap (λ (vs : List Lent). is_viewed c.args.dpid (plains vs)) c.deref.ensures.value) ∙ known in
@@ -53,7 +53,7 @@ pub returns-in-Err-Lost : goal.returns-in-Err-Lost
 returns-in-Err-Lost g c =
     let s = c.self.inside in
     let old = g.W.World.seen c.args.world.now in
-    let net : NetState = record { views = plains s.views.items; ports = s.ports.known; left = s.ports.left; log = s.log.items; held = s.held.items; xid = s.xid; moment = s.moment; kept = s.kept; room = vec_len s.rooms } in
+    let net : NetState = record { views = plains s.views.items; ports = s.ports.known; left = s.ports.left; log = s.log.items; held = record { packets = s.held.items; notices = s.notices }; xid = s.xid; moment = s.moment; kept = s.kept; room = vec_len s.rooms } in
     let xid = c.following-self-inside.result in
     let known : c.is_viewed.result ≡ true = search rules in
     let viewed : is_viewed c.args.dpid net.views ≡ true = sym (c.is_viewed.ensures ∙ ap (λ (vs : List Lent). is_viewed c.args.dpid (plains vs)) c.deref.ensures.value) ∙ known in
@@ -66,7 +66,7 @@ pub returns-in-Err-Fault : goal.returns-in-Err-Fault
 returns-in-Err-Fault g c =
     let s = c.self.inside in
     let old = g.W.World.seen c.args.world.now in
-    let net : NetState = record { views = plains s.views.items; ports = s.ports.known; left = s.ports.left; log = s.log.items; held = s.held.items; xid = s.xid; moment = s.moment; kept = s.kept; room = vec_len s.rooms } in
+    let net : NetState = record { views = plains s.views.items; ports = s.ports.known; left = s.ports.left; log = s.log.items; held = record { packets = s.held.items; notices = s.notices }; xid = s.xid; moment = s.moment; kept = s.kept; room = vec_len s.rooms } in
     let xid = c.following-self-inside.result in
     let known : c.is_viewed.result ≡ true = search rules in
     let viewed : is_viewed c.args.dpid net.views ≡ true = sym (c.is_viewed.ensures ∙ ap (λ (vs : List Lent). is_viewed c.args.dpid (plains vs)) c.deref.ensures.value) ∙ known in

@@ -14,7 +14,7 @@ returns g c =
     let n = c.undo_log.new in
     let start = c.args.start in
     let from = c.within_log-from.result in
-    let net : NetState = record { views = plains s.views.items; ports = s.ports.known; log = s.log.items; held = s.held.items; xid = s.xid; moment = s.moment; kept = s.kept; room = vec_len s.rooms; left = s.ports.left } in
+    let net : NetState = record { views = plains s.views.items; ports = s.ports.known; log = s.log.items; held = record { packets = s.held.items; notices = s.notices }; xid = s.xid; moment = s.moment; kept = s.kept; room = vec_len s.rooms; left = s.ports.left } in
     let old = g.W.World.seen c.args.world.now in
     let new = g.W.World.seen n.world in
     let front = subst (λ (xs : List Logged). take from xs ≡ take start xs) c.deref.ensures.value c.within_log-from.ensures.front in
