@@ -1,6 +1,6 @@
 -- The events of a run: what switches send becomes events (OpenFlow 1.0.0, 5.4 Asynchronous Messages), and so do their joins and leaves. Which
 -- messages are events is our own choice.
-use Rattle.std.specs.Prelude.{ℕ, ◌/◌, ◌%◌, Bool, true, false, List, [], ◌∷◌, ◌++◌, map, filter, filter_map, Option, Some, None, Result, Ok, Err}
+use Rattle.std.specs.Prelude.{ℕ, ◌/◌, ◌%◌, List, [], ◌∷◌, ◌++◌, map, filter_map, Option, Some, None, Result, Ok, Err}
 use Rattle.of_types.specs.declared.port_desc.PortDesc.{PortDesc}
 use Rattle.of_wire.specs.declared.message.Message.{Message}
 use Rattle.of_wire.specs.declared.message.Message.TheVariants.{Error, PacketIn, FlowRemoved, PortStatus}
@@ -8,9 +8,10 @@ use Rattle.of_wire.specs.declared.message.Envelope.{Envelope}
 use Rattle.of_wire.specs.declared.fault.WireFault.{WireFault}
 use Rattle.of_wire.specs.Reading.{reading_of}
 use Rattle.of_wire.specs.Spelling.{message_bytes, ports_bytes}
+use Rattle.flow_table.specs.declared.notice.Notice.{Notice}
 use Rattle.flow_table.specs.Switch.{SwitchState, features_reply, port_desc}
+use Rattle.flow_table.specs.Step.{flow_removed_bytes}
 use Rattle.app_frames.specs.declared.frame.Event.{Event}
-use Rattle.app_frames.specs.declared.frame.EventKind.{EventKind}
 use Rattle.app_frames.specs.declared.frame.EventKind.TheVariants as events
 
 -- the known ports of a switch, as they stand, by number
@@ -35,13 +36,9 @@ event_of_read dpid (Err fault) = None
 unfoldable pub events_of : ℕ → List (List ℕ) → List Event
 events_of dpid messages = filter_map (λ bytes. event_of_read dpid (reading_of bytes)) messages
 
--- of events, the notices of entries that were removed (5.4.2 Flow Removed Message)
-abbrev pub is_removal : EventKind → Bool
-is_removal events.FlowRemoved = true
-is_removal other = false
-
-abbrev pub removals_in : List Event → List Event
-removals_in es = filter (λ e. is_removal e.kind) es
+-- a notice of an entry that was removed (5.4.2 Flow Removed Message)
+abbrev pub notice_event : ℕ → Notice → Event
+notice_event dpid n = record { kind = events.FlowRemoved; dpid = dpid; body = flow_removed_bytes n }
 
 abbrev pub join_event : SwitchState → Event
 join_event s = record { kind = events.Join; dpid = s.declared.dpid; body = features_reply 0 s }

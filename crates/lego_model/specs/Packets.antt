@@ -1,8 +1,12 @@
 -- What the messages of an application are played on in a turn: the switches, and what is held until the turn completes: the packets that it sends
 -- (OpenFlow 1.0.0, 5.3.6 Send Packet Message), and the notices of the entries that its changes remove (5.4.2 Flow Removed Message). A switch that
 -- is lost at a message goes out. All but packets and notices is our own choice.
-use Rattle.std.specs.Prelude.{ℕ, Bool, true, List, [], ◌∷◌, ◌++◌, fold, drop, Option, Some, None, Result, Ok, Err}
+use Rattle.std.specs.Prelude.{ℕ, Bool, true, List, [], ◌∷◌, ◌++◌, map, fold, drop, Option, Some, None, Result, Ok, Err}
+use Rattle.of_types.specs.declared.errors.OfError.{OfError}
+use Rattle.of_wire.specs.declared.bodies.FlowMod.{FlowMod as Change}
 use Rattle.of_wire.specs.declared.bodies.PacketOut.{PacketOut as Packet}
+use Rattle.of_wire.specs.declared.message.Message.{Message}
+use Rattle.of_wire.specs.declared.message.Message.TheVariants.{FlowMod}
 use Rattle.of_wire.specs.declared.message.Envelope.{Envelope}
 use Rattle.of_wire.specs.declared.fault.WireFault.{WireFault}
 use Rattle.of_wire.specs.Reading.{reading_of}
@@ -10,12 +14,13 @@ use Rattle.app_frames.specs.declared.frame.Answer.{Answer}
 use Rattle.app_frames.specs.declared.frame.Answer.TheVariants.{Fine, Unknown}
 use Rattle.app_frames.specs.declared.frame.Event.{Event}
 use Rattle.flow_table.specs.Switch.{SwitchState}
-use Rattle.flow_table.specs.Step.{sent_by_message}
+use Rattle.flow_table.specs.Change.{notices_of}
+use Rattle.flow_table.specs.Refusals.{message_refusal}
 use Rattle.lego_model.specs.Journal.{packet_read}
 use Rattle.lego_model.specs.Answers.{host_answer}
 use Rattle.lego_model.specs.Places.{Place, switch_at, with_place, rows_at, answer, undone_places}
 use Rattle.lego_model.specs.Losses.{TurnLosses, next_flag, next_undo}
-use Rattle.lego_model.specs.Events.{events_of, leave_event, removals_in}
+use Rattle.lego_model.specs.Events.{notice_event, leave_event}
 
 -- ---- What is held
 
@@ -43,9 +48,17 @@ unfoldable pub holds : ℕ → List ℕ → Answer → List Held
 holds dpid bytes Fine = held_of (packet_read dpid (reading_of bytes))
 holds dpid bytes other = []
 
--- A message that its switch answers holds the notices that the switch sends at it: of each entry that it removes and whose owner asked for one.
+-- A change that its switch takes holds its notices: of each entry that it removes and whose owner asked for one.
+abbrev pub notices_unless : Option OfError → ℕ → Change → SwitchState → List Event
+notices_unless (Some e) dpid m s = []
+notices_unless None dpid m s = map (notice_event dpid) (notices_of s.moment m s.table.entries)
+
+abbrev pub notices_by : ℕ → Message → SwitchState → List Event
+notices_by dpid (FlowMod m) s = notices_unless (message_refusal s (FlowMod m)) dpid m s
+notices_by dpid other s = []
+
 abbrev pub notices_sent : ℕ → Result Envelope WireFault → Option SwitchState → List Event
-notices_sent dpid (Ok e) (Some s) = removals_in (events_of dpid (sent_by_message 0 e.message s))
+notices_sent dpid (Ok e) (Some s) = notices_by dpid e.message s
 notices_sent dpid (Ok e) None = []
 notices_sent dpid (Err fault) s = []
 

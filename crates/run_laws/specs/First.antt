@@ -3,6 +3,7 @@ use Rattle.std.specs.Prelude.{◌≡◌, false, List, map, [], ◌∷◌}
 use Rattle.outside.specs.declared.step.WorldStep.TheVariants.{Opened}
 use Rattle.crash_policy.specs.Policies.{AppValue}
 use Rattle.outside.specs.Seen.{Seen}
+use Rattle.lego_model.specs.Packets.{nothing_held}
 use Rattle.net_txn.specs.Net.{NetState}
 use Rattle.run_laws.specs.Engine.{Application, Engine}
 
@@ -11,7 +12,7 @@ abbrev pub IsOpened : {Own : Type 0} → Seen Own → Type 0
 IsOpened seen = seen.history ≡ Opened ∷ []
 
 abbrev pub net_at_first : NetState
-net_at_first = record { views = []; ports = []; log = []; held = []; xid = 1; moment = 0; kept = []; room = 2; left = [] }
+net_at_first = record { views = []; ports = []; log = []; held = nothing_held; xid = 1; moment = 0; kept = []; room = 2; left = [] }
 
 abbrev pub app_at_first : AppValue → Application
 app_at_first rule = record { rule = rule; alive = false; rest = []; kept = []; done = 0; failed = 0 }

@@ -1,5 +1,5 @@
 -- Switches that are lost, as the reference controller loses them: their Leave events. All of this is our own.
-use Rattle.std.specs.Prelude.{◌≡◌, ℕ, Bool, List, ◌∷◌, ◌++◌, map}
+use Rattle.std.specs.Prelude.{◌≡◌, ℕ, Bool, List, [], ◌∷◌, ◌++◌, map}
 use Rattle.flow_table.specs.Switch.{Declared}
 use Rattle.app_frames.specs.declared.frame.Answer.{Answer}
 use Rattle.app_frames.specs.declared.frame.Event.{Event}
@@ -22,10 +22,10 @@ pub record LeavesBy {Own : Type 0} (old new : Seen Own) (net now_net : NetState)
 
 -- ---- One message
 
--- what the reference controller plays messages on: its own switches, the packets that are held, at which messages to come switches are lost,
--- and the Leave events of those that were
+-- what the reference controller plays messages on: its own switches, what is held, at which messages to come switches are lost, and the Leave
+-- events of those that were
 abbrev pub shown_play : {Own : Type 0} → List Declared → Seen Own → NetState → List Bool → List Event → Play
-shown_play declared seen net losing left = record { places = shown_places declared net.views (state seen); held = net.held; losing = losing; left = left }
+shown_play declared seen net losing left = record { places = shown_places declared net.views (state seen); held = net.held; losing = losing; inner = []; left = left }
 
 -- The reference controller answers the message the same, and loses its switch there or not; its switches stand then as the world's do.
 pub record ExchangeShown {Own : Type 0} (declared : List Declared) (d : ℕ) (bytes : List ℕ) (old new : Seen Own) (net now_net : NetState) (given : Answer) : Type 0 where

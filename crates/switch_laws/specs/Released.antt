@@ -12,7 +12,7 @@ use Rattle.lego_model.specs.Controller.{Release, release, leavers}
 use Rattle.lego_model.specs.History.{released_of}
 use Rattle.lego_model.specs.Journal.{released_in, released, lost_in}
 use Rattle.lego_model.specs.Losses.{PacketLoss}
-use Rattle.lego_model.specs.Packets.{Held}
+use Rattle.lego_model.specs.Packets.{Held, HeldBack}
 use Rattle.lego_model.specs.SwitchFaults.{FloodedByPacket}
 use Rattle.outside.specs.declared.step.WorldStep.{WorldStep}
 use Rattle.outside.specs.declared.step.WorldStep.TheVariants.{Acted, SendLost, RecvLost}
@@ -54,7 +54,7 @@ pub record MovesOrLoses {Own : Type 0} (packets : List Held) (old new : Seen Own
 
 -- The switches stand then, with the flags of the owners, as the reference controller's do that releases the same packets and loses these of
 -- their switches; its events joined the queue, and the history released its packets. All is ready again, and nothing else is known of them.
-pub record ReleaseShown {Own : Type 0} (held sent : List Held) (old new : Seen Own) (net now_net : NetState) (queue now_queue : List Event) : Type 0 where
+pub record ReleaseShown {Own : Type 0} (held : HeldBack) (sent : List Held) (old new : Seen Own) (net now_net : NetState) (queue now_queue : List Event) : Type 0 where
   pub losing : List PacketLoss
   pub release_is : Release
   pub is : release_is ≡ release losing (shown_places old.given.declared net.views (state old)) held

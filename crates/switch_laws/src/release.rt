@@ -1,9 +1,9 @@
 //! Laws of releases, each the contract of a function that does nothing.
 
-ghost use Rattle.std.specs.Prelude.{◌≡◌, ℕ, List};
+ghost use Rattle.std.specs.Prelude.{◌≡◌, ℕ, List, ◌++◌};
 ghost use Rattle.app_frames.specs.declared.frame.Event.{Event};
 ghost use Rattle.lego_model.specs.declared.fault.TxnFault.{TxnFault};
-ghost use Rattle.lego_model.specs.Packets.{Held};
+ghost use Rattle.lego_model.specs.Packets.{Held, HeldBack};
 ghost use Rattle.outside.specs.Seen.{Seen, Continues};
 ghost use Rattle.outside.specs.State.{state};
 ghost use Rattle.outside.specs.Conforming.{Conforming};
@@ -21,8 +21,8 @@ use outside::World;
 /// again. In any world that tells, where each switch that has a view was joined, each switch moved by the packets that were sent
 /// to it alone, or was lost, and the history released them in order.
 pub fn packets_are_shown<W: World>()
-    ensures shown { (held sent : List Held) (old new : Seen W.Own) (net now_net : NetState) (queue now_queue : List Event) → W.Tells → Conforming new
-        → ReleasesAll W.Tells held sent old new net now_net queue now_queue → Ready old net → Sound (state old) → ReleaseShown held sent old new net now_net queue now_queue }
+    ensures shown { (held : HeldBack) (sent : List Held) (old new : Seen W.Own) (net now_net : NetState) (queue now_queue : List Event) → W.Tells → Conforming new
+        → ReleasesAll W.Tells held.packets sent old new net now_net (queue ++ held.notices) now_queue → Ready old net → Sound (state old) → ReleaseShown held sent old new net now_net queue now_queue }
     ensures moved { (held sent : List Held) (old new : Seen W.Own) (net now_net : NetState) (queue now_queue : List Event) → W.Tells → AreJoined net.views (state old)
         → ReleasesAll W.Tells held sent old new net now_net queue now_queue → MovesOrLoses sent old new }
 {}

@@ -16,7 +16,6 @@ use Rattle.of_wire.specs.Grammar.{enveloped}
 use Rattle.of_wire.specs.Reading.{reading_of}
 use Rattle.of_wire.specs.laws.ReadingLaws.{reading_of-message_bytes}
 use Rattle.flow_timeouts.specs.declared.timeouts.Reason.{Reason}
-use Rattle.flow_timeouts.specs.declared.timeouts.Reason.TheVariants as reasons
 use Rattle.flow_table.specs.declared.entry.Entry.{Entry}
 use Rattle.flow_table.specs.declared.notice.Notice.{Notice}
 use Rattle.flow_table.specs.declared.view.ViewRow.{ViewRow}
@@ -73,7 +72,6 @@ view-then d middle rows a b c first second = record {
 
 record ReadNotice (n : Notice) : Type 0 where
   read : reading_of (flow_removed_bytes n) ≡ Ok (enveloped 0 (FlowRemoved (flow_removed n)))
-  reason : (n.reason == 2) ≡ false
 
 record NoticesHandled (flags : Key → ℕ) (d : ℕ) (ns : List Notice) (rows : List ViewRow) (k now : Knowledge) : Type 0 where
   views : ViewChanged d (without_all (notice_keys ns) rows) k.views now.views
@@ -99,8 +97,8 @@ notice-handled flags d n rows k reads asked are =
     subst (NoticesHandled flags d (n ∷ []) rows k) (sym done) (record {
       views = view-changed d (without_key n.removed.key) rows k.views are;
       queue = elim (cases_Bool (asks_notice (flags n.removed.key))) [
-        | inl asks ↦ rw (reads.reason, told, asks) (rw (reads.read) (rw (reads.reason) refl))
-        | inr silent ↦ rw (reads.reason, told, silent) (sym (append-nil k.queue))
+        | inl asks ↦ rw (told, asks) (rw reads.read refl)
+        | inr silent ↦ rw (told, silent) (sym (append-nil k.queue))
       ];
       ports = refl;
       moment = refl;
@@ -153,11 +151,6 @@ removed-at : (o : Option (ℕ × Reason)) (e : Entry) → (notice_at o e).remove
 removed-at None e = refl
 removed-at (Some d) e = refl
 
-reason-at : (o : Option (ℕ × Reason)) (e : Entry) → ((notice_at o e).reason == 2) ≡ false
-reason-at None e = refl
-reason-at (Some (t, reasons.Idle)) e = refl
-reason-at (Some (t, reasons.Hard)) e = refl
-
 keys-told : (es : List Entry) → notice_keys (map tells es) ≡ entry_keys es
 keys-told [] = refl
 keys-told (e ∷ es) = ap₂ (λ (k : Key) ks. k ∷ ks) (ap (λ (x : Entry). x.key) (removed-at (deadline e) e)) (keys-told es)
@@ -166,7 +159,6 @@ read-notice : (t : ℕ) → t < 2 ^ 32 → (e : Entry) → SoundEntry e × (is_d
 unfolding flow_removed_bytes
 read-notice t within e is = record {
   read = reading_of-message_bytes 0 (FlowRemoved (flow_removed (tells e))) (omega arith) (notice-message t e is.0 within is.1);
-  reason = reason-at (deadline e) e;
 }
 
 asked-all : (flags : Key → ℕ) (rows : List ViewRow) → ((k : Key) → is_asked k (Some rows) ≡ asks_notice (flags k)) → (ns : List Notice) → AllByRecursion (AskedAs flags rows) ns

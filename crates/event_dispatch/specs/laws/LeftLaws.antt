@@ -221,7 +221,7 @@ left_committed {Tells = Tells} {accepts = accepts} {app = app} {budget = budget}
 -- all of them were released, and each switch moved by those alone, or was lost
 released_by : {Own : Type 0} {Tells : Type 0} {start : ℕ} {old new : Seen Own} {net now_net : NetState} {queue now_queue : List Event} {sent : List (ℕ × ℕ)} → Tells → AreJoined net.views (state old) → Commits Tells start old new net now_net queue now_queue (Ok sent) → (packets : List Held) × MovesOrLoses packets old new
 released_by {Tells = Tells} {start = start} {old = old} {new = new} {net = net} {now_net = now_net} {queue = queue} {now_queue = now_queue} told joined commits =
-    (commits.ended.sent, release-moves Tells net.held commits.ended.sent old new (committed start net) now_net queue now_queue told joined commits.ended.all)
+    (commits.ended.sent, release-moves Tells net.held.packets commits.ended.sent old new (committed start net) now_net (queue ++ net.held.notices) now_queue told joined commits.ended.all)
 
 left_moved : {Own : Type 0} {Tells : Type 0} {app budget : ℕ} (old first mid new : Seen Own) → Tells → Continues Tells mid new → NoneReleased mid new → SwitchesStay mid new → ((mid.history ≡ first.history) × TurnKept app budget old mid) ⊎ TurnReleasing app budget old mid → TablesLeft app budget (Unit {0}) old new
 left_moved old first mid new told later none stay (inl kept) = inr (inr (inl (tt, kept_then old mid new told later stay kept.1)))

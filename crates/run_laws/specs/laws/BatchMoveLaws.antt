@@ -21,6 +21,7 @@ use Rattle.outside.specs.Seen.{Given, Seen, Continues, journal}
 use Rattle.outside.specs.laws.SeenLaws.{journal-append}
 use Rattle.outside.specs.State.{Mark, State, mark_of, after_stim, state, switch_of, waits_of, moment_after}
 use Rattle.outside.specs.Conforming.{Conforming}
+use Rattle.lego_model.specs.Packets.{nothing_held}
 use Rattle.net_txn.specs.Net.{NetState}
 use Rattle.switch_laws.specs.Shown.{shown_places}
 use Rattle.switch_laws.specs.Orderly.{OrderlySince}
@@ -61,7 +62,7 @@ moment-then (At t) s = refl
 moment-then (Of d y) s = refl
 
 -- what is known then
-pub calm-then : {Own : Type 0} (x : WorldStim) (first now : Standing Own) → first.net.held ≡ [] → BatchDone x first now → StimulusHandled x first.seen first.net first.queue (knowledge_of now.net now.queue) → Calm now.seen now.net
+pub calm-then : {Own : Type 0} (x : WorldStim) (first now : Standing Own) → first.net.held ≡ nothing_held → BatchDone x first now → StimulusHandled x first.seen first.net first.queue (knowledge_of now.net now.queue) → Calm now.seen now.net
 calm-then x first now none done h = record {
   ready = record {
     waits = done.waits;
@@ -79,7 +80,7 @@ calm-then x first now none done h = record {
 }
 
 -- or where a switch was lost
-calm-lost : {Own : Type 0} (x : WorldStim) (first now : Standing Own) → first.net.held ≡ [] → (l : BatchLost x false first now) → StimulusLost x l.dpid first.seen now.seen first.net first.queue (knowledge_of now.net now.queue) → Calm now.seen now.net
+calm-lost : {Own : Type 0} (x : WorldStim) (first now : Standing Own) → first.net.held ≡ nothing_held → (l : BatchLost x false first now) → StimulusLost x l.dpid first.seen now.seen first.net first.queue (knowledge_of now.net now.queue) → Calm now.seen now.net
 calm-lost x first now none l h = record {
   ready = record { waits = l.waits; agrees = h.agrees; known = h.known };
   sound = h.sound;
@@ -159,7 +160,7 @@ happens-stands {Own} x first now e said later r same_net same_queue done keeps_o
     let declared : new.given.declared ≡ old.given.declared = ap (λ (g : Given Own). g.declared) done.given in
     let before : r.places ≡ shown_places old.given.declared first.net.views (state old) = s.places ∙ ap (λ (n : NetState). shown_places old.given.declared n.views (state old)) same_net in
     subst (Stands new (engine_then e now.net now.queue) (behind told_none said) later) (sym (happen-by x r None (flag-so false later r x s.losses_is ∙ no_flag x))) (record {
-      calm = calm-then x first now (subst (λ (n : NetState). n.held ≡ []) same_net s.calm.held) done h;
+      calm = calm-then x first now (subst (λ (n : NetState). n.held ≡ nothing_held) same_net s.calm.held) done h;
       moment = ap (moment_after x) s.moment ∙ sym (moment-then x (state old)) ∙ sym done.stays.moment;
       places = ap₂ (λ (m : ℕ) (ps : List Place). places_after x m ps) s.moment before ∙ sym h.places
           ∙ sym (shown-still old.given.declared now.net.views (after_stim x (state old)) (state new) done.switches)
@@ -184,7 +185,7 @@ lost-stands {Own} x first now e said later r same_net same_queue l keeps_old h s
     let before : r.places ≡ shown_places old.given.declared first.net.views (state old) = s.places ∙ ap (λ (n : NetState). shown_places old.given.declared n.views (state old)) same_net in
     let after_is : places_after x r.moment r.places ≡ h.after = ap₂ (λ (m : ℕ) (ps : List Place). places_after x m ps) s.moment before ∙ sym h.after_is in
     subst (Stands new (engine_then e now.net now.queue) (behind told_none said) later) (sym (happen-by x r (Some d) (flag-so true later r x s.losses_is ∙ l.of_stimulus))) (record {
-      calm = calm-lost x first now (subst (λ (n : NetState). n.held ≡ []) same_net s.calm.held) l h;
+      calm = calm-lost x first now (subst (λ (n : NetState). n.held ≡ nothing_held) same_net s.calm.held) l h;
       moment = ap (moment_after x) s.moment ∙ sym (moment-then x (state old)) ∙ sym l.stays.moment;
       places = ap (with_place d (λ o. None)) after_is ∙ sym h.places ∙ ap (λ (ds : List Declared). shown_places ds now.net.views (state new)) (sym declared);
       queue = ap₂ (λ (q : List Event) (ps : List Place). q ++ left_at x d ps) (s.queue ∙ same_queue) after_is ∙ sym h.queue_is;

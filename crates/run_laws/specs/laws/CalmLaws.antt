@@ -18,7 +18,7 @@ use Rattle.net_txn.specs.Arriving.{without_key}
 use Rattle.net_txn.specs.Undos.{key_logged, without_keys, next_free, lost_parts, is_lost_in, undone_net, StandsReady, Undoes}
 use Rattle.net_txn.specs.Losing.{lost_net, lose_all}
 use Rattle.net_txn.specs.Releases.{committed}
-use Rattle.lego_model.specs.Packets.{Held}
+use Rattle.lego_model.specs.Packets.{Held, HeldBack}
 use Rattle.app_frames.specs.declared.frame.Event.{Event}
 use Rattle.switch_laws.specs.Released.{ReleaseShown}
 use Rattle.switch_laws.specs.Since.{ports_known, Ready, logged_since, Goes}
@@ -132,7 +132,7 @@ abbrev pub none_left : NetState → NetState
 none_left net = record net { left = [] }
 
 -- Behind the release of its packets all is calm.
-pub calm_released : {Own : Type 0} (start : ℕ) (held sent : List Held) (first old new : Seen Own) (net now_net : NetState) (queue now_queue : List Event) → TurnStays first old net
+pub calm_released : {Own : Type 0} (start : ℕ) (held : HeldBack) (sent : List Held) (first old new : Seen Own) (net now_net : NetState) (queue now_queue : List Event) → TurnStays first old net
     → ReleaseShown held sent old new (committed start net) now_net queue now_queue → Rests (state old) (state new) → Calm new (none_left now_net)
 calm_released start held sent first old new net now_net queue now_queue there shown rests =
     let stays = lost-stays (leavers shown.release_is.left) (committed start net) in

@@ -288,7 +288,8 @@ closed_count : {Own : Type 0} (Tells : Type 0) (kind : EventKind) (end : TurnEnd
 closed_count Tells kind (ends.Done stop) checkpoint unread text start mid new mid_net e now_e closed = (
   ap (λ (x : Focus). x.events) closed.engine,
   subst (λ (x : Focus). Joins e.queue x.queue) (sym closed.engine) (joins-then e.queue closed.queue (closed.queue ++ left_events closed.net.left)
-      (release-joins Tells mid_net.held closed.commits.ended.sent mid new (committed start mid_net) closed.net e.queue closed.queue closed.commits.ended.all) (left_events closed.net.left, refl)),
+      (joins-then e.queue (e.queue ++ mid_net.held.notices) closed.queue (mid_net.held.notices, refl)
+      (release-joins Tells mid_net.held.packets closed.commits.ended.sent mid new (committed start mid_net) closed.net (e.queue ++ mid_net.held.notices) closed.queue closed.commits.ended.all)) (left_events closed.net.left, refl)),
 )
 closed_count Tells kind (ends.Failed cause) checkpoint unread text start mid new mid_net e now_e closed =
     let still = follows_still Tells (rule_at e.rule kind) closed.later_text closed.undone new (all_told closed.undone_net e.queue (record e { rest = []; failed = e.failed + 1 })) now_e closed.follows in

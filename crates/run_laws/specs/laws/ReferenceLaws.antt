@@ -59,6 +59,6 @@ given_on allows event i a more r alive t is goes =
 -- ---- A turn
 
 pub turn_is : (allows : List Place → Bool) (number moment : ℕ) (event : Event) (losses : TurnLosses) (ps : List Place) (a : App) (reply : Reply) (played : Played Play) → next_reply a.replies ≡ reply
-    → turn_of (table_of allows) a.rule.budget a.rest reply (fresh_play losses.messages ps) ≡ played → turn allows number moment event losses ps a ≡ turned_by number moment event losses ps a reply played
+    → turn_of (table_of allows) a.rule.budget a.rest reply (fresh_play losses ps) ≡ played → turn allows number moment event losses ps a ≡ turned_by number moment event losses ps a reply played
 unfolding turn
 turn_is allows number moment event losses ps a reply played next is = rw (next, is) refl

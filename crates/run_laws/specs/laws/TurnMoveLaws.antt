@@ -16,7 +16,7 @@ use Rattle.crash_policy.specs.Asking.{rule_at}
 use Rattle.lego_model.specs.declared.turn.TurnWord.{TurnWord}
 use Rattle.lego_model.specs.Journal.{Reply, Start, inputs, reply_of}
 use Rattle.lego_model.specs.Places.{Place}
-use Rattle.lego_model.specs.Packets.{Held, Play, fresh_play}
+use Rattle.lego_model.specs.Packets.{Held, Play, fresh_play, HeldBack, nothing_held}
 use Rattle.lego_model.specs.Turns.{Outcome, Completed, Failed, turn_of}
 use Rattle.lego_model.specs.Scripted.{IsFront, is_heard}
 use Rattle.lego_model.specs.laws.ScriptedLaws.{turn-front}
@@ -91,13 +91,14 @@ record AtEnd {Own : Type 0} (allows : List Place → Bool) (event : Event) (old 
   rests : Rests (state old) (state mid)
   marks : (state mid).marks ≡ marks_by given e.events (state old)
   turned : (packets : List PacketLoss) (undone : List ℕ) (starts : List Start) (said : Reply) (replies : List Reply) → IsFront reply said
-      → turn allows e.events e.net.moment event (record { messages = messages; packets = packets; undone = undone }) (places_at old old e.net) (app_at e (given_in e.index old) starts (said ∷ replies))
-      ≡ turned_by e.events e.net.moment event (record { messages = messages; packets = packets; undone = undone }) (places_at old old e.net) (app_at e (given_in e.index old) starts (said ∷ replies)) said
+      → turn allows e.events e.net.moment event (record { messages = messages; packets = packets; inner = []; undone = undone }) (places_at old old e.net) (app_at e (given_in e.index old) starts (said ∷ replies))
+      ≡ turned_by e.events e.net.moment event (record { messages = messages; packets = packets; inner = []; undone = undone }) (places_at old old e.net) (app_at e (given_in e.index old) starts (said ∷ replies)) said
       (played_on (play_at old mid mid_net [] left) answers outcome)
 
 -- nothing is held before
-fresh_is : {Own : Type 0} (old : Seen Own) (net : NetState) (losing : List Bool) → net.held ≡ [] → fresh_play losing (places_at old old net) ≡ play_at old old net losing []
-fresh_is old net losing none = ap (λ (held : List Held). record { places = places_at old old net; held = held; losing = losing; left = [] }) (sym none)
+fresh_is : {Own : Type 0} (old : Seen Own) (net : NetState) (losing : List Bool) (packets : List PacketLoss) (undone : List ℕ) → net.held ≡ nothing_held
+    → fresh_play (record { messages = losing; packets = packets; inner = []; undone = undone }) (places_at old old net) ≡ play_at old old net losing []
+fresh_is old net losing packets undone none = ap (λ (held : HeldBack). record { places = places_at old old net; held = held; losing = losing; inner = []; left = [] }) (sym none)
 
 tail_is : (frame : List ℕ) (xs ys : List (List ℕ)) → frame ∷ xs ≡ frame ∷ ys → xs ≡ ys
 tail_is frame xs ys is = cc
@@ -130,11 +131,11 @@ at_end Tells accepts allows event old mid e mid_net end unread told keeps judges
       marks = chain_marks Tells e.index t.trace t.chain.1.0 mid e.net mid_net told t.chain.1.1.1 (behind_event e.index t.given frame (acts_in t.trace) t.answers t.inputs_is)
           ∙ given_marks Tells t.given e.index e.events frame old t.chain.1.0 told t.chain.1.1.0 (event_numbered e.events e.net.moment event few);
       turned = λ packets undone starts said replies front.
-          let losses : TurnLosses = record { messages = shown.messages; packets = packets; undone = undone } in
+          let losses : TurnLosses = record { messages = shown.messages; packets = packets; inner = []; undone = undone } in
           turn_is allows e.events e.net.moment event losses (places_at old old e.net) (app_at e (given_in e.index old) starts (said ∷ replies)) said
           (played_on (play_at old mid mid_net [] shown.left) t.answers t.outcome) refl
-          (turn-front (table_of allows) e.rule.budget e.rest (reply_by t.given t.trace) said (fresh_play shown.messages (places_at old old e.net)) heard front
-          ∙ ap (λ (p : Play). turn_of (table_of allows) e.rule.budget e.rest (reply_by t.given t.trace) p) (fresh_is old e.net shown.messages calm.held)
+          (turn-front (table_of allows) e.rule.budget e.rest (reply_by t.given t.trace) said (fresh_play losses (places_at old old e.net)) heard front
+          ∙ ap (λ (p : Play). turn_of (table_of allows) e.rule.budget e.rest (reply_by t.given t.trace) p) (fresh_is old e.net shown.messages packets undone calm.held)
           ∙ shown.played);
     }
 
@@ -220,7 +221,7 @@ done_alike Tells allows event stop unread text old mid new e mid_net net queue s
     let all = all_left old mid new e.net mid_net (committed start mid_net) net at.left there_is.left calm.left at.leaves refl shown.leaves in
     let left : List Event = at.left ++ there_is.left in
     record {
-      losses = record { messages = at.messages; packets = shown.losing; undone = [] };
+      losses = record { messages = at.messages; packets = shown.losing; inner = []; undone = [] };
       alike = record {
         outcome = outcome;
         tries = [];
@@ -297,7 +298,7 @@ failed_alike {Own} Tells allows event cause unread text later_text old mid undon
     let all = all_left old mid undone e.net mid_net mid_net undone_net at.left shown.left calm.left at.leaves refl shown.leaves in
     let left : List Event = at.left ++ shown.left in
     record {
-      losses = record { messages = at.messages; packets = []; undone = gone };
+      losses = record { messages = at.messages; packets = []; inner = []; undone = gone };
       alike = record {
         outcome = outcome;
         tries = again.tries;

@@ -31,7 +31,7 @@ use Rattle.lego_model.specs.Controller.{Release, none_released, went_out, releas
 use Rattle.lego_model.specs.Events.{events_of, leave_event}
 use Rattle.lego_model.specs.History.{released_of, lost_of}
 use Rattle.lego_model.specs.Losses.{PacketLoss, Stays, BeforeSent, AfterSent}
-use Rattle.lego_model.specs.Packets.{Held}
+use Rattle.lego_model.specs.Packets.{Held, HeldBack}
 use Rattle.lego_model.specs.SwitchFaults.{FloodedByPacket}
 use Rattle.lego_model.specs.Places.{switch_at, with_place}
 use Rattle.outside.specs.declared.step.WorldStep.{WorldStep}
@@ -530,20 +530,22 @@ all-on Tells (h ∷ more) sent declared base old new net now_net queue now_queue
 
 -- ---- The whole
 
-begins : {Own : Type 0} (old : Seen Own) (net : NetState) (queue : List Event) (losing : List PacketLoss) → Ready old net → Sound (state old) → Stands old.given.declared queue old net queue (none_released losing (shown_places old.given.declared net.views (state old)))
-begins old net queue losing ready sound = record { given = refl; places_is = refl; events_is = sym (append-nil queue); ready = ready; sound = sound }
+begins : {Own : Type 0} (old : Seen Own) (net : NetState) (queue notices : List Event) (losing : List PacketLoss) → Ready old net → Sound (state old)
+    → Stands old.given.declared queue old net (queue ++ notices) (none_released losing (shown_places old.given.declared net.views (state old)) notices)
+begins old net queue notices losing ready sound = record { given = refl; places_is = refl; events_is = refl; ready = ready; sound = sound }
 
 -- A release: the reference controller releases the same and loses the same, and its switches stand then as the world's do.
-pub release-shown : {Own : Type 0} (Tells : Type 0) (held sent : List Held) (old new : Seen Own) (net now_net : NetState) (queue now_queue : List Event) → Tells → Conforming new
-    → ReleasesAll Tells held sent old new net now_net queue now_queue → Ready old net → Sound (state old) → ReleaseShown held sent old new net now_net queue now_queue
+pub release-shown : {Own : Type 0} (Tells : Type 0) (held : HeldBack) (sent : List Held) (old new : Seen Own) (net now_net : NetState) (queue now_queue : List Event) → Tells → Conforming new
+    → ReleasesAll Tells held.packets sent old new net now_net (queue ++ held.notices) now_queue → Ready old net → Sound (state old) → ReleaseShown held sent old new net now_net queue now_queue
 unfolding release
 release-shown Tells held sent old new net now_net queue now_queue told keeps all ready sound =
     let declared = old.given.declared in
-    let later = releases-continue Tells held sent old new net now_net queue now_queue all in
+    let from = queue ++ held.notices in
+    let later = releases-continue Tells held.packets sent old new net now_net from now_queue all in
     let are : AreDeclaredFrom 1 declared = subst (λ (g : Given _). AreDeclaredFrom 1 g.declared) later.given keeps.declared in
-    let r = none_released [] (shown_places declared net.views (state old)) in
-    let whole = all-on Tells held sent declared queue old new net now_net queue now_queue r told keeps are all (begins old net queue [] ready sound) in
-    let moves = release-moves Tells held sent old new net now_net queue now_queue told (ready-joined old net ready) all in
+    let r = none_released [] (shown_places declared net.views (state old)) held.notices in
+    let whole = all-on Tells held.packets sent declared queue old new net now_net from now_queue r told keeps are all (begins old net queue held.notices [] ready sound) in
+    let moves = release-moves Tells held.packets sent old new net now_net from now_queue told (ready-joined old net ready) all in
     record {
       losing = whole.losing;
       release_is = whole.final;
@@ -616,10 +618,11 @@ flood-stops Tells h s old mid new net NoMemory told whole before stands floods b
 -- The fault is one of memory, or a packet made its switch send too many messages.
 pub release-plain : {Own : Type 0} (Tells : Type 0) (start : ℕ) (old new : Seen Own) (net : NetState) (queue : List Event) (fault : TxnFault) → Tells → Conforming new → Continues Tells old new → StopsRelease Tells start old new net queue fault → Ready old net → StopsFor old new fault
 release-plain Tells start old new net queue fault told keeps whole stops ready =
-    let before = releases-continue Tells stops.front stops.sent old stops.mid (committed start net) stops.mid_net queue stops.mid_queue stops.before in
+    let from = queue ++ net.held.notices in
+    let before = releases-continue Tells stops.front stops.sent old stops.mid (committed start net) stops.mid_net from stops.mid_queue stops.before in
     let mid_keeps = mid-keeps old stops.mid new whole before (stops.breaks.moves told) keeps in
     let first : Ready old (committed start net) = record { waits = ready.waits; agrees = ready.agrees; known = ready.known } in
-    let then_ready = releases-ready Tells stops.front stops.sent old stops.mid (committed start net) stops.mid_net queue stops.mid_queue told mid_keeps stops.before first in
+    let then_ready = releases-ready Tells stops.front stops.sent old stops.mid (committed start net) stops.mid_net from stops.mid_queue told mid_keeps stops.before first in
     let d = stops.broken.0 in
     let s = viewed-joined d stops.mid_net.views (state stops.mid) (then_ready.agrees d) stops.breaks.viewed (switch_of d (state stops.mid)) refl in
     elim (stops.breaks.plain s.switch told keeps s.stands (then_ready.waits d)) [

@@ -15,16 +15,17 @@ use Rattle.flow_table.specs.declared.view.ViewRow.{ViewRow}
 use Rattle.flow_table.specs.View.{TableView}
 use Rattle.flow_table.specs.Table.{IsTable}
 use Rattle.flow_table.specs.Switch.{Declared, SwitchState}
+use Rattle.flow_table.specs.Change.{notices_of}
 use Rattle.flow_table.specs.Refusals.{message_refusal}
 use Rattle.flow_table.specs.Step.{after_message}
 use Rattle.undo_laws.specs.Owned.{owned, owned_switch}
 use Rattle.app_frames.specs.declared.frame.Answer.{Answer}
 use Rattle.app_frames.specs.declared.frame.Answer.TheVariants.{Unknown}
 use Rattle.app_frames.specs.declared.frame.Event.{Event}
-use Rattle.lego_model.specs.Answers.{Rows, rows_of_table, rows_of_view, host_answer, as_sent, answer_by, switch_answer}
+use Rattle.lego_model.specs.Answers.{Rows, rows_of_table, rows_of_view, would_touch, host_answer, as_sent, answer_by, switch_answer}
 use Rattle.lego_model.specs.declared.fault.TxnFault.{TxnFault}
-use Rattle.lego_model.specs.Events.{leave_event}
-use Rattle.lego_model.specs.Packets.{Held, holds, play_at as playing, play}
+use Rattle.lego_model.specs.Events.{notice_event, leave_event}
+use Rattle.lego_model.specs.Packets.{Held, HeldBack, with_held, holds, notices_unless, notices_by, notices_past, notices_at, play_at as playing, play}
 use Rattle.lego_model.specs.Places.{Place, switch_at, with_place, rows_at as rows_in, by_switch, by_host, answer}
 use Rattle.outside.specs.Seen.{Given, Seen, Continues, is_declared}
 use Rattle.outside.specs.State.{State, state, switch_of, waits_of}
@@ -37,6 +38,7 @@ use Rattle.net_txn.specs.Answering.{known_rows}
 use Rattle.net_txn.specs.Changes.{answer_of_host, error_in, views_by, Asked, ChangesJoined, ChangesLost, Changes}
 use Rattle.net_txn.specs.ChangeSteps.{Agrees, InStep}
 use Rattle.net_txn.specs.Losing.{lost_net, GoesOut}
+use Rattle.net_txn.specs.laws.RowLaws.{no_notices}
 use Rattle.net_txn.specs.laws.ViewLaws.{rows_at-same, rows_at-other}
 use Rattle.switch_laws.specs.Shown.{rows_or_none, flags_in, flags_at, shown_switch, places, shown_places, Stand, Passes, Known}
 use Rattle.switch_laws.specs.Lost.{shown_play, ExchangeShown}
@@ -79,6 +81,21 @@ answer_by-one (Some x) (Some y) e = cc
 pub answer-shown : (flags : Key → ℕ) (m : Change) (s : SwitchState) (rows : Rows) → Passes m rows → switch_answer (owned_switch flags s) (FlowMod m) ≡ switch_answer s (as_sent (FlowMod m))
 unfolding switch_answer
 answer-shown flags m s rows p = ap answer_by (refusal-shown flags m s p.unrefused)
+
+-- ---- What a change that removes nothing holds
+
+no-notices : (m : Change) (es : List Entry) (now : ℕ) → would_touch m (rows_of_table es) ≡ false → notices_of now m es ≡ []
+unfolding notices_of
+no-notices m es now none = no_notices m es now none
+
+quiet-by : (o : Option OfError) (d : ℕ) (m : Change) (s : SwitchState) → notices_of s.moment m s.table.entries ≡ [] → notices_unless o d m s ≡ []
+quiet-by None d m s none = ap (map (notice_event d)) none
+quiet-by (Some e) d m s none = refl
+
+quiet-change : (d : ℕ) (flags : Key → ℕ) (m : Change) (s : SwitchState) → Passes m (rows_of_table s.table.entries) → notices_by d (FlowMod m) (owned_switch flags s) ≡ []
+quiet-change d flags m s p =
+    let mine = owned_switch flags s in
+    quiet-by (message_refusal mine (FlowMod m)) d m mine (no-notices m mine.table.entries mine.moment (ap (would_touch m) (rows-owned flags s.table.entries) ∙ p.untouched))
 
 -- ---- The declared switches are those at first
 
@@ -202,6 +219,32 @@ module _ {Own : Type 0} (Tells : Type 0) (d : ℕ) (bytes : List ℕ) (old new :
       let host : host_answer (rows_in (switch_at d ps)) bytes ≡ answer_of_host d bytes net = ap (λ (k : Option Rows). host_answer k bytes) (rows-shown (ready.agrees d)) in
       ap (λ (o : Option Answer). by_host o d bytes ps) host ∙ answered-by told keeps same_given changes (ready.waits d) (ready.agrees d) (all-stand old) (answer_of_host d bytes net) refl
 
+  -- What is held then is what the reference controller holds.
+  held-by : Tells → Conforming new → ChangesJoined Tells d bytes old new net now_net (Ok given) → waits_of d (state old) ≡ [] → Agrees d net.views (state old) → Stand old.given.declared (state old)
+      → (o : Option Answer) → answer_of_host d bytes net ≡ o → with_held net.held (holds d bytes given) (notices_past o d (reading_of bytes) (switch_at d (places (shown_switch net.views (state old)) old.given.declared))) ≡ now_net.held
+  held-by told keeps changes waits agrees stand (Some a) host =
+      let by = changes.by_host a host in
+      ap (λ (notices : List Event). record { packets = net.held.packets ++ holds d bytes given; notices = notices }) (append-nil net.held.notices) ∙ sym (ap (λ (n : NetState). n.held) by.stays)
+  held-by told keeps changes waits agrees stand None host =
+      let read = asked (known_rows d net.views) bytes host in
+      let k = known d bytes read.change read.xid net (state old) agrees host read.read in
+      let step = changes.in_step read.xid read.change told host read.read keeps waits agrees in
+      let at : switch_at d (places (shown_switch net.views (state old)) old.given.declared) ≡ Some (owned_switch (flags_in k.rows) k.switch) =
+      switch_at-shown old.given.declared net.views (state old) d stand
+      ∙ ap₂ (λ (f : Key → ℕ) (o : Option SwitchState). option_map (owned_switch f) o) (ap (λ (o : Option (List ViewRow)). flags_in (rows_or_none o)) k.rows_are) k.switch_is in
+      rw (read.read, at)
+      (ap₂ (λ (packets : List Held) (notices : List Event). record { packets = packets; notices = notices }) (sym changes.held)
+      (ap (λ (more : List Event). net.held.notices ++ more) (quiet-change d (flags_in k.rows) read.change k.switch k.passes) ∙ append-nil net.held.notices ∙ sym (ap (λ (h : HeldBack). h.notices) step.held)))
+
+  held-shown : Tells → Conforming new → ChangesJoined Tells d bytes old new net now_net (Ok given) → Ready old net
+      → with_held net.held (holds d bytes given) (notices_at (switch_at d (shown_places old.given.declared net.views (state old))) d bytes) ≡ now_net.held
+  unfolding notices_at shown_places
+  held-shown told keeps changes ready =
+      let s = switch_at d (places (shown_switch net.views (state old)) old.given.declared) in
+      let host : host_answer (rows_in s) bytes ≡ answer_of_host d bytes net = ap (λ (k : Option Rows). host_answer k bytes) (rows-shown (ready.agrees d)) in
+      ap (λ (o : Option Answer). with_held net.held (holds d bytes given) (notices_past o d (reading_of bytes) s)) host
+      ∙ held-by told keeps changes (ready.waits d) (ready.agrees d) (all-stand old) (answer_of_host d bytes net) refl
+
   -- ---- The whole
 
   stays-shown : Tells → Conforming new → new.given ≡ old.given → ChangesJoined Tells d bytes old new net now_net (Ok given) → Ready old net → ExchangeShown old.given.declared d bytes old new net now_net given
@@ -211,9 +254,10 @@ module _ {Own : Type 0} (Tells : Type 0) (d : ℕ) (bytes : List ℕ) (old new :
     left = [];
     leaves = leaves-none old new net now_net changes.left (changes.losses told);
     played = λ losing before.
-        ap (λ (p : Answer × List Place). (p.0, record { places = p.1; held = net.held ++ holds d bytes p.0; losing = losing; left = before })) (answered-shown told keeps same_given changes ready)
-        ∙ ap₂ (λ (held : List Held) (left : List Event). (given, record { places = shown_places old.given.declared now_net.views (state new); held = held; losing = losing; left = left }))
-        (sym changes.held) (sym (append-nil before));
+        ap (λ (p : Answer × List Place). (p.0, record { places = p.1; held = with_held net.held (holds d bytes p.0) (notices_at (switch_at d (shown_places old.given.declared net.views (state old))) d bytes); losing = losing; inner = []; left = before }))
+        (answered-shown told keeps same_given changes ready)
+        ∙ ap₂ (λ (held : HeldBack) (left : List Event). (given, record { places = shown_places old.given.declared now_net.views (state new); held = held; losing = losing; inner = []; left = left }))
+        (held-shown told keeps changes ready) (sym (append-nil before));
   }
 
   lost-played : (s : SwitchState) → switch_of d (state old) ≡ Some s → is_declared d old.given.declared ≡ true → AreDeclaredFrom 1 old.given.declared → GoesOut d [] old new → now_net ≡ record (lost_net d net) { xid = now_net.xid } → (losing : List Bool) (before : List Event)
@@ -224,8 +268,8 @@ module _ {Own : Type 0} (Tells : Type 0) (d : ℕ) (bytes : List ℕ) (old new :
       let owned = owned_switch (flags_at d net.views) s in
       let ps = places (shown_switch net.views (state old)) declared in
       let at : switch_at d ps ≡ Some owned = switch_at-shown declared net.views (state old) d (all-stand old) ∙ ap (option_map (owned_switch (flags_at d net.views))) is in
-      ap (λ (o : Option SwitchState). playing true o (record { places = ps; held = net.held; losing = losing; left = before }) d bytes) at
-      ∙ ap₂ (λ (qs : List Place) (held : List Held). (Unknown, record { places = qs; held = held; losing = losing; left = before ++ leave_event owned ∷ [] }))
+      ap (λ (o : Option SwitchState). playing true o (record { places = ps; held = net.held; losing = losing; inner = []; left = before }) d bytes) at
+      ∙ ap₂ (λ (qs : List Place) (held : HeldBack). (Unknown, record { places = qs; held = held; losing = losing; inner = []; left = before ++ leave_event owned ∷ [] }))
       (lost-places d [] s old new net now_net is out net_is declared are there) (sym (ap (λ (n : NetState). n.held) net_is))
 
   lost-shown : Tells → Conforming new → Continues Tells old new → ChangesLost Tells d old new net now_net → given ≡ Unknown → Ready old net → ExchangeShown old.given.declared d bytes old new net now_net given

@@ -25,7 +25,7 @@ use Rattle.undo_laws.specs.laws.CorrectedLaws.{refusal-asked}
 use Rattle.app_frames.specs.declared.frame.Answer.{Answer}
 use Rattle.lego_model.specs.Answers.{rows_of_table, rows_of_view, would_touch, as_sent}
 use Rattle.lego_model.specs.History.{lost_of}
-use Rattle.lego_model.specs.Packets.{Held}
+use Rattle.lego_model.specs.Packets.{HeldBack, Held}
 use Rattle.outside.specs.Seen.{Seen}
 use Rattle.outside.specs.State.{state, switch_of, waits_of}
 use Rattle.outside.specs.Conforming.{Conforming}
@@ -292,7 +292,7 @@ ready-asked d m old new net now_net given ready ports step = record {
 }
 
 -- what is held is no matter
-goes-held : {Own : Type 0} (start : ℕ) (lost : List ℕ) (first now : Seen Own) (net0 net : NetState) (held : List Held) → Goes start lost first now net0 net → Goes start lost first now net0 (record net { held = held })
+goes-held : {Own : Type 0} (start : ℕ) (lost : List ℕ) (first now : Seen Own) (net0 net : NetState) (held : HeldBack) → Goes start lost first now net0 net → Goes start lost first now net0 (record net { held = held })
 goes-held start lost first now net0 net held goes =
     let s = goes.since in
     record {

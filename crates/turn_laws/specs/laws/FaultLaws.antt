@@ -144,7 +144,7 @@ still-there a b c first second before behind same =
 stop-left : {Own : Type 0} (Tells : Type 0) (app budget start : ℕ) (old mid new : Seen Own) (mid_net : NetState) (queue : List Event) (fault : TxnFault) → Tells → AreJoined mid_net.views (state mid) → new.given ≡ mid.given → TurnDone app budget old mid
     → StopsRelease Tells start mid new mid_net queue fault → ((fault ≡ NoMemory) × TurnKept app budget old new) ⊎ TurnReleasing app budget old new
 stop-left Tells app budget start old mid new mid_net queue fault told joined given done stops =
-    let front = release-moves Tells stops.front stops.sent mid stops.mid (committed start mid_net) stops.mid_net queue stops.mid_queue told joined stops.before in
+    let front = release-moves Tells stops.front stops.sent mid stops.mid (committed start mid_net) stops.mid_net (queue ++ mid_net.held.notices) stops.mid_queue told joined stops.before in
     let broken = stops.breaks.moves told in
     elim (moves-left app budget old mid new _ given done (moves-then mid stops.mid new _ _ front (moves-or _ stops.mid new broken))) [
       | inl kept ↦ inl (stops.breaks.begun told (still-there mid stops.mid new front.steps broken.steps front.history broken.history kept.0), kept.1)
