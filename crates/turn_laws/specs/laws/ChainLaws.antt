@@ -157,7 +157,7 @@ chain-shown Tells app allows start lost first net0 (Talk act ∷ trace) old new 
       left = rest.left;
       leaves = leaves-then old next new net net now_net [] rest.left (leaves-none old next net net refl none_lost) rest.leaves;
       answers = λ before.
-          subst (λ (ps : List Place). AnswersSo (table_of allows) (exchanges_in trace) (record { places = ps; held = net.held; losing = rest.messages; left = before }) (play_at first new now_net [] (before ++ rest.left)))
+          subst (λ (ps : List Place). AnswersSo (table_of allows) (exchanges_in trace) (record { places = ps; held = net.held; losing = rest.messages; inner = []; left = before }) (play_at first new now_net [] (before ++ rest.left)))
           (shown-same first.given.declared net.views (state old) (state next) same) (rest.answers before);
       goes = rest.goes;
     }
