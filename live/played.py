@@ -9,7 +9,7 @@ import time
 
 sys.path.insert(0, os.path.join(os.path.dirname(os.path.abspath(__file__)), "..", "sdk", "python"))
 from legosdn import messages
-from legosdn.codes import NO_BUFFER, FlowCommand, Port
+from legosdn.codes import NO_BUFFER, FlowCommand, Port, RemovedReason
 from legosdn.match import Match
 from legosdn.messages import PortDesc
 from legosdn.stats import FlowStats
@@ -56,11 +56,12 @@ class Switch(threading.Thread):
     cut_at    the link is cut where this many messages of this kind have come, in the place of the next barrier's reply
     cut_by    how it is cut: it is ended, it is reset, or nothing is said any more
     backwards whether it tells its entries in another order than that of the keys
+    others    entries that somebody else deletes, each by the key of the addition at which that happens
     """
 
-    def __init__(self, port, dpid, cut_at=None, cut_by="end", backwards=False):
+    def __init__(self, port, dpid, cut_at=None, cut_by="end", backwards=False, others=None):
         super().__init__(daemon=True)
-        self.backwards = backwards
+        self.backwards, self.others = backwards, others or {}
         self.dpid, self.table, self.said, self.frames = dpid, {}, [], []
         self.cut_at, self.cut_by = cut_at, cut_by
         self.changed = threading.Condition()
@@ -80,6 +81,16 @@ class Switch(threading.Thread):
     def miss(self, in_port, frame):
         """A frame came that no entry is for: a PACKET_IN."""
         self.send(messages.PacketIn(NO_BUFFER, len(frame), in_port, MISS, frame))
+
+    def delete(self, key):
+        """Somebody else deletes this entry: a FLOW_REMOVED, which the controller asks for at each entry."""
+        with self.changed:
+            self.drop(key)
+
+    def drop(self, key):
+        priority, match = key
+        _, cookie = self.table.pop(key)
+        self.send(messages.FlowRemoved(match, cookie, priority, RemovedReason.DELETE, 0, 0, 0, 0, 0))
 
     def entries(self):
         with self.changed:
@@ -160,6 +171,8 @@ class Switch(threading.Thread):
         self.said.append((FlowCommand(change.command).name, key))
         if change.command == FlowCommand.ADD:
             self.table[key] = (change.actions, change.cookie)
+            if key in self.others:
+                self.drop(self.others[key])
         elif change.command == FlowCommand.DELETE_STRICT:
             self.table.pop(key, None)
         elif change.command == FlowCommand.DELETE and change.match == Match():
