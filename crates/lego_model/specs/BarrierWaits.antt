@@ -49,7 +49,7 @@ unfoldable pub heard : Awaited → List ℕ → Heard
 heard a bytes =
     if bytes_eq bytes (message_bytes a.barrier BarrierReply) then Reply
     else if number_at 1 1 bytes == 1 && is_awaited a (number_at 4 4 bytes) then Refused (refusal_of bytes)
-    else if is_apart a.notices && (number_at 1 1 bytes == 11 && number_at 1 58 bytes == 2) then Notice
+    else if (number_at 1 1 bytes == 11 && number_at 1 58 bytes == 2) && is_apart a.notices then Notice
     else if number_at 1 1 bytes == 2 then Echo
     else Other
 

@@ -4,9 +4,9 @@ ghost use Rattle.std.specs.Prelude.{◌≡◌, ◌≤◌, length, IsOk};
 ghost use Rattle.of_wire.specs.declared.message.Message.TheVariants.{BarrierRequest, BarrierReply};
 ghost use Rattle.of_wire.specs.Reading.{reading_of};
 ghost use Rattle.of_wire.specs.Spelling.{message_bytes};
-ghost use Rattle.lego_model.specs.BarrierWaits.{is_awaited, heard, refusal_of};
+ghost use Rattle.lego_model.specs.BarrierWaits.{is_awaited, is_apart, heard, refusal_of};
 
-use lego_model::{Awaited, Heard, Refusal};
+use lego_model::{Awaited, Heard, Notices, Refusal};
 use of_types::{OfError, Xid, flows, get_u8, get_u16, get_u32, kinds};
 use of_wire::{Message, encode_into};
 
@@ -56,6 +56,16 @@ fn read_error(message: &[u8]) -> Refusal
     }
 }
 
+/// Tells whether a notice of an entry that was deleted is no message as any other.
+fn stands_apart(notices: Notices) -> bool
+    ensures { result ≡ is_apart notices }
+{
+    match notices {
+        Notices::Held | Notices::Dropped => true,
+        Notices::Kept => false,
+    }
+}
+
 /// Tells what a message is to a wait.
 #[tactic(auto, unfolding(lego_model::specs::BarrierWaits::heard), using(crate::specs::laws::SizeLaws::sizes))]
 pub(crate) fn classify(message: &[u8], awaited: &Awaited) -> Heard
@@ -68,7 +78,10 @@ pub(crate) fn classify(message: &[u8], awaited: &Awaited) -> Heard
     let kind = get_u8(message, 1);
     if kind == kinds::ERROR && may_answer(awaited, get_u32(message, 4)) {
         Heard::Refused(read_error(message))
-    } else if kind == kinds::FLOW_REMOVED && get_u8(message, 58) == flows::DELETED {
+    } else if kind == kinds::FLOW_REMOVED
+        && get_u8(message, 58) == flows::DELETED
+        && stands_apart(awaited.notices)
+    {
         Heard::Notice
     } else if kind == kinds::ECHO_REQUEST {
         Heard::Echo

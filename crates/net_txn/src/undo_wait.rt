@@ -31,8 +31,6 @@ pub(crate) fn pass_barrier<W: World>(
         barrier: xid,
         notices: Notices::Dropped,
     };
-    match await_barrier(world, buf, kept, &awaited, Storage::Reserved, reverted) {
-        Ok(_) => Ok(()),
-        Err(trouble) => Err(trouble),
-    }
+    await_barrier(world, buf, kept, &awaited, Storage::Reserved, reverted)?;
+    Ok(())
 }

@@ -26,6 +26,10 @@ use Rattle.outside.specs.laws.SeenLaws.{Continues-refl}
 use Rattle.outside.specs.laws.InOrderLaws.{messages-none}
 use Rattle.lego_model.specs.declared.fault.TxnFault.{TxnFault}
 use Rattle.lego_model.specs.declared.fault.TxnFault.TheVariants.{SwitchBroke, Diverged, Flooded, NoMemory}
+use Rattle.app_frames.specs.declared.frame.Event.{Event}
+use Rattle.net_txn.specs.declared.queue.Storage.TheVariants.{Growing}
+use Rattle.net_txn.specs.Said.{Replied}
+use Rattle.net_txn.specs.Arriving.{notices_told}
 use Rattle.net_txn.specs.declared.halt.Halt.{Halt}
 use Rattle.net_txn.specs.declared.halt.Halt.TheVariants.{Lost, Fault}
 use Rattle.lego_model.specs.declared.wait.Awaited.{Awaited}
@@ -44,7 +48,7 @@ use Rattle.net_txn.specs.Views.{rows_at, is_row_at, with_rows, with_added, rows_
 use Rattle.net_txn.specs.laws.ViewLaws.{rows_at-stays}
 use Rattle.net_txn.specs.Host.{held_read}
 use Rattle.net_txn.specs.Net.{NetState, awaited_from, logged_by, with_logged}
-use Rattle.net_txn.specs.Answering.{answer_of_host, held_after, views_by, change_sent, Asked, Unsent, Stopped, log_in_flight, InFlight, IfGivenUp}
+use Rattle.net_txn.specs.Answering.{answer_of_host, held_after, held_by, views_by, change_sent, Asked, Unsent, Stopped, log_in_flight, InFlight, IfGivenUp}
 use Rattle.net_txn.specs.Making.{StaysBut, LosesSo, Halts, forgets, log_halted, Judged, MakesJoined, MakesLost, Makes}
 use Rattle.net_txn.specs.Changes.{ChangesJoined, ChangesLost, Changes}
 use Rattle.net_txn.specs.Losing.{lost_net}
@@ -181,6 +185,25 @@ log_cut (Some entry) log all n is longer = rw longer (take_at log (entry ∷ [])
 
 pub same_views : (d : ℕ) (a b : Option ViewRow) (before views : List TableView) → a ≡ b → before ≡ views → with_rows d (with_added a) before ≡ with_rows d (with_added b) views
 same_views d a b before views is same = ap (λ (o : Option ViewRow). with_rows d (with_added o) before) is ∙ ap (with_rows d (with_added b)) same
+
+-- ---- What is held
+
+-- as before, where the host keeps packets and notices apart
+pub held_same : (packets : List Held) (notices before : List Event) (held : HeldBack) → notices ≡ before → record { packets = packets; notices = before } ≡ held → record { packets = packets; notices = notices } ≡ held
+held_same packets notices before held same is = ap (λ (ns : List Event). record { packets = packets; notices = ns }) same ∙ is
+
+-- with more notices
+pub held_more : (d : ℕ) (more : List (List ℕ)) (packets : List Held) (notices before : List Event) (seen views : List TableView) (held : HeldBack) → notices ≡ before ++ notices_told d seen more → seen ≡ views
+    → record { packets = packets; notices = before } ≡ held → record { packets = packets; notices = notices } ≡ held_by None d views more held
+held_more d more packets notices before seen views held is same held_is =
+    ap (λ (ns : List Event). record { packets = packets; notices = ns }) (is ∙ ap (λ (vs : List TableView). before ++ notices_told d vs more) same)
+    ∙ ap (λ (h : HeldBack). record h { notices = h.notices ++ notices_told d views more }) held_is
+
+-- what a wait brought, whose refusal is known
+pub brought_as : {Own : Type 0} {Tells : Type 0} {a : Awaited} {frames : List (List ℕ)} {old new : Seen Own} {kept now_kept : List (ℕ × List ℕ)} (answer : Brought) (refusal : Option Refusal) → answer.refusal ≡ refusal
+    → Replied Tells a frames Growing [] old new kept now_kept answer → Replied Tells a frames Growing [] old new kept now_kept (record { refusal = refusal; notices = answer.notices })
+brought_as {Tells = Tells} {a = a} {frames = frames} {old = old} {new = new} {kept = kept} {now_kept = now_kept} answer refusal is r =
+    subst (λ (o : Option Refusal). Replied Tells a frames Growing [] old new kept now_kept (record { refusal = o; notices = answer.notices })) is r
 
 -- ---- What the host makes of it
 

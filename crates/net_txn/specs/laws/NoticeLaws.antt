@@ -143,7 +143,7 @@ heard-notice a bytes apart is =
     let reply = message_bytes a.barrier BarrierReply in
     elim (cases_Bool (bytes_eq bytes reply)) [
       | inl same ↦ absurd (no_reply a.barrier bytes is ((bytes_eq-Decides bytes reply).0 same))
-      | inr other ↦ rw (other, apart, is.kind, is.reason) refl
+      | inr other ↦ rw (other, is.kind, is.reason, apart) refl
     ]
 
 heard-other : (a : Awaited) (bytes : List ℕ) → is_apart a.notices ≡ false → IsNotice bytes → heard a bytes ≡ hearing.Other
@@ -152,7 +152,7 @@ heard-other a bytes apart is =
     let reply = message_bytes a.barrier BarrierReply in
     elim (cases_Bool (bytes_eq bytes reply)) [
       | inl same ↦ absurd (no_reply a.barrier bytes is ((bytes_eq-Decides bytes reply).0 same))
-      | inr other ↦ rw (other, apart, is.kind) refl
+      | inr other ↦ rw (other, is.kind, is.reason, apart) refl
     ]
 
 pub notice_steps : (a : Awaited) (bytes : List ℕ) → IsNotice bytes → heard_steps a bytes ≡ Acted (Got a.dpid bytes) ∷ []

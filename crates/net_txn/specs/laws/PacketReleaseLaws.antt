@@ -58,11 +58,11 @@ pub says_packet : {Own : Type 0} (Tells : Type 0) (d xid : ℕ) (packet : Packet
 says_packet Tells d xid packet frame old new (Ok x) is c = subst (λ (b : List ℕ). Calls Tells d (Says d b ∷ []) old new) is c
 says_packet Tells d xid packet frame old new (Err halt) is s = inr s
 
-pub barrier_passed : {Own : Type 0} {Tells : Type 0} (a : Awaited) (old new : Seen Own) (before now_kept came : List (ℕ × List ℕ)) (refusal : Brought) → before ≡ [] → came ≡ now_kept → Replied Tells a (barrier_of a ∷ []) Growing [] old new before now_kept refusal
+pub barrier_passed : {Own : Type 0} {Tells : Type 0} (a : Awaited) (old new : Seen Own) (before now_kept came : List (ℕ × List ℕ)) (brought : Brought) → before ≡ [] → came ≡ now_kept → Replied Tells a (barrier_of a ∷ []) Growing [] old new before now_kept brought
     → BarrierPassed Tells a old new came
-barrier_passed {Tells = Tells} a old new before now_kept came refusal none same r =
-    let r1 = subst (λ (k : List (ℕ × List ℕ)). Replied Tells a (barrier_of a ∷ []) Growing [] old new k now_kept refusal) none r in
-    record { refusal = refusal; replied = subst (λ (k : List (ℕ × List ℕ)). Replied Tells a (barrier_of a ∷ []) Growing [] old new [] k refusal) (sym same) r1 }
+barrier_passed {Tells = Tells} a old new before now_kept came brought none same r =
+    let r1 = subst (λ (k : List (ℕ × List ℕ)). Replied Tells a (barrier_of a ∷ []) Growing [] old new k now_kept brought) none r in
+    record { brought = brought; replied = subst (λ (k : List (ℕ × List ℕ)). Replied Tells a (barrier_of a ∷ []) Growing [] old new [] k brought) (sym same) r1 }
 
 pub barrier_broke : {Own : Type 0} {Tells : Type 0} (a : Awaited) (old new : Seen Own) (before now_kept : List (ℕ × List ℕ)) (halt : Halt) → before ≡ [] → BreaksBy Tells a (barrier_of a ∷ []) old new before now_kept halt → BarrierBroke Tells a old new halt
 barrier_broke {Tells = Tells} a old new before now_kept halt none b = record { came = now_kept; breaks = subst (λ (k : List (ℕ × List ℕ)). BreaksBy Tells a (barrier_of a ∷ []) old new k now_kept halt) none b }
@@ -76,7 +76,7 @@ pub short_behind : {Own : Type 0} {Tells : Type 0} (a : Awaited) (old new : Seen
 short_behind a old new came b = inr (record { came = came; passed = b; short = refl })
 
 told_of : {Own : Type 0} {Tells : Type 0} (d xid : ℕ) (packet : Packet) (old mid new : Seen Own) (came : List (ℕ × List ℕ)) → PacketSent Tells d xid packet old mid → BarrierPassed Tells (packet_awaited d xid) mid new came → PacketTold Tells d xid packet old new came
-told_of d xid packet old mid new came sent b = record { refusal = b.refusal; replied = talks_behind (packet_awaited d xid) [] new [] came (packet_bytes xid packet) (Ok b.refusal) sent b.replied }
+told_of d xid packet old mid new came sent b = record { brought = b.brought; replied = talks_behind (packet_awaited d xid) [] new [] came (packet_bytes xid packet) (Ok b.brought) sent b.replied }
 
 stops_of : {Own : Type 0} {Tells : Type 0} (d xid : ℕ) (packet : Packet) (old mid new : Seen Own) (fault : TxnFault) → PacketSent Tells d xid packet old mid → BarrierStops Tells (packet_awaited d xid) mid new (Fault fault) → PacketStops Tells d xid packet old new fault
 stops_of d xid packet old mid new fault sent (inl b) =
@@ -111,11 +111,11 @@ sends_packet d packet old new net now_net queue now_queue came is xid t taken =
       message = is;
       is_xid = xid;
       came = came;
-      refusal = t.refusal;
+      brought = t.brought;
       waits = w;
       taken = taken;
       moves = told_moves d net.xid packet old new came xid.1 is t;
-      in_step = λ s told keeps here none. packet_in_step d packet s old new net now_net queue now_queue came t.refusal xid.1 is w taken told keeps here none;
+      in_step = λ s told keeps here none. packet_in_step d packet s old new net now_net queue now_queue came t.brought xid.1 is w taken told keeps here none;
     }
 
 -- ---- It stopped
@@ -225,7 +225,7 @@ packet_breaks d packet old new net fault viewed is lt (inr (inr b)) =
 -- ---- Its calls are of one link, and no switch is lost by them
 
 told_speaks : {Own : Type 0} {Tells : Type 0} (d xid : ℕ) (packet : Packet) (old new : Seen Own) (came : List (ℕ × List ℕ)) → PacketTold Tells d xid packet old new came → Speaks Tells d old new
-told_speaks d xid packet old new came t = talks_speak (packet_awaited d xid) [] came d (packet_bytes xid packet ∷ []) (Ok t.refusal) refl t.replied
+told_speaks d xid packet old new came t = talks_speak (packet_awaited d xid) [] came d (packet_bytes xid packet ∷ []) (Ok t.brought) refl t.replied
 
 stops_speaks : {Own : Type 0} {Tells : Type 0} (d xid : ℕ) (packet : Packet) (old new : Seen Own) (fault : TxnFault) → PacketStops Tells d xid packet old new fault → Speaks Tells d old new
 stops_speaks {Tells = Tells} d xid packet old new fault (inl none) = subst (λ (x : Seen _). Speaks Tells d old x) (sym none.0) (speaks_none Tells d old)

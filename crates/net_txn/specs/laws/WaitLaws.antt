@@ -39,7 +39,7 @@ unfolding heard
 reply_is a bytes is =
     let reply = message_bytes a.barrier BarrierReply in
     (bytes_eq-Decides bytes reply).0
-    (was_first (bytes_eq bytes reply) (number_at 1 1 bytes == 1 && is_awaited a (number_at 4 4 bytes)) (is_apart a.notices && (number_at 1 1 bytes == 11 && number_at 1 58 bytes == 2)) (number_at 1 1 bytes == 2) (refusal_of bytes) is)
+    (was_first (bytes_eq bytes reply) (number_at 1 1 bytes == 1 && is_awaited a (number_at 4 4 bytes)) ((number_at 1 1 bytes == 11 && number_at 1 58 bytes == 2) && is_apart a.notices) (number_at 1 1 bytes == 2) (refusal_of bytes) is)
 
 -- ---- One more
 
@@ -108,7 +108,7 @@ was_fourth false false false false r is = absurd cc
 pub echo_is : (a : Awaited) (bytes : List ℕ) → heard a bytes ≡ Echo → number_at 1 1 bytes ≡ 2
 unfolding heard
 echo_is a bytes is =
-    eqb-true _ _ (was_fourth (bytes_eq bytes (message_bytes a.barrier BarrierReply)) (number_at 1 1 bytes == 1 && is_awaited a (number_at 4 4 bytes)) (is_apart a.notices && (number_at 1 1 bytes == 11 && number_at 1 58 bytes == 2)) (number_at 1 1 bytes == 2) (refusal_of bytes) is)
+    eqb-true _ _ (was_fourth (bytes_eq bytes (message_bytes a.barrier BarrierReply)) (number_at 1 1 bytes == 1 && is_awaited a (number_at 4 4 bytes)) ((number_at 1 1 bytes == 11 && number_at 1 58 bytes == 2) && is_apart a.notices) (number_at 1 1 bytes == 2) (refusal_of bytes) is)
 
 pub waits_kept : {Own : Type 0} {Tells : Type 0} {a : Awaited} {front : List WorldStep} {old new : Seen Own} {kept kept1 : List (ℕ × List ℕ)} {answer : Brought} → Waits Tells a front old new kept kept1 answer → KeptMore a.dpid kept kept1
 waits_kept {a = a} {kept = kept} w =

@@ -57,7 +57,7 @@ returns-in-Ok g c =
       speaks = talks_speak _ _ _ c.args.dpid (c.as_slice.result.now ∷ []) c.ask.result (ap (λ (a : Awaited). a.dpid) c.asked-awaited.ensures) c.ask.ensures;
       kept_more = sorted_more c.args.dpid c.args.xid came c.args.kept.now c.sort_out.new.kept more c.in_ok-replies.ensures.kept;
       answer = answer_by_replies c.args.dpid c.args.xid old new c.args.kept.now c.sort_out.new.kept came c.in_ok-replies.replies.parts.items c.in_ok-replies.replies.refusals.items c.in_ok-request.request c.asked-awaited.result.barrier (Ok c.in-Ok.rows)
-          (record { refusal = c.in_ok-ask.field-0; waits = waits; kept_is = c.in_ok-replies.ensures.kept })
+          (record { brought = c.in_ok-ask.field-0; waits = waits; kept_is = c.in_ok-replies.ensures.kept })
           c.in_ok-replies.ensures.parts c.in_ok-replies.ensures.refusals c.in_ok-request.ensures.bytes (ap (λ (x : Awaited). x.barrier) c.asked-awaited.ensures)
           c.in-Ok.ensures.rows c.in-Ok.ensures.no_refusal tt;
     }
@@ -70,7 +70,7 @@ returns-in-Err g c =
     let more = came_more g.W.World.Tells c.args.dpid c.args.xid c.asked-awaited.result _ old new c.in_ok-came.came came c.ask.result c.asked-awaited.ensures c.in_ok-came.ensures (talks_ok _ _ _ _ _ _ (c.as_slice.result.now ∷ []) c.ask.result c.ask.ensures) (talks_err _ _ _ _ _ _ (c.as_slice.result.now ∷ []) c.ask.result c.ask.ensures) in
     let waits = asked_waits c.args.dpid c.args.xid c.asked-awaited.result c.as_slice.result.now old new c.in_ok-came.came came c.in_ok-ask.field-0 c.asked-awaited.ensures (c.as_slice.ensures ∙ c.in_ok-request.ensures.bytes) c.in_ok-came.ensures (talks_waits (c.as_slice.result.now ∷ []) c.in_ok-ask.ensures) in
     let cause = answer_by_replies c.args.dpid c.args.xid old new c.args.kept.now c.sort_out.new.kept came c.in_ok-replies.replies.parts.items c.in_ok-replies.replies.refusals.items c.in_ok-request.request c.asked-awaited.result.barrier (Err c.in-Err.fault)
-    (record { refusal = c.in_ok-ask.field-0; waits = waits; kept_is = c.in_ok-replies.ensures.kept })
+    (record { brought = c.in_ok-ask.field-0; waits = waits; kept_is = c.in_ok-replies.ensures.kept })
     c.in_ok-replies.ensures.parts c.in_ok-replies.ensures.refusals c.in_ok-request.ensures.bytes (ap (λ (x : Awaited). x.barrier) c.asked-awaited.ensures)
     tt tt c.in-Err.ensures.err in
     record {

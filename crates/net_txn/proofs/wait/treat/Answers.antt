@@ -27,7 +27,7 @@ returns-in_ok-hold-in-Notice g c =
 
 pub returns-in_err-hold-in-Notice : goal.returns-in_err-hold-in-Notice
 returns-in_err-hold-in-Notice g c =
-    let p = err_from_is_err_and c.from_residual-in_err-hold-in-Notice.result c.from_residual-in_err-hold-in-Notice.ensures.1 in
+    let p = err_from_is_err_and c.from_residual.result c.from_residual.ensures.1 in
     let e = c.in_err-hold-in-Notice.ensures in
     let seen = g.W.World.seen c.args.world.now in
     let d = c.args.awaited.now.dpid in
@@ -39,7 +39,7 @@ returns-in_err-hold-in-Notice g c =
 
 pub returns-in_err-send-in-Echo : goal.returns-in_err-send-in-Echo
 returns-in_err-send-in-Echo g c =
-    let p = err_from_is_err_and c.from_residual.result c.from_residual.ensures.1 in
+    let p = err_from_is_err_and c.from_residual-in_err-send-in-Echo.result c.from_residual-in_err-send-in-Echo.ensures.1 in
     rw (p.1, p.2) (record { why = untreated_by c.args.storage c.in_err-send-in-Echo.field-0.0 c.in_err-send-in-Echo.ensures.0; calls = c.in_err-send-in-Echo.ensures.1; kept_is = refl })
 
 pub returns-in_ok-send-in-Echo : goal.returns-in_ok-send-in-Echo

@@ -5,7 +5,7 @@ use Rattle.net_txn.specs.Views.{rows_after}
 use Rattle.net_txn.specs.Net.{NetState, awaited_from}
 use Rattle.lego_model.specs.BarrierWaits.{next_xid}
 use Rattle.net_txn.specs.laws.WaitLaws.{waits_kept}
-use Rattle.net_txn.specs.laws.ChangeLaws.{sent_waits, given_up, kept_for, same_log, same_views, log_cut}
+use Rattle.net_txn.specs.laws.ChangeLaws.{sent_waits, given_up, kept_for, same_log, same_views, log_cut, held_same, held_more, brought_as}
 use Rattle.net_txn.specs.laws.ChangeFlightLaws.{replied_then, halts_then}
 use Rattle.net_txn.specs.laws.TalkLaws.{speaks_none, talks_speak, talks_waits, talks_cause, talks_flooded, talks_kept}
 use Rattle.net_txn.proofs.net.Net.make.Goals as goal
@@ -28,7 +28,7 @@ returns-in_err-take_effect-in-None-clause-result g c =
       ];
       log_is = c.in_ok-push_logged.ensures.ok ∙ same_log _ _ _ _ c.in_ok-frame.ensures.logged (ap (λ (n : NetState). n.log) v);
       kept = kept_for c.args.dpid c.await_from-awaited.result.dpid _ c.args.self.now.kept c.ask.new.kept (ap (λ (a : Awaited). a.dpid) c.await_from-awaited.ensures) (ap (λ (n : NetState). n.kept) v) (waits_kept (talks_waits (c.as_slice.result.now ∷ []) c.in_ok-answer.ensures));
-      held = held_same c.args.self.now c.take_effect.new.held c.in_err-take_effect-in-None.ensures.unheld v;
+      held = held_same c.self.inside.held.items c.take_effect.new.held c.self.inside.notices c.args.self.now.held c.in_err-take_effect-in-None.ensures.unheld (ap (λ (n : NetState). n.held) v);
     }))
 
 pub returns-in-None-clause-result : goal.returns-in-None-clause-result
@@ -42,11 +42,13 @@ returns-in-None-clause-result g c =
       is_xid = is_xid;
       refusal = None;
       notices = c.in_ok-answer.answer.notices;
-      waits = sent_waits c.args.dpid c.args.flow c.args.self.now c.await_from-awaited.result c.as_slice.result.now _ c.ask.new.kept (g.W.World.seen c.args.world.now) (g.W.World.seen c.ask.new.world) None
-          a (c.as_slice.ensures ∙ c.in_ok-frame.ensures.frame) (ap (λ (n : NetState). n.kept) v) (talks_waits (c.as_slice.result.now ∷ []) (rw c.in-None.is at c.in_ok-answer.ensures));
+      waits = sent_waits c.args.dpid c.args.flow c.args.self.now c.await_from-awaited.result c.as_slice.result.now _ c.ask.new.kept (g.W.World.seen c.args.world.now) (g.W.World.seen c.ask.new.world) (record { refusal = None; notices = c.in_ok-answer.answer.notices })
+          a (c.as_slice.ensures ∙ c.in_ok-frame.ensures.frame) (ap (λ (n : NetState). n.kept) v) (talks_waits (c.as_slice.result.now ∷ []) (brought_as c.in_ok-answer.answer None c.in-None.is c.in_ok-answer.ensures));
       answer_is = refl;
       views = c.in_ok-take_effect-in-None.ensures.ok ∙ same_views c.args.dpid _ _ _ _ c.in_ok-frame.ensures.row (c.make_room.ensures ∙ ap (λ (n : NetState). n.views) v);
       log = c.in_ok-push_logged.ensures.ok ∙ same_log _ _ _ _ c.in_ok-frame.ensures.logged (ap (λ (n : NetState). n.log) v);
+      held = held_more c.args.dpid c.in_ok-answer.answer.notices c.self.inside.held.items c.take_effect.new.held c.self.inside.notices _ c.args.self.now.views c.args.self.now.held c.in_ok-take_effect-in-None.ensures.held
+          (c.make_room.ensures ∙ ap (λ (n : NetState). n.views) v) (ap (λ (n : NetState). n.held) v);
       xid = c.following-self-inside.ensures.next ∙ ap (λ (x : Awaited). next_xid x.barrier) a;
     }
 
@@ -59,11 +61,13 @@ returns-clause-result g c =
       message = c.requires;
       is_xid = is_xid;
       refusal = Some c.in-Some.refusal;
-      waits = sent_waits c.args.dpid c.args.flow c.args.self.now c.await_from-awaited.result c.as_slice.result.now _ c.ask.new.kept (g.W.World.seen c.args.world.now) (g.W.World.seen c.ask.new.world) (Some c.in-Some.refusal)
-          a (c.as_slice.ensures ∙ c.in_ok-frame.ensures.frame) (ap (λ (n : NetState). n.kept) v) (talks_waits (c.as_slice.result.now ∷ []) (rw c.in-Some.is at c.in_ok-answer.ensures));
+      notices = c.in_ok-answer.answer.notices;
+      waits = sent_waits c.args.dpid c.args.flow c.args.self.now c.await_from-awaited.result c.as_slice.result.now _ c.ask.new.kept (g.W.World.seen c.args.world.now) (g.W.World.seen c.ask.new.world) (record { refusal = Some c.in-Some.refusal; notices = c.in_ok-answer.answer.notices })
+          a (c.as_slice.ensures ∙ c.in_ok-frame.ensures.frame) (ap (λ (n : NetState). n.kept) v) (talks_waits (c.as_slice.result.now ∷ []) (brought_as c.in_ok-answer.answer (Some c.in-Some.refusal) c.in-Some.is c.in_ok-answer.ensures));
       answer_is = refl;
       views = c.make_room.ensures ∙ ap (λ (n : NetState). n.views) v;
       log = c.truncate.ensures.items ∙ log_cut _ c.self.inside.log.items _ c.len-before.result (c.len-before.ensures ∙ c.self.inside.log.ok.0) c.in_ok-push_logged.ensures.ok ∙ ap (λ (n : NetState). n.log) v;
+      held = ap (λ (n : NetState). n.held) v;
       xid = c.following-self-inside.ensures.next ∙ ap (λ (x : Awaited). next_xid x.barrier) a;
     }
 
@@ -86,7 +90,7 @@ returns-in_err-answer-clause-result g c =
     a (c.as_slice.ensures ∙ c.in_ok-frame.ensures.frame) (ap (λ (n : NetState). n.kept) v) c.requires small (c.make_room.ensures ∙ ap (λ (n : NetState). n.views) v)
     (c.in_ok-push_logged.ensures.ok ∙ same_log _ _ _ _ c.in_ok-frame.ensures.logged (ap (λ (n : NetState). n.log) v))
     (kept_for c.args.dpid c.await_from-awaited.result.dpid _ c.args.self.now.kept c.ask.new.kept (ap (λ (a : Awaited). a.dpid) c.await_from-awaited.ensures) (ap (λ (n : NetState). n.kept) v) (talks_kept c.in_err-answer.ensures))
-    c.in_err-answer.ensures)
+    (ap (λ (n : NetState). n.held) v) c.in_err-answer.ensures)
 
 pub returns-in_err-answer-clause-cause : goal.returns-in_err-answer-clause-cause
 returns-in_err-answer-clause-cause g c =
