@@ -1,5 +1,5 @@
 -- What the parts of a release do: one packet is sent, what came is taken, and all packets go in order. All of this is our own.
-use Rattle.std.specs.Prelude.{◌≡◌, ◌⊎◌, ℕ, Bool, true, false, not, ◌&&◌, List, [], ◌∷◌, ◌++◌, length, map, filter, Option, Result, Ok, Err, IsOk, MatchResult}
+use Rattle.std.specs.Prelude.{◌≡◌, ◌⊎◌, ℕ, Bool, true, false, not, ◌&&◌, List, [], ◌∷◌, ◌++◌, length, map, filter, Result, Ok, Err, IsOk, MatchResult}
 use Rattle.of_wire.specs.declared.bodies.PacketOut.{PacketOut as Packet}
 use Rattle.of_wire.specs.declared.message.Message.TheVariants.{PacketOut}
 use Rattle.of_wire.specs.Spelling.{message_bytes}

@@ -37,6 +37,30 @@ fn event_of_notice(
     }
 }
 
+/// Appends an event, where there is one.
+fn append(events: &mut EventQueue, event: Option<Event>) -> Result<(), AllocError>
+    ensures { OnOk result (events.new ≡ events.old ++ or_none event) }
+{
+    if let Some(event) = event {
+        events.push(event)?;
+    }
+    Ok(())
+}
+
+/// Appends the event of a notice, where the owner of the entry is told.
+fn append_event(
+    alloc: Global,
+    views: &[TableView],
+    dpid: Dpid,
+    notice: &[u8],
+    events: &mut EventQueue,
+) -> Result<(), AllocError>
+    ensures { OnOk result (events.new ≡ events.old ++ notice_told dpid (plains views.now) (reading_of notice.now)) }
+{
+    let event = event_of_notice(alloc, views, dpid, notice)?;
+    append(events, event)
+}
+
 /// Returns the events of notices, in order.
 fn events_of_notices(
     alloc: Global,
@@ -48,9 +72,7 @@ fn events_of_notices(
 {
     let mut events = EventQueue::new(alloc);
     for notice in notices {
-        if let Some(event) = event_of_notice(alloc, views, dpid, notice.as_slice())? {
-            events.push(event)?;
-        }
+        append_event(alloc, views, dpid, notice.as_slice(), &mut events)?;
     }
     Ok(events)
 }

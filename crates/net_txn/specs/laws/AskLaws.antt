@@ -1,5 +1,5 @@
 -- Laws of what comes of a request.
-use Rattle.std.specs.Prelude.{◌≡◌, ◌==◌, ℕ, ◌≤◌, ◌<◌, Bool, true, false, ◌&&◌, ◌||◌, nat_le, List, [], ◌∷◌, ◌++◌, length, take, map, All, Option, Result, Ok, Err, IfOk, IfErr, OnOk, OnErr, MatchResult, if◌then◌else◌, refl}
+use Rattle.std.specs.Prelude.{◌≡◌, ◌==◌, ℕ, ◌≤◌, ◌<◌, Bool, true, false, ◌&&◌, ◌||◌, nat_le, List, [], ◌∷◌, ◌++◌, length, take, map, All, Result, Ok, Err, IfOk, IfErr, OnOk, OnErr, MatchResult, if◌then◌else◌, refl}
 use Rattle.std.proofs.Common.{get_or, inr, sym, ap, subst, ◌∙◌, arith}
 use Rattle.std.proofs.lemmas.Bool.{eqb-true, leb-true, and_parts}
 use Rattle.std.proofs.lemmas.List.{length-map, map-append, take-map}

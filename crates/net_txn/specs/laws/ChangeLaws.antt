@@ -199,11 +199,10 @@ held_more d more packets notices before seen views held is same held_is =
     ap (λ (ns : List Event). record { packets = packets; notices = ns }) (is ∙ ap (λ (vs : List TableView). before ++ notices_told d vs more) same)
     ∙ ap (λ (h : HeldBack). record h { notices = h.notices ++ notices_told d views more }) held_is
 
--- what a wait brought, whose refusal is known
-pub brought_as : {Own : Type 0} {Tells : Type 0} {a : Awaited} {frames : List (List ℕ)} {old new : Seen Own} {kept now_kept : List (ℕ × List ℕ)} (answer : Brought) (refusal : Option Refusal) → answer.refusal ≡ refusal
-    → Replied Tells a frames Growing [] old new kept now_kept answer → Replied Tells a frames Growing [] old new kept now_kept (record { refusal = refusal; notices = answer.notices })
-brought_as {Tells = Tells} {a = a} {frames = frames} {old = old} {new = new} {kept = kept} {now_kept = now_kept} answer refusal is r =
-    subst (λ (o : Option Refusal). Replied Tells a frames Growing [] old new kept now_kept (record { refusal = o; notices = answer.notices })) is r
+-- what a wait brought
+pub brought_as : {Own : Type 0} {Tells : Type 0} {a : Awaited} {frames : List (List ℕ)} {old new : Seen Own} {kept now_kept : List (ℕ × List ℕ)} (answer brought : Brought) → answer ≡ brought
+    → Replied Tells a frames Growing [] old new kept now_kept answer → Replied Tells a frames Growing [] old new kept now_kept brought
+brought_as {Tells = Tells} {a = a} {frames = frames} {old = old} {new = new} {kept = kept} {now_kept = now_kept} answer brought is r = subst (Replied Tells a frames Growing [] old new kept now_kept) is r
 
 -- ---- What the host makes of it
 

@@ -1,6 +1,10 @@
-use Rattle.std.proofs.Common.{◌≡◌, ◌≤◌, ◌<◌, ◌^◌, [], ◌∷◌, None, Some, refl, ap, ◌∙◌, inl, inr, arith}
+use Rattle.std.proofs.Common.{◌≡◌, ℕ, ◌≤◌, ◌<◌, ◌^◌, List, [], ◌∷◌, ◌++◌, Option, None, Some, refl, sym, ap, ◌∙◌, inl, inr, arith}
 use Rattle.std.proofs.lemmas.Result.{err_from_is_err_and}
 use Rattle.lego_model.specs.declared.wait.Awaited.{Awaited}
+use Rattle.lego_model.specs.declared.wait.Refusal.{Refusal}
+use Rattle.net_txn.specs.Waits.{Brought}
+use Rattle.flow_table.specs.View.{plains}
+use Rattle.net_txn.specs.Arriving.{notices_told}
 use Rattle.net_txn.specs.Views.{rows_after}
 use Rattle.net_txn.specs.Net.{NetState, awaited_from}
 use Rattle.lego_model.specs.BarrierWaits.{next_xid}
@@ -21,7 +25,7 @@ returns-in_err-take_effect-in-None-clause-result g c =
       message = c.requires;
       is_xid = small;
       said = replied_then c.args.dpid c.args.flow c.args.self.now c.await_from-awaited.result c.as_slice.result.now _ c.ask.new.kept (g.W.World.seen c.args.world.now) (g.W.World.seen c.ask.new.world) _
-          a (c.as_slice.ensures ∙ c.in_ok-frame.ensures.frame) (ap (λ (n : NetState). n.kept) v) c.in_ok-answer.answer c.in-None.is c.in_ok-answer.ensures;
+          a (c.as_slice.ensures ∙ c.in_ok-frame.ensures.frame) (ap (λ (n : NetState). n.kept) v) c.in_ok-answer.answer (sym (ap (λ (b : Brought). b.refusal) c.answer.view_is) ∙ c.in-None.is) c.in_ok-answer.ensures;
       views = elim c.in_err-take_effect-in-None.ensures.err [
         | inl same ↦ inl (same ∙ c.make_room.ensures ∙ ap (λ (n : NetState). n.views) v)
         | inr moved ↦ inr (moved ∙ same_views c.args.dpid _ _ _ _ c.in_ok-frame.ensures.row (c.make_room.ensures ∙ ap (λ (n : NetState). n.views) v))
@@ -37,17 +41,21 @@ returns-in-None-clause-result g c =
     let v = c.self.view_is in
     let a : c.await_from-awaited.result ≡ awaited_from c.args.dpid c.args.self.now.xid = c.await_from-awaited.ensures ∙ ap (λ (n : NetState). awaited_from c.args.dpid n.xid) v in
     let is_xid : (1 ≤ c.args.self.now.xid) × (c.args.self.now.xid < 2 ^ 32) = rw (← ap (λ (n : NetState). n.xid) v) (c.self.invariant.1, omega arith) in
+    let items = c.answer.inside.notices.items in
+    let brought : Brought = record { refusal = None; notices = items } in
+    let is_brought : c.in_ok-answer.answer ≡ brought = sym c.answer.view_is ∙ ap (λ (o : Option Refusal). record { refusal = o; notices = items }) c.in-None.is in
     record {
       message = c.requires;
       is_xid = is_xid;
       refusal = None;
-      notices = c.in_ok-answer.answer.notices;
-      waits = sent_waits c.args.dpid c.args.flow c.args.self.now c.await_from-awaited.result c.as_slice.result.now _ c.ask.new.kept (g.W.World.seen c.args.world.now) (g.W.World.seen c.ask.new.world) (record { refusal = None; notices = c.in_ok-answer.answer.notices })
-          a (c.as_slice.ensures ∙ c.in_ok-frame.ensures.frame) (ap (λ (n : NetState). n.kept) v) (talks_waits (c.as_slice.result.now ∷ []) (brought_as c.in_ok-answer.answer None c.in-None.is c.in_ok-answer.ensures));
+      notices = c.answer.inside.notices.items;
+      waits = sent_waits c.args.dpid c.args.flow c.args.self.now c.await_from-awaited.result c.as_slice.result.now _ c.ask.new.kept (g.W.World.seen c.args.world.now) (g.W.World.seen c.ask.new.world) brought
+          a (c.as_slice.ensures ∙ c.in_ok-frame.ensures.frame) (ap (λ (n : NetState). n.kept) v) (talks_waits (c.as_slice.result.now ∷ []) (brought_as c.in_ok-answer.answer brought is_brought c.in_ok-answer.ensures));
       answer_is = refl;
       views = c.in_ok-take_effect-in-None.ensures.ok ∙ same_views c.args.dpid _ _ _ _ c.in_ok-frame.ensures.row (c.make_room.ensures ∙ ap (λ (n : NetState). n.views) v);
       log = c.in_ok-push_logged.ensures.ok ∙ same_log _ _ _ _ c.in_ok-frame.ensures.logged (ap (λ (n : NetState). n.log) v);
-      held = held_more c.args.dpid c.in_ok-answer.answer.notices c.self.inside.held.items c.take_effect.new.held c.self.inside.notices _ c.args.self.now.views c.args.self.now.held c.in_ok-take_effect-in-None.ensures.held
+      held = held_more c.args.dpid c.answer.inside.notices.items c.self.inside.held.items c.take_effect.new.held c.self.inside.notices _ c.args.self.now.views c.args.self.now.held
+          (c.in_ok-take_effect-in-None.ensures.held ∙ ap (λ (more : List (List ℕ)). c.self.inside.notices ++ notices_told c.args.dpid (plains c.make_room.new.views.items) more) c.deref.ensures.value)
           (c.make_room.ensures ∙ ap (λ (n : NetState). n.views) v) (ap (λ (n : NetState). n.held) v);
       xid = c.following-self-inside.ensures.next ∙ ap (λ (x : Awaited). next_xid x.barrier) a;
     }
@@ -57,13 +65,16 @@ returns-clause-result g c =
     let v = c.self.view_is in
     let a : c.await_from-awaited.result ≡ awaited_from c.args.dpid c.args.self.now.xid = c.await_from-awaited.ensures ∙ ap (λ (n : NetState). awaited_from c.args.dpid n.xid) v in
     let is_xid : (1 ≤ c.args.self.now.xid) × (c.args.self.now.xid < 2 ^ 32) = rw (← ap (λ (n : NetState). n.xid) v) (c.self.invariant.1, omega arith) in
+    let items = c.answer.inside.notices.items in
+    let brought : Brought = record { refusal = Some c.in-Some.refusal; notices = items } in
+    let is_brought : c.in_ok-answer.answer ≡ brought = sym c.answer.view_is ∙ ap (λ (o : Option Refusal). record { refusal = o; notices = items }) c.in-Some.is in
     record {
       message = c.requires;
       is_xid = is_xid;
       refusal = Some c.in-Some.refusal;
-      notices = c.in_ok-answer.answer.notices;
-      waits = sent_waits c.args.dpid c.args.flow c.args.self.now c.await_from-awaited.result c.as_slice.result.now _ c.ask.new.kept (g.W.World.seen c.args.world.now) (g.W.World.seen c.ask.new.world) (record { refusal = Some c.in-Some.refusal; notices = c.in_ok-answer.answer.notices })
-          a (c.as_slice.ensures ∙ c.in_ok-frame.ensures.frame) (ap (λ (n : NetState). n.kept) v) (talks_waits (c.as_slice.result.now ∷ []) (brought_as c.in_ok-answer.answer (Some c.in-Some.refusal) c.in-Some.is c.in_ok-answer.ensures));
+      notices = c.answer.inside.notices.items;
+      waits = sent_waits c.args.dpid c.args.flow c.args.self.now c.await_from-awaited.result c.as_slice.result.now _ c.ask.new.kept (g.W.World.seen c.args.world.now) (g.W.World.seen c.ask.new.world) brought
+          a (c.as_slice.ensures ∙ c.in_ok-frame.ensures.frame) (ap (λ (n : NetState). n.kept) v) (talks_waits (c.as_slice.result.now ∷ []) (brought_as c.in_ok-answer.answer brought is_brought c.in_ok-answer.ensures));
       answer_is = refl;
       views = c.make_room.ensures ∙ ap (λ (n : NetState). n.views) v;
       log = c.truncate.ensures.items ∙ log_cut _ c.self.inside.log.items _ c.len-before.result (c.len-before.ensures ∙ c.self.inside.log.ok.0) c.in_ok-push_logged.ensures.ok ∙ ap (λ (n : NetState). n.log) v;
