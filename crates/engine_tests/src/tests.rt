@@ -1,11 +1,18 @@
-mod ends;
-mod recorded;
+//! How a run ends, what it wrote, and which acts its world wrote down: worked out by hand. Nothing happens in the world, and one call of it or one
+//! write is to fail.
 
 use crash_policy::{AppRule, DEFAULT_BUDGET, Policy};
+use event_dispatch::{Served, serve};
+use lego_io::{MemSink, Sink};
+use of_types::limits::MOST_ROUNDS;
+use outside::{AllowAll, CallKind, World};
+use sim_world::SimWorld;
 use std::alloc::{AllocError, Global};
+use std::test::Fail;
+use trace_world::Traced;
 
 /// An application `app` of which a policy says nothing else, and that no command starts.
-pub(crate) fn usual_app(alloc: Global) -> Result<AppRule, AllocError> {
+fn usual_app(alloc: Global) -> Result<AppRule, AllocError> {
     Ok(AppRule {
         name: String::from_str(alloc, "app")?,
         command: Vec::new(alloc),
@@ -14,4 +21,147 @@ pub(crate) fn usual_app(alloc: Global) -> Result<AppRule, AllocError> {
         events: [true; 6],
         budget: DEFAULT_BUDGET,
     })
+}
+
+/// How a run ended, without its numbers.
+#[derive(Clone, Copy, Debug, PartialEq, Eq)]
+enum Ending {
+    Whole,
+    Shut,
+    NextFault,
+    WriteFault,
+    NoMemory,
+    Otherwise,
+}
+
+/// The end of a run.
+fn ending_of(served: &Served) -> Ending {
+    match served {
+        Served::Ended { .. } => Ending::Whole,
+        Served::Shut => Ending::Shut,
+        Served::NextFault => Ending::NextFault,
+        Served::WriteFault => Ending::WriteFault,
+        Served::NoMemory => Ending::NoMemory,
+        _ => Ending::Otherwise,
+    }
+}
+
+/// Runs any world to its end. Nothing is said of the run, so that no proof looks into one.
+fn run<W: World, K: Sink>(
+    alloc: Global,
+    world: &mut W,
+    sink: &mut K,
+) -> Result<Ending, AllocError> {
+    let apps = [usual_app(alloc)?];
+    let served = serve(alloc, &apps, world, &AllowAll, sink, 0, MOST_ROUNDS);
+    Ok(ending_of(&served))
+}
+
+/// A world in which nothing happens, where a call is to fail, if one is named.
+fn quiet_world(alloc: Global, fails: Option<(CallKind, u64)>) -> Result<SimWorld, AllocError> {
+    let mut sim = SimWorld::new(alloc)?;
+    if let Some((kind, number)) = fails {
+        sim.fail_call(kind, 0, number)?;
+    }
+    Ok(sim)
+}
+
+/// How a run ended, its report, and the acts of its world, of which some writes are to fail.
+fn outcome(
+    alloc: Global,
+    fails: Option<(CallKind, u64)>,
+    writes: &[u64],
+    lines: &[u64],
+) -> Result<(Ending, MemSink, MemSink), AllocError> {
+    let sim = quiet_world(alloc, fails)?;
+    let mut world = Traced::new(alloc, sim, MemSink::new(alloc, 4096, lines)?);
+    let mut report = MemSink::new(alloc, 4096, writes)?;
+    let ending = run(alloc, &mut world, &mut report)?;
+    let (_sim, acts) = world.into_parts();
+    Ok((ending, report, acts))
+}
+
+const STARTED: &str = "start app ready\n";
+
+const REPORT: &str = "start app ready\napp app alive done 0 failed 0\nend 0 events 0\n";
+
+/// The acts where no call fails.
+const ACTS: &str = "\
+world opened, port 0
+app 0 started
+app 0 <- RESTORE bytes=0
+app 0 -> READY
+world ended
+app 0 ended
+";
+
+/// The acts where the first line of the report is not written.
+const STARTED_ACTS: &str = "\
+world opened, port 0
+app 0 started
+app 0 <- RESTORE bytes=0
+app 0 -> READY
+app 0 ended
+";
+
+/// The acts where what comes next fails.
+const FAILED_ACTS: &str = "\
+world opened, port 0
+app 0 started
+app 0 <- RESTORE bytes=0
+app 0 -> READY
+world failed
+app 0 ended
+";
+
+/// The acts where the third line is not written: it is left out, and the run goes on.
+const ACTS_BUT_ONE: &str = "\
+world opened, port 0
+app 0 started
+app 0 -> READY
+world ended
+app 0 ended
+";
+
+#[test]
+fn worlds_and_sinks_fail(rt: HostRuntime) -> Result<(), Fail> {
+    let (open, next, short) = (CallKind::Open, CallKind::Next, CallKind::Short);
+    let none: &[u64] = &[];
+    let cases = [
+        (None, none, none, Ending::Whole, REPORT, ACTS),
+        (
+            Some((open, 1)),
+            none,
+            none,
+            Ending::Shut,
+            "",
+            "world stays shut, port 0\n",
+        ),
+        (
+            Some((next, 1)),
+            none,
+            none,
+            Ending::NextFault,
+            STARTED,
+            FAILED_ACTS,
+        ),
+        (
+            Some((short, 1)),
+            none,
+            none,
+            Ending::NoMemory,
+            "",
+            "world out of memory\n",
+        ),
+        (None, &[1], none, Ending::WriteFault, "", STARTED_ACTS),
+        (None, &[2], none, Ending::WriteFault, STARTED, ACTS),
+        (None, none, &[3], Ending::Whole, REPORT, ACTS_BUT_ONE),
+    ];
+    for (fails, writes, lines, ending, report, acts) in cases {
+        let (ended, written, told) = outcome(rt.alloc(), fails, writes, lines)?;
+        assert_eq!(rt; ended, ending, "{fails:?}");
+        assert!(rt; written.bytes() == report.as_bytes(), "{fails:?}");
+        assert!(rt; told.bytes() == acts.as_bytes(), "{fails:?}");
+    }
+    Ok(())
 }

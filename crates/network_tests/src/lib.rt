@@ -1,4 +1,4 @@
-//! Tests of `net_txn` over simulated worlds, in which each call fails in turn. Tests alone.
+//! Tests of `net_txn` over simulated worlds, in which each call wants memory in turn, and switches tell, leave and are lost. Tests alone.
 #![tactic(auto)]
 
 #[cfg(test)]

@@ -12,7 +12,7 @@ use outside::{Item, NextFault, World};
 use std::alloc::{AllocError, Global};
 
 /// A buffer for the longest message.
-fn buffer(alloc: Global) -> Result<Vec<u8>, AllocError>
+pub fn buffer(alloc: Global) -> Result<Vec<u8>, AllocError>
     ensures { IfOk result (λ buf. length buf.items ≡ 65535) }
 {
     vec![in alloc; 0u8; 65_535]
@@ -142,16 +142,6 @@ pub fn undo<W: World>(world: &mut W, net: &mut Net, dpid: Dpid, bytes: &[u8]) ->
     let mut txn = Txn::begin(net);
     let changed = by_change(txn.change(world, dpid, bytes));
     (changed, by_end(txn.abort(world)))
-}
-
-/// How a change of each of two switches went, and their undo.
-pub fn undo_two<W: World>(world: &mut W, net: &mut Net, bytes: &[u8]) -> (Ended, Ended, Ended)
-    requires { 1 ≤ net.old.room }
-{
-    let mut txn = Txn::begin(net);
-    let first = by_change(txn.change(world, 1, bytes));
-    let second = by_change(txn.change(world, 2, bytes));
-    (first, second, by_end(txn.abort(world)))
 }
 
 /// Whether a transaction sees this moment, and so many rows of one switch.

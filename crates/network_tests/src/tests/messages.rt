@@ -1,8 +1,7 @@
 //! Messages as OpenFlow 1.0.0 spells them, written out by hand.
 
 /// FLOW_MOD (5.3.3): ADD of any match with cookie 5 and priority 7, no timeouts, buffer and flags, and an OUTPUT to
-/// port 2. The low bytes of command, hard timeout, priority, buffer and flags stand at 57, 61, 63, 67 and 71, those
-/// of the action's type and length at 73 and 75.
+/// port 2. The low bytes of hard timeout and priority stand at 61 and 63.
 pub const ADD: [u8; 80] = [
     1, 14, 0, 80, 0, 0, 0, 9, 0, 0x38, 0x20, 0xff, 0, 0, 0, 0, 0, 0, 0, 0, 0, 0, 0, 0, 0, 0, 0, 0,
     0, 0, 0, 0, 0, 0, 0, 0, 0, 0, 0, 0, 0, 0, 0, 0, 0, 0, 0, 0, 0, 0, 0, 0, 0, 0, 0, 5, 0, 0, 0, 0,
@@ -35,8 +34,7 @@ pub const PACKET_IN: [u8; 20] = [
     1, 10, 0, 20, 0, 0, 0, 0, 0xff, 0xff, 0xff, 0xff, 0, 2, 0, 1, 0, 0, 0xaa, 0xbb,
 ];
 
-/// PACKET_OUT (5.3.6) of the bytes aa and this one, in no buffer and of no port, with an OUTPUT to this port. The low
-/// byte of the buffer stands at 11.
+/// PACKET_OUT (5.3.6) of the bytes aa and this one, in no buffer and of no port, with an OUTPUT to this port.
 pub const fn packet(port: [u8; 2], byte: u8) -> [u8; 26] {
     [
         1, 13, 0, 26, 0, 0, 0, 9, 0xff, 0xff, 0xff, 0xff, 0xff, 0xff, 0, 8, 0, 0, 0, 8, port[0],
@@ -53,9 +51,6 @@ pub const fn told(byte: u8) -> [u8; 20] {
         1, 10, 0, 20, 0, 0, 0, 0, 0xff, 0xff, 0xff, 0xff, 0, 2, 0xff, 0xff, 1, 0, 0xaa, byte,
     ]
 }
-
-/// The kind and code of an ERROR (5.4.4): BAD_OUT_PORT.
-pub const BAD_OUT_PORT: [u8; 4] = [0, 2, 0, 4];
 
 /// PORT_STATUS (5.4.3): port 1 of switch 1 is modified, and its link is down.
 pub const PORT_DOWN: [u8; 64] = [

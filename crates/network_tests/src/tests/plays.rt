@@ -1,123 +1,75 @@
 //! Calls one after the other, in any world.
 
-ghost use Rattle.std.specs.Prelude.{◌≡◌, ◌≤◌, IfOk, OnOk};
+ghost use Rattle.std.specs.Prelude.{◌≡◌, ◌≤◌, OnOk};
 
-use super::calls::{
-    arrive, ask, join, keep, leave, new_net, pass, sees, take_kept, take_lost, undo, undo_two,
-};
+use super::calls::{arrive, ask, keep, leave, new_net, pass, sees, take_kept, take_lost, undo};
 use super::ended::Ended;
+use super::ended::Ended::NotMade;
 use super::messages::{ADD, PORT_DOWN, PORTS, PORTS_AT_JOIN, changed};
+use super::releases::release_two;
 use net_txn::Net;
 use outside::{Item, World};
 use std::alloc::Global;
 
-/// How a transaction is closed.
-#[derive(Clone, Copy, Debug, PartialEq, Eq)]
-pub enum Close {
+/// What is done behind the join of switch 1. How its calls end comes in their order; behind them stands `NotMade`.
+#[derive(Clone, Copy)]
+pub enum Play<'a> {
+    /// A change that is kept, and a request of rows.
     Keep,
+    /// A change, its undo, and a request of rows.
     Undo,
+    /// Two packets, the end of their transaction, and the two events that wait then.
+    Release,
+    /// A message that comes of itself, whose event is expected with a body.
+    Arrive(&'a [u8], &'a [u8]),
+    /// A switch leaves behind a PORT_STATUS; then a request of rows.
+    Leave,
+    /// A change, its undo, and twice the event of a switch that was lost.
+    Lose,
+    /// A change whose entry times out, another one, and twice what is kept.
+    Wait,
 }
 
-/// Makes a change, and closes its transaction so.
-fn change<W: World>(alloc: Global, world: &mut W, net: &mut Net, close: Close) -> (Ended, Ended)
+/// Makes a change that is kept, and asks for rows.
+fn keep_one<W: World>(alloc: Global, world: &mut W, net: &mut Net) -> [Ended; 5]
     requires { 1 ≤ net.old.room }
 {
-    match close {
-        Close::Keep => match keep(alloc, world, net, 1, &ADD) {
-            Ok(changed) => (changed, Ended::Fine),
-            Err(ended) => (Ended::NotMade, ended),
-        },
-        Close::Undo => undo(world, net, 1, &ADD),
+    match keep(alloc, world, net, 1, &ADD) {
+        Ok(changed) => [changed, Ended::Fine, ask(world, net, 1), NotMade, NotMade],
+        Err(ended) => [NotMade, ended, ask(world, net, 1), NotMade, NotMade],
     }
 }
 
-/// How a join, a change and the end of its transaction went, and what row the switch has then.
-pub fn play<W: World>(alloc: Global, world: &mut W, close: Close) -> [Ended; 4] {
-    match new_net(alloc, world) {
-        Ok(mut net) => {
-            let (changed, closed) = change(alloc, world, &mut net, close);
-            [Ended::Fine, changed, closed, ask(world, &mut net, 1)]
-        }
-        Err(ended) => [ended, Ended::NotMade, Ended::NotMade, Ended::NotMade],
-    }
-}
-
-fn by_keep(kept: Result<Ended, Ended>) -> Ended {
-    match kept {
-        Ok(ended) | Err(ended) => ended,
-    }
-}
-
-/// The answer to a message behind a first change.
-pub fn answer_behind<W: World>(alloc: Global, world: &mut W, dpid: u64, message: &[u8]) -> Ended {
-    match new_net(alloc, world) {
-        Ok(mut net) => {
-            match keep(alloc, world, &mut net, 1, &ADD) {
-                Ok(Ended::Fine) => by_keep(keep(alloc, world, &mut net, dpid, message)),
-                _ => Ended::NotMade,
-            }
-        }
-        Err(ended) => ended,
-    }
-}
-
-/// A network with switches 1 and 2, which join next.
-fn net_of_two<W: World>(alloc: Global, world: &mut W) -> Result<Net, Ended>
-    ensures { IfOk result (λ net. 1 ≤ net.room) }
+/// Makes a change, undoes it, and asks for rows.
+fn undo_one<W: World>(world: &mut W, net: &mut Net) -> [Ended; 5]
+    requires { 1 ≤ net.old.room }
 {
-    let mut net = new_net(alloc, world)?;
-    pass(alloc, world, Item::Idle)?;
-    pass(alloc, world, Item::Moment(5))?;
-    pass(alloc, world, Item::Idle)?;
-    join(alloc, world, &mut net, 2)?;
-    Ok(net)
+    let (changed, undone) = undo(world, net, 1, &ADD);
+    [changed, undone, ask(world, net, 1), NotMade, NotMade]
 }
 
-/// How an undo of two switches went that were changed, and what rows they have then.
-pub fn undo_both<W: World>(alloc: Global, world: &mut W) -> [Ended; 3] {
-    match net_of_two(alloc, world) {
-        Ok(mut net) => {
-            let (first, second, undone) = undo_two(world, &mut net, &ADD);
-            if first == Ended::Fine && second == Ended::Fine {
-                [undone, ask(world, &mut net, 1), ask(world, &mut net, 2)]
-            } else {
-                [Ended::NotMade, first, second]
-            }
-        }
-        Err(ended) => [ended, Ended::NotMade, Ended::NotMade],
+/// Lets a switch leave of which a port went down, and asks for its rows.
+fn depart<W: World>(alloc: Global, world: &mut W, net: &mut Net) -> [Ended; 5] {
+    arrive(world, net, &PORT_DOWN, &PORT_DOWN);
+    match leave(alloc, net, &PORTS) {
+        Ok(left) => [left, ask(world, net, 1), NotMade, NotMade, NotMade],
+        Err(_) => [Ended::NoMemory, NotMade, NotMade, NotMade, NotMade],
     }
 }
 
-/// What becomes of a message that comes of itself.
-pub fn arrival<W: World>(alloc: Global, world: &mut W, frame: &[u8], body: &[u8]) -> Ended {
-    match new_net(alloc, world) {
-        Ok(mut net) => arrive(world, &mut net, frame, body),
-        Err(ended) => ended,
-    }
-}
-
-/// What comes of a switch that leaves behind a PORT_STATUS, and what rows it has then.
-pub fn departure<W: World>(alloc: Global, world: &mut W) -> [Ended; 2] {
-    let mut net = match new_net(alloc, world) {
-        Ok(net) => net,
-        Err(ended) => return [ended, Ended::NotMade],
-    };
-    arrive(world, &mut net, &PORT_DOWN, &PORT_DOWN);
-    match leave(alloc, &mut net, &PORTS) {
-        Ok(left) => [left, ask(world, &mut net, 1)],
-        Err(_) => [Ended::NoMemory, Ended::NotMade],
-    }
-}
-
-/// How a change went, and its undo, and the events of switches that were lost then.
-pub fn loss<W: World>(alloc: Global, world: &mut W) -> [Ended; 4] {
-    let mut net = match new_net(alloc, world) {
-        Ok(net) => net,
-        Err(ended) => return [ended, Ended::NotMade, Ended::NotMade, Ended::NotMade],
-    };
-    let (changed, undone) = undo(world, &mut net, 1, &ADD);
-    let first = take_lost(&mut net, &PORTS_AT_JOIN);
-    [changed, undone, first, take_lost(&mut net, &PORTS_AT_JOIN)]
+/// Makes a change, undoes it, and takes the events of switches that were lost.
+fn lose<W: World>(world: &mut W, net: &mut Net) -> [Ended; 5]
+    requires { 1 ≤ net.old.room }
+{
+    let (changed, undone) = undo(world, net, 1, &ADD);
+    let first = take_lost(net, &PORTS_AT_JOIN);
+    [
+        changed,
+        undone,
+        first,
+        take_lost(net, &PORTS_AT_JOIN),
+        NotMade,
+    ]
 }
 
 /// Goes on to moment 5, at which one row is seen.
@@ -135,19 +87,52 @@ fn go_on<W: World>(alloc: Global, world: &mut W, net: &mut Net) -> Result<(), En
     }
 }
 
-/// How a change went whose entry has timed out since, and another one, and what is kept then.
-pub fn late_notice<W: World>(alloc: Global, world: &mut W) -> [Ended; 4] {
-    let mut net = match new_net(alloc, world) {
-        Ok(net) => net,
-        Err(ended) => return [ended, Ended::NotMade, Ended::NotMade, Ended::NotMade],
-    };
-    let first = match keep(alloc, world, &mut net, 1, &changed(61, 1)) {
+/// Adds an entry that times out after a second, and goes on to where it has.
+fn add_short<W: World>(alloc: Global, world: &mut W, net: &mut Net) -> Result<Ended, Ended>
+    requires { 1 ≤ net.old.room }
+    ensures { OnOk result (net.new.room ≡ net.old.room) }
+{
+    let added = keep(alloc, world, net, 1, &changed(61, 1))?;
+    go_on(alloc, world, net)?;
+    Ok(added)
+}
+
+/// Makes a change while the notice of an entry that has timed out waits, and takes what is kept.
+fn wait<W: World>(alloc: Global, world: &mut W, net: &mut Net) -> [Ended; 5]
+    requires { 1 ≤ net.old.room }
+{
+    let first = match add_short(alloc, world, net) {
         Ok(first) => first,
-        Err(ended) => return [ended, Ended::NotMade, Ended::NotMade, Ended::NotMade],
+        Err(ended) => return [ended, NotMade, NotMade, NotMade, NotMade],
     };
-    if let Err(ended) = go_on(alloc, world, &mut net) {
-        return [first, ended, Ended::NotMade, Ended::NotMade];
+    let second = match keep(alloc, world, net, 1, &changed(63, 8)) {
+        Ok(ended) | Err(ended) => ended,
+    };
+    [first, second, take_kept(net), take_kept(net), NotMade]
+}
+
+/// Does it in a network with switch 1.
+fn play_in<W: World>(alloc: Global, world: &mut W, net: &mut Net, what: Play<'_>) -> [Ended; 5]
+    requires { 1 ≤ net.old.room }
+{
+    match what {
+        Play::Keep => keep_one(alloc, world, net),
+        Play::Undo => undo_one(world, net),
+        Play::Release => release_two(alloc, world, net),
+        Play::Arrive(frame, body) => {
+            let arrived = arrive(world, net, frame, body);
+            [arrived, NotMade, NotMade, NotMade, NotMade]
+        }
+        Play::Leave => depart(alloc, world, net),
+        Play::Lose => lose(world, net),
+        Play::Wait => wait(alloc, world, net),
     }
-    let second = by_keep(keep(alloc, world, &mut net, 1, &changed(63, 8)));
-    [first, second, take_kept(&mut net), take_kept(&mut net)]
+}
+
+/// Lets switch 1 join, and does it then.
+pub fn played<W: World>(alloc: Global, world: &mut W, what: Play<'_>) -> [Ended; 5] {
+    match new_net(alloc, world) {
+        Ok(mut net) => play_in(alloc, world, &mut net, what),
+        Err(ended) => [ended, NotMade, NotMade, NotMade, NotMade],
+    }
 }

@@ -1,8 +1,11 @@
 //! Packets that are held, in any world.
 
-use super::calls::{by_change, new_net};
+ghost use Rattle.std.specs.Prelude.{◌≤◌};
+
+use super::calls::by_change;
 use super::ended::{Ended, by_event, by_fault, by_release};
-use net_txn::{EventQueue, Txn, TxnFault};
+use super::messages::{CONTROLLER, packet, told};
+use net_txn::{EventQueue, Net, Txn, TxnFault};
 use of_types::Dpid;
 use outside::World;
 use std::alloc::Global;
@@ -22,43 +25,17 @@ fn next_event(queue: &mut EventQueue, body: &[u8]) -> Ended {
     }
 }
 
-/// How two packets for switch 1 were answered, how their transaction was kept, and the two events that wait then, which
-/// are expected with these bodies.
-pub fn release_two<W: World>(
-    alloc: Global,
-    world: &mut W,
-    packets: (&[u8], &[u8]),
-    bodies: (&[u8], &[u8]),
-) -> [Ended; 5] {
-    let mut net = match new_net(alloc, world) {
-        Ok(net) => net,
-        Err(ended) => {
-            let not_made = Ended::NotMade;
-            return [ended, not_made, not_made, not_made, not_made];
-        }
-    };
+/// How two packets of switch 1 for the controller were answered, how their transaction was kept, and the two events that
+/// wait then.
+pub fn release_two<W: World>(alloc: Global, world: &mut W, net: &mut Net) -> [Ended; 5]
+    requires { 1 ≤ net.old.room }
+{
     let mut queue = EventQueue::new(alloc);
-    let mut txn = Txn::begin(&mut net);
-    let first = by_change(txn.change(world, 1, packets.0));
-    let second = by_change(txn.change(world, 1, packets.1));
+    let mut txn = Txn::begin(net);
+    let first = by_change(txn.change(world, 1, &packet(CONTROLLER, 1)));
+    let second = by_change(txn.change(world, 1, &packet(CONTROLLER, 2)));
     let kept = by_commit(txn.commit(world, &mut queue));
-    let event = next_event(&mut queue, bodies.0);
-    let later = next_event(&mut queue, bodies.1);
+    let event = next_event(&mut queue, &told(1));
+    let later = next_event(&mut queue, &told(2));
     [first, second, kept, event, later]
-}
-
-/// How a packet was answered, how its transaction was undone, and what the next transaction releases.
-pub fn drop_one<W: World>(alloc: Global, world: &mut W, packet: &[u8]) -> [Ended; 3] {
-    let mut net = match new_net(alloc, world) {
-        Ok(net) => net,
-        Err(ended) => return [ended, Ended::NotMade, Ended::NotMade],
-    };
-    let mut queue = EventQueue::new(alloc);
-    let mut txn = Txn::begin(&mut net);
-    let held = by_change(txn.change(world, 1, packet));
-    if let Err(fault) = txn.abort(world) {
-        return [held, by_fault(&fault), Ended::NotMade];
-    }
-    let released = by_commit(Txn::begin(&mut net).commit(world, &mut queue));
-    [held, Ended::Fine, released]
 }

@@ -11,8 +11,7 @@ use sim_world::SimWorld;
 use std::alloc::{AllocError, Global};
 
 /// Declares two switches with two ports each.
-fn declare(world: &mut SimWorld, capacity: u32) -> Result<(), AllocError>
-    requires capacity { capacity ≤ 4096 }
+fn declare(world: &mut SimWorld) -> Result<(), AllocError>
     requires new { IsNew world.old }
     requires nothing { given_of world.old ≡ nothing_given }
     ensures new { OnOk result (IsNew world.new) }
@@ -20,8 +19,8 @@ fn declare(world: &mut SimWorld, capacity: u32) -> Result<(), AllocError>
     ensures second { OnOk result (IsTrue (is_declared 2 (given_of world.new).declared)) }
     ensures stimuli { OnOk result ((given_of world.new).stimuli ≡ []) }
 {
-    world.add_switch(1, capacity, &[1, 2])?;
-    world.add_switch(2, capacity, &[1, 2])
+    world.add_switch(1, 8, &[1, 2])?;
+    world.add_switch(2, 8, &[1, 2])
 }
 
 /// Switch 1 joins, then it is moment 5, and then switch 2 joins.
@@ -38,12 +37,12 @@ fn let_happen(world: &mut SimWorld) -> Result<(), AllocError>
     world.add_stimulus(WorldStim::Join(2))
 }
 
-/// Lets a call fail, if one is named, a link's of switch 1.
-fn let_fail(world: &mut SimWorld, fails: Option<(CallKind, u64)>) -> Result<(), AllocError>
+/// Lets a call fail, if one is named: the kind of call, of which switch or application it is, and its number.
+fn let_fail(world: &mut SimWorld, fails: Option<(CallKind, u64, u64)>) -> Result<(), AllocError>
     requires { IsNew world.old }
 {
     match fails {
-        Some((kind, number)) => world.fail_call(kind, 1, number),
+        Some((kind, of, number)) => world.fail_call(kind, of, number),
         None => Ok(()),
     }
 }
@@ -52,13 +51,10 @@ fn let_fail(world: &mut SimWorld, fails: Option<(CallKind, u64)>) -> Result<(), 
 /// named.
 pub fn small_world(
     alloc: Global,
-    capacity: u32,
-    fails: Option<(CallKind, u64)>,
-) -> Result<SimWorld, AllocError>
-    requires { capacity ≤ 4096 }
-{
+    fails: Option<(CallKind, u64, u64)>,
+) -> Result<SimWorld, AllocError> {
     let mut world = SimWorld::new(alloc)?;
-    declare(&mut world, capacity)?;
+    declare(&mut world)?;
     let_happen(&mut world)?;
     let_fail(&mut world, fails)?;
     Ok(world)
