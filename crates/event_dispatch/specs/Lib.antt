@@ -9,6 +9,7 @@ pub mod Plain
 pub mod Cut
 pub mod Talking
 pub mod Steady
+pub mod Passes
 pub mod Told
 pub mod NothingWaits
 pub mod Undone

@@ -1,0 +1,1 @@
+-- Laws of what every part of the engine's work leaves: where nothing was done, and where parts follow one another.
