@@ -153,10 +153,6 @@ pub record OpenFails {Own : Type 0} (Tells : Type 0) (old new : Seen Own) (end :
   pub unopened : IsUnopened Tells old new end
   pub why : IsWhy Tells old new 0 0 end
 
--- it was opened
-pub record IsOpen {Own : Type 0} (Tells : Type 0) (old new : Seen Own) : Type 0 where
-  pub opened : Tells → new.history ≡ old.history ++ Opened ∷ []
-
 -- one application was ended, if it ran
 pub record EndsOne {Own : Type 0} (Tells : Type 0) (app : ℕ) (old new : Seen Own) : Type 0 where
   pub continues : Continues Tells old new
