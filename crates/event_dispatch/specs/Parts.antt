@@ -1,11 +1,9 @@
 -- What each part of a whole run leaves: of the world and of the sink however it ended; and one record where it was done, and one where a fault
 -- ended it. All of this is our own.
-use Rattle.std.specs.Prelude.{◌≡◌, ℕ, ◌+◌, ◌≤◌, Bool, List, [], ◌++◌, ◌∷◌, length, Option, Result, IfErr}
-use Rattle.lego_io.specs.Count.{Rose, NeverFell}
-use Rattle.lego_io.specs.Sink.{TookPart}
+use Rattle.std.specs.Prelude.{◌≡◌, ℕ, ◌+◌, ◌≤◌, Bool, List, [], length, Option, Result, IfErr, OnErr}
+use Rattle.lego_io.specs.Count.{NeverFell}
 use Rattle.flow_table.specs.View.{TableView}
 use Rattle.crash_policy.specs.Policies.{AppValue}
-use Rattle.outside.specs.declared.step.WorldStep.TheVariants.{Opened}
 use Rattle.outside.specs.Seen.{Seen, Continues}
 use Rattle.outside.specs.Calls.{Ends}
 use Rattle.net_txn.specs.Net.{NetState}
@@ -19,13 +17,14 @@ use Rattle.event_dispatch.specs.declared.run.Run.{Run}
 use Rattle.event_dispatch.specs.declared.served.Served.{Served}
 use Rattle.event_dispatch.specs.Why.{IsWhy, IsReason, served_by}
 use Rattle.event_dispatch.specs.Runs.{AreGoing, Going, Waits}
-use Rattle.event_dispatch.specs.Shows.{Stays, engine_of}
+use Rattle.event_dispatch.specs.Shows.{engine_of}
 use Rattle.event_dispatch.specs.Plain.{IsPlainEnd, PlainCalm, PlainRun, PlainWhole}
 use Rattle.event_dispatch.specs.Talking.{KeepsTalking}
 use Rattle.event_dispatch.specs.Steady.{NoStray, IsEnded, NoneRuns}
 use Rattle.event_dispatch.specs.Passes.{Passes}
+use Rattle.event_dispatch.specs.Lines.{WritesLines}
 use Rattle.event_dispatch.specs.Cut.{CutRound, CutRounds, CutStart, CutEnd, CutFinishAs, CutAs, ReadsAs}
-use Rattle.event_dispatch.specs.Serves.{AllStarted, Writes, GoesRound, GoesToEnd, Begins, Finishes, GoesAs, RunsAs, IsUnopened}
+use Rattle.event_dispatch.specs.Serves.{AllStarted, GoesRound, GoesToEnd, Begins, Finishes, GoesAs, RunsAs, IsUnopened}
 
 -- ---- The world and the sink, however a part ended
 
@@ -50,21 +49,10 @@ pub record PassesEnded {Own T : Type 0} (Tells : Type 0) (number : ℕ) (old new
 
 -- ---- The lines that a batch noted
 
--- they were written
-pub record NotedDone (contents now_contents : Option (List ℕ)) (c now_c : Core) : Type 0 where
-  pub waits : Waits c now_c
-  pub writes : Writes c.lines.items contents now_contents now_c
-
--- there were some, and the sink failed
-pub record NotedFails (contents now_contents : Option (List ℕ)) (sink_old sink_new : ℕ) (c : Core) : Type 0 where
-  pub some : c.lines.items ≡ [] → ⊥
-  pub part : TookPart contents now_contents c.lines.items
-  pub rose : Rose sink_old sink_new
-
--- however that ended
-pub record NotedLeaves (sink_old sink_new : ℕ) (c now_c : Core) : Type 0 where
-  pub stays : Stays c now_c
-  pub never_fell : NeverFell sink_old sink_new
+-- they were written; where the sink failed there were some
+pub record WritesNoted {T E : Type 0} (contents now_contents : Option (List ℕ)) (sink_old sink_new : ℕ) (c now_c : Core) (result : Result T E) : Type 0 where
+  pub lines : WritesLines contents now_contents sink_old sink_new c now_c result
+  pub some : OnErr result (c.lines.items ≡ [] → ⊥)
 
 -- ---- The start
 

@@ -18,7 +18,7 @@ ghost use Rattle.run_laws.specs.Promise.{PremiseSoFar, Premise};
 ghost use Rattle.event_dispatch.specs.Cut.{IsReadServed};
 ghost use Rattle.event_dispatch.specs.Serves.{EndsReport, IsCut, IsAlike};
 ghost use Rattle.event_dispatch.specs.Passes.{PassesQuietly};
-ghost use Rattle.event_dispatch.specs.Parts.{PassesOn, PassesServed, PassesEnded, NotedLeaves, NotedDone, NotedFails, StartedAll, BeginDone, BeginFails};
+ghost use Rattle.event_dispatch.specs.Parts.{PassesOn, PassesServed, PassesEnded, WritesNoted, StartedAll, BeginDone, BeginFails};
 ghost use Rattle.event_dispatch.specs.Parts.{RoundDone, RoundFails, RoundsDone, RoundsFail, ReportFails, FinishesSo, GoesSo, RunsSo, OpenFails, EndsOne, EndsAll};
 
 use crate::batch::Rest;
@@ -35,9 +35,7 @@ use std::alloc::{AllocError, Global};
 impl Core {
     /// Writes the lines that a batch noted, of a switch that was lost; mostly there are none.
     fn write_noted<K: Sink>(&mut self, sink: &mut K) -> Result<(), WriteFault>
-        ensures leaves { NotedLeaves (K.faults sink.old) (K.faults sink.new) self.old self.new }
-        ensures done { MatchResult result (λ _. NotedDone (K.contents sink.old) (K.contents sink.new) self.old self.new)
-            (λ _. NotedFails (K.contents sink.old) (K.contents sink.new) (K.faults sink.old) (K.faults sink.new) self.old) }
+        ensures { WritesNoted (K.contents sink.old) (K.contents sink.new) (K.faults sink.old) (K.faults sink.new) self.old self.new result }
     {
         if self.lines.is_empty() {
             return Ok(());
