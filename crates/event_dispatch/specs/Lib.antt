@@ -11,6 +11,8 @@ pub mod Talking
 pub mod Steady
 pub mod Passes
 pub mod Parts
+pub mod Lines
+pub mod Taking
 pub mod Told
 pub mod NothingWaits
 pub mod Undone
