@@ -13,4 +13,7 @@ pub mod Passes
 pub mod Told
 pub mod NothingWaits
 pub mod Undone
+pub mod TurnParts
+pub mod EventParts
+pub mod NewRun
 pub mod laws
