@@ -16,4 +16,7 @@ pub mod Taking
 pub mod Told
 pub mod NothingWaits
 pub mod Undone
+pub mod TurnParts
+pub mod EventParts
+pub mod NewRun
 pub mod laws
