@@ -1,9 +1,10 @@
 -- What each part of a whole run leaves: of the world and of the sink however it ended; and one record where it was done, and one where a fault
 -- ended it. All of this is our own.
-use Rattle.std.specs.Prelude.{◌≡◌, ℕ, ◌+◌, ◌≤◌, Bool, List, [], length, Option, Result, IfErr, OnErr}
+use Rattle.std.specs.Prelude.{◌≡◌, ℕ, ◌+◌, ◌≤◌, Bool, List, [], ◌∷◌, ◌++◌, length, Option, Result, IfErr, OnOk, OnErr}
 use Rattle.lego_io.specs.Count.{NeverFell}
 use Rattle.flow_table.specs.View.{TableView}
 use Rattle.crash_policy.specs.Policies.{AppValue}
+use Rattle.outside.specs.declared.step.WorldStep.TheVariants.{Opened}
 use Rattle.outside.specs.Seen.{Seen, Continues}
 use Rattle.outside.specs.Calls.{Ends}
 use Rattle.net_txn.specs.Net.{NetState}
@@ -32,6 +33,11 @@ use Rattle.event_dispatch.specs.Serves.{AllStarted, GoesRound, GoesToEnd, Begins
 pub record PassesOn {Own T E : Type 0} (Tells : Type 0) (number : ℕ) (old new : Seen Own) (net now_net : NetState) (sink_old sink_new : ℕ) (result : Result T E) : Type 0 where
   pub passes : Passes Tells number old new net now_net result
   pub never_fell : NeverFell sink_old sink_new
+
+-- and as much is read into as before
+pub record PassesRound {Own T E : Type 0} (Tells : Type 0) (number : ℕ) (old new : Seen Own) (net now_net : NetState) (sink_old sink_new : ℕ) (buf now_buf : List ℕ) (result : Result T E) : Type 0 where
+  pub on : PassesOn Tells number old new net now_net sink_old sink_new result
+  pub buffer : length now_buf ≡ length buf
 
 -- of a part that says how a run ended: all that came of switches are messages, where no fault ended it
 pub record PassesServed {Own T : Type 0} (Tells : Type 0) (number : ℕ) (old new : Seen Own) (net : NetState) (sink_old sink_new : ℕ) (result : Result T Served) : Type 0 where
@@ -136,10 +142,12 @@ pub record RunsSo {Own : Type 0} (rules : List AppValue) (Tells : Type 0) (accep
 
 -- ---- The world is opened at first, and its applications are ended at last
 
--- why it stays shut
-pub record OpenFails {Own : Type 0} (Tells : Type 0) (old new : Seen Own) (end : Served) : Type 0 where
-  pub unopened : IsUnopened Tells old new end
-  pub why : IsWhy Tells old new 0 0 end
+-- it was opened, or it stays shut, and why
+pub record Opens {Own T : Type 0} (Tells : Type 0) (old new : Seen Own) (result : Result T Served) : Type 0 where
+  pub continues : Continues Tells old new
+  pub opened : OnOk result (Tells → new.history ≡ old.history ++ Opened ∷ [])
+  pub unopened : IfErr result (IsUnopened Tells old new)
+  pub why : IfErr result (IsWhy Tells old new 0 0)
 
 -- one application was ended, if it ran
 pub record EndsOne {Own : Type 0} (Tells : Type 0) (app : ℕ) (old new : Seen Own) : Type 0 where

@@ -1,6 +1,6 @@
 //! A whole run.
 
-ghost use Rattle.std.specs.Prelude.{◌≡◌, ◌^◌, ◌<◌, ◌≤◌, Bool, List, [], ◌∷◌, ◌++◌, length, map, OnOk, MatchResult};
+ghost use Rattle.std.specs.Prelude.{◌≡◌, ◌^◌, ◌<◌, ◌≤◌, Bool, List, [], length, map, OnOk, MatchResult};
 ghost use Rattle.lego_io.specs.Count.{NeverFell};
 ghost use Rattle.outside.specs.Seen.{Continues};
 ghost use Rattle.outside.specs.Calls.{most_message};
@@ -12,14 +12,13 @@ ghost use Rattle.event_dispatch.specs.Why.{IsWhy};
 ghost use Rattle.event_dispatch.specs.Plain.{EndsPlain};
 ghost use Rattle.crash_policy.specs.Policies.{app_value};
 ghost use Rattle.lego_model.specs.Places.{Place};
-ghost use Rattle.outside.specs.declared.step.WorldStep.TheVariants.{Opened};
 ghost use Rattle.run_laws.specs.First.{net_at_first, engine_at_first};
 ghost use Rattle.run_laws.specs.Promise.{PremiseSoFar, Premise};
 ghost use Rattle.event_dispatch.specs.Cut.{IsReadServed};
 ghost use Rattle.event_dispatch.specs.Serves.{EndsReport, IsCut, IsAlike};
 ghost use Rattle.event_dispatch.specs.Passes.{PassesQuietly};
-ghost use Rattle.event_dispatch.specs.Parts.{PassesOn, PassesServed, PassesEnded, WritesNoted, StartedAll, BeginDone, BeginFails};
-ghost use Rattle.event_dispatch.specs.Parts.{RoundDone, RoundFails, RoundsDone, RoundsFail, ReportFails, FinishesSo, GoesSo, RunsSo, OpenFails, EndsOne, EndsAll};
+ghost use Rattle.event_dispatch.specs.Parts.{PassesOn, PassesRound, PassesServed, PassesEnded, WritesNoted, StartedAll, BeginDone, BeginFails};
+ghost use Rattle.event_dispatch.specs.Parts.{RoundDone, RoundFails, RoundsDone, RoundsFail, ReportFails, FinishesSo, GoesSo, RunsSo, Opens, EndsOne, EndsAll};
 
 use crate::batch::Rest;
 use crate::engine_core::Core;
@@ -73,9 +72,8 @@ impl Run<'_> {
         requires going { Going self.old }
         requires few { self.old.core.events < 2 ^ 62 }
         requires none_waits { self.old.core.lines.items ≡ [] }
-        ensures passes { PassesOn W.Tells (length self.old.core.store) (W.seen world.old) (W.seen world.new) self.old.core.net self.new.core.net
-            (K.faults sink.old) (K.faults sink.new) result }
-        ensures buffer { length buf.new ≡ length buf.old }
+        ensures passes { PassesRound W.Tells (length self.old.core.store) (W.seen world.old) (W.seen world.new) self.old.core.net self.new.core.net
+            (K.faults sink.old) (K.faults sink.new) buf.old buf.new result }
         ensures done { MatchResult result (λ rest. RoundDone W.Tells (J.accepts judge.now) rest (K.contents sink.old) (K.contents sink.new)
             (W.seen world.old) (W.seen world.new) self.old self.new)
             (RoundFails W.Tells (J.accepts judge.now) (K.contents sink.old) (K.contents sink.new) (K.faults sink.old) (K.faults sink.new)
@@ -191,9 +189,7 @@ impl Run<'_> {
 
 /// Opens the world at a port.
 fn open<W: World>(world: &mut W, port: u16) -> Result<(), Served>
-    ensures continues { Continues W.Tells (W.seen world.old) (W.seen world.new) }
-    ensures done { MatchResult result (λ _. W.Tells → (W.seen world.new).history ≡ (W.seen world.old).history ++ Opened ∷ []) (OpenFails W.Tells
-        (W.seen world.old) (W.seen world.new)) }
+    ensures { Opens W.Tells (W.seen world.old) (W.seen world.new) result }
 {
     match world.open(port) {
         Ok(()) => Ok(()),
@@ -275,7 +271,6 @@ fn run<W: World, J: Judge, K: Sink>(
 ///
 /// What is said of the reference run holds where fewer stimuli come than there are rounds. Of a run with as many stimuli as
 /// rounds, or more, nothing is promised of it yet. No clause speaks of the port or of the words of the command.
-#[tactic(auto, using(crate::specs::laws::WhyLaws::continues_then, crate::specs::laws::WhyLaws::why_behind, crate::specs::laws::WhyLaws::why_sink, crate::specs::laws::WhyLaws::same_fell))]
 pub fn serve<W: World, J: Judge, K: Sink>(
     alloc: Global,
     rules: &[AppRule],
