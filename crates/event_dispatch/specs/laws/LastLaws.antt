@@ -82,6 +82,13 @@ drop_head zero (z ∷ zs) x y later h = cc
 drop_head (suc n) [] x y later h = absurd cc
 drop_head (suc n) (z ∷ zs) x y later h = drop_head n zs x y later h
 
+-- such a place lies in the list
+pub drop_inside : {X : Type 0} (n : ℕ) (xs : List X) (x : X) (later : List X) → drop n xs ≡ x ∷ later → n < length xs
+drop_inside zero [] x later h = absurd cc
+drop_inside zero (z ∷ zs) x later h = omega arith
+drop_inside (suc n) [] x later h = absurd cc
+drop_inside (suc n) (z ∷ zs) x later h = omega (arith, drop_inside n zs x later h)
+
 -- the next item of a list
 pub drop_first : {X : Type 0} (i : ℕ) (xs : List X) (x : X) → i < length xs → x ≡ get_or xs i x → drop i xs ≡ x ∷ drop (suc i) xs
 drop_first i [] x within is = absurd (omega (arith, within))
