@@ -39,6 +39,10 @@ pub record PassesOnLinks {Own T E : Type 0} (Tells : Type 0) (number : ℕ) (old
   pub talks : KeepsTalking Tells old new
   pub links : OnLinks Tells old new
 
+-- so many parts of a loop
+abbrev pub OnLinksSoFar : {Own : Type 0} → Type 0 → ℕ → Seen Own → Seen Own → NetState → NetState → Type 0
+OnLinksSoFar Tells number old new net now_net = PassesOnLinks {T = Unit {0}} {E = Unit {0}} Tells number old new net now_net (Ok tt)
+
 -- of an item that was told and is handled
 pub record UsesLinksAt {Own : Type 0} (Tells : Type 0) (number : ℕ) (step : WorldStep) (old new : Seen Own) (net : NetState) : Type 0 where
   pub continues : Continues Tells old new
