@@ -29,7 +29,7 @@ returns-in-From g c =
       };
       done = match_weaker c.take_message.result c.take_message.ensures.done
           (λ _ done. subst (λ (step : WorldStep). ItemDone g.W.World.Tells step (g.W.World.seen c.args.world.now) (g.W.World.seen c.take_message.new.world) c.args.self.now c.take_message.new.self)
-            (from_step c.args.item c.in-From.dpid c.in-From.size c.args.buf.now c.in-From.is) done)
+          (from_step c.args.item c.in-From.dpid c.in-From.size c.args.buf.now c.in-From.is) done)
           (λ fault fails. record {
             why = why.from_why c.args.item c.in-From.dpid c.in-From.size c.args.buf.now (g.W.World.seen c.args.world.now) (g.W.World.seen c.take_message.new.world) fault c.in-From.is fails.why;
             plain = item_from c.args.item c.in-From.dpid c.in-From.size c.args.buf.now (g.W.World.seen c.args.world.now) (g.W.World.seen c.take_message.new.world) fault c.in-From.is fails.plain;
@@ -48,7 +48,7 @@ returns-in-Joined g c =
       };
       done = match_weaker c.take_in.result c.take_in.ensures.done
           (λ _ done. subst (λ (step : WorldStep). ItemDone g.W.World.Tells step (g.W.World.seen c.args.world.now) (g.W.World.seen c.take_in.new.world) c.args.self.now c.take_in.new.self)
-            (joined_step c.args.item c.in-Joined.dpid c.in-Joined.size c.args.buf.now c.in-Joined.is) done)
+          (joined_step c.args.item c.in-Joined.dpid c.in-Joined.size c.args.buf.now c.in-Joined.is) done)
           (λ fault fails. record {
             why = why.joined_why (item_step c.args.item c.args.buf.now) (g.W.World.seen c.args.world.now) (g.W.World.seen c.take_in.new.world) fault fails.why;
             plain = item_joined c.args.item c.in-Joined.dpid c.in-Joined.size c.args.buf.now (g.W.World.seen c.args.world.now) (g.W.World.seen c.take_in.new.world) fault c.in-Joined.is fails.plain;
