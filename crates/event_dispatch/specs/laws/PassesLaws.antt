@@ -1,5 +1,5 @@
 -- Laws of what every part of the engine's work leaves: where nothing was done, and where parts follow one another.
-use Rattle.std.specs.Prelude.{◌≡◌, ℕ, List, length, Result, Ok, Err, OnOk, IsErrAnd, MatchResult, refl}
+use Rattle.std.specs.Prelude.{◌≡◌, ℕ, List, length, Result, Ok, Err, OnOk, IsErr, IsErrAnd, MatchResult, refl}
 use Rattle.std.proofs.Common.{sym, ap, subst}
 use Rattle.checkpoint_store.specs.Slots.{Slot}
 use Rattle.outside.specs.Seen.{Seen, Continues}
@@ -17,9 +17,9 @@ use Rattle.event_dispatch.specs.laws.TalkingLaws.{keeps_none, keeps_then, keeps_
 -- ---- How a part ended
 
 -- where it failed, nothing is owed that is so where it is done
-pub if_failed : {T E P : Type 0} {Q : E → Type 0} (result : Result T E) → IsErrAnd result Q → OnOk result P
-if_failed (Ok x) is = absurd is
-if_failed (Err fault) is = tt
+pub if_failed : {T E : Type 0} (P : Type 0) (result : Result T E) → IsErr result → OnOk result P
+if_failed P (Ok x) is = absurd is
+if_failed P (Err fault) is = tt
 
 -- what is so of its fault is so of how it ended
 pub at_fault : {T E : Type 0} (Done : T → Type 0) (Failed : E → Type 0) (fault : E) (result : Result T E) → IsErrAnd result (λ e. e ≡ fault) → Failed fault
@@ -51,9 +51,9 @@ passes_none Tells seen net now_net (Ok x) same = record { continues = Continues-
 passes_none Tells seen net now_net (Err fault) same = record { continues = Continues-refl Tells seen; places = places_none Tells seen net; reads = tt }
 
 -- and where it failed, whatever is kept now
-pub passes_not : {Own T E : Type 0} {number : ℕ} {Q : E → Type 0} (Tells : Type 0) (seen : Seen Own) (net now_net : NetState) (result : Result T E)
-    → IsErrAnd result Q → Passes Tells number seen seen net now_net result
-passes_not Tells seen net now_net result failed = record { continues = Continues-refl Tells seen; places = places_none Tells seen net; reads = if_failed result failed }
+pub passes_not : {Own T E : Type 0} {number : ℕ} (Tells : Type 0) (seen : Seen Own) (net now_net : NetState) (result : Result T E)
+    → IsErr result → Passes Tells number seen seen net now_net result
+passes_not Tells seen net now_net result failed = record { continues = Continues-refl Tells seen; places = places_none Tells seen net; reads = if_failed _ result failed }
 
 -- a part that was done, and then another, however that ended
 pub passes_then : {Own A F T E Tells : Type 0} {number : ℕ} {old mid new : Seen Own} {net mid_net now_net : NetState} {x : A} {result : Result T E}
@@ -71,9 +71,9 @@ passes_then {Tells = Tells} {old = old} {mid = mid} {new = new} {net = net} {mid
 }
 
 -- a part that failed, and with it the whole
-pub passes_fails : {Own A F T E Tells : Type 0} {number : ℕ} {old new : Seen Own} {net mid_net : NetState} {first : Result A F} {Q : E → Type 0} (now_net : NetState) (result : Result T E)
-    → Passes Tells number old new net mid_net first → IsErrAnd result Q → Passes Tells number old new net now_net result
-passes_fails now_net result first failed = record { continues = first.continues; places = first.places; reads = if_failed result failed }
+pub passes_fails : {Own A F T E Tells : Type 0} {number : ℕ} {old new : Seen Own} {net mid_net : NetState} {first : Result A F} (now_net : NetState) (result : Result T E)
+    → Passes Tells number old new net mid_net first → IsErr result → Passes Tells number old new net now_net result
+passes_fails now_net result first failed = record { continues = first.continues; places = first.places; reads = if_failed _ result failed }
 
 -- a part that was done, behind which the world was not called: the same switches have views
 pub passes_as : {Own A F T E Tells : Type 0} {number : ℕ} {old new : Seen Own} {net mid_net : NetState} {x : A} (now_net : NetState) (result : Result T E)
@@ -109,8 +109,8 @@ pub quiet_none : {Own T E : Type 0} {number : ℕ} (Tells : Type 0) (seen : Seen
     → PassesQuietly Tells number seen seen net now_net result
 quiet_none Tells seen net now_net result same = record { passes = passes_none Tells seen net now_net result same; no_point = quietly_none Tells seen; talks = keeps_none Tells seen }
 
-pub quiet_not : {Own T E : Type 0} {number : ℕ} {Q : E → Type 0} (Tells : Type 0) (seen : Seen Own) (net now_net : NetState) (result : Result T E)
-    → IsErrAnd result Q → PassesQuietly Tells number seen seen net now_net result
+pub quiet_not : {Own T E : Type 0} {number : ℕ} (Tells : Type 0) (seen : Seen Own) (net now_net : NetState) (result : Result T E)
+    → IsErr result → PassesQuietly Tells number seen seen net now_net result
 quiet_not Tells seen net now_net result failed = record { passes = passes_not Tells seen net now_net result failed; no_point = quietly_none Tells seen; talks = keeps_none Tells seen }
 
 pub quiet_then : {Own A F T E Tells : Type 0} {number : ℕ} {old mid new : Seen Own} {net mid_net now_net : NetState} {x : A} {result : Result T E}
@@ -122,8 +122,8 @@ quiet_then {Tells = Tells} {old = old} {mid = mid} {new = new} first second = re
   talks = keeps_then Tells old mid new first.talks second.talks;
 }
 
-pub quiet_fails : {Own A F T E Tells : Type 0} {number : ℕ} {old new : Seen Own} {net mid_net : NetState} {first : Result A F} {Q : E → Type 0} (now_net : NetState) (result : Result T E)
-    → PassesQuietly Tells number old new net mid_net first → IsErrAnd result Q → PassesQuietly Tells number old new net now_net result
+pub quiet_fails : {Own A F T E Tells : Type 0} {number : ℕ} {old new : Seen Own} {net mid_net : NetState} {first : Result A F} (now_net : NetState) (result : Result T E)
+    → PassesQuietly Tells number old new net mid_net first → IsErr result → PassesQuietly Tells number old new net now_net result
 quiet_fails now_net result first failed = record { passes = passes_fails now_net result first.passes failed; no_point = first.no_point; talks = first.talks }
 
 pub quiet_as : {Own A F T E Tells : Type 0} {number : ℕ} {old new : Seen Own} {net mid_net : NetState} {x : A} (now_net : NetState) (result : Result T E)

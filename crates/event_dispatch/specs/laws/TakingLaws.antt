@@ -1,5 +1,5 @@
 -- Laws of what each part of a batch leaves: where links alone were used, and where one part is the other's.
-use Rattle.std.specs.Prelude.{◌≡◌, ◌⊎◌, ℕ, List, [], length, drop, Option, Some, None, Result, Ok, Err, OnOk, IsErrAnd, IsSome, refl}
+use Rattle.std.specs.Prelude.{◌≡◌, ◌⊎◌, ℕ, List, [], length, drop, Option, Some, None, Result, Ok, Err, OnOk, IsErr, IsSome, refl}
 use Rattle.std.proofs.Common.{sym, ap, ◌∙◌}
 use Rattle.std.proofs.lemmas.List.{append-nil}
 use Rattle.app_frames.specs.declared.frame.Event.{Event}
@@ -46,8 +46,8 @@ on_links_then {Tells = Tells} {old = old} {mid = mid} {new = new} first second =
   links = links_then Tells old mid new first.links second.links;
 }
 
-pub on_links_fails : {Own A F T E Tells : Type 0} {number : ℕ} {old new : Seen Own} {net mid_net : NetState} {first : Result A F} {Q : E → Type 0} (now_net : NetState) (result : Result T E)
-    → PassesOnLinks Tells number old new net mid_net first → IsErrAnd result Q → PassesOnLinks Tells number old new net now_net result
+pub on_links_fails : {Own A F T E Tells : Type 0} {number : ℕ} {old new : Seen Own} {net mid_net : NetState} {first : Result A F} (now_net : NetState) (result : Result T E)
+    → PassesOnLinks Tells number old new net mid_net first → IsErr result → PassesOnLinks Tells number old new net now_net result
 on_links_fails now_net result first failed = record { passes = passes_fails now_net result first.passes failed; talks = first.talks; links = first.links }
 
 pub on_links_as : {Own A F T E Tells : Type 0} {number : ℕ} {old new : Seen Own} {net mid_net : NetState} {x : A} (now_net : NetState) (result : Result T E)
@@ -99,10 +99,10 @@ pub asked_next : {Own : Type 0} {Tells : Type 0} {old new : Seen Own} {result : 
 asked_next call buffer bytes = record { continues = Nexts-continues call; talks = keeps_next call; no_point = λ number. next_quietly call; places = next_in_place call; buffer = buffer; bytes = bytes }
 
 -- it failed
-pub next_fails : {Own T E Tells : Type 0} {number : ℕ} {old new : Seen Own} {buf now_buf : List ℕ} {Q : E → Type 0} (net now_net : NetState) (result : Result T E)
-    → AsksNext Tells old new buf now_buf → IsErrAnd result Q → PassesNext Tells number old new net now_net buf now_buf result
+pub next_fails : {Own T E Tells : Type 0} {number : ℕ} {old new : Seen Own} {buf now_buf : List ℕ} (net now_net : NetState) (result : Result T E)
+    → AsksNext Tells old new buf now_buf → IsErr result → PassesNext Tells number old new net now_net buf now_buf result
 next_fails {Tells = Tells} {number = number} {old = old} {new = new} net now_net result asks failed = record {
-  passes = record { continues = asks.continues; places = next_places Tells old new net asks.places (asks.no_point number); reads = if_failed result failed };
+  passes = record { continues = asks.continues; places = next_places Tells old new net asks.places (asks.no_point number); reads = if_failed _ result failed };
   talks = asks.talks;
   no_point = asks.no_point number;
   buffer = asks.buffer;

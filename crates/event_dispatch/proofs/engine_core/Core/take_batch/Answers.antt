@@ -36,7 +36,7 @@ pub returns-in_err-left : goal.returns-in_err-left
 returns-in_err-left g c =
     let failed = c.in_err-left.ensures in
     record {
-      passes = passes_fails c.take_kept.new.self.net c.from_residual.result failed.passes.passes c.from_residual.ensures.1;
+      passes = passes_fails c.take_kept.new.self.net c.from_residual.result failed.passes.passes c.from_residual.ensures.0;
       talks = failed.passes.talks;
       buffer = refl;
       done = at_fault _ _ c.in_err-left.field-0.0 c.from_residual.result c.from_residual.ensures.1 (record {
@@ -53,7 +53,7 @@ returns-in_err-rest g c =
     let failed = c.in_err-rest.ensures in
     let no_point = next_number (length c.args.self.now.store) (length c.loop-item.self.store) (ap (λ (slots : List Slot). length slots) so_far.waits.store) failed.passes.no_point in
     record {
-      passes = passes_fails c.take_next.new.self.net c.from_residual-in_err-rest.result (passes_then so_far.passes (passes_waits so_far.waits failed.passes.passes)) c.from_residual-in_err-rest.ensures.1;
+      passes = passes_fails c.take_next.new.self.net c.from_residual-in_err-rest.result (passes_then so_far.passes (passes_waits so_far.waits failed.passes.passes)) c.from_residual-in_err-rest.ensures.0;
       talks = keeps_then g.W.World.Tells (g.W.World.seen c.args.world.now) (g.W.World.seen c.loop-item.world) (g.W.World.seen c.take_next.new.world) so_far.talks failed.passes.talks;
       buffer = failed.passes.buffer ∙ so_far.buffer;
       done = at_fault _ _ c.in_err-rest.field-0.0 c.from_residual-in_err-rest.result c.from_residual-in_err-rest.ensures.1 (record {

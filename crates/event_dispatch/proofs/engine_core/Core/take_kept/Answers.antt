@@ -34,7 +34,7 @@ loop-taken-preserved g c =
 
 pub returns-in_err-dpid : goal.returns-in_err-dpid
 returns-in_err-dpid g c = record {
-  passes = on_links_fails c.waiting.new.self c.from_residual.result c.loop-taken.invariant.passes c.from_residual.ensures.1;
+  passes = on_links_fails c.waiting.new.self c.from_residual.result c.loop-taken.invariant.passes c.from_residual.ensures.0;
   done = at_fault _ _ faults.NoMemory c.from_residual.result c.from_residual.ensures.1 (record { why = tt; plain = kept_memory c.args.self.now.net });
 }
 
@@ -57,7 +57,7 @@ returns-in_err-take_message g c =
     let so_far = c.loop-taken.invariant in
     let failed = c.in_err-take_message.ensures in
     record {
-      passes = on_links_fails _ c.from_residual-in_err-take_message.result (taken_passes c.waiting.new.self c.in_ok-dpid.ensures.rest so_far.passes (on_links_waits so_far.waits failed.passes)) c.from_residual-in_err-take_message.ensures.1;
+      passes = on_links_fails _ c.from_residual-in_err-take_message.result (taken_passes c.waiting.new.self c.in_ok-dpid.ensures.rest so_far.passes (on_links_waits so_far.waits failed.passes)) c.from_residual-in_err-take_message.ensures.0;
       done = at_fault _ _ c.in_err-take_message.field-0.0 c.from_residual-in_err-take_message.result c.from_residual-in_err-take_message.ensures.1 (record {
         why = kept_why c.loop-taken.self.net.kept _ _ _ (g.W.World.seen c.args.world.now) (g.W.World.seen c.loop-taken.world) (g.W.World.seen c.take_message.new.world) c.in_err-take_message.field-0.0 so_far.read (sym c.in_ok-dpid.ensures.first ∙ c.in-Some.is) c.as_slice.ensures so_far.passes.passes.continues failed.done.why;
         plain = kept_none c.args.self.now c.loop-taken.self _ c.in_err-take_message.field-0.0 so_far.kept (sym c.in-Some.is ∙ c.in_ok-dpid.ensures.first);

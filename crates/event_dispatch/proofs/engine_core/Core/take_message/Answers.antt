@@ -33,7 +33,7 @@ pub returns-in_err-event : goal.returns-in_err-event
 returns-in_err-event g c =
     let came = arrived_passes g.W.World.Tells c.args.dpid c.args.frame.now (g.W.World.seen c.args.world.now) (g.W.World.seen c.arrived.new.world) c.args.self.now.net c.arrived.new.self c.arrived.result (c.if-not-is_joined.ensures.joined refl) c.arrived.ensures in
     record {
-      passes = on_links_fails c.arrived.new.self c.from_residual.result came c.from_residual.ensures.1;
+      passes = on_links_fails c.arrived.new.self c.from_residual.result came c.from_residual.ensures.0;
       done = at_fault _ _ (fault_of c.in_err-event.field-0.0) c.from_residual.result c.from_residual.ensures.1 (record {
         why = arrival_why c.args.dpid c.args.frame.now (g.W.World.seen c.args.world.now) (g.W.World.seen c.arrived.new.world) c.in_err-event.field-0.0 c.in_err-event.ensures.continues c.in_err-event.ensures.cause;
         plain = read_arrived c.args.dpid c.args.frame.now (g.W.World.seen c.args.world.now) (g.W.World.seen c.arrived.new.world) c.in_err-event.field-0.0 c.in_err-event.ensures.cause;
@@ -44,7 +44,7 @@ pub returns-in_err-append : goal.returns-in_err-append
 returns-in_err-append g c =
     let came = arrived_passes g.W.World.Tells c.args.dpid c.args.frame.now (g.W.World.seen c.args.world.now) (g.W.World.seen c.arrived.new.world) c.args.self.now.net c.arrived.new.self c.arrived.result (c.if-not-is_joined.ensures.joined refl) c.arrived.ensures in
     record {
-      passes = on_links_fails c.arrived.new.self c.from_residual-in_err-append.result came c.from_residual-in_err-append.ensures.1;
+      passes = on_links_fails c.arrived.new.self c.from_residual-in_err-append.result came c.from_residual-in_err-append.ensures.0;
       done = at_fault _ _ faults.NoMemory c.from_residual-in_err-append.result c.from_residual-in_err-append.ensures.1 (record {
         why = message_memory c.args.dpid c.args.frame.now (g.W.World.seen c.args.world.now) (g.W.World.seen c.arrived.new.world);
         plain = read_memory c.args.frame.now;
@@ -55,7 +55,7 @@ pub returns-in_err-tell_lost : goal.returns-in_err-tell_lost
 returns-in_err-tell_lost g c =
     let came = arrived_passes g.W.World.Tells c.args.dpid c.args.frame.now (g.W.World.seen c.args.world.now) (g.W.World.seen c.arrived.new.world) c.args.self.now.net c.arrived.new.self c.arrived.result (c.if-not-is_joined.ensures.joined refl) c.arrived.ensures in
     record {
-      passes = on_links_fails _ c.from_residual-in_err-tell_lost.result came c.from_residual-in_err-tell_lost.ensures.1;
+      passes = on_links_fails _ c.from_residual-in_err-tell_lost.result came c.from_residual-in_err-tell_lost.ensures.0;
       done = at_fault _ _ faults.NoMemory c.from_residual-in_err-tell_lost.result c.from_residual-in_err-tell_lost.ensures.1 (record {
         why = message_memory c.args.dpid c.args.frame.now (g.W.World.seen c.args.world.now) (g.W.World.seen c.arrived.new.world);
         plain = read_memory c.args.frame.now;

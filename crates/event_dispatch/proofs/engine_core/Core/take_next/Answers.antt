@@ -10,7 +10,7 @@ use Rattle.event_dispatch.proofs.engine_core.Core.take_next.Goals as goal
 
 pub returns-in_err-item : goal.returns-in_err-item
 returns-in_err-item g c = record {
-  passes = next_fails c.args.self.now.net c.args.self.now.net c.from_residual.result c.in_err-item.ensures.asks c.from_residual.ensures.1;
+  passes = next_fails c.args.self.now.net c.args.self.now.net c.from_residual.result c.in_err-item.ensures.asks c.from_residual.ensures.0;
   done = at_fault _ _ c.in_err-item.field-0.0 c.from_residual.result c.from_residual.ensures.1 (record {
     why = c.in_err-item.ensures.done.why;
     plain = next_anyway (g.W.World.seen c.args.world.now) (g.W.World.seen c.next_item.new.world) c.in_err-item.field-0.0 c.in_err-item.ensures.done.plain;
@@ -38,7 +38,7 @@ returns-in_err-take_item-in_default g c =
     let told = c.in_ok-item.ensures in
     let failed = c.in_err-take_item-in_default.ensures in
     record {
-      passes = next_handled c.in_ok-item.item _ c.from_residual-in_err-take_item-in_default.result told.asks told.done.nexts failed.uses (if_failed c.from_residual-in_err-take_item-in_default.result c.from_residual-in_err-take_item-in_default.ensures.1);
+      passes = next_handled c.in_ok-item.item _ c.from_residual-in_err-take_item-in_default.result told.asks told.done.nexts failed.uses (if_failed _ c.from_residual-in_err-take_item-in_default.result c.from_residual-in_err-take_item-in_default.ensures.0);
       done = at_fault _ _ c.in_err-take_item-in_default.field-0.0 c.from_residual-in_err-take_item-in_default.result c.from_residual-in_err-take_item-in_default.ensures.1 (record {
         why = next_why c.in_ok-item.item c.next_item.new.buf (g.W.World.seen c.args.world.now) (g.W.World.seen c.next_item.new.world) (g.W.World.seen c.take_item.new.world) c.in_err-take_item-in_default.field-0.0 told.done.nexts failed.done.why;
         plain = next_taken c.in_ok-item.item c.next_item.new.buf (g.W.World.seen c.args.world.now) (g.W.World.seen c.next_item.new.world) (g.W.World.seen c.take_item.new.world) c.in_err-take_item-in_default.field-0.0 told.done.nexts failed.uses.continues failed.done.plain;
