@@ -16,6 +16,7 @@ pub mod ItemLaws
 pub mod SteadyLaws
 pub mod PassesLaws
 pub mod PartsLaws
+pub mod TakingLaws
 pub mod NothingWaitsLaws
 pub mod AbreastItemLaws
 pub mod NextPointLaws
