@@ -10,6 +10,8 @@ pub mod Cut
 pub mod Talking
 pub mod Steady
 pub mod Passes
+pub mod Lines
+pub mod Taking
 pub mod Told
 pub mod NothingWaits
 pub mod Undone
