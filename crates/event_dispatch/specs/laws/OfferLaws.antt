@@ -39,8 +39,9 @@ use Rattle.event_dispatch.specs.EventParts.{OfferDone, OfferStops, OffersDone, O
 use Rattle.event_dispatch.specs.Cut.{IsOfTurn, OfferFails, StopsWithin, OffersFail, FailsIn}
 use Rattle.event_dispatch.specs.laws.SteadyLaws.{reads_none, quietly_none, quietly_here}
 use Rattle.event_dispatch.specs.laws.PassesLaws.{passes_none, passes_then, passes_as, passes_number}
+use Rattle.event_dispatch.specs.laws.TurnPartLaws.{passes_over}
 use Rattle.event_dispatch.specs.laws.WhyLaws.{why_then}
-use Rattle.event_dispatch.specs.laws.DispatchStrayLaws.{places_as, reads_over, later_here}
+use Rattle.event_dispatch.specs.laws.DispatchStrayLaws.{reads_over, later_here}
 use Rattle.event_dispatch.specs.laws.NoEventLaws.{no_event_none}
 use Rattle.event_dispatch.specs.laws.TalkingLaws.{rests_at_once, goes_none}
 use Rattle.event_dispatch.specs.laws.LeftLaws.{left_none}
@@ -628,11 +629,6 @@ offer_ended event (Ok stops) old new c now_c m now_m takes later turn = record {
 offer_ended event (Err fault) old new c now_c m now_m takes later turn = record { fails = offer_fails fault old new c m takes later turn; why = turn.why }
 
 -- ---- The event, with its line
-
--- the same switches had views before
-passes_over : {Own T E Tells : Type 0} {number : ℕ} {old new : Seen Own} {now_net : NetState} {result : Result T E} (net mid_net : NetState) → mid_net.views ≡ net.views → Passes Tells number old new mid_net now_net result → Passes Tells number old new net now_net result
-passes_over {now_net = now_net} {result = Ok x} net mid_net same all = record { continues = all.continues; places = places_as net mid_net same all.places; reads = reads_over net mid_net now_net now_net same refl all.reads }
-passes_over {result = Err fault} net mid_net same all = record { continues = all.continues; places = places_as net mid_net same all.places; reads = tt }
 
 module _ (event : Event) (r : Run) (c : Core) (adds : Adds (event_line (r.core.events + 1) event.kind event.dpid) (record r.core { events = r.core.events + 1 }) c) where
   apps_noted : map (application_of c.store) r.apps.items ≡ map (application_of r.core.store) r.apps.items
