@@ -1,6 +1,6 @@
 -- What every part of the engine's work leaves that calls the world, however the part ended. Parts that follow one another leave it together. All
 -- of this is our own.
-use Rattle.std.specs.Prelude.{ℕ, Result, OnOk}
+use Rattle.std.specs.Prelude.{ℕ, Result, Ok, OnOk}
 use Rattle.outside.specs.Seen.{Seen, Continues}
 use Rattle.net_txn.specs.Net.{NetState}
 use Rattle.event_dispatch.specs.Steady.{NoStray, Reads, NoPoint}
@@ -18,3 +18,12 @@ pub record PassesQuietly {Own T E : Type 0} (Tells : Type 0) (number : ℕ) (old
   pub passes : Passes Tells number old new net now_net result
   pub no_point : NoPoint Tells number old new
   pub talks : KeepsTalking Tells old new
+
+-- ---- So many parts of a loop
+
+-- all of them were done so far
+abbrev pub PassesSoFar : {Own : Type 0} → Type 0 → ℕ → Seen Own → Seen Own → NetState → NetState → Type 0
+PassesSoFar Tells number old new net now_net = Passes {T = Unit {0}} {E = Unit {0}} Tells number old new net now_net (Ok tt)
+
+abbrev pub PassesQuietlySoFar : {Own : Type 0} → Type 0 → ℕ → Seen Own → Seen Own → NetState → NetState → Type 0
+PassesQuietlySoFar Tells number old new net now_net = PassesQuietly {T = Unit {0}} {E = Unit {0}} Tells number old new net now_net (Ok tt)

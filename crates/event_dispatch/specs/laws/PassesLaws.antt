@@ -1,11 +1,14 @@
 -- Laws of what every part of the engine's work leaves: where nothing was done, and where parts follow one another.
-use Rattle.std.specs.Prelude.{◌≡◌, ℕ, Result, Ok, Err, OnOk, IsErrAnd, MatchResult}
-use Rattle.std.proofs.Common.{sym, subst}
+use Rattle.std.specs.Prelude.{◌≡◌, ℕ, List, length, Result, Ok, Err, OnOk, IsErrAnd, MatchResult, refl}
+use Rattle.std.proofs.Common.{sym, ap, subst}
+use Rattle.checkpoint_store.specs.Slots.{Slot}
 use Rattle.outside.specs.Seen.{Seen, Continues}
 use Rattle.outside.specs.laws.SeenLaws.{Continues-refl}
 use Rattle.net_txn.specs.Net.{NetState}
 use Rattle.net_txn.specs.LinkSteps.{OnLinks}
-use Rattle.event_dispatch.specs.Passes.{Passes, PassesQuietly}
+use Rattle.event_dispatch.specs.declared.engine_core.Core.{Core}
+use Rattle.event_dispatch.specs.Runs.{Waits}
+use Rattle.event_dispatch.specs.Passes.{Passes, PassesQuietly, PassesSoFar, PassesQuietlySoFar}
 use Rattle.event_dispatch.specs.laws.WhyLaws.{continues_then}
 use Rattle.event_dispatch.specs.laws.SteadyLaws.{places_none, places_then, places_number, reads_none, reads_then, reads_as, quietly_none, quietly_then, quietly_number}
 use Rattle.event_dispatch.specs.laws.DispatchStrayLaws.{links_quietly}
@@ -23,10 +26,19 @@ pub at_fault : {T E : Type 0} (Done : T → Type 0) (Failed : E → Type 0) (fau
 at_fault Done Failed fault (Ok x) is failed = absurd is
 at_fault Done Failed fault (Err e) is failed = subst Failed (sym is) failed
 
--- what follows from the one side, and from the other
-pub match_weaker : {T E : Type 0} {Done Then : T → Type 0} {Failed Left : E → Type 0} (result : Result T E) → ((x : T) → Done x → Then x) → ((e : E) → Failed e → Left e) → MatchResult result Done Failed → MatchResult result Then Left
-match_weaker (Ok x) then left is = then x is
-match_weaker (Err e) then left is = left e is
+-- what follows where it was done, and where it failed
+pub match_weaker : {T E : Type 0} {Done Then : T → Type 0} {Failed Left : E → Type 0} (result : Result T E) → MatchResult result Done Failed → ((x : T) → Done x → Then x) → ((e : E) → Failed e → Left e) → MatchResult result Then Left
+match_weaker (Ok x) is then left = then x is
+match_weaker (Err e) is then left = left e is
+
+-- ---- No event was dispatched
+
+pub waits_none : (c : Core) → Waits c c
+waits_none c = record { room = refl; events = refl; store = refl; left = λ none. none }
+
+-- there are as many checkpoints
+same_store : {c now_c : Core} → Waits c now_c → length now_c.store ≡ length c.store
+same_store waits = ap (λ (slots : List Slot). length slots) waits.store
 
 -- ---- Parts that call the world
 
@@ -65,6 +77,19 @@ passes_as now_net (Err fault) first same = record { continues = first.continues;
 pub passes_number : {Own T E Tells : Type 0} {old new : Seen Own} {net now_net : NetState} {result : Result T E} (n m : ℕ) → m ≡ n → Passes Tells m old new net now_net result → Passes Tells n old new net now_net result
 passes_number n m same all = record { continues = all.continues; places = places_number n m same all.places; reads = all.reads }
 
+pub passes_waits : {Own T E Tells : Type 0} {old new : Seen Own} {net now_net : NetState} {result : Result T E} {c now_c : Core} → Waits c now_c → Passes Tells (length now_c.store) old new net now_net result → Passes Tells (length c.store) old new net now_net result
+passes_waits {c = c} {now_c = now_c} waits all = passes_number (length c.store) (length now_c.store) (same_store waits) all
+
+-- in a loop: no part was done yet, and one more
+pub so_far_none : {Own : Type 0} {number : ℕ} (Tells : Type 0) (seen : Seen Own) (net : NetState) → PassesSoFar Tells number seen seen net net
+so_far_none Tells seen net = passes_none Tells seen net net (Ok tt) refl
+
+pub so_far : {Own T E Tells : Type 0} {number : ℕ} {old new : Seen Own} {net now_net : NetState} {x : T} → Passes {T = T} {E = E} Tells number old new net now_net (Ok x) → PassesSoFar Tells number old new net now_net
+so_far all = record { continues = all.continues; places = all.places; reads = all.reads }
+
+pub so_far_then : {Own T E Tells : Type 0} {number : ℕ} {old mid new : Seen Own} {net mid_net now_net : NetState} {x : T} → PassesSoFar Tells number old mid net mid_net → Passes {T = T} {E = E} Tells number mid new mid_net now_net (Ok x) → PassesSoFar Tells number old new net now_net
+so_far_then first second = passes_then first (so_far second)
+
 -- ---- Parts that give no event and begin no stimulus
 
 pub quiet_none : {Own T E : Type 0} {number : ℕ} (Tells : Type 0) (seen : Seen Own) (net now_net : NetState) (result : Result T E) → now_net.views ≡ net.views → PassesQuietly Tells number seen seen net now_net result
@@ -88,6 +113,18 @@ quiet_as now_net result first same = record { passes = passes_as now_net result 
 
 pub quiet_number : {Own T E Tells : Type 0} {old new : Seen Own} {net now_net : NetState} {result : Result T E} (n m : ℕ) → m ≡ n → PassesQuietly Tells m old new net now_net result → PassesQuietly Tells n old new net now_net result
 quiet_number n m same all = record { passes = passes_number n m same all.passes; no_point = quietly_number n m same all.no_point; talks = all.talks }
+
+pub quiet_waits : {Own T E Tells : Type 0} {old new : Seen Own} {net now_net : NetState} {result : Result T E} {c now_c : Core} → Waits c now_c → PassesQuietly Tells (length now_c.store) old new net now_net result → PassesQuietly Tells (length c.store) old new net now_net result
+quiet_waits {c = c} {now_c = now_c} waits all = quiet_number (length c.store) (length now_c.store) (same_store waits) all
+
+pub quiet_so_far_none : {Own : Type 0} {number : ℕ} (Tells : Type 0) (seen : Seen Own) (net : NetState) → PassesQuietlySoFar Tells number seen seen net net
+quiet_so_far_none Tells seen net = quiet_none Tells seen net net (Ok tt) refl
+
+pub quiet_so_far : {Own T E Tells : Type 0} {number : ℕ} {old new : Seen Own} {net now_net : NetState} {x : T} → PassesQuietly {T = T} {E = E} Tells number old new net now_net (Ok x) → PassesQuietlySoFar Tells number old new net now_net
+quiet_so_far all = record { passes = so_far all.passes; no_point = all.no_point; talks = all.talks }
+
+pub quiet_so_far_then : {Own T E Tells : Type 0} {number : ℕ} {old mid new : Seen Own} {net mid_net now_net : NetState} {x : T} → PassesQuietlySoFar Tells number old mid net mid_net → PassesQuietly {T = T} {E = E} Tells number mid new mid_net now_net (Ok x) → PassesQuietlySoFar Tells number old new net now_net
+quiet_so_far_then first second = quiet_then first (quiet_so_far second)
 
 -- links alone were used
 pub quiet_links : {Own T E Tells : Type 0} {number : ℕ} {old new : Seen Own} {net now_net : NetState} {result : Result T E} → Passes Tells number old new net now_net result → OnLinks Tells old new → PassesQuietly Tells number old new net now_net result
