@@ -27,18 +27,18 @@ use Rattle.event_dispatch.specs.declared.fault.Fault.TheVariants as faults
 use Rattle.event_dispatch.specs.declared.engine_core.Core.{Core}
 use Rattle.event_dispatch.specs.declared.run.Managed.{Managed}
 use Rattle.event_dispatch.specs.declared.run.Run.{Run}
-use Rattle.event_dispatch.specs.Runs.{AreRead, StoreRests, CoreGoes, IsCountedTo, IsCountedBefore, AreBefore, AreNumbered, AreGoing}
+use Rattle.event_dispatch.specs.Runs.{AreRead, StoreRests, CoreGoes, IsCountedTo, IsCountedBefore, AreBefore, AreNumbered, AreGoing, Going}
 use Rattle.event_dispatch.specs.Stored.{KeepsOthers}
-use Rattle.event_dispatch.specs.Shows.{application_of, engine_with, engine_of, Adds}
+use Rattle.event_dispatch.specs.Shows.{application_of, engine_with, engine_of, Adds, queued_run}
 use Rattle.event_dispatch.specs.Serves.{Notes, TurnNoted, stand, OfferNoted, AllOffered, IsDispatched}
-use Rattle.event_dispatch.specs.Passes.{Passes}
+use Rattle.event_dispatch.specs.Passes.{Passes, PassesSoFar}
 use Rattle.event_dispatch.specs.Why.{served_by}
 use Rattle.event_dispatch.specs.Undone.{IsShort}
 use Rattle.event_dispatch.specs.TurnParts.{TurnFails, TurnDone}
 use Rattle.event_dispatch.specs.EventParts.{OfferDone, OfferStops, OffersDone, OffersStop, DispatchDone, DispatchStops}
 use Rattle.event_dispatch.specs.Cut.{IsOfTurn, OfferFails, StopsWithin, OffersFail, FailsIn}
 use Rattle.event_dispatch.specs.laws.SteadyLaws.{reads_none, quietly_none, quietly_here}
-use Rattle.event_dispatch.specs.laws.PassesLaws.{passes_none, passes_then, passes_as, passes_number}
+use Rattle.event_dispatch.specs.laws.PassesLaws.{passes_number, so_far_none, so_far_then}
 use Rattle.event_dispatch.specs.laws.TurnPartLaws.{passes_over}
 use Rattle.event_dispatch.specs.laws.WhyLaws.{why_then}
 use Rattle.event_dispatch.specs.laws.DispatchStrayLaws.{reads_over, later_here}
@@ -244,7 +244,7 @@ pub record OffersSoFar {Own : Type 0} (Tells : Type 0) (accepts : List TableView
   pub text : List ℕ
   pub offers : Offers Tells accepts event c.events 0 (map (application_of c.store) (take n apps)) text (stand old c) (stand now now_c) (map (application_of now_c.store) front) false
   pub notes : Notes text c now_c
-  pub passes : Passes {T = Unit {0}} {E = Fault} Tells (length c.store) old now c.net now_c.net (Ok tt)
+  pub passes : PassesSoFar Tells (length c.store) old now c.net now_c.net
 
 pub offers_first : {Own : Type 0} (Tells : Type 0) (accepts : List TableView → Bool) (event : Event) (seen : Seen Own) (c : Core) (apps : List Managed) → AreGoing c apps → AreBefore c.events apps → OffersSoFar Tells accepts event 0 seen seen c c apps apps
 offers_first Tells accepts event seen c apps going before = record {
@@ -262,7 +262,7 @@ offers_first Tells accepts event seen c apps going before = record {
   text = [];
   offers = (refl, refl, refl, refl);
   notes = sym (append-nil c.lines.items);
-  passes = passes_none Tells seen c.net c.net (Ok tt) refl;
+  passes = so_far_none Tells seen c.net;
 }
 
 -- the one that is next
@@ -383,7 +383,7 @@ module _ {Own : Type 0} {Tells : Type 0} {accepts : List TableView → Bool} {ev
         (offers_one Tells accepts event c.events n done.offered.text (stand now now_c) (stand new later_c) (application_of c.store m) (application_of later_c.store now_m)
         (subst (λ (b : Bool). IsOffered Tells accepts event c.events n (is_taking event (application_of c.store m)) b done.offered.text (stand now now_c) (stand new later_c) (application_of c.store m) (application_of later_c.store now_m)) go offered_here))));
     notes = notes_now;
-    passes = passes_then so_far.passes (passes_number (length c.store) (length now_c.store) so_far.number (passes_as later_c.net (Ok tt) passes refl));
+    passes = so_far_then so_far.passes (passes_number (length c.store) (length now_c.store) so_far.number passes);
   })
     where
       length_last : (xs : List Managed) (x : Managed) → length (xs ++ x ∷ []) ≡ length xs + 1
@@ -707,6 +707,15 @@ module _ (event : Event) (r : Run) (c : Core) (adds : Adds (event_line (r.core.e
 
   pub dispatch_passes : {Own T E : Type 0} {Tells : Type 0} {old new : Seen Own} {now_net : NetState} {result : Result T E} → Passes Tells (length c.store) old new c.net now_net result → Passes Tells (length r.core.store) old new r.core.net now_net result
   dispatch_passes passes = passes_number (length r.core.store) (length c.store) noted_number (passes_over r.core.net c.net noted_views passes)
+
+-- another event waits
+pub going_queued : (queue : List Event) (r : Run) → Going r → Going (queued_run queue r)
+going_queued queue r going = record {
+  core = record { room = going.core.room; read = going.core.read; store = going.core.store; left = going.core.left };
+  counted = going.counted;
+  numbered = going.numbered;
+  number = going.number;
+}
 
 -- memory was wanting for its line
 pub dispatch_short : {Own : Type 0} (Tells : Type 0) (accepts : List TableView → Bool) (event : Event) (seen : Seen Own) (r : Run) → DispatchStops Tells accepts event seen seen r faults.NoMemory

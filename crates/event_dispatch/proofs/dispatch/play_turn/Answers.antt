@@ -97,7 +97,7 @@ pub returns-in_err-abort-in-Ok-Failed-clause-done : goal.returns-in_err-abort-in
 returns-in_err-abort-in-Ok-Failed-clause-done g c =
     at_fault _ (TurnFails g.W.World.Tells c.args.app.now.index c.args.occasion.budget c.args.app.now.rest (g.W.World.seen c.args.world.now) (g.W.World.seen c.abort.new.world) c.args.net.now) (fault_of c.in_err-abort-in-Ok-Failed.field-0.0) c.from_residual-in_err-abort-in-Ok-Failed.result c.from_residual-in_err-abort-in-Ok-Failed.ensures.1 (record {
       talks = turn_ends c.args.app.now.index c.args.app.now.rest (g.W.World.seen c.args.world.now) (g.W.World.seen c.turn.new.world) (g.W.World.seen c.abort.new.world) (event_is c.args.occasion.number c.begin-txn.result.net.now.moment c.args.occasion.event.now) c.in-Ok-Failed.ensures.ok.turns c.abort.ensures.links;
-      why = why_then (g.W.World.seen c.args.world.now) (g.W.World.seen c.turn.new.world) (g.W.World.seen c.abort.new.world) (ended_by c.in_err-abort-in-Ok-Failed.field-0.0) c.turn.ensures.continues ?;
+      why = why_then (g.W.World.seen c.args.world.now) (g.W.World.seen c.turn.new.world) (g.W.World.seen c.abort.new.world) (ended_by c.in_err-abort-in-Ok-Failed.field-0.0) c.turn.ensures.continues (undo_why _ (g.W.World.seen c.turn.new.world) (g.W.World.seen c.abort.new.world) c.turn.new.txn.net.now _ c.in_err-abort-in-Ok-Failed.field-0.0 c.in_err-abort-in-Ok-Failed.ensures);
       plain = turn_not_undone (g.W.World.seen c.args.world.now) (g.W.World.seen c.turn.new.world) (g.W.World.seen c.abort.new.world) c.args.net.now c.begin-txn.result.net.now c.turn.new.txn.net.now _ c.abort.result c.in_err-abort-in-Ok-Failed.field-0.0 c.begin-txn.ensures.net c.in-Ok-Failed.ensures.ok.turns c.in_err-abort-in-Ok-Failed.was c.abort.ensures;
       left = left_failed c.args.app.now.rest c.args.net.now c.begin-txn.ensures.net c.begin-txn.ensures.start c.turn.ensures.start c.in-Ok-Failed.ensures.ok.turns c.abort.ensures;
     })
@@ -120,7 +120,7 @@ returns-in-Err-clause-passes g c = record {
 pub returns-in-Err-clause-done : goal.returns-in-Err-clause-done
 returns-in-Err-clause-done g c = subst (TurnFails g.W.World.Tells c.args.app.now.index c.args.occasion.budget c.args.app.now.rest (g.W.World.seen c.args.world.now) (g.W.World.seen c.abort-in-Err.new.world) c.args.net.now) (sym c.from.ensures) (record {
   talks = turn_stops g.W.World.Tells c.args.app.now.index c.args.app.now.rest (g.W.World.seen c.args.world.now) (g.W.World.seen c.turn.new.world) (g.W.World.seen c.abort-in-Err.new.world) c.in-Err.ensures.talks c.abort-in-Err.ensures.links;
-  why = ?;
+  why = why_before (g.W.World.seen c.args.world.now) (g.W.World.seen c.turn.new.world) (g.W.World.seen c.abort-in-Err.new.world) (ended_by c.in-Err.fault) c.turn.ensures.continues c.abort-in-Err.ensures.continues (stops_why (g.W.World.seen c.args.world.now) (g.W.World.seen c.turn.new.world) c.begin-txn.result.net.now c.turn.new.txn.net.now c.in-Err.fault c.in-Err.ensures.err);
   plain = turn_noted (g.W.World.seen c.args.world.now) (g.W.World.seen c.abort-in-Err.new.world) c.args.net.now c.begin-txn.result.net.now (fault_of c.in-Err.fault) c.begin-txn.ensures.net
       (turn_stopped (g.W.World.seen c.args.world.now) (g.W.World.seen c.turn.new.world) (g.W.World.seen c.abort-in-Err.new.world) c.begin-txn.result.net.now c.turn.new.txn.net.now c.in-Err.fault c.abort-in-Err.ensures.continues c.in-Err.ensures.err);
   left = left_stopped c.args.app.now.rest c.args.net.now c.begin-txn.ensures.net c.begin-txn.ensures.start c.turn.ensures.start c.in-Err.ensures.err c.abort-in-Err.ensures;
