@@ -30,16 +30,23 @@ use Rattle.event_dispatch.specs.laws.StoreLaws.{held, unkept}
 
 -- ---- The same switches had views before
 
-pub passes_over : {Own T E Tells : Type 0} {number : ℕ} {old new : Seen Own} {now_net : NetState} {result : Result T E} (net mid_net : NetState) → mid_net.views ≡ net.views → Passes Tells number old new mid_net now_net result → Passes Tells number old new net now_net result
-passes_over {now_net = now_net} {result = Ok x} net mid_net same all = record { continues = all.continues; places = places_as net mid_net same all.places; reads = reads_over net mid_net now_net now_net same refl all.reads }
+pub passes_over : {Own T E Tells : Type 0} {number : ℕ} {old new : Seen Own} {now_net : NetState} {result : Result T E} (net mid_net : NetState)
+    → mid_net.views ≡ net.views → Passes Tells number old new mid_net now_net result → Passes Tells number old new net now_net result
+passes_over {now_net = now_net} {result = Ok x} net mid_net same all = record {
+  continues = all.continues;
+  places = places_as net mid_net same all.places;
+  reads = reads_over net mid_net now_net now_net same refl all.reads;
+}
 passes_over {result = Err fault} net mid_net same all = record { continues = all.continues; places = places_as net mid_net same all.places; reads = tt }
 
-pub quiet_over : {Own T E Tells : Type 0} {number : ℕ} {old new : Seen Own} {now_net : NetState} {result : Result T E} (net mid_net : NetState) → mid_net.views ≡ net.views → PassesQuietly Tells number old new mid_net now_net result → PassesQuietly Tells number old new net now_net result
+pub quiet_over : {Own T E Tells : Type 0} {number : ℕ} {old new : Seen Own} {now_net : NetState} {result : Result T E} (net mid_net : NetState)
+    → mid_net.views ≡ net.views → PassesQuietly Tells number old new mid_net now_net result → PassesQuietly Tells number old new net now_net result
 quiet_over net mid_net same all = record { passes = passes_over net mid_net same all.passes; no_point = all.no_point; talks = all.talks }
 
 -- ---- Calls for one application, none of which gives it an event
 
-pub quiet_own : {Own T E Tells : Type 0} {number : ℕ} {old new : Seen Own} (app : ℕ) (net now_net : NetState) (result : Result T E) → app < number → Continues Tells old new → (Tells → OwnSteps app old new) → KeepsTalking Tells old new → OnOk result (now_net.views ≡ net.views)
+pub quiet_own : {Own T E Tells : Type 0} {number : ℕ} {old new : Seen Own} (app : ℕ) (net now_net : NetState) (result : Result T E) → app < number
+    → Continues Tells old new → (Tells → OwnSteps app old new) → KeepsTalking Tells old new → OnOk result (now_net.views ≡ net.views)
     → PassesQuietly Tells number old new net now_net result
 quiet_own app net now_net (Ok x) small continues own talks views = record {
   passes = record { continues = continues; places = started_places app net small own; reads = started_reads app net now_net views continues own };
@@ -53,36 +60,63 @@ quiet_own app net now_net (Err fault) small continues own talks views = record {
 }
 
 -- what follows by the policy of an application that is ended, or started again
-follows_so : {Own : Type 0} {Tells : Type 0} {text : List ℕ} {old new : Seen Own} {c now_c : Core} {m now_m : Managed} {p : Policy} (kind : EventKind) → p ≡ rule_at (app_value m.rule.now) kind → Follows Tells p text old new (focus_of c m) (focus_of now_c now_m)
+follows_so : {Own : Type 0} {Tells : Type 0} {text : List ℕ} {old new : Seen Own} {c now_c : Core} {m now_m : Managed} {p : Policy} (kind : EventKind)
+    → p ≡ rule_at (app_value m.rule.now) kind → Follows Tells p text old new (focus_of c m) (focus_of now_c now_m)
     → Follows Tells (rule_at (app_value m.rule.now) kind) text old new (focus_of c m) (focus_of now_c now_m)
-follows_so {Tells = Tells} {text = text} {old = old} {new = new} {c = c} {now_c = now_c} {m = m} {now_m = now_m} kind is follows = subst (λ (p : Policy). Follows Tells p text old new (focus_of c m) (focus_of now_c now_m)) is follows
+follows_so {Tells = Tells} {text = text} {old = old} {new = new} {c = c} {now_c = now_c} {m = m} {now_m = now_m} kind is follows =
+    subst (λ (p : Policy). Follows Tells p text old new (focus_of c m) (focus_of now_c now_m)) is follows
 
-pub left_so : {Own T E : Type 0} {Tells : Type 0} {old new : Seen Own} {c now_c : Core} {m now_m : Managed} (kind : EventKind) (result : Result T E) → policy.None ≡ rule_at (app_value m.rule.now) kind → OnOk result (LeaveDone Tells old new c now_c m now_m) → OnOk result (GoOnDone Tells kind old new c now_c m now_m)
-left_so kind (Ok x) is left = record { waits = left.waits; net = left.net; goes_on = record { text = left.leaves.text; follows = follows_so kind is left.leaves.goes; notes = left.leaves.notes } }
+pub left_so : {Own T E : Type 0} {Tells : Type 0} {old new : Seen Own} {c now_c : Core} {m now_m : Managed} (kind : EventKind) (result : Result T E)
+    → policy.None ≡ rule_at (app_value m.rule.now) kind → OnOk result (LeaveDone Tells old new c now_c m now_m)
+    → OnOk result (GoOnDone Tells kind old new c now_c m now_m)
+left_so kind (Ok x) is left = record {
+  waits = left.waits;
+  net = left.net;
+  goes_on = record { text = left.leaves.text; follows = follows_so kind is left.leaves.goes; notes = left.leaves.notes };
+}
 left_so kind (Err fault) is left = tt
 
 -- where it says either of the other two
-pub started_so : {Own T E : Type 0} {Tells : Type 0} {old new : Seen Own} {c now_c : Core} {m now_m : Managed} (kind : EventKind) (p : Policy) (result : Result T E) → p ≡ rule_at (app_value m.rule.now) kind → (p ≡ policy.None → ⊥) → OnOk result (StartDone Tells old new c now_c m now_m) → OnOk result (GoOnDone Tells kind old new c now_c m now_m)
+pub started_so : {Own T E : Type 0} {Tells : Type 0} {old new : Seen Own} {c now_c : Core} {m now_m : Managed} (kind : EventKind) (p : Policy)
+    (result : Result T E) → p ≡ rule_at (app_value m.rule.now) kind → (p ≡ policy.None → ⊥) → OnOk result (StartDone Tells old new c now_c m now_m)
+    → OnOk result (GoOnDone Tells kind old new c now_c m now_m)
 started_so kind p (Err fault) is other started = tt
 started_so kind policy.None (Ok x) is other started = absurd (other refl)
-started_so kind policy.Absolute (Ok x) is other started = record { waits = started.waits; net = started.net; goes_on = record { text = started.starts.text; follows = follows_so kind is started.starts.starts; notes = started.starts.notes } }
-started_so kind policy.Equivalence (Ok x) is other started = record { waits = started.waits; net = started.net; goes_on = record { text = started.starts.text; follows = follows_so kind is started.starts.starts; notes = started.starts.notes } }
+started_so kind policy.Absolute (Ok x) is other started = record {
+  waits = started.waits;
+  net = started.net;
+  goes_on = record { text = started.starts.text; follows = follows_so kind is started.starts.starts; notes = started.starts.notes };
+}
+started_so kind policy.Equivalence (Ok x) is other started = record {
+  waits = started.waits;
+  net = started.net;
+  goes_on = record { text = started.starts.text; follows = follows_so kind is started.starts.starts; notes = started.starts.notes };
+}
 
 -- ---- A turn
 
 -- it was played
-pub play_so : {Own : Type 0} {Tells : Type 0} {accepts : List TableView → Bool} {app budget number : ℕ} {event : Event} {closing : Closing} {old new : Seen Own} {net now_net : NetState} {queue now_queue : List Event} {rest unread : List ℕ} {store now_store : List Slot} → now_net.room ≡ net.room
-    → PlaysStaged Tells accepts app budget number event closing old new net now_net queue now_queue rest unread store now_store → PlayDone Tells accepts app budget number event closing old new net now_net queue now_queue rest unread store now_store
+pub play_so : {Own : Type 0} {Tells : Type 0} {accepts : List TableView → Bool} {app budget number : ℕ} {event : Event} {closing : Closing} {old new : Seen Own}
+    {net now_net : NetState} {queue now_queue : List Event} {rest unread : List ℕ} {store now_store : List Slot} → now_net.room ≡ net.room
+    → PlaysStaged Tells accepts app budget number event closing old new net now_net queue now_queue rest unread store now_store
+    → PlayDone Tells accepts app budget number event closing old new net now_net queue now_queue rest unread store now_store
 play_so {closing = closing} {net = net} {now_net = now_net} room plays = record { room = room; plays = plays; read = turn_read closing net now_net plays.plays }
 
 -- and what it staged is kept or dropped
-pub hold_so : {Own : Type 0} {Tells : Type 0} {accepts : List TableView → Bool} {budget number : ℕ} {event : Event} {old new : Seen Own} {net now_net : NetState} {queue now_queue : List Event} {rest unread : List ℕ} (closing : Result Closing Fault) (app : ℕ) (store mid_store now_store : List Slot)
+pub hold_so : {Own : Type 0} {Tells : Type 0} {accepts : List TableView → Bool} {budget number : ℕ} {event : Event} {old new : Seen Own}
+    {net now_net : NetState} {queue now_queue : List Event} {rest unread : List ℕ} (closing : Result Closing Fault) (app : ℕ)
+    (store mid_store now_store : List Slot)
     → app < length store → StoreRests store → KeepsSlots app store mid_store → now_store ≡ with_slot app (closes_slot closing) mid_store
-    → MatchResult closing (λ end. PlayDone Tells accepts app budget number event end old new net now_net queue now_queue rest unread store mid_store) (TurnFails Tells app budget rest old new net)
-    → MatchResult closing (λ end. HoldDone Tells accepts app budget number event end old new net now_net queue now_queue rest unread store now_store) (HoldFails Tells app budget rest old new net store now_store)
-hold_so {Own} {Tells} {accepts} {budget} {number} {event} {old} {new} {net} {now_net} {queue} {now_queue} {rest} {unread} (Ok closing) app store mid_store now_store lt rests keeps is played = record {
-  room = played.room;
-  plays = held Own Tells accepts budget number event old new net now_net queue now_queue rest unread (Ok closing) app store mid_store now_store lt rests keeps is played.plays;
-  read = played.read;
-}
-hold_so (Err fault) app store mid_store now_store lt rests keeps is fails = record { unkept = unkept (Err fault) app store mid_store now_store lt rests keeps is; fails = fails }
+    → MatchResult closing (λ end. PlayDone Tells accepts app budget number event end old new net now_net queue now_queue rest unread store mid_store)
+    (TurnFails Tells app budget rest old new net)
+    → MatchResult closing (λ end. HoldDone Tells accepts app budget number event end old new net now_net queue now_queue rest unread store now_store)
+    (HoldFails Tells app budget rest old new net store now_store)
+hold_so {Own} {Tells} {accepts} {budget} {number} {event} {old} {new} {net} {now_net} {queue} {now_queue} {rest} {unread} (Ok closing) app store mid_store
+    now_store lt rests keeps is played = record {
+      room = played.room;
+      plays = held Own Tells accepts budget number event old new net now_net queue now_queue rest unread (Ok closing) app store mid_store now_store lt rests keeps
+          is played.plays;
+      read = played.read;
+    }
+hold_so (Err fault) app store mid_store now_store lt rests keeps is
+    fails = record { unkept = unkept (Err fault) app store mid_store now_store lt rests keeps is; fails = fails }

@@ -64,7 +64,7 @@ loop-event-preserved g c = record {
   number = c.in_ok-dispatch_oldest.ensures.done.number ∙ c.loop-event.invariant.number;
   passes = so_far_then c.loop-event.invariant.passes (passes_number (length c.args.self.now.core.store) (length c.loop-event.self.core.store) c.loop-event.invariant.number c.in_ok-dispatch_oldest.ensures.passes);
   dispatches = (some_more g.W.World.Tells (g.J.Judge.accepts c.args.judge.now) c.loop-event._event _ (g.K.Sink.contents c.args.sink.now) (g.K.Sink.contents c.loop-event.sink) (g.K.Sink.contents c.dispatch_oldest.new.sink) (g.W.World.seen c.args.world.now) (g.W.World.seen c.loop-event.world) (g.W.World.seen c.dispatch_oldest.new.world) c.args.self.now c.loop-event.self c.dispatch_oldest.new.self
-        c.in_ok-dispatch_oldest.ensures.passes.continues c.loop-event.invariant.dispatches c.in_ok-dispatch_oldest.ensures.done.dispatches);
+      c.in_ok-dispatch_oldest.ensures.passes.continues c.loop-event.invariant.dispatches c.in_ok-dispatch_oldest.ensures.done.dispatches);
   never_fell = fell_then (g.K.Sink.faults c.args.sink.now) (g.K.Sink.faults c.loop-event.sink) (g.K.Sink.faults c.dispatch_oldest.new.sink) c.loop-event.invariant.never_fell c.in_ok-dispatch_oldest.ensures.never_fell;
 }
 
