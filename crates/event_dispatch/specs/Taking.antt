@@ -39,12 +39,15 @@ pub record PassesOnLinks {Own T E : Type 0} (Tells : Type 0) (number : ℕ) (old
   pub talks : KeepsTalking Tells old new
   pub links : OnLinks Tells old new
 
+-- so many parts of a loop
+abbrev pub OnLinksSoFar : {Own : Type 0} → Type 0 → ℕ → Seen Own → Seen Own → NetState → NetState → Type 0
+OnLinksSoFar Tells number old new net now_net = PassesOnLinks {T = Unit {0}} {E = Unit {0}} Tells number old new net now_net (Ok tt)
+
 -- of an item that was told and is handled
 pub record UsesLinksAt {Own : Type 0} (Tells : Type 0) (number : ℕ) (step : WorldStep) (old new : Seen Own) (net : NetState) : Type 0 where
   pub continues : Continues Tells old new
   pub talks : KeepsTalking Tells old new
   pub links : OnLinks Tells old new
-
   -- Where the item was told to a host that kept up with its switches, no call of a link is a stray one.
   pub places : NoStrayAtItem Tells number step old new net
 
@@ -68,7 +71,6 @@ pub record AsksNext {Own : Type 0} (Tells : Type 0) (old new : Seen Own) (buf no
 pub record PassesNext {Own T E : Type 0} (Tells : Type 0) (number : ℕ) (old new : Seen Own) (net now_net : NetState) (buf now_buf : List ℕ) (result : Result T E) : Type 0 where
   pub passes : Passes Tells number old new net now_net result
   pub talks : KeepsTalking Tells old new
-
   -- One stimulus is begun at most, before all else.
   pub no_point : NextPoint Tells number old new
   pub buffer : length now_buf ≡ length buf
@@ -111,7 +113,6 @@ pub record KeptDone {Own : Type 0} (left : ℕ) (old new : Seen Own) (run now_ru
 
 pub record HandledNext {Own : Type 0} (Tells : Type 0) (rest : Option Rest) (old new : Seen Own) (run now_run : Core) : Type 0 where
   pub waits : Waits run now_run
-
   -- Where the batch goes on, a stimulus is begun.
   pub begun : GoesBegun Tells rest old new
   pub read : AreRead run.net.kept → AreRead now_run.net.kept
@@ -120,10 +121,8 @@ pub record HandledNext {Own : Type 0} (Tells : Type 0) (rest : Option Rest) (old
 pub record BatchDone {Own : Type 0} (Tells : Type 0) (rest : Rest) (old new : Seen Own) (run now_run : Core) : Type 0 where
   pub waits : Waits run now_run
   pub read : AreRead now_run.net.kept
-
   -- In every world the messages that were kept come first, oldest first, and then what is told, where switches may be lost.
   pub first : KeptComesFirst run now_run
-
   -- Where the world keeps its word and all was calm, one stimulus was begun, and its items were told and taken, or its switch was lost at one.
   pub batch : BatchShown Tells rest old new run now_run
 
@@ -139,6 +138,5 @@ pub record BatchFails {Own : Type 0} (Tells : Type 0) (number : ℕ) (old new : 
   pub here : net.kept ≡ [] → AtMostThisPoint Tells number old new
   pub own : Tells → CallsAmong number old new
   pub why : IsReason Tells old new 0 0 fault
-
   -- Where the world keeps its word and all was calm, a fault is a plain one.
   pub plain : PlainCalm Tells old new net (served_by fault)

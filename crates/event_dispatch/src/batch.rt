@@ -92,7 +92,6 @@ fn next_item<W: World>(world: &mut W, buf: &mut [u8]) -> Result<Item, Fault>
 impl Core {
     /// Takes a message that came from a switch. One of a switch that is not joined is ignored; where an ECHO_REQUEST could not be
     /// answered the switch is lost, and told.
-    #[tactic(auto, using(crate::specs::laws::BatchSteadyLaws::links_none, crate::specs::laws::BatchSteadyLaws::only_none, crate::specs::laws::SteadyLaws::places_none, crate::specs::laws::SteadyLaws::reads_none, crate::specs::laws::FaultLaws::arrival_why, crate::specs::laws::TalkingLaws::keeps_none, crate::specs::laws::TalkingLaws::keeps_links))]
     pub(crate) fn take_message<W: World>(
         &mut self,
         world: &mut W,
@@ -125,7 +124,6 @@ impl Core {
     }
 
     /// Takes a switch in that describes itself as it joins. One that is joined is not taken in again.
-    #[tactic(auto, using(crate::specs::laws::BatchSteadyLaws::links_none, crate::specs::laws::BatchSteadyLaws::puts_none, crate::specs::laws::BatchSteadyLaws::only_none, crate::specs::laws::BatchSteadyLaws::joined_puts, crate::specs::laws::TalkingLaws::keeps_none))]
     fn take_in<W: World>(&mut self, world: &mut W, dpid: Dpid, frame: &[u8]) -> Result<(), Fault>
         requires none_left { self.old.net.left ≡ [] }
         ensures uses { UsesLinksAt W.Tells (length self.old.store) (Joined dpid frame.now) (W.seen world.old) (W.seen world.new) self.old.net }
@@ -147,7 +145,6 @@ impl Core {
     }
 
     /// Lets a switch join with what it says of itself. Where it is lost meanwhile, that is told, and makes no event.
-    #[tactic(auto, using(crate::specs::laws::BatchSteadyLaws::links_none, crate::specs::laws::BatchSteadyLaws::only_none, crate::specs::laws::KeptLaws::joins_read, crate::specs::laws::TalkingLaws::keeps_none, crate::specs::laws::TalkingLaws::keeps_links))]
     fn join<W: World>(&mut self, world: &mut W, dpid: Dpid, message: &Message) -> Result<(), Fault>
         requires out { rows_at dpid self.old.net.views ≡ None }
         requires fits { message_size message.now ≤ 65535 }
@@ -177,14 +174,13 @@ impl Core {
     }
 
     /// Takes one item. Bytes that it has stand in the buffer.
-    #[tactic(auto, using(crate::specs::laws::BatchSteadyLaws::links_none, crate::specs::laws::BatchSteadyLaws::puts_none, crate::specs::laws::BatchSteadyLaws::only_none, crate::specs::laws::TalkingLaws::keeps_none))]
     fn take_item<W: World>(&mut self, world: &mut W, item: Item, buf: &[u8]) -> Result<(), Fault>
         requires item { IsItemIn W.Tells item buf.now }
         requires none_left { self.old.net.left ≡ [] }
         ensures uses { UsesLinksAt W.Tells (length self.old.store) (item_step item buf.now) (W.seen world.old) (W.seen world.new) self.old.net }
         ensures done { MatchResult result (λ _. ItemDone W.Tells (item_step item buf.now) (W.seen world.old) (W.seen world.new) self.old self.new)
             (λ fault. Fails (WhyItem W.Tells (item_step item buf.now) (W.seen world.old) (W.seen world.new) fault)
-                (PlainItem W.Tells (item_step item buf.now) (W.seen world.old) (W.seen world.new) fault)) }
+            (PlainItem W.Tells (item_step item buf.now) (W.seen world.old) (W.seen world.new) fault)) }
     {
         match item {
             Item::From(dpid, size) => self.take_message(world, dpid, &buf[..size]),
@@ -200,7 +196,6 @@ impl Core {
 
     /// Takes the messages that were kept while something else was awaited, oldest first, and answers how many items the
     /// batch can still have.
-    #[tactic(auto, using(crate::specs::laws::BatchSteadyLaws::links_none, crate::specs::laws::BatchSteadyLaws::links_then, crate::specs::laws::SteadyLaws::places_none, crate::specs::laws::SteadyLaws::reads_none, crate::specs::laws::WhyLaws::continues_then, crate::specs::laws::WhyLaws::why_then, crate::specs::laws::WhyLaws::waits_then, crate::specs::laws::TalkingLaws::keeps_none, crate::specs::laws::TalkingLaws::keeps_then))]
     fn take_kept<W: World>(&mut self, world: &mut W) -> Result<u32, Fault>
         requires read { AreRead self.old.net.kept }
         requires none_left { self.old.net.left ≡ [] }
@@ -218,7 +213,6 @@ impl Core {
     }
 
     /// Takes what the outside tells next, and answers whether the batch is over.
-    #[tactic(auto, using(crate::specs::laws::WhyLaws::continues_then, crate::specs::laws::TalkingLaws::keeps_none, crate::specs::laws::TalkingLaws::keeps_then))]
     fn take_next<W: World>(&mut self, world: &mut W, buf: &mut [u8]) -> Result<Option<Rest>, Fault>
         requires buffer { most_message ≤ length buf.old }
         requires none_left { self.old.net.left ≡ [] }
@@ -238,7 +232,6 @@ impl Core {
     }
 
     /// Takes a batch: the messages that were kept while something else was awaited, then what the outside tells.
-    #[tactic(auto, using(crate::specs::laws::WhyLaws::continues_then, crate::specs::laws::WhyLaws::why_then, crate::specs::laws::WhyLaws::waits_then, crate::specs::laws::TalkingLaws::keeps_none, crate::specs::laws::TalkingLaws::keeps_then))]
     pub(crate) fn take_batch<W: World>(
         &mut self,
         world: &mut W,

@@ -19,7 +19,6 @@ impl Core {
     }
 
     /// Tells the switches that were lost, in order: each gets its line, and its Leave event joins those that wait.
-    #[tactic(auto, using(crate::specs::laws::WhyLaws::waits_then))]
     pub(crate) fn tell_lost(&mut self) -> Result<(), AllocError>
         ensures { OnOk result (LostTold self.old self.new) }
     {
