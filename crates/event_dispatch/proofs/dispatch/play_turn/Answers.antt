@@ -64,7 +64,7 @@ pub returns-in_err-out-in-Ok-Done-clause-passes : goal.returns-in_err-out-in-Ok-
 returns-in_err-out-in-Ok-Done-clause-passes g c = record {
   continues = continues_then g.W.World.Tells (g.W.World.seen c.args.world.now) (g.W.World.seen c.turn.new.world) (g.W.World.seen c.commit.new.world) c.turn.ensures.continues c.in_err-out-in-Ok-Done.ensures.continues;
   places = turn_committed c.args.net.now c.begin-txn.ensures.net (later_own c.args.app.now.index c.requires.place (returns-in_err-out-in-Ok-Done-clause-keeps g c).later) c.in-Ok-Done.ensures.ok.turns c.in_err-out-in-Ok-Done.ensures;
-  reads = if_failed c.from_residual.result c.from_residual.ensures.1;
+  reads = if_failed _ c.from_residual.result c.from_residual.ensures.0;
 }
 
 pub returns-in_err-out-in-Ok-Done-clause-done : goal.returns-in_err-out-in-Ok-Done-clause-done
@@ -90,7 +90,7 @@ pub returns-in_err-abort-in-Ok-Failed-clause-passes : goal.returns-in_err-abort-
 returns-in_err-abort-in-Ok-Failed-clause-passes g c = record {
   continues = continues_then g.W.World.Tells (g.W.World.seen c.args.world.now) (g.W.World.seen c.turn.new.world) (g.W.World.seen c.abort.new.world) c.turn.ensures.continues c.abort.ensures.continues;
   places = turn_undone c.args.net.now c.begin-txn.ensures.net (later_own c.args.app.now.index c.requires.place (returns-in_err-abort-in-Ok-Failed-clause-keeps g c).later) c.in-Ok-Failed.ensures.ok.turns c.abort.ensures;
-  reads = if_failed c.from_residual-in_err-abort-in-Ok-Failed.result c.from_residual-in_err-abort-in-Ok-Failed.ensures.1;
+  reads = if_failed _ c.from_residual-in_err-abort-in-Ok-Failed.result c.from_residual-in_err-abort-in-Ok-Failed.ensures.0;
 }
 
 pub returns-in_err-abort-in-Ok-Failed-clause-done : goal.returns-in_err-abort-in-Ok-Failed-clause-done

@@ -14,14 +14,14 @@ use Rattle.event_dispatch.proofs.engine_core.Core.take_turn.Goals as goal
 
 pub returns-in_err-closing : goal.returns-in_err-closing
 returns-in_err-closing g c = record {
-  passes = passes_fails _ c.from_residual.result c.in_err-closing.ensures.passes c.from_residual.ensures.1;
+  passes = passes_fails _ c.from_residual.result c.in_err-closing.ensures.passes c.from_residual.ensures.0;
   later = c.hold_turn.ensures.keeps.later;
   done = at_fault _ (TurnFails g.W.World.Tells c.args.app.now.state.index c.args.app.now.rule.now.budget c.args.app.now.state.rest (g.W.World.seen c.args.world.now) (g.W.World.seen c.hold_turn.new.world) c.args.self.now.net) c.in_err-closing.field-0.0 c.from_residual.result c.from_residual.ensures.1 c.in_err-closing.ensures.done.fails;
 }
 
 pub returns-in_err-close : goal.returns-in_err-close
 returns-in_err-close g c = record {
-  passes = passes_fails _ c.from_residual-in_err-close.result (passes_then c.in_ok-closing.ensures.passes (passes_number (length c.args.self.now.store) (length c.hold_turn.new.store) c.hold_turn.ensures.keeps.others.number c.in_err-close.ensures.passes.passes)) c.from_residual-in_err-close.ensures.1;
+  passes = passes_fails _ c.from_residual-in_err-close.result (passes_then c.in_ok-closing.ensures.passes (passes_number (length c.args.self.now.store) (length c.hold_turn.new.store) c.hold_turn.ensures.keeps.others.number c.in_err-close.ensures.passes.passes)) c.from_residual-in_err-close.ensures.0;
   later = later_quietly c.args.app.now.state.index c.hold_turn.ensures.keeps.later c.close.ensures.passes.no_point.none_quiescent (λ told. subst (λ (i : ℕ). OwnSteps i (g.W.World.seen c.hold_turn.new.world) (g.W.World.seen c.close.new.world)) c.hold_turn.ensures.keeps.index (c.close.ensures.keeps.own told));
   done = at_fault _ (TurnFails g.W.World.Tells c.args.app.now.state.index c.args.app.now.rule.now.budget c.args.app.now.state.rest (g.W.World.seen c.args.world.now) (g.W.World.seen c.close.new.world) c.args.self.now.net) faults.NoMemory c.from_residual-in_err-close.result c.from_residual-in_err-close.ensures.1 (record {
     talks = turn_closed c.args.app.now.state.index c.args.app.now.state.rest (g.W.World.seen c.args.world.now) (g.W.World.seen c.hold_turn.new.world) (g.W.World.seen c.close.new.world) c.in_ok-closing.ensures.done.plays.plays c.close.ensures.passes.talks;

@@ -8,13 +8,13 @@ use Rattle.event_dispatch.proofs.run.Run.dispatch.Goals as goal
 
 pub returns-in_err-line : goal.returns-in_err-line
 returns-in_err-line g c = record {
-  passes = passes_not g.W.World.Tells (g.W.World.seen c.args.world.now) c.args.self.now.core.net _ c.from_residual.result c.from_residual.ensures.1;
+  passes = passes_not g.W.World.Tells (g.W.World.seen c.args.world.now) c.args.self.now.core.net _ c.from_residual.result c.from_residual.ensures.0;
   done = at_fault _ (DispatchStops g.W.World.Tells (g.J.Judge.accepts c.args.judge.now) c.args.event.now (g.W.World.seen c.args.world.now) (g.W.World.seen c.args.world.now) c.args.self.now) faults.NoMemory c.from_residual.result c.from_residual.ensures.1 (dispatch_short g.W.World.Tells (g.J.Judge.accepts c.args.judge.now) c.args.event.now (g.W.World.seen c.args.world.now) c.args.self.now);
 }
 
 pub returns-in_err-note : goal.returns-in_err-note
 returns-in_err-note g c = record {
-  passes = passes_not g.W.World.Tells (g.W.World.seen c.args.world.now) c.args.self.now.core.net _ c.from_residual-in_err-note.result c.from_residual-in_err-note.ensures.1;
+  passes = passes_not g.W.World.Tells (g.W.World.seen c.args.world.now) c.args.self.now.core.net _ c.from_residual-in_err-note.result c.from_residual-in_err-note.ensures.0;
   done = at_fault _ (DispatchStops g.W.World.Tells (g.J.Judge.accepts c.args.judge.now) c.args.event.now (g.W.World.seen c.args.world.now) (g.W.World.seen c.args.world.now) c.args.self.now) faults.NoMemory c.from_residual-in_err-note.result c.from_residual-in_err-note.ensures.1 (dispatch_short g.W.World.Tells (g.J.Judge.accepts c.args.judge.now) c.args.event.now (g.W.World.seen c.args.world.now) c.args.self.now);
 }
 

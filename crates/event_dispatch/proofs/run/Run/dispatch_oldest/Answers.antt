@@ -27,7 +27,7 @@ returns-in_default g c = record {
 
 pub returns-in_err-dispatch : goal.returns-in_err-dispatch
 returns-in_err-dispatch g c = record {
-  passes = passes_fails _ c.from_residual.result c.in_err-dispatch.ensures.passes c.from_residual.ensures.1;
+  passes = passes_fails _ c.from_residual.result c.in_err-dispatch.ensures.passes c.from_residual.ensures.0;
   never_fell = same_fell (g.K.Sink.faults c.args.sink.now);
   done = at_fault _ (OldestStops g.W.World.Tells (g.J.Judge.accepts c.args.judge.now) (g.K.Sink.contents c.args.sink.now) (g.K.Sink.contents c.args.sink.now) (g.K.Sink.faults c.args.sink.now) (g.K.Sink.faults c.args.sink.now) (g.W.World.seen c.args.world.now) (g.W.World.seen c.dispatch.new.world) c.args.self.now) c.in_err-dispatch.field-0.0 c.from_residual.result c.from_residual.ensures.1 (record {
     cut = one_still g.W.World.Tells (g.J.Judge.accepts c.args.judge.now) c.in_err-dispatch.field-0.0 (g.K.Sink.contents c.args.sink.now) (g.K.Sink.contents c.args.sink.now) (g.W.World.seen c.args.world.now) (g.W.World.seen c.dispatch.new.world) (engine_of c.args.self.now) (still_is g.W.World.Tells (g.W.World.seen c.args.world.now) (g.W.World.seen c.dispatch.new.world) c.in_err-dispatch.field-0.0 (g.K.Sink.contents c.args.sink.now) (g.K.Sink.contents c.args.sink.now) c.in_err-dispatch.ensures.done.why refl)
@@ -40,7 +40,7 @@ returns-in_err-dispatch g c = record {
 
 pub returns-in_err-write : goal.returns-in_err-write
 returns-in_err-write g c = record {
-  passes = passes_fails _ c.from_residual-in_err-write.result c.in_ok-dispatch.ensures.passes c.from_residual-in_err-write.ensures.1;
+  passes = passes_fails _ c.from_residual-in_err-write.result c.in_ok-dispatch.ensures.passes c.from_residual-in_err-write.ensures.0;
   never_fell = c.write.ensures.never_fell;
   done = at_fault _ (OldestStops g.W.World.Tells (g.J.Judge.accepts c.args.judge.now) (g.K.Sink.contents c.args.sink.now) (g.K.Sink.contents c.write.new.sink) (g.K.Sink.faults c.args.sink.now) (g.K.Sink.faults c.write.new.sink) (g.W.World.seen c.args.world.now) (g.W.World.seen c.dispatch.new.world) c.args.self.now) faults.Write c.from_residual-in_err-write.result c.from_residual-in_err-write.ensures.1 (record {
     cut = one_unwritten g.W.World.Tells (g.J.Judge.accepts c.args.judge.now) c.in-Some.event (g.K.Sink.contents c.args.sink.now) (g.K.Sink.contents c.write.new.sink) (g.W.World.seen c.args.world.now) (g.W.World.seen c.dispatch.new.world) c.args.self.now c.take_first.new.self c.dispatch.new.self

@@ -23,7 +23,7 @@ dispatch_oldest-requires-clause-none_waits g c = c.loop-event.invariant.dispatch
 
 pub returns-in_err-dispatch_oldest : goal.returns-in_err-dispatch_oldest
 returns-in_err-dispatch_oldest g c = record {
-  passes = passes_fails _ c.from_residual.result (passes_then c.loop-event.invariant.passes (passes_number (length c.args.self.now.core.store) (length c.loop-event.self.core.store) c.loop-event.invariant.number c.in_err-dispatch_oldest.ensures.passes)) c.from_residual.ensures.1;
+  passes = passes_fails _ c.from_residual.result (passes_then c.loop-event.invariant.passes (passes_number (length c.args.self.now.core.store) (length c.loop-event.self.core.store) c.loop-event.invariant.number c.in_err-dispatch_oldest.ensures.passes)) c.from_residual.ensures.0;
   never_fell = fell_then (g.K.Sink.faults c.args.sink.now) (g.K.Sink.faults c.loop-event.sink) (g.K.Sink.faults c.dispatch_oldest.new.sink) c.loop-event.invariant.never_fell c.dispatch_oldest.ensures.never_fell;
   done = at_fault _ (WaitingStops g.W.World.Tells (g.J.Judge.accepts c.args.judge.now) (g.K.Sink.contents c.args.sink.now) (g.K.Sink.contents c.dispatch_oldest.new.sink) (g.K.Sink.faults c.args.sink.now) (g.K.Sink.faults c.dispatch_oldest.new.sink) (g.W.World.seen c.args.world.now) (g.W.World.seen c.dispatch_oldest.new.world) c.args.self.now) c.in_err-dispatch_oldest.field-0.0 c.from_residual.result c.from_residual.ensures.1 (record {
     cut = record {
