@@ -34,7 +34,8 @@ pub record TurnFails {Own : Type 0} (Tells : Type 0) (app budget : ℕ) (rest : 
   pub left : TurnLeft Tells (IsShort fault) app budget rest old new net
 
 -- it was played, and what it handed over is staged
-pub record PlayDone {Own : Type 0} (Tells : Type 0) (accepts : List TableView → Bool) (app budget number : ℕ) (event : Event) (closing : Closing) (old new : Seen Own) (net now_net : NetState) (queue now_queue : List Event) (rest unread : List ℕ) (store now_store : List Slot) : Type 0 where
+pub record PlayDone {Own : Type 0} (Tells : Type 0) (accepts : List TableView → Bool) (app budget number : ℕ) (event : Event) (closing : Closing)
+    (old new : Seen Own) (net now_net : NetState) (queue now_queue : List Event) (rest unread : List ℕ) (store now_store : List Slot) : Type 0 where
   pub room : now_net.room ≡ net.room
   pub plays : PlaysStaged Tells accepts app budget number event closing old new net now_net queue now_queue rest unread store now_store
   pub read : AreRead net.kept → AreRead now_net.kept
@@ -47,13 +48,16 @@ pub record PlayKeeps {Own : Type 0} (Tells : Type 0) (app now_app : AppState) (o
   pub later : Tells → CalmLater app.index old new
 
 -- it was played, and what it handed over is kept, where it was whole
-pub record HoldDone {Own : Type 0} (Tells : Type 0) (accepts : List TableView → Bool) (app budget number : ℕ) (event : Event) (closing : Closing) (old new : Seen Own) (net now_net : NetState) (queue now_queue : List Event) (rest unread : List ℕ) (store now_store : List Slot) : Type 0 where
+pub record HoldDone {Own : Type 0} (Tells : Type 0) (accepts : List TableView → Bool) (app budget number : ℕ) (event : Event) (closing : Closing)
+    (old new : Seen Own) (net now_net : NetState) (queue now_queue : List Event) (rest unread : List ℕ) (store now_store : List Slot) : Type 0 where
   pub room : now_net.room ≡ net.room
-  pub plays : HoldsTurn Tells accepts app budget number event closing old new net now_net queue now_queue rest unread (kept_of app store) (kept_of app now_store)
+  pub plays : HoldsTurn Tells accepts app budget number event closing old new net now_net queue now_queue rest unread (kept_of app store)
+      (kept_of app now_store)
   pub read : AreRead net.kept → AreRead now_net.kept
 
 -- a fault ended it: the kept checkpoint is the one before
-pub record HoldFails {Own : Type 0} (Tells : Type 0) (app budget : ℕ) (rest : List ℕ) (old new : Seen Own) (net : NetState) (store now_store : List Slot) (fault : Fault) : Type 0 where
+pub record HoldFails {Own : Type 0} (Tells : Type 0) (app budget : ℕ) (rest : List ℕ) (old new : Seen Own) (net : NetState) (store now_store : List Slot)
+    (fault : Fault) : Type 0 where
   pub unkept : kept_of app now_store ≡ kept_of app store
   pub fails : TurnFails Tells app budget rest old new net fault
 
@@ -66,7 +70,8 @@ pub record HoldKeeps {Own : Type 0} (Tells : Type 0) (app now_app : AppState) (o
   pub later : Tells → CalmLater app.index old new
 
 -- it was held, counted and told
-pub record TurnDone {Own : Type 0} (Tells : Type 0) (accepts : List TableView → Bool) (event : Event) (stops : Bool) (old new : Seen Own) (c now_c : Core) (m now_m : Managed) : Type 0 where
+pub record TurnDone {Own : Type 0} (Tells : Type 0) (accepts : List TableView → Bool) (event : Event) (stops : Bool) (old new : Seen Own) (c now_c : Core)
+    (m now_m : Managed) : Type 0 where
   pub goes : CoreGoes now_c
   pub events : now_c.events ≡ c.events
   pub others : KeepsOthers m.state.index c.store now_c.store
@@ -106,7 +111,8 @@ pub record CloseKeeps {Own : Type 0} (Tells : Type 0) (old new : Seen Own) (m no
   pub rule : now_m.rule ≡ m.rule
   pub own : Tells → OwnSteps m.state.index old new
 
-pub record CloseDone {Own : Type 0} (Tells : Type 0) (kind : EventKind) (closing : Closing) (stopped : Bool) (old new : Seen Own) (c now_c : Core) (m now_m : Managed) : Type 0 where
+pub record CloseDone {Own : Type 0} (Tells : Type 0) (kind : EventKind) (closing : Closing) (stopped : Bool) (old new : Seen Own) (c now_c : Core)
+    (m now_m : Managed) : Type 0 where
   pub goes : CoreGoes now_c
   pub events : now_c.events ≡ c.events
   pub store : now_c.store ≡ c.store

@@ -9,8 +9,8 @@ ghost use Rattle.checkpoint_store.specs.Slots.{with_slot};
 ghost use Rattle.lego_model.specs.RunReport.{turn_line as turn_line_of, gone_line as gone_line_of};
 ghost use Rattle.run_laws.specs.Facts.{out_text, starts_text};
 ghost use Rattle.event_dispatch.specs.Passes.{Passes, PassesQuietly};
-ghost use Rattle.event_dispatch.specs.Runs.{AreRead, StoreRests, CoreGoes, AreGoing, AreBefore, Going, Waits};
-ghost use Rattle.event_dispatch.specs.Shows.{Adds};
+ghost use Rattle.event_dispatch.specs.Lines.{Notes};
+ghost use Rattle.event_dispatch.specs.Runs.{AreRead, StoreRests, CoreGoes, AreGoing, AreBefore, Going};
 ghost use Rattle.event_dispatch.specs.Stored.{closes_slot};
 ghost use Rattle.event_dispatch.specs.TurnParts.{TurnFails, PlayDone, PlayKeeps, HoldDone, HoldFails, HoldKeeps, TurnDone, StartDone, StartKeeps, LeaveDone, GoOnDone, CloseDone, CloseKeeps};
 ghost use Rattle.event_dispatch.specs.EventParts.{OfferDone, OfferStops, OffersDone, OffersStop, DispatchDone, DispatchStops, OldestDone, OldestStops, WaitingDone, WaitingStops};
@@ -43,7 +43,6 @@ struct Occasion<'a, J> {
 
 /// Plays a turn of the application. Where it was done its changes are kept and its packets released; where it failed its
 /// changes are undone. The checkpoint that it hands over is staged, and no more.
-#[tactic(auto, using(crate::specs::laws::WhyLaws::continues_then, crate::specs::laws::WhyLaws::why_then, crate::specs::laws::WhyLaws::why_before, crate::specs::laws::FaultLaws::undo_why, crate::specs::laws::FaultLaws::stops_why))]
 fn play_turn<W: World, J: Judge>(
     world: &mut W,
     net: &mut Net,
@@ -57,7 +56,8 @@ fn play_turn<W: World, J: Judge>(
     requires fits { HostFits (host.Event occasion.number net.old.moment occasion.event.now) }
     ensures passes { Passes W.Tells (length store.old) (W.seen world.old) (W.seen world.new) net.old net.new result }
     ensures keeps { PlayKeeps W.Tells app.old app.new (W.seen world.old) (W.seen world.new) store.old store.new }
-    ensures done { MatchResult result (λ end. PlayDone W.Tells (J.accepts occasion.entry.judge.now) app.old.index occasion.entry.budget occasion.entry.number occasion.entry.event.now end
+    ensures done { MatchResult result (λ end. PlayDone W.Tells (J.accepts occasion.entry.judge.now) app.old.index occasion.entry.budget occasion.entry.number
+        occasion.entry.event.now end
         (W.seen world.old) (W.seen world.new) net.old net.new queue.old queue.new app.old.rest app.new.rest store.old store.new)
         (TurnFails W.Tells app.old.index occasion.entry.budget app.old.rest (W.seen world.old) (W.seen world.new) net.old) }
 {
@@ -115,7 +115,8 @@ fn hold_turn<W: World, J: Judge>(
     ensures passes { Passes W.Tells (length store.old) (W.seen world.old) (W.seen world.new) net.old net.new result }
     // However it went, nothing that it staged is left; where it did not go well, the kept checkpoint is the one before. Those of others stay.
     ensures keeps { HoldKeeps W.Tells app.old app.new (W.seen world.old) (W.seen world.new) store.old store.new }
-    ensures done { MatchResult result (λ end. HoldDone W.Tells (J.accepts occasion.entry.judge.now) app.old.index occasion.entry.budget occasion.entry.number occasion.entry.event.now end
+    ensures done { MatchResult result (λ end. HoldDone W.Tells (J.accepts occasion.entry.judge.now) app.old.index occasion.entry.budget occasion.entry.number
+        occasion.entry.event.now end
         (W.seen world.old) (W.seen world.new) net.old net.new queue.old queue.new app.old.rest app.new.rest store.old store.new)
         (HoldFails W.Tells app.old.index occasion.entry.budget app.old.rest (W.seen world.old) (W.seen world.new) net.old store.old store.new) }
 {
@@ -128,8 +129,7 @@ fn hold_turn<W: World, J: Judge>(
 impl Core {
     /// Appends the line of how a turn of the application of a name ended.
     fn note_turn(&mut self, name: &str, word: TurnWord) -> Result<(), AllocError>
-        ensures waits { OnOk result (Waits self.old self.new) }
-        ensures adds { OnOk result (Adds (turn_line_of (name.now) word) self.old self.new) }
+        ensures { OnOk result (Notes (turn_line_of (name.now) word) self.old self.new) }
     {
         let line = turn_line(self.alloc, name, &word)?;
         self.note(&line)
@@ -161,8 +161,7 @@ impl Core {
     /// Appends the lines of the attempts to start the application of a name.
     #[tactic(auto, using(crate::specs::laws::WhyLaws::waits_then))]
     fn note_start(&mut self, name: &str, back: Back) -> Result<(), AllocError>
-        ensures waits { OnOk result (Waits self.old self.new) }
-        ensures adds { OnOk result (Adds (starts_text (name.now) back.tries.items back.back) self.old self.new) }
+        ensures { OnOk result (Notes (starts_text (name.now) back.tries.items back.back) self.old self.new) }
     {
         for tried in back.tries.iter() {
             let line = start_line(self.alloc, name, tried)?;
@@ -176,8 +175,7 @@ impl Core {
 
     /// Appends the line that says that the application of a name is gone.
     fn note_gone(&mut self, name: &str) -> Result<(), AllocError>
-        ensures waits { OnOk result (Waits self.old self.new) }
-        ensures adds { OnOk result (Adds (gone_line_of (name.now)) self.old self.new) }
+        ensures { OnOk result (Notes (gone_line_of (name.now)) self.old self.new) }
     {
         let line = gone_line(self.alloc, name)?;
         self.note(&line)
@@ -218,8 +216,7 @@ impl Core {
     /// Appends the lines of the packets that were released.
     #[tactic(auto, using(crate::specs::laws::WhyLaws::waits_then))]
     fn note_out(&mut self, out: &[(Dpid, u32)]) -> Result<(), AllocError>
-        ensures waits { OnOk result (Waits self.old self.new) }
-        ensures adds { OnOk result (Adds (out_text out.now) self.old self.new) }
+        ensures { OnOk result (Notes (out_text out.now) self.old self.new) }
     {
         for &(dpid, len) in out {
             let line = out_line(self.alloc, dpid, len)?;
@@ -229,15 +226,13 @@ impl Core {
     }
 
     /// Appends the lines of a turn that was done: how it ended, and the packets that were released.
-    #[tactic(auto, using(crate::specs::laws::WhyLaws::waits_then))]
     fn note_done(
         &mut self,
         name: &str,
         word: TurnWord,
         out: &[(Dpid, u32)],
     ) -> Result<(), AllocError>
-        ensures waits { OnOk result (Waits self.old self.new) }
-        ensures adds { OnOk result (Adds (turn_line_of (name.now) word ++ out_text out.now) self.old self.new) }
+        ensures { OnOk result (Notes (turn_line_of (name.now) word ++ out_text out.now) self.old self.new) }
     {
         self.note_turn(name, word)?;
         self.note_out(out)
@@ -245,7 +240,6 @@ impl Core {
 
     /// Closes a turn of an application at an event of a kind: counts and tells it, with the switches that were lost in it, and
     /// does what the policy says of one that failed. Answers whether the event goes no further.
-    #[tactic(auto, using(crate::specs::laws::TalkingLaws::keeps_none))]
     fn close<W: World>(
         &mut self,
         world: &mut W,
@@ -300,7 +294,8 @@ impl Core {
         requires fits { HostFits (host.Event self.old.events self.old.net.moment event.now) }
         ensures passes { Passes W.Tells (length self.old.store) (W.seen world.old) (W.seen world.new) self.old.net self.new.net result }
         ensures later { W.Tells → CalmLater app.old.state.index (W.seen world.old) (W.seen world.new) }
-        ensures done { MatchResult result (λ stops. TurnDone W.Tells (J.accepts judge.now) event.now stops (W.seen world.old) (W.seen world.new) self.old self.new app.old app.new)
+        ensures done { MatchResult result (λ stops. TurnDone W.Tells (J.accepts judge.now) event.now stops (W.seen world.old) (W.seen world.new) self.old
+            self.new app.old app.new)
             (TurnFails W.Tells app.old.state.index app.old.rule.now.budget app.old.state.rest (W.seen world.old) (W.seen world.new) self.old.net) }
     {
         let budget = app.rule.budget;
@@ -336,7 +331,8 @@ fn offer<'x, W: World, J: Judge>(
     requires failed { app.old.failed < core.old.events }
     requires place { app.old.state.index < length core.old.store }
     ensures passes { Passes W.Tells (length core.old.store) (W.seen world.old) (W.seen world.new) core.old.net core.new.net result }
-    ensures done { MatchResult result (λ stops. OfferDone W.Tells (J.accepts judge.now) event.now stops (W.seen world.old) (W.seen world.new) core.old core.new app.old app.new)
+    ensures done { MatchResult result (λ stops. OfferDone W.Tells (J.accepts judge.now) event.now stops (W.seen world.old) (W.seen world.new) core.old core.new
+        app.old app.new)
         (OfferStops W.Tells event.now (W.seen world.old) (W.seen world.new) core.old app.old) }
 {
     if !app.takes(event) {
@@ -360,7 +356,8 @@ fn offer_all<'x, W: World, J: Judge>(
     requires before { AreBefore core.old.events apps.old.items }
     requires few { core.old.events < 2 ^ 64 }
     ensures passes { Passes W.Tells (length core.old.store) (W.seen world.old) (W.seen world.new) core.old.net core.new.net result }
-    ensures done { MatchResult result (λ _. OffersDone W.Tells (J.accepts judge.now) event.now (W.seen world.old) (W.seen world.new) core.old core.new apps.old.items apps.new.items)
+    ensures done { MatchResult result (λ _. OffersDone W.Tells (J.accepts judge.now) event.now (W.seen world.old) (W.seen world.new) core.old core.new
+        apps.old.items apps.new.items)
         (OffersStop W.Tells (J.accepts judge.now) event.now (W.seen world.old) (W.seen world.new) core.old apps.old.items) }
 {
     for at in 0..apps.len() {
@@ -392,7 +389,6 @@ impl Run<'_> {
     }
 
     /// Dispatches the oldest event that waits, and writes its lines; answers whether there was one.
-    #[tactic(auto, using(crate::specs::laws::WhyLaws::why_sink))]
     fn dispatch_oldest<W: World, J: Judge, K: Sink>(
         &mut self,
         world: &mut W,
@@ -404,8 +400,10 @@ impl Run<'_> {
         requires none_waits { self.old.core.lines.items ≡ [] }
         ensures passes { Passes W.Tells (length self.old.core.store) (W.seen world.old) (W.seen world.new) self.old.core.net self.new.core.net result }
         ensures never_fell { NeverFell (K.faults sink.old) (K.faults sink.new) }
-        ensures done { MatchResult result (λ found. OldestDone W.Tells (J.accepts judge.now) found (K.contents sink.old) (K.contents sink.new) (W.seen world.old) (W.seen world.new) self.old self.new)
-            (OldestStops W.Tells (J.accepts judge.now) (K.contents sink.old) (K.contents sink.new) (K.faults sink.old) (K.faults sink.new) (W.seen world.old) (W.seen world.new) self.old) }
+        ensures done { MatchResult result (λ found. OldestDone W.Tells (J.accepts judge.now) found (K.contents sink.old) (K.contents sink.new)
+            (W.seen world.old) (W.seen world.new) self.old self.new)
+            (OldestStops W.Tells (J.accepts judge.now) (K.contents sink.old) (K.contents sink.new) (K.faults sink.old) (K.faults sink.new) (W.seen world.old)
+            (W.seen world.new) self.old) }
     {
         let Some(event) = self.core.queue.take_first() else {
             return Ok(false);
@@ -416,7 +414,6 @@ impl Run<'_> {
     }
 
     /// Dispatches the events that wait, first in first out, and those that join them meanwhile, up to 1,000.
-    #[tactic(auto, using(crate::specs::laws::WhyLaws::continues_then, crate::specs::laws::WhyLaws::why_behind, crate::specs::laws::WhyLaws::fell_then))]
     pub(crate) fn dispatch_waiting<W: World, J: Judge, K: Sink>(
         &mut self,
         world: &mut W,
@@ -431,8 +428,10 @@ impl Run<'_> {
 
         // In a world that keeps its word this is what the reference controller does with the events that wait. Where a fault ends it, it is so up to an
         // event; and where all was settled, too, the fault is a plain one.
-        ensures done { MatchResult result (λ _. WaitingDone W.Tells (J.accepts judge.now) (K.contents sink.old) (K.contents sink.new) (W.seen world.old) (W.seen world.new) self.old self.new)
-            (WaitingStops W.Tells (J.accepts judge.now) (K.contents sink.old) (K.contents sink.new) (K.faults sink.old) (K.faults sink.new) (W.seen world.old) (W.seen world.new) self.old) }
+        ensures done { MatchResult result (λ _. WaitingDone W.Tells (J.accepts judge.now) (K.contents sink.old) (K.contents sink.new) (W.seen world.old)
+            (W.seen world.new) self.old self.new)
+            (WaitingStops W.Tells (J.accepts judge.now) (K.contents sink.old) (K.contents sink.new) (K.faults sink.old) (K.faults sink.new) (W.seen world.old)
+            (W.seen world.new) self.old) }
     {
         for _event in 0..MOST_EVENTS {
             if !self.dispatch_oldest(world, judge, sink)? {
