@@ -21,11 +21,11 @@ use Rattle.event_dispatch.specs.declared.run.Managed.{Managed}
 use Rattle.event_dispatch.specs.Runs.{AreRead, StoreRests, CoreGoes, IsCountedTo, AreNumbered, AreGoing, IsFresh, AreFresh, Waits}
 use Rattle.event_dispatch.specs.Shows.{application_of, focus_of, engine_with, Stays}
 use Rattle.event_dispatch.specs.Serves.{Notes, AllStarted}
-use Rattle.event_dispatch.specs.Passes.{PassesQuietly}
+use Rattle.event_dispatch.specs.Passes.{PassesQuietly, PassesQuietlySoFar}
 use Rattle.event_dispatch.specs.TurnParts.{StartKeeps, StartDone}
 use Rattle.event_dispatch.specs.laws.WhyLaws.{waits_then}
 use Rattle.event_dispatch.specs.laws.LastLaws.{stays_then}
-use Rattle.event_dispatch.specs.laws.PassesLaws.{quiet_none, quiet_then, quiet_as, quiet_number}
+use Rattle.event_dispatch.specs.laws.PassesLaws.{quiet_waits, quiet_so_far_none, quiet_so_far_then}
 use Rattle.event_dispatch.specs.laws.OfferLaws.{map_both, split_at, set_at, drop_one, take_next, taken_length, taken_whole, numbered_at, numbered_set}
 
 -- ---- Applications of which nothing has happened
@@ -156,7 +156,7 @@ pub record StartsSoFar {Own : Type 0} (Tells : Type 0) (n : ℕ) (old now : Seen
   pub text : List ℕ
   pub started : StartsFrom Tells 0 (map (application_of c.store) (take n apps)) text old now c.net c.queue c.events (map (application_of c.store) front)
   pub notes : Notes text c now_c
-  pub passes : PassesQuietly {T = Unit {0}} {E = Unit {0}} Tells (length c.store) old now c.net now_c.net (Ok tt)
+  pub passes : PassesQuietlySoFar Tells (length c.store) old now c.net now_c.net
 
 pub starts_first : {Own : Type 0} (Tells : Type 0) (seen : Seen Own) (c : Core) (apps : List Managed) → AreGoing c apps → StartsSoFar Tells 0 seen seen c c apps apps
 starts_first Tells seen c apps going = record {
@@ -171,7 +171,7 @@ starts_first Tells seen c apps going = record {
   text = [];
   started = (refl, refl, refl);
   notes = sym (append-nil c.lines.items);
-  passes = quiet_none Tells seen c.net c.net (Ok tt) refl;
+  passes = quiet_so_far_none Tells seen c.net;
 }
 
 pub start_split : {Own Tells : Type 0} {old now : Seen Own} {c now_c : Core} {apps now_apps : List Managed} (n : ℕ) (m : Managed) → StartsSoFar Tells n old now c now_c apps now_apps → n < length now_apps → m ≡ get_or now_apps n m → drop n apps ≡ m ∷ drop (suc n) apps
@@ -252,9 +252,6 @@ module _ {Own A F : Type 0} {Tells : Type 0} {x : A} (n : ℕ) (old now new : Se
       same_length [] ys = refl
       same_length (z ∷ xs) ys = ap suc (same_length xs ys)
 
-  same_number : length now_c.store ≡ length c.store
-  same_number = ap (λ (slots : List Slot). length slots) so_far.stays.store
-
   pub starts_next : StartsSoFar Tells (n + 1) old new c later_c apps (set now_apps n now_m)
   starts_next = subst (λ (k : ℕ). StartsSoFar Tells k old new c later_c apps (set now_apps n now_m)) (sym (add-one n)) (record {
     front = so_far.front ++ now_m ∷ [];
@@ -273,7 +270,7 @@ module _ {Own A F : Type 0} {Tells : Type 0} {x : A} (n : ℕ) (old now new : Se
         (starts_behind Tells c.net c.queue c.events 0 n (map (application_of c.store) (take n apps)) (application_of c.store m) (application_of c.store now_m) so_far.text done.starts.text old now new (map (application_of c.store) so_far.front)
         (omega (arith, taken_length (application_of c.store) n apps m past_it split)) so_far.started one_started));
     notes = done.starts.notes ∙ ap (λ (xs : List ℕ). xs ++ done.starts.text) so_far.notes ∙ append_assoc c.lines.items so_far.text done.starts.text;
-    passes = quiet_as later_c.net (Ok tt) (quiet_then so_far.passes (quiet_number (length c.store) (length now_c.store) same_number passes)) refl;
+    passes = quiet_so_far_then so_far.passes (quiet_waits so_far.waits passes);
   })
     where
       length_last : (xs : List Managed) → length (xs ++ now_m ∷ []) ≡ length xs + 1

@@ -1,5 +1,5 @@
 -- Laws of what each part of a whole run leaves: where nothing was done, where parts follow one another, and where one of them ended the whole.
-use Rattle.std.proofs.Common.{◌≡◌, ℕ, Bool, List, length, Option, Result, Ok, Err, IfErr, IsErrAnd, refl, ap, subst}
+use Rattle.std.proofs.Common.{◌≡◌, ℕ, Bool, List, length, Option, Result, Ok, Err, IfErr, IsErr, IsErrAnd, refl, ap, subst}
 use Rattle.lego_io.specs.Count.{NeverFell}
 use Rattle.flow_table.specs.View.{TableView}
 use Rattle.crash_policy.specs.Policies.{AppValue}
@@ -45,7 +45,7 @@ on_still k all = record { passes = all; never_fell = same_fell k }
 pub on_then : {Own A F T E Tells : Type 0} {number k l m : ℕ} {old mid new : Seen Own} {net mid_net now_net : NetState} {x : A} {result : Result T E} → PassesOn {T = A} {E = F} Tells number old mid net mid_net k l (Ok x) → PassesOn Tells number mid new mid_net now_net l m result → PassesOn Tells number old new net now_net k m result
 on_then {k = k} {l = l} {m = m} first second = record { passes = passes_then first.passes second.passes; never_fell = fell_then k l m first.never_fell second.never_fell }
 
-pub on_fails : {Own A F T E Tells : Type 0} {number k l : ℕ} {old new : Seen Own} {net mid_net : NetState} {first : Result A F} {Q : E → Type 0} (now_net : NetState) (result : Result T E) → PassesOn Tells number old new net mid_net k l first → IsErrAnd result Q → PassesOn Tells number old new net now_net k l result
+pub on_fails : {Own A F T E Tells : Type 0} {number k l : ℕ} {old new : Seen Own} {net mid_net : NetState} {first : Result A F} (now_net : NetState) (result : Result T E) → PassesOn Tells number old new net mid_net k l first → IsErr result → PassesOn Tells number old new net now_net k l result
 on_fails now_net result first failed = record { passes = passes_fails now_net result first.passes failed; never_fell = first.never_fell }
 
 -- a part that was done, whatever it gave

@@ -1,7 +1,6 @@
-use Rattle.std.proofs.Common.{List, length, ap, refl, arith}
-use Rattle.checkpoint_store.specs.Slots.{Slot}
+use Rattle.std.proofs.Common.{refl, arith}
 use Rattle.event_dispatch.specs.laws.BeginLaws.{starts_first, start_split, start_place, start_rests, starts_next, all_started, starts_going}
-use Rattle.event_dispatch.specs.laws.PassesLaws.{if_failed, quiet_fails, quiet_then, quiet_as, quiet_number}
+use Rattle.event_dispatch.specs.laws.PassesLaws.{if_failed, quiet_fails, quiet_then, quiet_as, quiet_waits}
 use Rattle.event_dispatch.proofs.whole.start_all.Goals as goal
 
 pub loop-at-init : goal.loop-at-init
@@ -33,6 +32,6 @@ returns g c =
 
 pub returns-in_err-start : goal.returns-in_err-start
 returns-in_err-start g c = record {
-  passes = quiet_fails _ _ (quiet_then c.loop-at.invariant.passes (quiet_number (length c.args.core.now.store) (length c.loop-at.core.store) (ap (λ (slots : List Slot). length slots) c.loop-at.invariant.stays.store) c.start.ensures.passes)) c.from_residual.ensures.1;
-  done = if_failed c.from_residual.result c.from_residual.ensures.1;
+  passes = quiet_fails _ _ (quiet_then c.loop-at.invariant.passes (quiet_waits c.loop-at.invariant.waits c.start.ensures.passes)) c.from_residual.ensures.0;
+  done = if_failed _ c.from_residual.result c.from_residual.ensures.0;
 }

@@ -16,19 +16,19 @@ returns-then-not-is_joined g c = record {
 
 pub returns-in_err-rows : goal.returns-in_err-rows
 returns-in_err-rows g c = record {
-  passes = quiet_fails _ _ c.ask_rows.ensures.passes c.from_residual.ensures.1;
+  passes = quiet_fails _ _ c.ask_rows.ensures.passes c.from_residual.ensures.0;
   done = at_fault _ _ c.in_err-rows.field-0.0 c.from_residual.result c.from_residual.ensures.1 c.in_err-rows.ensures.done;
 }
 
 pub returns-in_err-note_rows-in-Some : goal.returns-in_err-note_rows-in-Some
 returns-in_err-note_rows-in-Some g c = record {
-  passes = quiet_fails _ _ c.ask_rows.ensures.passes c.from_residual-in_err-note_rows-in-Some.ensures.1;
+  passes = quiet_fails _ _ c.ask_rows.ensures.passes c.from_residual-in_err-note_rows-in-Some.ensures.0;
   done = at_fault _ _ faults.NoMemory c.from_residual-in_err-note_rows-in-Some.result c.from_residual-in_err-note_rows-in-Some.ensures.1 (record { why = tt; plain = table_memory (g.W.World.seen c.args.world.now) (g.W.World.seen c.ask_rows.new.world) c.args.self.now.net });
 }
 
 pub returns-in_err-note_loss-in-None : goal.returns-in_err-note_loss-in-None
 returns-in_err-note_loss-in-None g c = record {
-  passes = quiet_fails _ _ c.ask_rows.ensures.passes c.from_residual-in_err-note_loss-in-None.ensures.1;
+  passes = quiet_fails _ _ c.ask_rows.ensures.passes c.from_residual-in_err-note_loss-in-None.ensures.0;
   done = at_fault _ _ faults.NoMemory c.from_residual-in_err-note_loss-in-None.result c.from_residual-in_err-note_loss-in-None.ensures.1 (record { why = tt; plain = table_memory (g.W.World.seen c.args.world.now) (g.W.World.seen c.ask_rows.new.world) c.args.self.now.net });
 }
 

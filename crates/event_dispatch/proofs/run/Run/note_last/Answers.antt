@@ -10,14 +10,14 @@ use Rattle.event_dispatch.proofs.run.Run.note_last.Goals as goal
 
 pub returns-in_err-note_tables : goal.returns-in_err-note_tables
 returns-in_err-note_tables g c = record {
-  passes = quiet_fails _ _ c.note_tables.ensures.passes c.from_residual.ensures.1;
+  passes = quiet_fails _ _ c.note_tables.ensures.passes c.from_residual.ensures.0;
   apps = refl;
   done = at_fault _ _ c.in_err-note_tables.field-0.0 c.from_residual.result c.from_residual.ensures.1 c.in_err-note_tables.ensures.done;
 }
 
 pub returns-in_err-note_end : goal.returns-in_err-note_end
 returns-in_err-note_end g c = record {
-  passes = quiet_fails _ _ c.note_tables.ensures.passes c.from_residual-in_err-note_end.ensures.1;
+  passes = quiet_fails _ _ c.note_tables.ensures.passes c.from_residual-in_err-note_end.ensures.0;
   apps = refl;
   done = at_fault _ _ faults.NoMemory c.from_residual-in_err-note_end.result c.from_residual-in_err-note_end.ensures.1 (record { why = tt; plain = calm_anyway (g.W.World.seen c.args.world.now) (g.W.World.seen c.note_tables.new.world) c.args.self.now.core.net (served_by faults.NoMemory) tt });
 }

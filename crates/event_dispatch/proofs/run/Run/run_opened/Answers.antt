@@ -47,7 +47,7 @@ returns g c =
       done = record {
         goes = went_as g.W.World.Tells (g.J.Judge.accepts c.args.judge.now) c.args.rounds c.finish.result (g.K.Sink.contents c.args.sink.now) (g.K.Sink.contents c.begin.new.sink) (g.K.Sink.contents c.run_rounds.new.sink) (g.K.Sink.contents c.finish.new.sink) (g.W.World.seen c.args.world.now) (g.W.World.seen c.begin.new.world) (g.W.World.seen c.run_rounds.new.world) (g.W.World.seen c.finish.new.world) c.args.self.now c.begin.new.self c.run_rounds.new.self c.finish.new.self
             rounds.passes.passes.continues last.passes.continues (number_then c.args.self.now c.run_rounds.new.self c.requires.going rounds.done.going number) first.done.begins rounds.done.to_end last.done.finishes;
-        fails = went_fails {l = (g.K.Sink.faults c.run_rounds.new.sink)} {r1 = c.begin.new.self} c.finish.result
+        fails = went_fails {b = (g.K.Sink.contents c.begin.new.sink)} {c = (g.K.Sink.contents c.run_rounds.new.sink)} {l = (g.K.Sink.faults c.run_rounds.new.sink)} {begun = (g.W.World.seen c.begin.new.world)} {last = (g.W.World.seen c.run_rounds.new.world)} {r = c.args.self.now} {r1 = c.begin.new.self} {r2 = c.run_rounds.new.self} c.finish.result
             (record {
               first = first.passes.passes.continues;
               begins = first.done.begins;

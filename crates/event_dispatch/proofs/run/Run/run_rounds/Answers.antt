@@ -59,7 +59,7 @@ returns-in_err-run_round g c =
     let fails = c.in_err-run_round.ensures.done in
     let later = c.run_round.ensures.passes.on.passes.continues in
     record {
-      passes = on_fails _ _ (on_then c.loop-round.invariant.passes (on_number (length c.args.self.now.core.store) (length c.loop-round.self.core.store) c.loop-round.invariant.number c.run_round.ensures.passes.on)) c.from_residual.ensures.1;
+      passes = on_fails _ _ (on_then c.loop-round.invariant.passes (on_number (length c.args.self.now.core.store) (length c.loop-round.self.core.store) c.loop-round.invariant.number c.run_round.ensures.passes.on)) c.from_residual.ensures.0;
       done = at_fault _ _ fault c.from_residual.result c.from_residual.ensures.1 (record {
         cut = record {
           number = c.loop-round._round;
