@@ -1,6 +1,6 @@
 -- Laws of what every part of the engine's work leaves: where nothing was done, and where parts follow one another.
 use Rattle.std.specs.Prelude.{◌≡◌, ℕ, List, length, Result, Ok, Err, OnOk, IsErr, IsErrAnd, MatchResult, refl}
-use Rattle.std.proofs.Common.{sym, ap, subst}
+use Rattle.std.proofs.Common.{sym, ap, subst, true≢false}
 use Rattle.checkpoint_store.specs.Slots.{Slot}
 use Rattle.outside.specs.Seen.{Seen, Continues}
 use Rattle.outside.specs.laws.SeenLaws.{Continues-refl}
@@ -18,7 +18,7 @@ use Rattle.event_dispatch.specs.laws.TalkingLaws.{keeps_none, keeps_then, keeps_
 
 -- where it failed, nothing is owed that is so where it is done
 pub if_failed : {T E : Type 0} (P : Type 0) (result : Result T E) → IsErr result → OnOk result P
-if_failed P (Ok x) is = absurd is
+if_failed P (Ok x) is = absurd (true≢false (sym is))
 if_failed P (Err fault) is = tt
 
 -- what is so of its fault is so of how it ended

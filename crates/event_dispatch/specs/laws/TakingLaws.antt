@@ -1,6 +1,6 @@
 -- Laws of what each part of a batch leaves: where links alone were used, and where one part is the other's.
 use Rattle.std.specs.Prelude.{◌≡◌, ◌⊎◌, ℕ, List, [], length, drop, Option, Some, None, Result, Ok, Err, OnOk, IsErr, IsSome, refl}
-use Rattle.std.proofs.Common.{sym, ap, ◌∙◌}
+use Rattle.std.proofs.Common.{sym, ap, ◌∙◌, inl, inr}
 use Rattle.std.proofs.lemmas.List.{append-nil}
 use Rattle.app_frames.specs.declared.frame.Event.{Event}
 use Rattle.of_types.specs.Fields.{IsBytes}
@@ -20,15 +20,16 @@ use Rattle.net_txn.specs.Arriving.{Arrives}
 use Rattle.event_dispatch.specs.declared.batch.Rest.{Rest}
 use Rattle.event_dispatch.specs.declared.engine_core.Core.{Core}
 use Rattle.event_dispatch.specs.Runs.{Waits}
-use Rattle.event_dispatch.specs.Batch.{rest_by}
+use Rattle.event_dispatch.specs.Batch.{standing_of, rest_by, IsAsBefore, TakesKept, KeptComesFirst, BatchGoes}
 use Rattle.event_dispatch.specs.Steady.{Reads}
+use Rattle.event_dispatch.specs.Told.{BatchPoint}
 use Rattle.event_dispatch.specs.Taking.{PassesOnLinks, OnLinksSoFar, UsesLinksAt, UsesLinksOf, AsksNext, PassesNext, ItemDone, HandledNext}
 use Rattle.event_dispatch.specs.laws.WhyLaws.{continues_then}
 use Rattle.event_dispatch.specs.laws.BatchLaws.{rest_handles}
 use Rattle.event_dispatch.specs.laws.PassesLaws.{if_failed, waits_none, passes_none, passes_then, passes_fails, passes_as, passes_waits, so_far}
 use Rattle.event_dispatch.specs.laws.TalkingLaws.{keeps_none, keeps_then, keeps_links, keeps_next}
 use Rattle.event_dispatch.specs.laws.NextPointLaws.{next_quietly, next_in_place}
-use Rattle.event_dispatch.specs.laws.BatchSteadyLaws.{links_none, links_then, arrived_places, arrived_reads, puts_none, next_places, handled_places, over_reads, handled_quietly, over_begun, goes_begun}
+use Rattle.event_dispatch.specs.laws.BatchSteadyLaws.{links_none, links_then, arrived_places, arrived_reads, puts_none, next_places, handled_places, over_reads, handled_quietly, over_begun, goes_begun, here_kept}
 
 -- ---- Links alone were used
 
@@ -182,3 +183,34 @@ joins_on_links Tells d old new continues links places = record { continues = con
 pub waits_behind : (c : Core) (net : NetState) (now_c : Core) → net.room ≡ c.net.room → net.left ≡ c.net.left → Waits (record c { net = net }) now_c
     → Waits c now_c
 waits_behind c net now_c room left later = record { room = later.room ∙ room; events = later.events; store = later.store; left = λ none. later.left (left ∙ none) }
+
+-- ---- A batch begins: the messages that were kept were taken
+
+pub goes_at_first : {Own Tells : Type 0} {left : ℕ} (old new : Seen Own) (run now_run : Core) → TakesKept left old new run now_run
+    → BatchGoes Tells 0 old new run now_run
+goes_at_first {Own = Own} old new run now_run kept = record { so_far = λ told keeps calm. inl (refl, as_before (kept.none calm.kept).1) }
+  where
+    as_before : IsAsBefore old new run now_run → standing_of new now_run ≡ standing_of old run
+    as_before same =
+        ap (λ (seen : Seen Own). standing_of seen now_run) same.0
+        ∙ ap (λ (net : NetState). record { seen = old; net = net; queue = now_run.queue; text = now_run.lines.items }) same.1.0
+        ∙ ap (λ (queue : List Event). record { seen = old; net = run.net; queue = queue; text = now_run.lines.items }) same.1.1.0
+        ∙ ap (λ (text : List ℕ). record { seen = old; net = run.net; queue = run.queue; text = text }) same.1.1.1
+
+all_taken : {A B C : Type 0} → A ⊎ (B × C) → A ⊎ B
+all_taken (inl none) = inl none
+all_taken (inr most) = inr most.0
+
+pub kept_comes_first : {Own : Type 0} {left : ℕ} {old new : Seen Own} (run now_run : Core) → TakesKept left old new run now_run → KeptComesFirst run now_run
+kept_comes_first run now_run kept = record {
+  taken = kept.taken;
+  others = now_run.net.kept;
+  told = [];
+  kept_is = kept.first.kept_is;
+  all = all_taken kept.all;
+  handled = kept.first.knowledge;
+}
+
+pub point_at_first : {Own Tells : Type 0} {left number : ℕ} {old new : Seen Own} (run now_run : Core) → OnLinks Tells old new → TakesKept left old new run now_run
+    → BatchPoint Tells number old new run.net
+point_at_first {old = old} {new = new} run now_run links kept = record { here = λ told order rest none. inl (kept.none none).1.0; own = (here_kept old new links).own }
