@@ -287,7 +287,8 @@ next_place n m so_far less is =
 
 module _ {Own : Type 0} {Tells : Type 0} {accepts : List TableView → Bool} {event : Event} (n : ℕ) (old now new : Seen Own) (c now_c later_c : Core) (apps now_apps : List Managed) (m now_m : Managed) (stops : Bool)
     (so_far : OffersSoFar Tells accepts event n old now c now_c apps now_apps) (split : drop n apps ≡ m ∷ drop (suc n) apps)
-    (passes : Passes {T = Bool} {E = Fault} Tells (length now_c.store) now new now_c.net later_c.net (Ok stops)) (done : OfferDone Tells accepts event stops now new now_c later_c m now_m) where
+    (passes : Passes {T = Bool} {E = Fault} Tells (length now_c.store) now new now_c.net later_c.net (Ok stops))
+    (done : OfferDone Tells accepts event stops now new now_c later_c m now_m) where
   abbrev past_it : List Managed
   past_it = drop (suc n) apps
 
@@ -467,7 +468,8 @@ of_turn_at faults.Write p n apps m rest split holds = tt
 of_turn_at faults.NoMemory p n apps m rest split holds = tt
 
 module _ {Own : Type 0} {Tells : Type 0} {accepts : List TableView → Bool} {event : Event} (n : ℕ) (old now new : Seen Own) (c now_c : Core) (apps now_apps : List Managed) (m : Managed) (fault : Fault)
-    (so_far : OffersSoFar Tells accepts event n old now c now_c apps now_apps) (split : drop n apps ≡ m ∷ drop (suc n) apps) (later : Continues Tells now new) (stops : OfferStops Tells event now new now_c m fault) where
+    (so_far : OffersSoFar Tells accepts event n old now c now_c apps now_apps) (split : drop n apps ≡ m ∷ drop (suc n) apps) (later : Continues Tells now new)
+    (stops : OfferStops Tells event now new now_c m fault) where
   abbrev fails : OfferFails Tells fault event now new now_c m
   fails = stops.fails
 
@@ -545,7 +547,8 @@ module _ {Own : Type 0} {Tells : Type 0} {accepts : List TableView → Bool} {ev
 -- ---- What one application was to have
 
 -- it is passed over
-pub offer_passed : {Own : Type 0} (Tells : Type 0) (accepts : List TableView → Bool) (event : Event) (seen : Seen Own) (c : Core) (m : Managed) → CoreGoes c → m.done < c.events → m.failed < c.events → is_taking event (application_of c.store m) ≡ false
+pub offer_passed : {Own : Type 0} (Tells : Type 0) (accepts : List TableView → Bool) (event : Event) (seen : Seen Own) (c : Core) (m : Managed) → CoreGoes c
+    → m.done < c.events → m.failed < c.events → is_taking event (application_of c.store m) ≡ false
     → OfferDone Tells accepts event false seen seen c c m m
 offer_passed Tells accepts event seen c m goes done failed passed = record {
   goes = goes;
@@ -556,13 +559,16 @@ offer_passed Tells accepts event seen c m goes done failed passed = record {
   rule = refl;
   offered = record {
     text = [];
-    offered = subst (λ (b : Bool). IsOffered Tells accepts event c.events m.state.index b false [] (stand seen c) (stand seen c) (application_of c.store m) (application_of c.store m)) (sym passed) (refl, refl, refl, refl);
+    offered = subst (λ (b : Bool). IsOffered Tells accepts event c.events m.state.index b false [] (stand seen c) (stand seen c) (application_of c.store m)
+        (application_of c.store m)) (sym passed) (refl, refl, refl, refl);
     notes = sym (append-nil c.lines.items);
   };
 }
 
 -- it had its turn
-offer_taken : {Own : Type 0} {Tells : Type 0} {accepts : List TableView → Bool} {event : Event} {stops : Bool} (old new : Seen Own) (c now_c : Core) (m now_m : Managed) → is_taking event (application_of c.store m) ≡ true → now_c.events ≡ c.events → now_m.state.index ≡ m.state.index → (Tells → CallsFor m.state.index old new)
+offer_taken : {Own : Type 0} {Tells : Type 0} {accepts : List TableView → Bool} {event : Event} {stops : Bool} (old new : Seen Own) (c now_c : Core)
+    (m now_m : Managed) → is_taking event (application_of c.store m) ≡ true → now_c.events ≡ c.events → now_m.state.index ≡ m.state.index
+    → (Tells → CallsFor m.state.index old new)
     → TurnNoted Tells accepts event stops old new c now_c m now_m → OfferNoted Tells accepts event stops old new c now_c m now_m
 offer_taken {Tells = Tells} {accepts = accepts} {event = event} {stops = stops} old new c now_c m now_m takes events index own noted = record {
   text = noted.text;
@@ -579,7 +585,8 @@ offer_taken {Tells = Tells} {accepts = accepts} {event = event} {stops = stops} 
         record { takes = both.0; own = own; stops_is = both.1 }
 
 -- it has none, or memory was wanting before it
-pub offer_none : {Own : Type 0} (Tells : Type 0) (event : Event) (seen : Seen Own) (c : Core) (m : Managed) → OfferStops Tells event seen seen c m faults.NoMemory
+pub offer_none : {Own : Type 0} (Tells : Type 0) (event : Event) (seen : Seen Own) (c : Core) (m : Managed)
+    → OfferStops Tells event seen seen c m faults.NoMemory
 offer_none Tells event seen c m = record {
   fails = record {
     talks = λ told rests. rests.at_once;
@@ -592,7 +599,9 @@ offer_none Tells event seen c m = record {
 }
 
 -- a fault ended its turn
-offer_fails : {Own : Type 0} {Tells : Type 0} {event : Event} (fault : Fault) (old new : Seen Own) (c : Core) (m : Managed) → is_taking event (application_of c.store m) ≡ true → (Tells → CalmLater m.state.index old new) → TurnFails Tells m.state.index m.rule.now.budget m.state.rest old new c.net fault
+offer_fails : {Own : Type 0} {Tells : Type 0} {event : Event} (fault : Fault) (old new : Seen Own) (c : Core) (m : Managed)
+    → is_taking event (application_of c.store m) ≡ true → (Tells → CalmLater m.state.index old new)
+    → TurnFails Tells m.state.index m.rule.now.budget m.state.rest old new c.net fault
     → OfferFails Tells fault event old new c m
 offer_fails {event = event} fault old new c m takes later turn =
     let alive = taking_alive event (application_of c.store m) takes in
@@ -614,8 +623,10 @@ offer_fails {event = event} fault old new c m takes later turn =
     takes_of faults.NoMemory holds = tt
 
 -- however it ended
-pub offer_ended : {Own : Type 0} {Tells : Type 0} {accepts : List TableView → Bool} (event : Event) (result : Result Bool Fault) (old new : Seen Own) (c now_c : Core) (m now_m : Managed) → is_taking event (application_of c.store m) ≡ true → (Tells → CalmLater m.state.index old new)
-    → MatchResult result (λ stops. TurnDone Tells accepts event stops old new c now_c m now_m) (TurnFails Tells m.state.index m.rule.now.budget m.state.rest old new c.net)
+pub offer_ended : {Own : Type 0} {Tells : Type 0} {accepts : List TableView → Bool} (event : Event) (result : Result Bool Fault) (old new : Seen Own)
+    (c now_c : Core) (m now_m : Managed) → is_taking event (application_of c.store m) ≡ true → (Tells → CalmLater m.state.index old new)
+    → MatchResult result (λ stops. TurnDone Tells accepts event stops old new c now_c m now_m)
+    (TurnFails Tells m.state.index m.rule.now.budget m.state.rest old new c.net)
     → MatchResult result (λ stops. OfferDone Tells accepts event stops old new c now_c m now_m) (OfferStops Tells event old new c m)
 offer_ended event (Ok stops) old new c now_c m now_m takes later turn = record {
   goes = turn.goes;
@@ -659,7 +670,8 @@ module _ (event : Event) (r : Run) (c : Core) (adds : Adds (event_line (r.core.e
   pub noted_views : c.net.views ≡ r.core.net.views
   noted_views = ap (λ (net : NetState). net.views) adds.stays.net
 
-  dispatched_is : {Own : Type 0} {Tells : Type 0} {accepts : List TableView → Bool} (old new : Seen Own) (now_r : Run) → now_r.core.events ≡ c.events → AllOffered Tells accepts event old new c now_r.core r.apps.items now_r.apps.items → IsDispatched Tells accepts event old new r now_r
+  dispatched_is : {Own : Type 0} {Tells : Type 0} {accepts : List TableView → Bool} (old new : Seen Own) (now_r : Run) → now_r.core.events ≡ c.events
+      → AllOffered Tells accepts event old new c now_r.core r.apps.items now_r.apps.items → IsDispatched Tells accepts event old new r now_r
   dispatched_is {Own = Own} {Tells = Tells} {accepts = accepts} old new now_r events all = record {
     text = event_line (r.core.events + 1) event.kind event.dpid ++ all.text;
     dispatches = record {
@@ -674,7 +686,8 @@ module _ (event : Event) (r : Run) (c : Core) (adds : Adds (event_line (r.core.e
     notes = all.notes ∙ ap (λ (xs : List ℕ). xs ++ all.text) adds.lines ∙ append_assoc r.core.lines.items (event_line (r.core.events + 1) event.kind event.dpid) all.text;
   }
 
-  fails_is : {Own : Type 0} {Tells : Type 0} {accepts : List TableView → Bool} (fault : Fault) (old new : Seen Own) → OffersFail Tells accepts fault event old new c r.apps.items → FailsIn Tells accepts fault event old new (engine_of r)
+  fails_is : {Own : Type 0} {Tells : Type 0} {accepts : List TableView → Bool} (fault : Fault) (old new : Seen Own)
+      → OffersFail Tells accepts fault event old new c r.apps.items → FailsIn Tells accepts fault event old new (engine_of r)
   fails_is {Own = Own} {Tells = Tells} {accepts = accepts} fault old new f = record {
     number = f.number;
     mid = f.mid;
@@ -700,12 +713,19 @@ module _ (event : Event) (r : Run) (c : Core) (adds : Adds (event_line (r.core.e
 
   -- however it ended
   pub dispatch_ended : {Own : Type 0} {Tells : Type 0} {accepts : List TableView → Bool} (result : Result (Unit {0}) Fault) (old new : Seen Own) (now_r : Run)
-      → MatchResult result (λ _. OffersDone Tells accepts event old new c now_r.core r.apps.items now_r.apps.items) (OffersStop Tells accepts event old new c r.apps.items)
+      → MatchResult result (λ _. OffersDone Tells accepts event old new c now_r.core r.apps.items now_r.apps.items)
+      (OffersStop Tells accepts event old new c r.apps.items)
       → MatchResult result (λ _. DispatchDone Tells accepts event old new r now_r) (DispatchStops Tells accepts event old new r)
-  dispatch_ended (Ok x) old new now_r all = record { going = all.going; events = all.events ∙ adds.stays.events; number = all.number ∙ noted_number; dispatched = dispatched_is old new now_r all.events all.offered }
+  dispatch_ended (Ok x) old new now_r all = record {
+    going = all.going;
+    events = all.events ∙ adds.stays.events;
+    number = all.number ∙ noted_number;
+    dispatched = dispatched_is old new now_r all.events all.offered;
+  }
   dispatch_ended (Err fault) old new now_r stops = record { fails = fails_is fault old new stops.fails; why = stops.why }
 
-  pub dispatch_passes : {Own T E : Type 0} {Tells : Type 0} {old new : Seen Own} {now_net : NetState} {result : Result T E} → Passes Tells (length c.store) old new c.net now_net result → Passes Tells (length r.core.store) old new r.core.net now_net result
+  pub dispatch_passes : {Own T E : Type 0} {Tells : Type 0} {old new : Seen Own} {now_net : NetState} {result : Result T E}
+      → Passes Tells (length c.store) old new c.net now_net result → Passes Tells (length r.core.store) old new r.core.net now_net result
   dispatch_passes passes = passes_number (length r.core.store) (length c.store) noted_number (passes_over r.core.net c.net noted_views passes)
 
 -- another event waits
@@ -718,7 +738,8 @@ going_queued queue r going = record {
 }
 
 -- memory was wanting for its line
-pub dispatch_short : {Own : Type 0} (Tells : Type 0) (accepts : List TableView → Bool) (event : Event) (seen : Seen Own) (r : Run) → DispatchStops Tells accepts event seen seen r faults.NoMemory
+pub dispatch_short : {Own : Type 0} (Tells : Type 0) (accepts : List TableView → Bool) (event : Event) (seen : Seen Own) (r : Run)
+    → DispatchStops Tells accepts event seen seen r faults.NoMemory
 dispatch_short Tells accepts event seen r =
     let e : Engine = record (engine_of r) { events = r.core.events + 1 } in
     record {

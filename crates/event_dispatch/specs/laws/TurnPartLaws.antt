@@ -111,7 +111,8 @@ same_focus c now_c m stays =
     ∙ ap₂ (λ (events : ℕ) (slots : List Slot). focus m.state.index (application_of slots m) c.net c.queue events) stays.events stays.store
 
 pub leave_so : {Own T E : Type 0} {Tells : Type 0} {old new : Seen Own} {c now_c : Core} (m : Managed) (result : Result T E) → Ends Tells m.state.index old new
-    → OnOk result (Notes (gone_line (name_of m)) c now_c) → OnOk result (LeaveDone Tells old new c now_c m (record m { state = record m.state { alive = false } }))
+    → OnOk result (Notes (gone_line (name_of m)) c now_c) → OnOk result
+    (LeaveDone Tells old new c now_c m (record m { state = record m.state { alive = false } }))
 leave_so {c = c} {now_c = now_c} m (Ok x) ends noted = record {
   waits = noted.waits;
   net = noted.adds.stays.net;
@@ -153,13 +154,15 @@ module _ {text : List ℕ} {c mid_c now_c : Core} (noted : Notes text c mid_c) (
   told_focus : (m : Managed) → focus_of now_c m ≡ all_told c.net c.queue (focus_of c m)
   told_focus m =
       ap₂ (λ (net : NetState) (queue : List Event). focus m.state.index (application_of now_c.store m) net queue now_c.events) told_net told_queue
-      ∙ ap₂ (λ (events : ℕ) (slots : List Slot). focus m.state.index (application_of slots m) (none_left c.net) (c.queue ++ left_events c.net.left) events) told_events told_store
+      ∙ ap₂ (λ (events : ℕ) (slots : List Slot). focus m.state.index (application_of slots m) (none_left c.net) (c.queue ++ left_events c.net.left) events)
+      told_events told_store
 
   pub told_views : now_c.net.views ≡ c.net.views
   told_views = ap (λ (net : NetState). net.views) told_net
 
   -- it was done
-  pub done_so : {Own : Type 0} {Tells : Type 0} {out : Vec (ℕ × ℕ) Global} (kind : EventKind) (stop : Bool) (seen : Seen Own) (m : Managed) → m.done < c.events → m.failed < c.events
+  pub done_so : {Own : Type 0} {Tells : Type 0} {out : Vec (ℕ × ℕ) Global} (kind : EventKind) (stop : Bool) (seen : Seen Own) (m : Managed) → m.done < c.events
+      → m.failed < c.events
       → 1 ≤ c.net.room → AreRead c.net.kept → StoreRests c.store → text ≡ turn_line (name_of m) (turn_word (ends.Done stop)) ++ out_text out.items
       → CloseDone Tells kind (closings.Done stop out) stop seen seen c now_c m (record m { done = m.done + 1 })
   done_so {out = out} kind stop seen m done failed room read store is = record {
@@ -172,14 +175,18 @@ module _ {text : List ℕ} {c mid_c now_c : Core} (noted : Notes text c mid_c) (
       seen = refl;
       engine = told_focus (record m { done = m.done + 1 });
       notes = told_lines ∙ ap (λ (xs : List ℕ). c.lines.items ++ (xs ++ lost_text c.net.left)) is
-          ∙ ap (λ (xs : List ℕ). c.lines.items ++ xs) (append_assoc (turn_line (name_of m) (turn_word (ends.Done stop))) (out_text out.items) (lost_text c.net.left));
+          ∙ ap (λ (xs : List ℕ). c.lines.items ++ xs)
+          (append_assoc (turn_line (name_of m) (turn_word (ends.Done stop))) (out_text out.items) (lost_text c.net.left));
     };
   }
 
   -- it failed, and the application goes by its policy
-  pub failed_so : {Own : Type 0} {Tells : Type 0} {old new : Seen Own} {later_c : Core} (kind : EventKind) (cause : Cause) (m now_m : Managed) → m.done < c.events → m.failed < c.events
-      → 1 ≤ c.net.room → AreRead c.net.kept → StoreRests c.store → text ≡ turn_line (name_of m) (words.Failed cause) → SameManaged (record m { failed = m.failed + 1 }) now_m
-      → GoOnDone Tells kind old new now_c later_c (record m { failed = m.failed + 1 }) now_m → CloseDone Tells kind (closings.Failed cause) false old new c later_c m now_m
+  pub failed_so : {Own : Type 0} {Tells : Type 0} {old new : Seen Own} {later_c : Core} (kind : EventKind) (cause : Cause) (m now_m : Managed)
+      → m.done < c.events → m.failed < c.events
+      → 1 ≤ c.net.room → AreRead c.net.kept → StoreRests c.store → text ≡ turn_line (name_of m) (words.Failed cause)
+      → SameManaged (record m { failed = m.failed + 1 }) now_m
+      → GoOnDone Tells kind old new now_c later_c (record m { failed = m.failed + 1 }) now_m
+      → CloseDone Tells kind (closings.Failed cause) false old new c later_c m now_m
   failed_so {Tells = Tells} {old = old} {new = new} {later_c = later_c} kind cause m now_m done failed room read store is same goes =
       let core = told_goes room read store in
       record {
@@ -197,7 +204,8 @@ module _ {text : List ℕ} {c mid_c now_c : Core} (noted : Notes text c mid_c) (
           text = goes.goes_on.text;
           follows = subst (λ (e : Focus). Follows Tells (rule_at (app_value m.rule.now) kind) goes.goes_on.text old new e (focus_of later_c now_m))
               (told_focus (record m { failed = m.failed + 1 })) goes.goes_on.follows;
-          notes = goes.goes_on.notes ∙ ap (λ (xs : List ℕ). xs ++ goes.goes_on.text) told_lines ∙ append_assoc c.lines.items (text ++ lost_text c.net.left) goes.goes_on.text
+          notes = goes.goes_on.notes ∙ ap (λ (xs : List ℕ). xs ++ goes.goes_on.text) told_lines ∙ append_assoc c.lines.items (text ++ lost_text c.net.left)
+              goes.goes_on.text
               ∙ ap (λ (xs : List ℕ). c.lines.items ++ xs) (append_assoc text (lost_text c.net.left) goes.goes_on.text)
               ∙ ap (λ (xs : List ℕ). c.lines.items ++ (xs ++ (lost_text c.net.left ++ goes.goes_on.text))) is;
         };
@@ -224,7 +232,8 @@ pub hold_so : {Own : Type 0} {Tells : Type 0} {accepts : List TableView → Bool
 hold_so {Own} {Tells} {accepts} {budget} {number} {event} {old} {new} {net} {now_net} {queue} {now_queue} {rest} {unread} (Ok closing) app store mid_store
     now_store lt rests keeps is played = record {
       room = played.room;
-      plays = held Own Tells accepts budget number event old new net now_net queue now_queue rest unread (Ok closing) app store mid_store now_store lt rests keeps
+      plays = held Own Tells accepts budget number event old new net now_net queue now_queue rest unread (Ok closing) app store mid_store now_store lt rests
+          keeps
           is played.plays;
       read = played.read;
     }

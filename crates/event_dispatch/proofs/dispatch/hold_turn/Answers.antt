@@ -8,9 +8,12 @@ returns g c = record {
   keeps = record {
     index = c.play_turn-closing.ensures.keeps.index;
     alive = c.play_turn-closing.ensures.keeps.alive;
-    rests = rests_closed c.play_turn-closing.result c.args.app.now.index c.args.store.now c.play_turn-closing.new.store c.close_store.new.store c.requires.place c.requires.rests c.play_turn-closing.ensures.keeps.slots c.close_store.ensures;
-    others = others_closed c.play_turn-closing.result c.args.app.now.index c.args.store.now c.play_turn-closing.new.store c.close_store.new.store c.play_turn-closing.ensures.keeps.slots c.close_store.ensures;
+    rests = rests_closed c.play_turn-closing.result c.args.app.now.index c.args.store.now c.play_turn-closing.new.store c.close_store.new.store c.requires.place
+        c.requires.rests c.play_turn-closing.ensures.keeps.slots c.close_store.ensures;
+    others = others_closed c.play_turn-closing.result c.args.app.now.index c.args.store.now c.play_turn-closing.new.store c.close_store.new.store
+        c.play_turn-closing.ensures.keeps.slots c.close_store.ensures;
     later = c.play_turn-closing.ensures.keeps.later;
   };
-  done = hold_so c.play_turn-closing.result c.args.app.now.index c.args.store.now c.play_turn-closing.new.store c.close_store.new.store c.requires.place c.requires.rests c.play_turn-closing.ensures.keeps.slots c.close_store.ensures c.play_turn-closing.ensures.done;
+  done = hold_so c.play_turn-closing.result c.args.app.now.index c.args.store.now c.play_turn-closing.new.store c.close_store.new.store c.requires.place
+      c.requires.rests c.play_turn-closing.ensures.keeps.slots c.close_store.ensures c.play_turn-closing.ensures.done;
 }

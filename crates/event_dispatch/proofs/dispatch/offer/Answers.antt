@@ -7,7 +7,8 @@ use Rattle.event_dispatch.proofs.dispatch.offer.Goals as goal
 pub returns-then-not-takes : goal.returns-then-not-takes
 returns-then-not-takes g c = record {
   passes = passes_none g.W.World.Tells (g.W.World.seen c.args.world.now) c.args.core.now.net c.args.core.now.net (Ok false) refl;
-  done = offer_passed g.W.World.Tells (g.J.Judge.accepts c.args.judge.now) c.args.event.now (g.W.World.seen c.args.world.now) c.args.core.now c.args.app.now c.requires.goes c.requires.done c.requires.failed (sym (c.if-not-takes.ensures c.args.core.now.store));
+  done = offer_passed g.W.World.Tells (g.J.Judge.accepts c.args.judge.now) c.args.event.now (g.W.World.seen c.args.world.now) c.args.core.now c.args.app.now
+      c.requires.goes c.requires.done c.requires.failed (sym (c.if-not-takes.ensures c.args.core.now.store));
 }
 
 pub returns-then-len-gt-MOST_BODY : goal.returns-then-len-gt-MOST_BODY
@@ -19,5 +20,7 @@ returns-then-len-gt-MOST_BODY g c = record {
 pub returns : goal.returns
 returns g c = record {
   passes = c.take_turn.ensures.passes;
-  done = offer_ended c.args.event.now c.take_turn.result (g.W.World.seen c.args.world.now) (g.W.World.seen c.take_turn.new.world) c.args.core.now c.take_turn.new.self c.args.app.now c.take_turn.new.app (sym (c.if-not-takes.ensures c.args.core.now.store)) c.take_turn.ensures.later c.take_turn.ensures.done;
+  done = offer_ended c.args.event.now c.take_turn.result (g.W.World.seen c.args.world.now) (g.W.World.seen c.take_turn.new.world) c.args.core.now
+      c.take_turn.new.self c.args.app.now c.take_turn.new.app (sym (c.if-not-takes.ensures c.args.core.now.store)) c.take_turn.ensures.later
+      c.take_turn.ensures.done;
 }

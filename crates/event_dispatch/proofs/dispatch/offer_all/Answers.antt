@@ -22,26 +22,41 @@ offer-requires-clause-failed g c =
 
 pub returns-in_err-offer : goal.returns-in_err-offer
 returns-in_err-offer g c = record {
-  passes = passes_fails _ c.from_residual.result (passes_then c.loop-at.invariant.passes (passes_number (length c.args.core.now.store) (length c.loop-at.core.store) c.loop-at.invariant.number c.in_err-offer.ensures.passes)) c.from_residual.ensures.0;
-  done = at_fault _ (OffersStop g.W.World.Tells (g.J.Judge.accepts c.args.judge.now) c.args.event.now (g.W.World.seen c.args.world.now) (g.W.World.seen c.offer.new.world) c.args.core.now c.args.apps.now.items) c.in_err-offer.field-0.0 c.from_residual.result c.from_residual.ensures.1
-      (offers_stop_at c.loop-at.at (g.W.World.seen c.args.world.now) (g.W.World.seen c.loop-at.world) (g.W.World.seen c.offer.new.world) c.args.core.now c.loop-at.core c.args.apps.now.items c.loop-at.apps.items c.index_mut.result.now c.in_err-offer.field-0.0
-      c.loop-at.invariant (next_split c.loop-at.at c.index_mut.result.now c.loop-at.invariant (omega (arith, c.loop-at-test.true, c.len-at-end.ensures, c.loop-at.invariant.number_is, c.requires.going.number)) c.index_mut.ensures.value) c.in_err-offer.ensures.passes.continues c.in_err-offer.ensures.done);
+  passes = passes_fails _ c.from_residual.result
+      (passes_then c.loop-at.invariant.passes (passes_number (length c.args.core.now.store) (length c.loop-at.core.store) c.loop-at.invariant.number
+      c.in_err-offer.ensures.passes)) c.from_residual.ensures.0;
+  done = at_fault _ (OffersStop g.W.World.Tells (g.J.Judge.accepts c.args.judge.now) c.args.event.now (g.W.World.seen c.args.world.now)
+      (g.W.World.seen c.offer.new.world) c.args.core.now c.args.apps.now.items) c.in_err-offer.field-0.0 c.from_residual.result c.from_residual.ensures.1
+      (offers_stop_at c.loop-at.at (g.W.World.seen c.args.world.now) (g.W.World.seen c.loop-at.world) (g.W.World.seen c.offer.new.world) c.args.core.now
+      c.loop-at.core c.args.apps.now.items c.loop-at.apps.items c.index_mut.result.now c.in_err-offer.field-0.0
+      c.loop-at.invariant (next_split c.loop-at.at c.index_mut.result.now c.loop-at.invariant
+      (omega (arith, c.loop-at-test.true, c.len-at-end.ensures, c.loop-at.invariant.number_is, c.requires.going.number)) c.index_mut.ensures.value)
+      c.in_err-offer.ensures.passes.continues c.in_err-offer.ensures.done);
 }
 
 pub returns-then-branch : goal.returns-then-branch
 returns-then-branch g c = record {
-  passes = passes_then c.loop-at.invariant.passes (passes_number (length c.args.core.now.store) (length c.loop-at.core.store) c.loop-at.invariant.number (passes_as c.offer.new.core.net (Ok tt) c.in_ok-offer.ensures.passes refl));
-  done = offers_end c.loop-at.at (g.W.World.seen c.args.world.now) (g.W.World.seen c.loop-at.world) (g.W.World.seen c.offer.new.world) c.args.core.now c.loop-at.core c.offer.new.core c.args.apps.now.items c.loop-at.apps.items c.index_mut.result.now c.offer.new.app c.in_ok-offer.field-0
-      c.loop-at.invariant (next_split c.loop-at.at c.index_mut.result.now c.loop-at.invariant (omega (arith, c.loop-at-test.true, c.len-at-end.ensures, c.loop-at.invariant.number_is, c.requires.going.number)) c.index_mut.ensures.value) c.in_ok-offer.ensures.passes c.in_ok-offer.ensures.done c.if-branch.true;
+  passes = passes_then c.loop-at.invariant.passes
+      (passes_number (length c.args.core.now.store) (length c.loop-at.core.store) c.loop-at.invariant.number
+      (passes_as c.offer.new.core.net (Ok tt) c.in_ok-offer.ensures.passes refl));
+  done = offers_end c.loop-at.at (g.W.World.seen c.args.world.now) (g.W.World.seen c.loop-at.world) (g.W.World.seen c.offer.new.world) c.args.core.now
+      c.loop-at.core c.offer.new.core c.args.apps.now.items c.loop-at.apps.items c.index_mut.result.now c.offer.new.app c.in_ok-offer.field-0
+      c.loop-at.invariant (next_split c.loop-at.at c.index_mut.result.now c.loop-at.invariant
+      (omega (arith, c.loop-at-test.true, c.len-at-end.ensures, c.loop-at.invariant.number_is, c.requires.going.number)) c.index_mut.ensures.value)
+      c.in_ok-offer.ensures.passes c.in_ok-offer.ensures.done c.if-branch.true;
 }
 
 pub loop-at-preserved : goal.loop-at-preserved
 loop-at-preserved g c =
     offers_on c.loop-at.at (g.W.World.seen c.args.world.now) (g.W.World.seen c.loop-at.world) (g.W.World.seen c.offer.new.world) c.args.core.now c.loop-at.core c.offer.new.core c.args.apps.now.items c.loop-at.apps.items c.index_mut.result.now c.offer.new.app c.in_ok-offer.field-0
-    c.loop-at.invariant (next_split c.loop-at.at c.index_mut.result.now c.loop-at.invariant (omega (arith, c.loop-at-test.true, c.len-at-end.ensures, c.loop-at.invariant.number_is, c.requires.going.number)) c.index_mut.ensures.value) c.in_ok-offer.ensures.passes c.in_ok-offer.ensures.done c.if-branch.false
+    c.loop-at.invariant (next_split c.loop-at.at c.index_mut.result.now c.loop-at.invariant
+    (omega (arith, c.loop-at-test.true, c.len-at-end.ensures, c.loop-at.invariant.number_is, c.requires.going.number)) c.index_mut.ensures.value)
+    c.in_ok-offer.ensures.passes c.in_ok-offer.ensures.done c.if-branch.false
 
 pub returns : goal.returns
 returns g c = record {
   passes = passes_as c.loop-at.core.net (Ok tt) c.loop-at.invariant.passes refl;
-  done = all_offered c.loop-at.at (g.W.World.seen c.args.world.now) (g.W.World.seen c.loop-at.world) c.args.core.now c.loop-at.core c.args.apps.now.items c.loop-at.apps.items c.loop-at.invariant (omega (arith, c.loop-at-test.false, c.len-at-end.ensures, c.loop-at.invariant.number_is, c.requires.going.number));
+  done = all_offered c.loop-at.at (g.W.World.seen c.args.world.now) (g.W.World.seen c.loop-at.world) c.args.core.now c.loop-at.core c.args.apps.now.items
+      c.loop-at.apps.items c.loop-at.invariant (omega
+      (arith, c.loop-at-test.false, c.len-at-end.ensures, c.loop-at.invariant.number_is, c.requires.going.number));
 }

@@ -24,12 +24,15 @@ returns-in_ok-out-in-Ok-Done-clause-keeps g c = record {
 
 pub returns-in_ok-out-in-Ok-Done-clause-done : goal.returns-in_ok-out-in-Ok-Done-clause-done
 returns-in_ok-out-in-Ok-Done-clause-done g c =
-    play_so (search rules) (play_done c.begin-txn.ensures.net c.begin-txn.ensures.start c.in-Ok-Done.field-0-is c.in-Ok-Done.ensures.ok c.turn.ensures.start (search rules) c.in_ok-out-in-Ok-Done.ensures)
+    play_so (search rules) (play_done c.begin-txn.ensures.net c.begin-txn.ensures.start c.in-Ok-Done.field-0-is c.in-Ok-Done.ensures.ok c.turn.ensures.start
+    (search rules) c.in_ok-out-in-Ok-Done.ensures)
 
 pub returns-in_ok-out-in-Ok-Done-clause-passes : goal.returns-in_ok-out-in-Ok-Done-clause-passes
 returns-in_ok-out-in-Ok-Done-clause-passes g c = record {
-  continues = continues_then g.W.World.Tells (g.W.World.seen c.args.world.now) (g.W.World.seen c.turn.new.world) (g.W.World.seen c.commit.new.world) c.turn.ensures.continues c.in_ok-out-in-Ok-Done.ensures.continues;
-  places = played_places _ _ _ (later_own c.args.app.now.index c.requires.place (returns-in_ok-out-in-Ok-Done-clause-keeps g c).later) (returns-in_ok-out-in-Ok-Done-clause-done g c).plays.plays;
+  continues = continues_then g.W.World.Tells (g.W.World.seen c.args.world.now) (g.W.World.seen c.turn.new.world) (g.W.World.seen c.commit.new.world)
+      c.turn.ensures.continues c.in_ok-out-in-Ok-Done.ensures.continues;
+  places = played_places _ _ _ (later_own c.args.app.now.index c.requires.place (returns-in_ok-out-in-Ok-Done-clause-keeps g c).later)
+      (returns-in_ok-out-in-Ok-Done-clause-done g c).plays.plays;
   reads = played_reads _ _ _ (returns-in_ok-out-in-Ok-Done-clause-done g c).plays.plays;
 }
 
@@ -43,12 +46,15 @@ returns-in_ok-abort-in-Ok-Failed-clause-keeps g c = record {
 
 pub returns-in_ok-abort-in-Ok-Failed-clause-done : goal.returns-in_ok-abort-in-Ok-Failed-clause-done
 returns-in_ok-abort-in-Ok-Failed-clause-done g c =
-    play_so (search rules) (play_failed c.begin-txn.ensures.net c.begin-txn.ensures.start c.in-Ok-Failed.field-0-is c.in-Ok-Failed.ensures.ok c.turn.ensures.start c.in_ok-abort-in-Ok-Failed.was (search rules) refl c.abort.ensures)
+    play_so (search rules) (play_failed c.begin-txn.ensures.net c.begin-txn.ensures.start c.in-Ok-Failed.field-0-is c.in-Ok-Failed.ensures.ok
+    c.turn.ensures.start c.in_ok-abort-in-Ok-Failed.was (search rules) refl c.abort.ensures)
 
 pub returns-in_ok-abort-in-Ok-Failed-clause-passes : goal.returns-in_ok-abort-in-Ok-Failed-clause-passes
 returns-in_ok-abort-in-Ok-Failed-clause-passes g c = record {
-  continues = continues_then g.W.World.Tells (g.W.World.seen c.args.world.now) (g.W.World.seen c.turn.new.world) (g.W.World.seen c.abort.new.world) c.turn.ensures.continues c.abort.ensures.continues;
-  places = played_places _ _ _ (later_own c.args.app.now.index c.requires.place (returns-in_ok-abort-in-Ok-Failed-clause-keeps g c).later) (returns-in_ok-abort-in-Ok-Failed-clause-done g c).plays.plays;
+  continues = continues_then g.W.World.Tells (g.W.World.seen c.args.world.now) (g.W.World.seen c.turn.new.world) (g.W.World.seen c.abort.new.world)
+      c.turn.ensures.continues c.abort.ensures.continues;
+  places = played_places _ _ _ (later_own c.args.app.now.index c.requires.place (returns-in_ok-abort-in-Ok-Failed-clause-keeps g c).later)
+      (returns-in_ok-abort-in-Ok-Failed-clause-done g c).plays.plays;
   reads = played_reads _ _ _ (returns-in_ok-abort-in-Ok-Failed-clause-done g c).plays.plays;
 }
 
@@ -62,20 +68,33 @@ returns-in_err-out-in-Ok-Done-clause-keeps g c = record {
 
 pub returns-in_err-out-in-Ok-Done-clause-passes : goal.returns-in_err-out-in-Ok-Done-clause-passes
 returns-in_err-out-in-Ok-Done-clause-passes g c = record {
-  continues = continues_then g.W.World.Tells (g.W.World.seen c.args.world.now) (g.W.World.seen c.turn.new.world) (g.W.World.seen c.commit.new.world) c.turn.ensures.continues c.in_err-out-in-Ok-Done.ensures.continues;
-  places = turn_committed c.args.net.now c.begin-txn.ensures.net (later_own c.args.app.now.index c.requires.place (returns-in_err-out-in-Ok-Done-clause-keeps g c).later) c.in-Ok-Done.ensures.ok.turns c.in_err-out-in-Ok-Done.ensures;
+  continues = continues_then g.W.World.Tells (g.W.World.seen c.args.world.now) (g.W.World.seen c.turn.new.world) (g.W.World.seen c.commit.new.world)
+      c.turn.ensures.continues c.in_err-out-in-Ok-Done.ensures.continues;
+  places = turn_committed c.args.net.now c.begin-txn.ensures.net
+      (later_own c.args.app.now.index c.requires.place (returns-in_err-out-in-Ok-Done-clause-keeps g c).later) c.in-Ok-Done.ensures.ok.turns
+      c.in_err-out-in-Ok-Done.ensures;
   reads = if_failed _ c.from_residual.result c.from_residual.ensures.0;
 }
 
 pub returns-in_err-out-in-Ok-Done-clause-done : goal.returns-in_err-out-in-Ok-Done-clause-done
 returns-in_err-out-in-Ok-Done-clause-done g c =
-    at_fault _ (TurnFails g.W.World.Tells c.args.app.now.index c.args.occasion.budget c.args.app.now.rest (g.W.World.seen c.args.world.now) (g.W.World.seen c.commit.new.world) c.args.net.now) (fault_of c.in_err-out-in-Ok-Done.field-0.0) c.from_residual.result c.from_residual.ensures.1 (record {
-      talks = turn_ends c.args.app.now.index c.args.app.now.rest (g.W.World.seen c.args.world.now) (g.W.World.seen c.turn.new.world) (g.W.World.seen c.commit.new.world) (event_is c.args.occasion.number c.begin-txn.result.net.now.moment c.args.occasion.event.now) c.in-Ok-Done.ensures.ok.turns c.in_err-out-in-Ok-Done.ensures.links;
-      why = why_then (g.W.World.seen c.args.world.now) (g.W.World.seen c.turn.new.world) (g.W.World.seen c.commit.new.world) (ended_by c.in_err-out-in-Ok-Done.field-0.0) c.turn.ensures.continues
-          (commit_why _ (g.W.World.seen c.turn.new.world) (g.W.World.seen c.commit.new.world) c.turn.new.txn.net.now _ _ _ c.in_err-out-in-Ok-Done.field-0.0 c.in_err-out-in-Ok-Done.ensures);
-      plain = turn_uncommitted (g.W.World.seen c.args.world.now) (g.W.World.seen c.turn.new.world) (g.W.World.seen c.commit.new.world) c.args.net.now c.begin-txn.result.net.now c.turn.new.txn.net.now _ c.in_err-out-in-Ok-Done.field-0.0 c.begin-txn.ensures.net c.begin-txn.ensures.start c.turn.ensures.start
+    at_fault _ (TurnFails g.W.World.Tells c.args.app.now.index c.args.occasion.budget c.args.app.now.rest (g.W.World.seen c.args.world.now)
+    (g.W.World.seen c.commit.new.world) c.args.net.now) (fault_of c.in_err-out-in-Ok-Done.field-0.0) c.from_residual.result c.from_residual.ensures.1
+    (record {
+      talks = turn_ends c.args.app.now.index c.args.app.now.rest (g.W.World.seen c.args.world.now) (g.W.World.seen c.turn.new.world)
+          (g.W.World.seen c.commit.new.world) (event_is c.args.occasion.number c.begin-txn.result.net.now.moment c.args.occasion.event.now)
+          c.in-Ok-Done.ensures.ok.turns c.in_err-out-in-Ok-Done.ensures.links;
+      why = why_then (g.W.World.seen c.args.world.now) (g.W.World.seen c.turn.new.world) (g.W.World.seen c.commit.new.world)
+          (ended_by c.in_err-out-in-Ok-Done.field-0.0) c.turn.ensures.continues
+          (commit_why _ (g.W.World.seen c.turn.new.world) (g.W.World.seen c.commit.new.world) c.turn.new.txn.net.now _ _ _ c.in_err-out-in-Ok-Done.field-0.0
+          c.in_err-out-in-Ok-Done.ensures);
+      plain = turn_uncommitted (g.W.World.seen c.args.world.now) (g.W.World.seen c.turn.new.world) (g.W.World.seen c.commit.new.world) c.args.net.now
+          c.begin-txn.result.net.now c.turn.new.txn.net.now _ c.in_err-out-in-Ok-Done.field-0.0 c.begin-txn.ensures.net c.begin-txn.ensures.start
+          c.turn.ensures.start
           c.in-Ok-Done.ensures.ok.turns c.in_err-out-in-Ok-Done.ensures;
-      left = left_committed c.args.net.now c.in_err-out-in-Ok-Done.field-0.0 c.begin-txn.ensures.net c.begin-txn.ensures.start c.turn.ensures.start c.in-Ok-Done.field-0-is (event_is c.args.occasion.number c.begin-txn.result.net.now.moment c.args.occasion.event.now) c.in-Ok-Done.ensures.ok.turns c.in_err-out-in-Ok-Done.ensures;
+      left = left_committed c.args.net.now c.in_err-out-in-Ok-Done.field-0.0 c.begin-txn.ensures.net c.begin-txn.ensures.start c.turn.ensures.start
+          c.in-Ok-Done.field-0-is (event_is c.args.occasion.number c.begin-txn.result.net.now.moment c.args.occasion.event.now) c.in-Ok-Done.ensures.ok.turns
+          c.in_err-out-in-Ok-Done.ensures;
     })
 
 pub returns-in_err-abort-in-Ok-Failed-clause-keeps : goal.returns-in_err-abort-in-Ok-Failed-clause-keeps
@@ -88,18 +107,31 @@ returns-in_err-abort-in-Ok-Failed-clause-keeps g c = record {
 
 pub returns-in_err-abort-in-Ok-Failed-clause-passes : goal.returns-in_err-abort-in-Ok-Failed-clause-passes
 returns-in_err-abort-in-Ok-Failed-clause-passes g c = record {
-  continues = continues_then g.W.World.Tells (g.W.World.seen c.args.world.now) (g.W.World.seen c.turn.new.world) (g.W.World.seen c.abort.new.world) c.turn.ensures.continues c.abort.ensures.continues;
-  places = turn_undone c.args.net.now c.begin-txn.ensures.net (later_own c.args.app.now.index c.requires.place (returns-in_err-abort-in-Ok-Failed-clause-keeps g c).later) c.in-Ok-Failed.ensures.ok.turns c.abort.ensures;
+  continues = continues_then g.W.World.Tells (g.W.World.seen c.args.world.now) (g.W.World.seen c.turn.new.world) (g.W.World.seen c.abort.new.world)
+      c.turn.ensures.continues c.abort.ensures.continues;
+  places = turn_undone c.args.net.now c.begin-txn.ensures.net
+      (later_own c.args.app.now.index c.requires.place (returns-in_err-abort-in-Ok-Failed-clause-keeps g c).later) c.in-Ok-Failed.ensures.ok.turns
+      c.abort.ensures;
   reads = if_failed _ c.from_residual-in_err-abort-in-Ok-Failed.result c.from_residual-in_err-abort-in-Ok-Failed.ensures.0;
 }
 
 pub returns-in_err-abort-in-Ok-Failed-clause-done : goal.returns-in_err-abort-in-Ok-Failed-clause-done
 returns-in_err-abort-in-Ok-Failed-clause-done g c =
-    at_fault _ (TurnFails g.W.World.Tells c.args.app.now.index c.args.occasion.budget c.args.app.now.rest (g.W.World.seen c.args.world.now) (g.W.World.seen c.abort.new.world) c.args.net.now) (fault_of c.in_err-abort-in-Ok-Failed.field-0.0) c.from_residual-in_err-abort-in-Ok-Failed.result c.from_residual-in_err-abort-in-Ok-Failed.ensures.1 (record {
-      talks = turn_ends c.args.app.now.index c.args.app.now.rest (g.W.World.seen c.args.world.now) (g.W.World.seen c.turn.new.world) (g.W.World.seen c.abort.new.world) (event_is c.args.occasion.number c.begin-txn.result.net.now.moment c.args.occasion.event.now) c.in-Ok-Failed.ensures.ok.turns c.abort.ensures.links;
-      why = why_then (g.W.World.seen c.args.world.now) (g.W.World.seen c.turn.new.world) (g.W.World.seen c.abort.new.world) (ended_by c.in_err-abort-in-Ok-Failed.field-0.0) c.turn.ensures.continues (undo_why _ (g.W.World.seen c.turn.new.world) (g.W.World.seen c.abort.new.world) c.turn.new.txn.net.now _ c.in_err-abort-in-Ok-Failed.field-0.0 c.in_err-abort-in-Ok-Failed.ensures);
-      plain = turn_not_undone (g.W.World.seen c.args.world.now) (g.W.World.seen c.turn.new.world) (g.W.World.seen c.abort.new.world) c.args.net.now c.begin-txn.result.net.now c.turn.new.txn.net.now _ c.abort.result c.in_err-abort-in-Ok-Failed.field-0.0 c.begin-txn.ensures.net c.in-Ok-Failed.ensures.ok.turns c.in_err-abort-in-Ok-Failed.was c.abort.ensures;
-      left = left_failed c.args.app.now.rest c.args.net.now c.begin-txn.ensures.net c.begin-txn.ensures.start c.turn.ensures.start c.in-Ok-Failed.ensures.ok.turns c.abort.ensures;
+    at_fault _ (TurnFails g.W.World.Tells c.args.app.now.index c.args.occasion.budget c.args.app.now.rest (g.W.World.seen c.args.world.now)
+    (g.W.World.seen c.abort.new.world) c.args.net.now) (fault_of c.in_err-abort-in-Ok-Failed.field-0.0) c.from_residual-in_err-abort-in-Ok-Failed.result
+    c.from_residual-in_err-abort-in-Ok-Failed.ensures.1 (record {
+      talks = turn_ends c.args.app.now.index c.args.app.now.rest (g.W.World.seen c.args.world.now) (g.W.World.seen c.turn.new.world)
+          (g.W.World.seen c.abort.new.world) (event_is c.args.occasion.number c.begin-txn.result.net.now.moment c.args.occasion.event.now)
+          c.in-Ok-Failed.ensures.ok.turns c.abort.ensures.links;
+      why = why_then (g.W.World.seen c.args.world.now) (g.W.World.seen c.turn.new.world) (g.W.World.seen c.abort.new.world)
+          (ended_by c.in_err-abort-in-Ok-Failed.field-0.0) c.turn.ensures.continues
+          (undo_why _ (g.W.World.seen c.turn.new.world) (g.W.World.seen c.abort.new.world) c.turn.new.txn.net.now _ c.in_err-abort-in-Ok-Failed.field-0.0
+          c.in_err-abort-in-Ok-Failed.ensures);
+      plain = turn_not_undone (g.W.World.seen c.args.world.now) (g.W.World.seen c.turn.new.world) (g.W.World.seen c.abort.new.world) c.args.net.now
+          c.begin-txn.result.net.now c.turn.new.txn.net.now _ c.abort.result c.in_err-abort-in-Ok-Failed.field-0.0 c.begin-txn.ensures.net
+          c.in-Ok-Failed.ensures.ok.turns c.in_err-abort-in-Ok-Failed.was c.abort.ensures;
+      left = left_failed c.args.app.now.rest c.args.net.now c.begin-txn.ensures.net c.begin-txn.ensures.start c.turn.ensures.start
+          c.in-Ok-Failed.ensures.ok.turns c.abort.ensures;
     })
 
 pub returns-in-Err-clause-keeps : goal.returns-in-Err-clause-keeps
@@ -112,16 +144,26 @@ returns-in-Err-clause-keeps g c = record {
 
 pub returns-in-Err-clause-passes : goal.returns-in-Err-clause-passes
 returns-in-Err-clause-passes g c = record {
-  continues = continues_then g.W.World.Tells (g.W.World.seen c.args.world.now) (g.W.World.seen c.turn.new.world) (g.W.World.seen c.abort-in-Err.new.world) c.turn.ensures.continues c.abort-in-Err.ensures.continues;
-  places = stop_undone c.args.net.now c.begin-txn.ensures.net (later_own c.args.app.now.index c.requires.place (returns-in-Err-clause-keeps g c).later) c.in-Err.ensures.err c.abort-in-Err.ensures;
+  continues = continues_then g.W.World.Tells (g.W.World.seen c.args.world.now) (g.W.World.seen c.turn.new.world) (g.W.World.seen c.abort-in-Err.new.world)
+      c.turn.ensures.continues c.abort-in-Err.ensures.continues;
+  places = stop_undone c.args.net.now c.begin-txn.ensures.net (later_own c.args.app.now.index c.requires.place (returns-in-Err-clause-keeps g c).later)
+      c.in-Err.ensures.err c.abort-in-Err.ensures;
   reads = tt;
 }
 
 pub returns-in-Err-clause-done : goal.returns-in-Err-clause-done
-returns-in-Err-clause-done g c = subst (TurnFails g.W.World.Tells c.args.app.now.index c.args.occasion.budget c.args.app.now.rest (g.W.World.seen c.args.world.now) (g.W.World.seen c.abort-in-Err.new.world) c.args.net.now) (sym c.from.ensures) (record {
-  talks = turn_stops g.W.World.Tells c.args.app.now.index c.args.app.now.rest (g.W.World.seen c.args.world.now) (g.W.World.seen c.turn.new.world) (g.W.World.seen c.abort-in-Err.new.world) c.in-Err.ensures.talks c.abort-in-Err.ensures.links;
-  why = why_before (g.W.World.seen c.args.world.now) (g.W.World.seen c.turn.new.world) (g.W.World.seen c.abort-in-Err.new.world) (ended_by c.in-Err.fault) c.turn.ensures.continues c.abort-in-Err.ensures.continues (stops_why (g.W.World.seen c.args.world.now) (g.W.World.seen c.turn.new.world) c.begin-txn.result.net.now c.turn.new.txn.net.now c.in-Err.fault c.in-Err.ensures.err);
-  plain = turn_noted (g.W.World.seen c.args.world.now) (g.W.World.seen c.abort-in-Err.new.world) c.args.net.now c.begin-txn.result.net.now (fault_of c.in-Err.fault) c.begin-txn.ensures.net
-      (turn_stopped (g.W.World.seen c.args.world.now) (g.W.World.seen c.turn.new.world) (g.W.World.seen c.abort-in-Err.new.world) c.begin-txn.result.net.now c.turn.new.txn.net.now c.in-Err.fault c.abort-in-Err.ensures.continues c.in-Err.ensures.err);
-  left = left_stopped c.args.app.now.rest c.args.net.now c.begin-txn.ensures.net c.begin-txn.ensures.start c.turn.ensures.start c.in-Err.ensures.err c.abort-in-Err.ensures;
-})
+returns-in-Err-clause-done g c = subst (TurnFails g.W.World.Tells c.args.app.now.index c.args.occasion.budget c.args.app.now.rest
+    (g.W.World.seen c.args.world.now) (g.W.World.seen c.abort-in-Err.new.world) c.args.net.now) (sym c.from.ensures) (record {
+      talks = turn_stops g.W.World.Tells c.args.app.now.index c.args.app.now.rest (g.W.World.seen c.args.world.now) (g.W.World.seen c.turn.new.world)
+          (g.W.World.seen c.abort-in-Err.new.world) c.in-Err.ensures.talks c.abort-in-Err.ensures.links;
+      why = why_before (g.W.World.seen c.args.world.now) (g.W.World.seen c.turn.new.world) (g.W.World.seen c.abort-in-Err.new.world) (ended_by c.in-Err.fault)
+          c.turn.ensures.continues c.abort-in-Err.ensures.continues
+          (stops_why (g.W.World.seen c.args.world.now) (g.W.World.seen c.turn.new.world) c.begin-txn.result.net.now c.turn.new.txn.net.now c.in-Err.fault
+          c.in-Err.ensures.err);
+      plain = turn_noted (g.W.World.seen c.args.world.now) (g.W.World.seen c.abort-in-Err.new.world) c.args.net.now c.begin-txn.result.net.now
+          (fault_of c.in-Err.fault) c.begin-txn.ensures.net
+          (turn_stopped (g.W.World.seen c.args.world.now) (g.W.World.seen c.turn.new.world) (g.W.World.seen c.abort-in-Err.new.world) c.begin-txn.result.net.now
+          c.turn.new.txn.net.now c.in-Err.fault c.abort-in-Err.ensures.continues c.in-Err.ensures.err);
+      left = left_stopped c.args.app.now.rest c.args.net.now c.begin-txn.ensures.net c.begin-txn.ensures.start c.turn.ensures.start c.in-Err.ensures.err
+          c.abort-in-Err.ensures;
+    })

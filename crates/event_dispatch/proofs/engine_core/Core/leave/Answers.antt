@@ -10,7 +10,8 @@ use Rattle.event_dispatch.proofs.engine_core.Core.leave.Goals as goal
 pub returns-clause-passes : goal.returns-clause-passes
 returns-clause-passes g c =
     quiet_own c.args.app.now.state.index c.args.self.now.net _ c.note_gone.result c.requires.place (ends_continue c.end.ensures) (own_ended c.end.ensures)
-    (keeps_ended g.W.World.Tells c.args.app.now.state.index (g.W.World.seen c.args.world.now) (g.W.World.seen c.end.new.self) c.end.ensures) (on_ok_weaker c.note_gone.result (λ noted. ap (λ (n : NetState). n.views) noted.adds.stays.net) c.note_gone.ensures)
+    (keeps_ended g.W.World.Tells c.args.app.now.state.index (g.W.World.seen c.args.world.now) (g.W.World.seen c.end.new.self) c.end.ensures)
+    (on_ok_weaker c.note_gone.result (λ noted. ap (λ (n : NetState). n.views) noted.adds.stays.net) c.note_gone.ensures)
 
 pub returns-clause-keeps : goal.returns-clause-keeps
 returns-clause-keeps g c = record { same = record { index = refl; rule = refl; done = refl; failed = refl }; own = own_ended c.end.ensures }

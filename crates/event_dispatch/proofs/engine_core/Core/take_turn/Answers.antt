@@ -16,34 +16,56 @@ pub returns-in_err-closing : goal.returns-in_err-closing
 returns-in_err-closing g c = record {
   passes = passes_fails _ c.from_residual.result c.in_err-closing.ensures.passes c.from_residual.ensures.0;
   later = c.hold_turn.ensures.keeps.later;
-  done = at_fault _ (TurnFails g.W.World.Tells c.args.app.now.state.index c.args.app.now.rule.now.budget c.args.app.now.state.rest (g.W.World.seen c.args.world.now) (g.W.World.seen c.hold_turn.new.world) c.args.self.now.net) c.in_err-closing.field-0.0 c.from_residual.result c.from_residual.ensures.1 c.in_err-closing.ensures.done.fails;
+  done = at_fault _ (TurnFails g.W.World.Tells c.args.app.now.state.index c.args.app.now.rule.now.budget c.args.app.now.state.rest
+      (g.W.World.seen c.args.world.now) (g.W.World.seen c.hold_turn.new.world) c.args.self.now.net) c.in_err-closing.field-0.0 c.from_residual.result
+      c.from_residual.ensures.1 c.in_err-closing.ensures.done.fails;
 }
 
 pub returns-in_err-close : goal.returns-in_err-close
 returns-in_err-close g c = record {
-  passes = passes_fails _ c.from_residual-in_err-close.result (passes_then c.in_ok-closing.ensures.passes (passes_number (length c.args.self.now.store) (length c.hold_turn.new.store) c.hold_turn.ensures.keeps.others.number c.in_err-close.ensures.passes.passes)) c.from_residual-in_err-close.ensures.0;
-  later = later_quietly c.args.app.now.state.index c.hold_turn.ensures.keeps.later c.close.ensures.passes.no_point.none_quiescent (λ told. subst (λ (i : ℕ). OwnSteps i (g.W.World.seen c.hold_turn.new.world) (g.W.World.seen c.close.new.world)) c.hold_turn.ensures.keeps.index (c.close.ensures.keeps.own told));
-  done = at_fault _ (TurnFails g.W.World.Tells c.args.app.now.state.index c.args.app.now.rule.now.budget c.args.app.now.state.rest (g.W.World.seen c.args.world.now) (g.W.World.seen c.close.new.world) c.args.self.now.net) faults.NoMemory c.from_residual-in_err-close.result c.from_residual-in_err-close.ensures.1 (record {
-    talks = turn_closed c.args.app.now.state.index c.args.app.now.state.rest (g.W.World.seen c.args.world.now) (g.W.World.seen c.hold_turn.new.world) (g.W.World.seen c.close.new.world) c.in_ok-closing.ensures.done.plays.plays c.close.ensures.passes.talks;
-    why = tt;
-    plain = turn_memory (g.W.World.seen c.args.world.now) (g.W.World.seen c.close.new.world) c.args.self.now.net;
-    left = left_closed c.args.app.now.state.index c.in_ok-closing.closing (g.W.World.seen c.args.world.now) (g.W.World.seen c.hold_turn.new.world) (g.W.World.seen c.close.new.world) c.args.self.now.net c.hold_turn.new.net c.in_ok-closing.ensures.passes.continues c.close.ensures.passes.passes.continues
-        (λ told. subst (λ (i : ℕ). OwnSteps i (g.W.World.seen c.hold_turn.new.world) (g.W.World.seen c.close.new.world)) c.hold_turn.ensures.keeps.index (c.close.ensures.keeps.own told)) c.in_ok-closing.ensures.done.plays.plays;
-  });
+  passes = passes_fails _ c.from_residual-in_err-close.result
+      (passes_then c.in_ok-closing.ensures.passes
+      (passes_number (length c.args.self.now.store) (length c.hold_turn.new.store) c.hold_turn.ensures.keeps.others.number
+      c.in_err-close.ensures.passes.passes)) c.from_residual-in_err-close.ensures.0;
+  later = later_quietly c.args.app.now.state.index c.hold_turn.ensures.keeps.later c.close.ensures.passes.no_point.none_quiescent
+      (λ told. subst (λ (i : ℕ). OwnSteps i (g.W.World.seen c.hold_turn.new.world) (g.W.World.seen c.close.new.world)) c.hold_turn.ensures.keeps.index
+      (c.close.ensures.keeps.own told));
+  done = at_fault _ (TurnFails g.W.World.Tells c.args.app.now.state.index c.args.app.now.rule.now.budget c.args.app.now.state.rest
+      (g.W.World.seen c.args.world.now) (g.W.World.seen c.close.new.world) c.args.self.now.net) faults.NoMemory c.from_residual-in_err-close.result
+      c.from_residual-in_err-close.ensures.1 (record {
+        talks = turn_closed c.args.app.now.state.index c.args.app.now.state.rest (g.W.World.seen c.args.world.now) (g.W.World.seen c.hold_turn.new.world)
+            (g.W.World.seen c.close.new.world) c.in_ok-closing.ensures.done.plays.plays c.close.ensures.passes.talks;
+        why = tt;
+        plain = turn_memory (g.W.World.seen c.args.world.now) (g.W.World.seen c.close.new.world) c.args.self.now.net;
+        left = left_closed c.args.app.now.state.index c.in_ok-closing.closing (g.W.World.seen c.args.world.now) (g.W.World.seen c.hold_turn.new.world)
+            (g.W.World.seen c.close.new.world) c.args.self.now.net c.hold_turn.new.net c.in_ok-closing.ensures.passes.continues
+            c.close.ensures.passes.passes.continues
+            (λ told. subst (λ (i : ℕ). OwnSteps i (g.W.World.seen c.hold_turn.new.world) (g.W.World.seen c.close.new.world)) c.hold_turn.ensures.keeps.index
+            (c.close.ensures.keeps.own told)) c.in_ok-closing.ensures.done.plays.plays;
+      });
 }
 
 pub returns : goal.returns
 returns g c = record {
-  passes = passes_as _ (Ok c.in_ok-close.field-0) (passes_then c.in_ok-closing.ensures.passes (passes_number (length c.args.self.now.store) (length c.hold_turn.new.store) c.hold_turn.ensures.keeps.others.number c.in_ok-close.ensures.passes.passes)) refl;
-  later = later_quietly c.args.app.now.state.index c.hold_turn.ensures.keeps.later c.close.ensures.passes.no_point.none_quiescent (λ told. subst (λ (i : ℕ). OwnSteps i (g.W.World.seen c.hold_turn.new.world) (g.W.World.seen c.close.new.world)) c.hold_turn.ensures.keeps.index (c.close.ensures.keeps.own told));
+  passes = passes_as _ (Ok c.in_ok-close.field-0)
+      (passes_then c.in_ok-closing.ensures.passes
+      (passes_number (length c.args.self.now.store) (length c.hold_turn.new.store) c.hold_turn.ensures.keeps.others.number c.in_ok-close.ensures.passes.passes))
+      refl;
+  later = later_quietly c.args.app.now.state.index c.hold_turn.ensures.keeps.later c.close.ensures.passes.no_point.none_quiescent
+      (λ told. subst (λ (i : ℕ). OwnSteps i (g.W.World.seen c.hold_turn.new.world) (g.W.World.seen c.close.new.world)) c.hold_turn.ensures.keeps.index
+      (c.close.ensures.keeps.own told));
   done = record {
     goes = c.in_ok-close.ensures.done.goes;
     events = c.in_ok-close.ensures.done.events;
-    others = subst (λ (slots : List Slot). KeepsOthers c.args.app.now.state.index c.args.self.now.store slots) (sym c.in_ok-close.ensures.done.store) c.hold_turn.ensures.keeps.others;
+    others = subst (λ (slots : List Slot). KeepsOthers c.args.app.now.state.index c.args.self.now.store slots) (sym c.in_ok-close.ensures.done.store)
+        c.hold_turn.ensures.keeps.others;
     counted = c.in_ok-close.ensures.done.counted;
     index = c.close.ensures.keeps.index ∙ c.hold_turn.ensures.keeps.index;
     rule = c.close.ensures.keeps.rule;
-    turn = turn_is g.W.World.Tells (g.J.Judge.accepts c.args.judge.now) c.args.event.now c.in_ok-closing.closing c.in_ok-close.field-0 (g.W.World.seen c.args.world.now) (g.W.World.seen c.hold_turn.new.world) (g.W.World.seen c.close.new.world) c.hold_turn.new.net c.hold_turn.new.queue c.hold_turn.new.app c.hold_turn.new.store
-        c.args.self.now c.close.new.self c.args.app.now c.close.new.app c.in_ok-closing.ensures.done.plays c.hold_turn.ensures.keeps.index c.hold_turn.ensures.keeps.alive c.in_ok-close.ensures.done.stops c.in_ok-close.ensures.done.closes;
+    turn = turn_is g.W.World.Tells (g.J.Judge.accepts c.args.judge.now) c.args.event.now c.in_ok-closing.closing c.in_ok-close.field-0
+        (g.W.World.seen c.args.world.now) (g.W.World.seen c.hold_turn.new.world) (g.W.World.seen c.close.new.world) c.hold_turn.new.net c.hold_turn.new.queue
+        c.hold_turn.new.app c.hold_turn.new.store
+        c.args.self.now c.close.new.self c.args.app.now c.close.new.app c.in_ok-closing.ensures.done.plays c.hold_turn.ensures.keeps.index
+        c.hold_turn.ensures.keeps.alive c.in_ok-close.ensures.done.stops c.in_ok-close.ensures.done.closes;
   };
 }

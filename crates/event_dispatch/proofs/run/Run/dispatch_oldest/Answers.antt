@@ -21,7 +21,8 @@ returns-in_default g c = record {
     going = going_queued c.take_first.new.self c.args.self.now c.requires.going;
     events = omega arith;
     number = refl;
-    dispatches = none_settled g.W.World.Tells (g.J.Judge.accepts c.args.judge.now) (g.K.Sink.contents c.args.sink.now) (g.W.World.seen c.args.world.now) c.args.self.now c.take_first.new.self c.take_first.ensures.rest (search rules) c.requires.none_waits;
+    dispatches = none_settled g.W.World.Tells (g.J.Judge.accepts c.args.judge.now) (g.K.Sink.contents c.args.sink.now) (g.W.World.seen c.args.world.now)
+        c.args.self.now c.take_first.new.self c.take_first.ensures.rest (search rules) c.requires.none_waits;
   };
 }
 
@@ -29,25 +30,41 @@ pub returns-in_err-dispatch : goal.returns-in_err-dispatch
 returns-in_err-dispatch g c = record {
   passes = passes_fails _ c.from_residual.result c.in_err-dispatch.ensures.passes c.from_residual.ensures.0;
   never_fell = same_fell (g.K.Sink.faults c.args.sink.now);
-  done = at_fault _ (OldestStops g.W.World.Tells (g.J.Judge.accepts c.args.judge.now) (g.K.Sink.contents c.args.sink.now) (g.K.Sink.contents c.args.sink.now) (g.K.Sink.faults c.args.sink.now) (g.K.Sink.faults c.args.sink.now) (g.W.World.seen c.args.world.now) (g.W.World.seen c.dispatch.new.world) c.args.self.now) c.in_err-dispatch.field-0.0 c.from_residual.result c.from_residual.ensures.1 (record {
-    cut = one_still g.W.World.Tells (g.J.Judge.accepts c.args.judge.now) c.in_err-dispatch.field-0.0 (g.K.Sink.contents c.args.sink.now) (g.K.Sink.contents c.args.sink.now) (g.W.World.seen c.args.world.now) (g.W.World.seen c.dispatch.new.world) (engine_of c.args.self.now) (still_is g.W.World.Tells (g.W.World.seen c.args.world.now) (g.W.World.seen c.dispatch.new.world) c.in_err-dispatch.field-0.0 (g.K.Sink.contents c.args.sink.now) (g.K.Sink.contents c.args.sink.now) c.in_err-dispatch.ensures.done.why refl)
-        (fails_next g.W.World.Tells (g.J.Judge.accepts c.args.judge.now) c.in_err-dispatch.field-0.0 c.in-Some.event (g.W.World.seen c.args.world.now) (g.W.World.seen c.dispatch.new.world) c.args.self.now c.take_first.new.self c.requires.few c.in-Some.ensures.first c.in-Some.ensures.rest c.in_err-dispatch.ensures.done.fails);
-    why = why_sink g.W.World.Tells (g.W.World.seen c.args.world.now) (g.W.World.seen c.dispatch.new.world) (g.K.Sink.faults c.args.sink.now) (g.K.Sink.faults c.args.sink.now) (served_by c.in_err-dispatch.field-0.0) (same_fell (g.K.Sink.faults c.args.sink.now)) c.in_err-dispatch.ensures.done.why;
-    plain = run_fails (g.W.World.seen c.args.world.now) (g.W.World.seen c.dispatch.new.world) c.args.self.now c.in_err-dispatch.field-0.0
-        (fails_next g.W.World.Tells (g.J.Judge.accepts c.args.judge.now) c.in_err-dispatch.field-0.0 c.in-Some.event (g.W.World.seen c.args.world.now) (g.W.World.seen c.dispatch.new.world) c.args.self.now c.take_first.new.self c.requires.few c.in-Some.ensures.first c.in-Some.ensures.rest c.in_err-dispatch.ensures.done.fails);
-  });
+  done = at_fault _ (OldestStops g.W.World.Tells (g.J.Judge.accepts c.args.judge.now) (g.K.Sink.contents c.args.sink.now) (g.K.Sink.contents c.args.sink.now)
+      (g.K.Sink.faults c.args.sink.now) (g.K.Sink.faults c.args.sink.now) (g.W.World.seen c.args.world.now) (g.W.World.seen c.dispatch.new.world)
+      c.args.self.now) c.in_err-dispatch.field-0.0 c.from_residual.result c.from_residual.ensures.1 (record {
+        cut = one_still g.W.World.Tells (g.J.Judge.accepts c.args.judge.now) c.in_err-dispatch.field-0.0 (g.K.Sink.contents c.args.sink.now)
+            (g.K.Sink.contents c.args.sink.now) (g.W.World.seen c.args.world.now) (g.W.World.seen c.dispatch.new.world) (engine_of c.args.self.now)
+            (still_is g.W.World.Tells (g.W.World.seen c.args.world.now) (g.W.World.seen c.dispatch.new.world) c.in_err-dispatch.field-0.0
+            (g.K.Sink.contents c.args.sink.now) (g.K.Sink.contents c.args.sink.now) c.in_err-dispatch.ensures.done.why refl)
+            (fails_next g.W.World.Tells (g.J.Judge.accepts c.args.judge.now) c.in_err-dispatch.field-0.0 c.in-Some.event (g.W.World.seen c.args.world.now)
+            (g.W.World.seen c.dispatch.new.world) c.args.self.now c.take_first.new.self c.requires.few c.in-Some.ensures.first c.in-Some.ensures.rest
+            c.in_err-dispatch.ensures.done.fails);
+        why = why_sink g.W.World.Tells (g.W.World.seen c.args.world.now) (g.W.World.seen c.dispatch.new.world) (g.K.Sink.faults c.args.sink.now)
+            (g.K.Sink.faults c.args.sink.now) (served_by c.in_err-dispatch.field-0.0) (same_fell (g.K.Sink.faults c.args.sink.now))
+            c.in_err-dispatch.ensures.done.why;
+        plain = run_fails (g.W.World.seen c.args.world.now) (g.W.World.seen c.dispatch.new.world) c.args.self.now c.in_err-dispatch.field-0.0
+            (fails_next g.W.World.Tells (g.J.Judge.accepts c.args.judge.now) c.in_err-dispatch.field-0.0 c.in-Some.event (g.W.World.seen c.args.world.now)
+            (g.W.World.seen c.dispatch.new.world) c.args.self.now c.take_first.new.self c.requires.few c.in-Some.ensures.first c.in-Some.ensures.rest
+            c.in_err-dispatch.ensures.done.fails);
+      });
 }
 
 pub returns-in_err-write : goal.returns-in_err-write
 returns-in_err-write g c = record {
   passes = passes_fails _ c.from_residual-in_err-write.result c.in_ok-dispatch.ensures.passes c.from_residual-in_err-write.ensures.0;
   never_fell = c.write.ensures.never_fell;
-  done = at_fault _ (OldestStops g.W.World.Tells (g.J.Judge.accepts c.args.judge.now) (g.K.Sink.contents c.args.sink.now) (g.K.Sink.contents c.write.new.sink) (g.K.Sink.faults c.args.sink.now) (g.K.Sink.faults c.write.new.sink) (g.W.World.seen c.args.world.now) (g.W.World.seen c.dispatch.new.world) c.args.self.now) faults.Write c.from_residual-in_err-write.result c.from_residual-in_err-write.ensures.1 (record {
-    cut = one_unwritten g.W.World.Tells (g.J.Judge.accepts c.args.judge.now) c.in-Some.event (g.K.Sink.contents c.args.sink.now) (g.K.Sink.contents c.write.new.sink) (g.W.World.seen c.args.world.now) (g.W.World.seen c.dispatch.new.world) c.args.self.now c.take_first.new.self c.dispatch.new.self
-        c.in_ok-dispatch.ensures.passes.continues c.requires.few c.in-Some.ensures.first c.in-Some.ensures.rest c.requires.none_waits c.in_ok-dispatch.ensures.done.dispatched c.in_ok-dispatch.ensures.passes.reads c.in_err-write.ensures.part;
-    why = c.in_err-write.ensures.rose;
-    plain = run_anyway (g.W.World.seen c.args.world.now) (g.W.World.seen c.dispatch.new.world) (engine_of c.args.self.now) (served_by faults.Write) tt;
-  });
+  done = at_fault _ (OldestStops g.W.World.Tells (g.J.Judge.accepts c.args.judge.now) (g.K.Sink.contents c.args.sink.now) (g.K.Sink.contents c.write.new.sink)
+      (g.K.Sink.faults c.args.sink.now) (g.K.Sink.faults c.write.new.sink) (g.W.World.seen c.args.world.now) (g.W.World.seen c.dispatch.new.world)
+      c.args.self.now) faults.Write c.from_residual-in_err-write.result c.from_residual-in_err-write.ensures.1 (record {
+        cut = one_unwritten g.W.World.Tells (g.J.Judge.accepts c.args.judge.now) c.in-Some.event (g.K.Sink.contents c.args.sink.now)
+            (g.K.Sink.contents c.write.new.sink) (g.W.World.seen c.args.world.now) (g.W.World.seen c.dispatch.new.world) c.args.self.now c.take_first.new.self
+            c.dispatch.new.self
+            c.in_ok-dispatch.ensures.passes.continues c.requires.few c.in-Some.ensures.first c.in-Some.ensures.rest c.requires.none_waits
+            c.in_ok-dispatch.ensures.done.dispatched c.in_ok-dispatch.ensures.passes.reads c.in_err-write.ensures.part;
+        why = c.in_err-write.ensures.rose;
+        plain = run_anyway (g.W.World.seen c.args.world.now) (g.W.World.seen c.dispatch.new.world) (engine_of c.args.self.now) (served_by faults.Write) tt;
+      });
 }
 
 pub returns : goal.returns
@@ -58,7 +75,10 @@ returns g c = record {
     going = going_stays c.dispatch.new.self c.write.new.self c.in_ok-dispatch.ensures.done.going c.in_ok-write.ensures.waits c.write.ensures.stays;
     events = omega (arith, c.write.ensures.stays.events, c.in_ok-dispatch.ensures.done.events);
     number = ap (λ (slots : List Slot). length slots) c.write.ensures.stays.store ∙ c.in_ok-dispatch.ensures.done.number;
-    dispatches = one_settled g.W.World.Tells (g.J.Judge.accepts c.args.judge.now) c.in-Some.event (g.K.Sink.contents c.args.sink.now) (g.K.Sink.contents c.write.new.sink) (g.W.World.seen c.args.world.now) (g.W.World.seen c.dispatch.new.world) c.args.self.now c.take_first.new.self c.dispatch.new.self c.write.new.self
-        c.in_ok-dispatch.ensures.passes.continues c.requires.few c.in-Some.ensures.first c.in-Some.ensures.rest c.requires.none_waits c.in_ok-dispatch.ensures.done.dispatched c.write.ensures.stays c.in_ok-write.ensures.writes;
+    dispatches = one_settled g.W.World.Tells (g.J.Judge.accepts c.args.judge.now) c.in-Some.event (g.K.Sink.contents c.args.sink.now)
+        (g.K.Sink.contents c.write.new.sink) (g.W.World.seen c.args.world.now) (g.W.World.seen c.dispatch.new.world) c.args.self.now c.take_first.new.self
+        c.dispatch.new.self c.write.new.self
+        c.in_ok-dispatch.ensures.passes.continues c.requires.few c.in-Some.ensures.first c.in-Some.ensures.rest c.requires.none_waits
+        c.in_ok-dispatch.ensures.done.dispatched c.write.ensures.stays c.in_ok-write.ensures.writes;
   };
 }

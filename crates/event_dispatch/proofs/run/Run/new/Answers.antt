@@ -5,7 +5,9 @@ use Rattle.event_dispatch.proofs.run.Run.new.Goals as goal
 pub returns : goal.returns
 returns c = record {
   number = (search rules);
-  going = fresh_going c.in_ok-number.number c.args.rules.now c.in_ok-new.field-0 c.in_ok-fresh.field-0.items c.in_ok-new.ensures.goes c.in_ok-number.ensures c.in_ok-new.ensures.store c.in_ok-fresh.ensures;
-  first = fresh_engine c.in_ok-number.number c.args.rules.now c.in_ok-new.field-0 c.in_ok-fresh.field-0.items c.in_ok-new.ensures.net c.in_ok-new.ensures.queue c.in_ok-new.ensures.events c.in_ok-new.ensures.store c.in_ok-fresh.ensures;
+  going = fresh_going c.in_ok-number.number c.args.rules.now c.in_ok-new.field-0 c.in_ok-fresh.field-0.items c.in_ok-new.ensures.goes c.in_ok-number.ensures
+      c.in_ok-new.ensures.store c.in_ok-fresh.ensures;
+  first = fresh_engine c.in_ok-number.number c.args.rules.now c.in_ok-new.field-0 c.in_ok-fresh.field-0.items c.in_ok-new.ensures.net c.in_ok-new.ensures.queue
+      c.in_ok-new.ensures.events c.in_ok-new.ensures.store c.in_ok-fresh.ensures;
   none_waits = c.in_ok-new.ensures.none_waits;
 }
