@@ -1,25 +1,20 @@
 //! A batch: what comes up to the next rest of the outside, and the events that it makes.
 
-ghost use Rattle.std.specs.Prelude.{◌≡◌, ◌==◌, ◌≤◌, ℕ, length, true, false, Ok, None, IsSome, IfOk, IfErr, OnOk, OnErr, [], ◌∷◌, ◌++◌};
+ghost use Rattle.std.specs.Prelude.{◌≡◌, ◌==◌, ◌≤◌, length, None, OnOk, MatchResult, []};
 ghost use Rattle.std.specs.List.{list_any};
-ghost use Rattle.of_types.specs.Fields.{IsBytes};
 ghost use Rattle.outside.specs.declared.step.WorldStep.TheVariants.{From, Joined};
-ghost use Rattle.outside.specs.Seen.{Continues};
-ghost use Rattle.outside.specs.Calls.{most_message, item_step, IsItemIn, Nexts};
-ghost use Rattle.of_wire.specs.Spelling.{message_size, message_bytes};
-ghost use Rattle.app_frames.specs.declared.frame.EventKind.TheVariants as kinds;
+ghost use Rattle.outside.specs.Calls.{most_message, item_step, IsItemIn};
+ghost use Rattle.of_wire.specs.Spelling.{message_size};
 ghost use Rattle.net_txn.specs.Views.{rows_at, is_viewed};
 ghost use Rattle.batch_laws.specs.Knowledge.{with_event};
-ghost use Rattle.batch_laws.specs.Items.{Departs};
-ghost use Rattle.event_dispatch.specs.Runs.{AreRead, Waits};
-ghost use Rattle.event_dispatch.specs.Batch.{of_memory, TakesItem, TakesJoin, TakesKept, KeptComesFirst, NextTaken, BatchShown};
-ghost use Rattle.event_dispatch.specs.Why.{IsReason, WhyItem, WhyMessage, served_by};
+ghost use Rattle.event_dispatch.specs.Runs.{AreRead};
+ghost use Rattle.event_dispatch.specs.Batch.{of_memory};
+ghost use Rattle.event_dispatch.specs.Why.{IsReason, WhyItem, WhyMessage};
 ghost use Rattle.event_dispatch.specs.Talking.{KeepsTalking};
-ghost use Rattle.net_txn.specs.LinkSteps.{OnLinks, MakesNoStrayCall, AsksWithoutStrays};
-ghost use Rattle.run_laws.specs.Cut.{CallsAmong};
-ghost use Rattle.event_dispatch.specs.Steady.{NoStray, Reads, AtMostThisPoint};
-ghost use Rattle.event_dispatch.specs.Told.{OnlyMessages, NoStrayAtItem, NextPoint, GoesBegun};
-ghost use Rattle.event_dispatch.specs.Plain.{IsPlainEnd, PlainRead, PlainJoin, PlainItem, PlainNext, PlainKept, PlainCalm};
+ghost use Rattle.event_dispatch.specs.Passes.{Passes};
+ghost use Rattle.event_dispatch.specs.Taking.{IsJoinedBy, AsksNext, NextDone, Fails, PassesOnLinks, ItemDone, LeaveDone, UsesLinksAt, UsesLinksOf, JoinDone, Announces};
+ghost use Rattle.event_dispatch.specs.Taking.{KeptDone, PassesNext, HandledNext, BatchDone, BatchFails};
+ghost use Rattle.event_dispatch.specs.Plain.{IsPlainEnd, PlainRead, PlainJoin, PlainItem, PlainNext, PlainKept};
 
 use crate::engine_core::Core;
 use crate::fault::Fault;
@@ -58,8 +53,7 @@ fn has_view(net: &Net, dpid: Dpid) -> bool
 /// Tells whether a switch is joined.
 #[tactic(auto, using(crate::specs::laws::ViewedLaws::joined_rows, switch_laws::specs::laws::ShownUndoLaws::rows_of_none))]
 pub(crate) fn is_joined(net: &Net, dpid: Dpid) -> bool
-    ensures joined { result ≡ true → IsSome (rows_at dpid net.now.views) }
-    ensures out { result ≡ false → rows_at dpid net.now.views ≡ None }
+    ensures { IsJoinedBy dpid net.now.views result }
 {
     has_view(net, dpid)
 }
@@ -84,16 +78,9 @@ fn append(queue: &mut EventQueue, event: Option<Event>) -> Result<(), AllocError
 /// Asks the outside what comes next.
 fn next_item<W: World>(world: &mut W, buf: &mut [u8]) -> Result<Item, Fault>
     requires { most_message ≤ length buf.old }
-    ensures item { IfOk result (λ item. IsItemIn W.Tells item buf.new) }
-    ensures continues { Continues W.Tells (W.seen world.old) (W.seen world.new) }
-    ensures talks { KeepsTalking W.Tells (W.seen world.old) (W.seen world.new) }
-    ensures no_point { (number : ℕ) → NextPoint W.Tells number (W.seen world.old) (W.seen world.new) }
-    ensures places { W.Tells → MakesNoStrayCall (W.seen world.old) (W.seen world.new) }
-    ensures why { IfErr result (IsReason W.Tells (W.seen world.old) (W.seen world.new) 0 0) }
-    ensures plain { IfErr result IsPlainEnd }
-    ensures buffer { length buf.new ≡ length buf.old }
-    ensures bytes { IsBytes buf.new }
-    ensures nexts { IfOk result (λ item. Nexts W.Tells (W.seen world.old) (W.seen world.new) (Ok item) buf.new) }
+    ensures asks { AsksNext W.Tells (W.seen world.old) (W.seen world.new) buf.old buf.new }
+    ensures done { MatchResult result (λ item. NextDone W.Tells item buf.new (W.seen world.old) (W.seen world.new))
+        (λ fault. Fails (IsReason W.Tells (W.seen world.old) (W.seen world.new) 0 0 fault) (IsPlainEnd fault)) }
 {
     match world.next(buf) {
         Ok(item) => Ok(item),
@@ -105,7 +92,6 @@ fn next_item<W: World>(world: &mut W, buf: &mut [u8]) -> Result<Item, Fault>
 impl Core {
     /// Takes a message that came from a switch. One of a switch that is not joined is ignored; where an ECHO_REQUEST could not be
     /// answered the switch is lost, and told.
-    #[tactic(auto, using(crate::specs::laws::BatchSteadyLaws::links_none, crate::specs::laws::BatchSteadyLaws::only_none, crate::specs::laws::SteadyLaws::places_none, crate::specs::laws::SteadyLaws::reads_none, crate::specs::laws::FaultLaws::arrival_why, crate::specs::laws::TalkingLaws::keeps_none, crate::specs::laws::TalkingLaws::keeps_links))]
     pub(crate) fn take_message<W: World>(
         &mut self,
         world: &mut W,
@@ -113,17 +99,9 @@ impl Core {
         frame: &[u8],
     ) -> Result<(), Fault>
         requires none_left { self.old.net.left ≡ [] }
-        ensures waits { OnOk result (Waits self.old self.new) }
-        ensures continues { Continues W.Tells (W.seen world.old) (W.seen world.new) }
-        ensures talks { KeepsTalking W.Tells (W.seen world.old) (W.seen world.new) }
-        ensures links { OnLinks W.Tells (W.seen world.old) (W.seen world.new) }
-        ensures places { NoStray W.Tells (length self.old.store) (W.seen world.old) (W.seen world.new) self.old.net }
-        ensures reads { OnOk result (Reads W.Tells (W.seen world.old) (W.seen world.new) self.old.net self.new.net) }
-        ensures messages { OnOk result (OnlyMessages W.Tells (W.seen world.old) (W.seen world.new)) }
-        ensures read { OnOk result (AreRead self.old.net.kept → AreRead self.new.net.kept) }
-        ensures why { IfErr result (WhyMessage W.Tells dpid frame.now (W.seen world.old) (W.seen world.new)) }
-        ensures plain { IfErr result (PlainRead frame.now) }
-        ensures takes { OnOk result (TakesItem W.Tells (From dpid frame.now) (W.seen world.old) (W.seen world.new) self.old self.new) }
+        ensures passes { PassesOnLinks W.Tells (length self.old.store) (W.seen world.old) (W.seen world.new) self.old.net self.new.net result }
+        ensures done { MatchResult result (λ _. ItemDone W.Tells (From dpid frame.now) (W.seen world.old) (W.seen world.new) self.old self.new)
+            (λ fault. Fails (WhyMessage W.Tells dpid frame.now (W.seen world.old) (W.seen world.new) fault) (PlainRead frame.now fault)) }
     {
         if !is_joined(&self.net, dpid) {
             return Ok(());
@@ -135,10 +113,8 @@ impl Core {
 
     /// Takes a switch out that leaves. One that is not joined is ignored.
     fn take_out(&mut self, dpid: Dpid) -> Result<(), AllocError>
-        ensures waits { OnOk result (Waits self.old self.new) }
         ensures lines { self.new.lines ≡ self.old.lines }
-        ensures read { OnOk result (AreRead self.old.net.kept → AreRead self.new.net.kept) }
-        ensures departs { OnOk result (Departs dpid self.old.net self.new.net self.old.queue self.new.queue) }
+        ensures done { OnOk result (LeaveDone dpid self.old self.new) }
     {
         if is_joined(&self.net, dpid) {
             let event = self.net.left(dpid)?;
@@ -148,19 +124,11 @@ impl Core {
     }
 
     /// Takes a switch in that describes itself as it joins. One that is joined is not taken in again.
-    #[tactic(auto, using(crate::specs::laws::BatchSteadyLaws::links_none, crate::specs::laws::BatchSteadyLaws::puts_none, crate::specs::laws::BatchSteadyLaws::only_none, crate::specs::laws::BatchSteadyLaws::joined_puts, crate::specs::laws::TalkingLaws::keeps_none))]
     fn take_in<W: World>(&mut self, world: &mut W, dpid: Dpid, frame: &[u8]) -> Result<(), Fault>
         requires none_left { self.old.net.left ≡ [] }
-        ensures waits { OnOk result (Waits self.old self.new) }
-        ensures continues { Continues W.Tells (W.seen world.old) (W.seen world.new) }
-        ensures talks { KeepsTalking W.Tells (W.seen world.old) (W.seen world.new) }
-        ensures links { OnLinks W.Tells (W.seen world.old) (W.seen world.new) }
-        ensures places { NoStrayAtItem W.Tells (length self.old.store) (Joined dpid frame.now) (W.seen world.old) (W.seen world.new) self.old.net }
-        ensures messages { OnOk result (OnlyMessages W.Tells (W.seen world.old) (W.seen world.new)) }
-        ensures read { OnOk result (AreRead self.old.net.kept → AreRead self.new.net.kept) }
-        ensures why { IfErr result (IsReason W.Tells (W.seen world.old) (W.seen world.new) 0 0) }
-        ensures plain { IfErr result (PlainJoin W.Tells dpid (W.seen world.old) (W.seen world.new)) }
-        ensures takes { OnOk result (TakesItem W.Tells (Joined dpid frame.now) (W.seen world.old) (W.seen world.new) self.old self.new) }
+        ensures uses { UsesLinksAt W.Tells (length self.old.store) (Joined dpid frame.now) (W.seen world.old) (W.seen world.new) self.old.net }
+        ensures done { MatchResult result (λ _. ItemDone W.Tells (Joined dpid frame.now) (W.seen world.old) (W.seen world.new) self.old self.new)
+            (λ fault. Fails (IsReason W.Tells (W.seen world.old) (W.seen world.new) 0 0 fault) (PlainJoin W.Tells dpid (W.seen world.old) (W.seen world.new) fault)) }
     {
         if is_joined(&self.net, dpid) {
             return Ok(());
@@ -177,20 +145,12 @@ impl Core {
     }
 
     /// Lets a switch join with what it says of itself. Where it is lost meanwhile, that is told, and makes no event.
-    #[tactic(auto, using(crate::specs::laws::BatchSteadyLaws::links_none, crate::specs::laws::BatchSteadyLaws::only_none, crate::specs::laws::KeptLaws::joins_read, crate::specs::laws::TalkingLaws::keeps_none, crate::specs::laws::TalkingLaws::keeps_links))]
     fn join<W: World>(&mut self, world: &mut W, dpid: Dpid, message: &Message) -> Result<(), Fault>
         requires out { rows_at dpid self.old.net.views ≡ None }
         requires fits { message_size message.now ≤ 65535 }
-        ensures waits { OnOk result (Waits self.old self.new) }
-        ensures continues { Continues W.Tells (W.seen world.old) (W.seen world.new) }
-        ensures talks { KeepsTalking W.Tells (W.seen world.old) (W.seen world.new) }
-        ensures links { OnLinks W.Tells (W.seen world.old) (W.seen world.new) }
-        ensures places { AsksWithoutStrays W.Tells dpid (W.seen world.old) (W.seen world.new) }
-        ensures messages { OnOk result (OnlyMessages W.Tells (W.seen world.old) (W.seen world.new)) }
-        ensures read { OnOk result (AreRead self.old.net.kept → AreRead self.new.net.kept) }
-        ensures why { IfErr result (IsReason W.Tells (W.seen world.old) (W.seen world.new) 0 0) }
-        ensures plain { IfErr result (PlainJoin W.Tells dpid (W.seen world.old) (W.seen world.new)) }
-        ensures joins { OnOk result (TakesJoin W.Tells dpid message.now (W.seen world.old) (W.seen world.new) self.old self.new) }
+        ensures uses { UsesLinksOf W.Tells dpid (W.seen world.old) (W.seen world.new) }
+        ensures done { MatchResult result (λ _. JoinDone W.Tells dpid message.now (W.seen world.old) (W.seen world.new) self.old self.new)
+            (λ fault. Fails (IsReason W.Tells (W.seen world.old) (W.seen world.new) 0 0 fault) (PlainJoin W.Tells dpid (W.seen world.old) (W.seen world.new) fault)) }
     {
         if let Message::FeaturesReply(features) = message {
             if self.net.joined(world, dpid, features)? {
@@ -205,11 +165,7 @@ impl Core {
     /// Appends the event that a switch joined.
     fn announce(&mut self, dpid: Dpid, message: &Message) -> Result<(), AllocError>
         requires { message_size message.now ≤ 65535 }
-        ensures waits { OnOk result (Waits self.old self.new) }
-        ensures lines { self.new.lines ≡ self.old.lines }
-        ensures queue { OnOk result (self.new.queue
-            ≡ self.old.queue ++ record { kind = kinds.Join; dpid = dpid; body = message_bytes 0 message.now } ∷ []) }
-        ensures net { self.new.net ≡ self.old.net }
+        ensures { Announces dpid message.now self.old self.new result }
     {
         let body = encode(self.alloc, 0, message)?;
         let kind = EventKind::Join;
@@ -218,22 +174,13 @@ impl Core {
     }
 
     /// Takes one item. Bytes that it has stand in the buffer.
-    #[tactic(auto, using(crate::specs::laws::BatchSteadyLaws::links_none, crate::specs::laws::BatchSteadyLaws::puts_none, crate::specs::laws::BatchSteadyLaws::only_none, crate::specs::laws::TalkingLaws::keeps_none))]
     fn take_item<W: World>(&mut self, world: &mut W, item: Item, buf: &[u8]) -> Result<(), Fault>
         requires item { IsItemIn W.Tells item buf.now }
         requires none_left { self.old.net.left ≡ [] }
-        ensures waits { OnOk result (Waits self.old self.new) }
-        ensures continues { Continues W.Tells (W.seen world.old) (W.seen world.new) }
-        ensures talks { KeepsTalking W.Tells (W.seen world.old) (W.seen world.new) }
-        ensures links { OnLinks W.Tells (W.seen world.old) (W.seen world.new) }
-
-        // Where the item was told to a host that kept up with its switches, no call of a link is a stray one.
-        ensures places { NoStrayAtItem W.Tells (length self.old.store) (item_step item buf.now) (W.seen world.old) (W.seen world.new) self.old.net }
-        ensures messages { OnOk result (OnlyMessages W.Tells (W.seen world.old) (W.seen world.new)) }
-        ensures read { OnOk result (AreRead self.old.net.kept → AreRead self.new.net.kept) }
-        ensures why { IfErr result (WhyItem W.Tells (item_step item buf.now) (W.seen world.old) (W.seen world.new)) }
-        ensures plain { IfErr result (PlainItem W.Tells (item_step item buf.now) (W.seen world.old) (W.seen world.new)) }
-        ensures takes { OnOk result (TakesItem W.Tells (item_step item buf.now) (W.seen world.old) (W.seen world.new) self.old self.new) }
+        ensures uses { UsesLinksAt W.Tells (length self.old.store) (item_step item buf.now) (W.seen world.old) (W.seen world.new) self.old.net }
+        ensures done { MatchResult result (λ _. ItemDone W.Tells (item_step item buf.now) (W.seen world.old) (W.seen world.new) self.old self.new)
+            (λ fault. Fails (WhyItem W.Tells (item_step item buf.now) (W.seen world.old) (W.seen world.new) fault)
+            (PlainItem W.Tells (item_step item buf.now) (W.seen world.old) (W.seen world.new) fault)) }
     {
         match item {
             Item::From(dpid, size) => self.take_message(world, dpid, &buf[..size]),
@@ -249,21 +196,12 @@ impl Core {
 
     /// Takes the messages that were kept while something else was awaited, oldest first, and answers how many items the
     /// batch can still have.
-    #[tactic(auto, using(crate::specs::laws::BatchSteadyLaws::links_none, crate::specs::laws::BatchSteadyLaws::links_then, crate::specs::laws::SteadyLaws::places_none, crate::specs::laws::SteadyLaws::reads_none, crate::specs::laws::WhyLaws::continues_then, crate::specs::laws::WhyLaws::why_then, crate::specs::laws::WhyLaws::waits_then, crate::specs::laws::TalkingLaws::keeps_none, crate::specs::laws::TalkingLaws::keeps_then))]
     fn take_kept<W: World>(&mut self, world: &mut W) -> Result<u32, Fault>
         requires read { AreRead self.old.net.kept }
         requires none_left { self.old.net.left ≡ [] }
-        ensures waits { OnOk result (Waits self.old self.new) }
-        ensures lines { OnOk result (self.new.lines.items ≡ self.old.lines.items) }
-        ensures continues { Continues W.Tells (W.seen world.old) (W.seen world.new) }
-        ensures talks { KeepsTalking W.Tells (W.seen world.old) (W.seen world.new) }
-        ensures links { OnLinks W.Tells (W.seen world.old) (W.seen world.new) }
-        ensures places { NoStray W.Tells (length self.old.store) (W.seen world.old) (W.seen world.new) self.old.net }
-        ensures reads { OnOk result (Reads W.Tells (W.seen world.old) (W.seen world.new) self.old.net self.new.net) }
-        ensures read { OnOk result (AreRead self.new.net.kept) }
-        ensures why { IfErr result (IsReason W.Tells (W.seen world.old) (W.seen world.new) 0 0) }
-        ensures plain { IfErr result (PlainKept self.old.net) }
-        ensures kept { IfOk result (λ left. TakesKept left (W.seen world.old) (W.seen world.new) self.old self.new) }
+        ensures passes { PassesOnLinks W.Tells (length self.old.store) (W.seen world.old) (W.seen world.new) self.old.net self.new.net result }
+        ensures done { MatchResult result (λ left. KeptDone left (W.seen world.old) (W.seen world.new) self.old self.new)
+            (λ fault. Fails (IsReason W.Tells (W.seen world.old) (W.seen world.new) 0 0 fault) (PlainKept self.old.net fault)) }
     {
         for taken in 0..MOST_ITEMS {
             let Some((dpid, message)) = self.net.waiting()? else {
@@ -275,24 +213,12 @@ impl Core {
     }
 
     /// Takes what the outside tells next, and answers whether the batch is over.
-    #[tactic(auto, using(crate::specs::laws::WhyLaws::continues_then, crate::specs::laws::TalkingLaws::keeps_none, crate::specs::laws::TalkingLaws::keeps_then))]
     fn take_next<W: World>(&mut self, world: &mut W, buf: &mut [u8]) -> Result<Option<Rest>, Fault>
         requires buffer { most_message ≤ length buf.old }
         requires none_left { self.old.net.left ≡ [] }
-        ensures waits { OnOk result (Waits self.old self.new) }
-        ensures continues { Continues W.Tells (W.seen world.old) (W.seen world.new) }
-        ensures talks { KeepsTalking W.Tells (W.seen world.old) (W.seen world.new) }
-        ensures places { NoStray W.Tells (length self.old.store) (W.seen world.old) (W.seen world.new) self.old.net }
-        ensures reads { OnOk result (Reads W.Tells (W.seen world.old) (W.seen world.new) self.old.net self.new.net) }
-
-        // One stimulus is begun at most, before all else, and where the batch goes on one is begun.
-        ensures no_point { NextPoint W.Tells (length self.old.store) (W.seen world.old) (W.seen world.new) }
-        ensures begun { IfOk result (λ rest. GoesBegun W.Tells rest (W.seen world.old) (W.seen world.new)) }
-        ensures read { OnOk result (AreRead self.old.net.kept → AreRead self.new.net.kept) }
-        ensures why { IfErr result (IsReason W.Tells (W.seen world.old) (W.seen world.new) 0 0) }
-        ensures plain { IfErr result (PlainNext W.Tells (W.seen world.old) (W.seen world.new)) }
-        ensures buffer { length buf.new ≡ length buf.old }
-        ensures taken { IfOk result (λ rest. NextTaken W.Tells rest (W.seen world.old) (W.seen world.new) self.old self.new) }
+        ensures passes { PassesNext W.Tells (length self.old.store) (W.seen world.old) (W.seen world.new) self.old.net self.new.net buf.old buf.new result }
+        ensures done { MatchResult result (λ rest. HandledNext W.Tells rest (W.seen world.old) (W.seen world.new) self.old self.new)
+            (λ fault. Fails (IsReason W.Tells (W.seen world.old) (W.seen world.new) 0 0 fault) (PlainNext W.Tells (W.seen world.old) (W.seen world.new) fault)) }
     {
         let item = next_item(world, buf)?;
         match item {
@@ -306,7 +232,6 @@ impl Core {
     }
 
     /// Takes a batch: the messages that were kept while something else was awaited, then what the outside tells.
-    #[tactic(auto, using(crate::specs::laws::WhyLaws::continues_then, crate::specs::laws::WhyLaws::why_then, crate::specs::laws::WhyLaws::waits_then, crate::specs::laws::TalkingLaws::keeps_none, crate::specs::laws::TalkingLaws::keeps_then))]
     pub(crate) fn take_batch<W: World>(
         &mut self,
         world: &mut W,
@@ -315,31 +240,14 @@ impl Core {
         requires buffer { most_message ≤ length buf.old }
         requires read { AreRead self.old.net.kept }
         requires none_left { self.old.net.left ≡ [] }
-        ensures waits { OnOk result (Waits self.old self.new) }
-        ensures continues { Continues W.Tells (W.seen world.old) (W.seen world.new) }
-        ensures talks { KeepsTalking W.Tells (W.seen world.old) (W.seen world.new) }
 
         // Where the world tells in order and the host keeps up with its switches, no call of a link is a stray one; where the batch was done,
         // all that came were messages, and the host keeps up then.
-        ensures places { NoStray W.Tells (length self.old.store) (W.seen world.old) (W.seen world.new) self.old.net }
-        ensures reads { OnOk result (Reads W.Tells (W.seen world.old) (W.seen world.new) self.old.net self.new.net) }
-
-        // Where all was at rest and nothing was kept, no quiescent point lies behind, and no other application was called.
-        ensures here { OnErr result (self.old.net.kept ≡ [] → AtMostThisPoint W.Tells (length self.old.store) (W.seen world.old) (W.seen world.new)) }
-        ensures own { OnErr result (W.Tells → CallsAmong (length self.old.store) (W.seen world.old) (W.seen world.new)) }
-        ensures read { OnOk result (AreRead self.new.net.kept) }
-        ensures why { IfErr result (IsReason W.Tells (W.seen world.old) (W.seen world.new) 0 0) }
+        ensures passes { Passes W.Tells (length self.old.store) (W.seen world.old) (W.seen world.new) self.old.net self.new.net result }
+        ensures talks { KeepsTalking W.Tells (W.seen world.old) (W.seen world.new) }
         ensures buffer { length buf.new ≡ length buf.old }
-
-        // In every world the messages that were kept come first, oldest first, and then what is told, where switches may be lost.
-        ensures first { OnOk result (KeptComesFirst self.old self.new) }
-
-        // Where the world keeps its word and all was calm, one stimulus was begun, and its items were told and taken, or its
-        // switch was lost at one.
-        ensures batch { IfOk result (λ rest. BatchShown W.Tells rest (W.seen world.old) (W.seen world.new) self.old self.new) }
-
-        // Where the world keeps its word and all was calm, a fault is a plain one.
-        ensures plain { IfErr result (λ fault. PlainCalm W.Tells (W.seen world.old) (W.seen world.new) self.old.net (served_by fault)) }
+        ensures done { MatchResult result (λ rest. BatchDone W.Tells rest (W.seen world.old) (W.seen world.new) self.old self.new)
+            (λ fault. BatchFails W.Tells (length self.old.store) (W.seen world.old) (W.seen world.new) self.old.net fault) }
     {
         let left = self.take_kept(world)?;
         for _item in 0..left {

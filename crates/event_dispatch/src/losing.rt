@@ -1,9 +1,8 @@
 //! Switches that were lost, and are told.
 
-ghost use Rattle.std.specs.Prelude.{◌≡◌, OnOk};
+ghost use Rattle.std.specs.Prelude.{OnOk};
 ghost use Rattle.lego_model.specs.RunReport.{lost_line as lost_line_of};
-ghost use Rattle.event_dispatch.specs.Runs.{Waits};
-ghost use Rattle.event_dispatch.specs.Shows.{Adds, TellsLost};
+ghost use Rattle.event_dispatch.specs.Lines.{Notes, LostTold};
 
 use crate::engine_core::Core;
 use of_types::Dpid;
@@ -13,18 +12,15 @@ use std::alloc::AllocError;
 impl Core {
     /// Appends the line of a switch that was lost.
     pub(crate) fn note_loss(&mut self, dpid: Dpid) -> Result<(), AllocError>
-        ensures waits { OnOk result (Waits self.old self.new) }
-        ensures adds { OnOk result (Adds (lost_line_of dpid) self.old self.new) }
+        ensures { OnOk result (Notes (lost_line_of dpid) self.old self.new) }
     {
         let line = lost_line(self.alloc, dpid)?;
         self.note(&line)
     }
 
     /// Tells the switches that were lost, in order: each gets its line, and its Leave event joins those that wait.
-    #[tactic(auto, using(crate::specs::laws::WhyLaws::waits_then))]
     pub(crate) fn tell_lost(&mut self) -> Result<(), AllocError>
-        ensures waits { OnOk result (Waits self.old self.new) }
-        ensures tells { OnOk result (TellsLost self.old self.new) }
+        ensures { OnOk result (LostTold self.old self.new) }
     {
         while let Some(event) = self.net.lost()? {
             self.note_loss(event.dpid)?;

@@ -210,10 +210,6 @@ batch_too_long n left old first now run begun mid many continues kept goes = rec
 
 -- ---- The answers of calls
 
-pub on_ok : {T E P Q : Type 0} (r : Result T E) → (P → Q) → OnOk r P → OnOk r Q
-on_ok (Ok x) f p = f p
-on_ok (Err e) f p = tt
-
 pub from_step : (item : Item) (d n : ℕ) (buf : List ℕ) → item ≡ items.From d n → From d (take n buf) ≡ item_step item buf
 unfolding item_step
 from_step item d n buf is = rw is refl

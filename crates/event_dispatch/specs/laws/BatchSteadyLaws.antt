@@ -69,10 +69,7 @@ arrived_reads Tells d frame old new net now_net event known arrives = record {
   read = λ told order abreast. arrives_read arrives refl told;
 }
 
--- and the switches that were lost are told
-pub told_reads : {Own : Type 0} (Tells : Type 0) (old new : Seen Own) (net : NetState) (mid now_run : Core) → TellsLost mid now_run → Reads Tells old new net mid.net → Reads Tells old new net now_run.net
-told_reads Tells old new net mid now_run tells reads = reads_as Tells old new net mid.net now_run.net (ap (λ (n : NetState). n.views) tells.net) reads
-
+-- the switches that were lost are told
 pub told_read : (mid now_run : Core) → TellsLost mid now_run → AreRead mid.net.kept → AreRead now_run.net.kept
 told_read mid now_run tells read = read_alike mid.net.kept now_run.net.kept (ap (λ (n : NetState). n.kept) tells.net) read
 
@@ -93,9 +90,6 @@ arrived_only Tells d frame old new net now_net event arrives = record { read = �
 abbrev WithoutFirst : NetState → NetState → Type 0
 WithoutFirst mid_net taken_net = taken_net ≡ record mid_net { kept = drop 1 mid_net.kept }
 
-same_views : (mid_net taken_net : NetState) → WithoutFirst mid_net taken_net → taken_net.views ≡ mid_net.views
-same_views mid_net taken_net taken = ap (λ (n : NetState). n.views) taken
-
 pub taken_read : (mid_net taken_net : NetState) → WithoutFirst mid_net taken_net → AreRead mid_net.kept → AreRead taken_net.kept
 taken_read mid_net taken_net taken read = read_same (record mid_net { kept = drop 1 mid_net.kept }) taken_net taken (read_rest mid_net.kept read)
 
@@ -106,14 +100,6 @@ taken_waits run mid later taken_net taken first second = record {
   store = second.store ∙ first.store;
   left = λ none. second.left (ap (λ (n : NetState). n.left) taken ∙ first.left none);
 }
-
-pub taken_places : {Own : Type 0} {number : ℕ} (Tells : Type 0) (old now new : Seen Own) (net mid_net taken_net : NetState) → WithoutFirst mid_net taken_net → Continues Tells old now → Continues Tells now new → NoStray Tells number old now net → Reads Tells old now net mid_net → NoStray Tells number now new taken_net
-    → NoStray Tells number old new net
-taken_places Tells old now new net mid_net taken_net taken before later first so_far second = places_then old now new net taken_net before later first (reads_as Tells old now net mid_net taken_net (same_views mid_net taken_net taken) so_far) second
-
-pub taken_reads : {Own : Type 0} (Tells : Type 0) (old now new : Seen Own) (net mid_net taken_net now_net : NetState) → WithoutFirst mid_net taken_net → Continues Tells old now → Continues Tells now new → Reads Tells old now net mid_net → Reads Tells now new taken_net now_net
-    → Reads Tells old new net now_net
-taken_reads Tells old now new net mid_net taken_net now_net taken before later first second = reads_then old now new net taken_net now_net before later (reads_as Tells old now net mid_net taken_net (same_views mid_net taken_net taken) first) second
 
 -- ---- An item
 

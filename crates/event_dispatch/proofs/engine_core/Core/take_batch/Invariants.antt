@@ -1,7 +1,6 @@
-use Rattle.event_dispatch.specs.Talking.{KeepsTalking}
 use Rattle.std.proofs.Common.{◌≡◌, [], length}
-use Rattle.outside.specs.Seen.{Continues}
-use Rattle.event_dispatch.specs.Steady.{NoStray, Reads}
+use Rattle.event_dispatch.specs.Talking.{KeepsTalking}
+use Rattle.event_dispatch.specs.Passes.{PassesSoFar}
 use Rattle.event_dispatch.specs.Told.{BatchPoint}
 use Rattle.event_dispatch.specs.Runs.{AreRead, Waits}
 use Rattle.event_dispatch.specs.Batch.{BatchGoes, KeptComesFirst}
@@ -15,9 +14,7 @@ invariant-loop-item g l = record {
   goes : BatchGoes g.W.World.Tells l._item (g.W.World.seen l.fn.world) (g.W.World.seen l.world) l.fn.self l.self;
   first : KeptComesFirst l.fn.self l.self;
   buffer : length l.buf ≡ length l.fn.buf;
-  continues : Continues g.W.World.Tells (g.W.World.seen l.fn.world) (g.W.World.seen l.world);
+  passes : PassesSoFar g.W.World.Tells (length l.fn.self.store) (g.W.World.seen l.fn.world) (g.W.World.seen l.world) l.fn.self.net l.self.net;
   talks : KeepsTalking g.W.World.Tells (g.W.World.seen l.fn.world) (g.W.World.seen l.world);
-  places : NoStray g.W.World.Tells (length l.fn.self.store) (g.W.World.seen l.fn.world) (g.W.World.seen l.world) l.fn.self.net;
-  reads : Reads g.W.World.Tells (g.W.World.seen l.fn.world) (g.W.World.seen l.world) l.fn.self.net l.self.net;
   here : BatchPoint g.W.World.Tells (length l.fn.self.store) (g.W.World.seen l.fn.world) (g.W.World.seen l.world) l.fn.self.net;
 }

@@ -1,10 +1,7 @@
-use Rattle.event_dispatch.specs.Talking.{KeepsTalking}
 use Rattle.std.proofs.Common.{◌≡◌, [], length}
-use Rattle.outside.specs.Seen.{Continues}
-use Rattle.net_txn.specs.LinkSteps.{OnLinks}
-use Rattle.event_dispatch.specs.Steady.{NoStray, Reads}
 use Rattle.event_dispatch.specs.Runs.{AreRead, Waits}
 use Rattle.event_dispatch.specs.Batch.{KeptSoFar}
+use Rattle.event_dispatch.specs.Taking.{OnLinksSoFar}
 use Rattle.event_dispatch.proofs.engine_core.Core.take_kept.Given as goal
 
 abbrev pub invariant-loop-taken : goal.invariant-loop-taken
@@ -14,9 +11,5 @@ invariant-loop-taken g l = record {
   left : l.self.net.left ≡ [];
   read : AreRead l.self.net.kept;
   kept : KeptSoFar l.taken (g.W.World.seen l.fn.world) (g.W.World.seen l.world) l.fn.self l.self;
-  continues : Continues g.W.World.Tells (g.W.World.seen l.fn.world) (g.W.World.seen l.world);
-  talks : KeepsTalking g.W.World.Tells (g.W.World.seen l.fn.world) (g.W.World.seen l.world);
-  links : OnLinks g.W.World.Tells (g.W.World.seen l.fn.world) (g.W.World.seen l.world);
-  places : NoStray g.W.World.Tells (length l.fn.self.store) (g.W.World.seen l.fn.world) (g.W.World.seen l.world) l.fn.self.net;
-  reads : Reads g.W.World.Tells (g.W.World.seen l.fn.world) (g.W.World.seen l.world) l.fn.self.net l.self.net;
+  passes : OnLinksSoFar g.W.World.Tells (length l.fn.self.store) (g.W.World.seen l.fn.world) (g.W.World.seen l.world) l.fn.self.net l.self.net;
 }
