@@ -1,6 +1,6 @@
 -- Laws of what the parts of a turn and of a start leave.
-use Rattle.std.proofs.Common.{◌≡◌, ◌<◌, ◌≤◌, ◌+◌, ℕ, Bool, false, List, [], ◌++◌, length, Result, Ok, Err, OnOk, refl, sym, ap, ap₂, ◌∙◌, subst, append_assoc, arith}
-use Rattle.std.specs.Prelude.{MatchResult, Vec}
+use Rattle.std.proofs.Common.{◌≡◌, ◌<◌, ◌≤◌, ◌+◌, ℕ, Bool, false, List, [], ◌++◌, length, Result, Ok, Err, OnOk, refl, sym, ap, ap₂, ◌∙◌, subst, append_assoc, arith, true≢false}
+use Rattle.std.specs.Prelude.{IsErr, IfOk, MatchResult, Vec}
 use Rattle.std.specs.Global.{Global}
 use Rattle.flow_table.specs.View.{TableView}
 use Rattle.app_frames.specs.declared.cause.Cause.{Cause}
@@ -37,6 +37,13 @@ use Rattle.event_dispatch.specs.laws.DispatchStrayLaws.{places_as, reads_over, s
 use Rattle.event_dispatch.specs.laws.KeptLaws.{turn_read}
 use Rattle.event_dispatch.specs.laws.StoreLaws.{held, unkept}
 
+-- ---- It failed
+
+-- where it did, nothing is owed of what it answers
+pub if_not : {T E : Type 0} (P : T → Type 0) (result : Result T E) → IsErr result → IfOk result P
+if_not P (Ok x) is = absurd (true≢false (sym is))
+if_not P (Err fault) is = tt
+
 -- ---- The same switches had views before
 
 pub passes_over : {Own T E Tells : Type 0} {number : ℕ} {old new : Seen Own} {now_net : NetState} {result : Result T E} (net mid_net : NetState)
@@ -67,62 +74,6 @@ quiet_own app net now_net (Err fault) small continues own talks views = record {
   no_point = started_quietly app small own;
   talks = talks;
 }
-
--- what follows by the policy of an application that is ended, or started again
-follows_so : {Own : Type 0} {Tells : Type 0} {text : List ℕ} {old new : Seen Own} {c now_c : Core} {m now_m : Managed} {p : Policy} (kind : EventKind)
-    → p ≡ rule_at (app_value m.rule.now) kind → Follows Tells p text old new (focus_of c m) (focus_of now_c now_m)
-    → Follows Tells (rule_at (app_value m.rule.now) kind) text old new (focus_of c m) (focus_of now_c now_m)
-follows_so {Tells = Tells} {text = text} {old = old} {new = new} {c = c} {now_c = now_c} {m = m} {now_m = now_m} kind is follows =
-    subst (λ (p : Policy). Follows Tells p text old new (focus_of c m) (focus_of now_c now_m)) is follows
-
-pub left_so : {Own T E : Type 0} {Tells : Type 0} {old new : Seen Own} {c now_c : Core} {m now_m : Managed} (kind : EventKind) (result : Result T E)
-    → policy.None ≡ rule_at (app_value m.rule.now) kind → OnOk result (LeaveDone Tells old new c now_c m now_m)
-    → OnOk result (GoOnDone Tells kind old new c now_c m now_m)
-left_so kind (Ok x) is left = record {
-  waits = left.waits;
-  net = left.net;
-  goes_on = record { text = left.leaves.text; follows = follows_so kind is left.leaves.goes; notes = left.leaves.notes };
-}
-left_so kind (Err fault) is left = tt
-
--- where it says either of the other two
-pub started_so : {Own T E : Type 0} {Tells : Type 0} {old new : Seen Own} {c now_c : Core} {m now_m : Managed} (kind : EventKind) (p : Policy)
-    (result : Result T E) → p ≡ rule_at (app_value m.rule.now) kind → (p ≡ policy.None → ⊥) → OnOk result (StartDone Tells old new c now_c m now_m)
-    → OnOk result (GoOnDone Tells kind old new c now_c m now_m)
-started_so kind p (Err fault) is other started = tt
-started_so kind policy.None (Ok x) is other started = absurd (other refl)
-started_so kind policy.Absolute (Ok x) is other started = record {
-  waits = started.waits;
-  net = started.net;
-  goes_on = record { text = started.starts.text; follows = follows_so kind is started.starts.starts; notes = started.starts.notes };
-}
-started_so kind policy.Equivalence (Ok x) is other started = record {
-  waits = started.waits;
-  net = started.net;
-  goes_on = record { text = started.starts.text; follows = follows_so kind is started.starts.starts; notes = started.starts.notes };
-}
-
--- ---- It is started, or ended
-
--- what the engine keeps of an application, where nothing but lines was noted
-same_focus : (c now_c : Core) (m : Managed) → Stays c now_c → focus_of now_c m ≡ focus_of c m
-same_focus c now_c m stays =
-    ap₂ (λ (net : NetState) (queue : List Event). focus m.state.index (application_of now_c.store m) net queue now_c.events) stays.net stays.queue
-    ∙ ap₂ (λ (events : ℕ) (slots : List Slot). focus m.state.index (application_of slots m) c.net c.queue events) stays.events stays.store
-
-pub leave_so : {Own T E : Type 0} {Tells : Type 0} {old new : Seen Own} {c now_c : Core} (m : Managed) (result : Result T E) → Ends Tells m.state.index old new
-    → OnOk result (Notes (gone_line (name_of m)) c now_c) → OnOk result
-    (LeaveDone Tells old new c now_c m (record m { state = record m.state { alive = false } }))
-leave_so {c = c} {now_c = now_c} m (Ok x) ends noted = record {
-  waits = noted.waits;
-  net = noted.adds.stays.net;
-  leaves = record {
-    text = gone_line (name_of m);
-    goes = record { ends = ends; engine = same_focus c now_c (record m { state = record m.state { alive = false } }) noted.adds.stays; text_is = refl };
-    notes = noted.adds.lines;
-  };
-}
-leave_so m (Err fault) ends noted = tt
 
 -- ---- A turn is counted and told, with the switches that were lost
 
@@ -221,21 +172,19 @@ pub play_so : {Own : Type 0} {Tells : Type 0} {accepts : List TableView → Bool
 play_so {closing = closing} {net = net} {now_net = now_net} room plays = record { room = room; plays = plays; read = turn_read closing net now_net plays.plays }
 
 -- and what it staged is kept or dropped
-pub hold_so : {Own : Type 0} {Tells : Type 0} {accepts : List TableView → Bool} {budget number : ℕ} {event : Event} {old new : Seen Own}
-    {net now_net : NetState} {queue now_queue : List Event} {rest unread : List ℕ} (closing : Result Closing Fault) (app : ℕ)
+pub hold_so : (Own : Type 0) (Tells : Type 0) (accepts : List TableView → Bool) (budget number : ℕ) (event : Event) (old new : Seen Own)
+    (net now_net : NetState) (queue now_queue : List Event) (rest unread : List ℕ) (closing : Result Closing Fault) (app : ℕ)
     (store mid_store now_store : List Slot)
     → app < length store → StoreRests store → KeepsSlots app store mid_store → now_store ≡ with_slot app (closes_slot closing) mid_store
     → MatchResult closing (λ end. PlayDone Tells accepts app budget number event end old new net now_net queue now_queue rest unread store mid_store)
     (TurnFails Tells app budget rest old new net)
     → MatchResult closing (λ end. HoldDone Tells accepts app budget number event end old new net now_net queue now_queue rest unread store now_store)
     (HoldFails Tells app budget rest old new net store now_store)
-hold_so {Own} {Tells} {accepts} {budget} {number} {event} {old} {new} {net} {now_net} {queue} {now_queue} {rest} {unread} (Ok closing) app store mid_store
-    now_store lt rests keeps is played = record {
-      room = played.room;
-      plays = held Own Tells accepts budget number event old new net now_net queue now_queue rest unread (Ok closing) app store mid_store now_store lt rests
-          keeps
-          is played.plays;
-      read = played.read;
-    }
-hold_so (Err fault) app store mid_store now_store lt rests keeps is
-    fails = record { unkept = unkept (Err fault) app store mid_store now_store lt rests keeps is; fails = fails }
+hold_so Own Tells accepts budget number event old new net now_net queue now_queue rest unread (Ok closing) app store mid_store now_store lt rests keeps is played = record {
+  room = played.room;
+  plays = held Own Tells accepts budget number event old new net now_net queue now_queue rest unread (Ok closing) app store mid_store now_store lt rests keeps is
+      played.plays;
+  read = played.read;
+}
+hold_so Own Tells accepts budget number event old new net now_net queue now_queue rest unread (Err fault) app store mid_store now_store lt rests keeps is fails =
+    record { unkept = unkept (Err fault) app store mid_store now_store lt rests keeps is; fails = fails }
