@@ -10,9 +10,13 @@ pub mod Cut
 pub mod Talking
 pub mod Steady
 pub mod Passes
+pub mod Parts
 pub mod Lines
 pub mod Taking
 pub mod Told
 pub mod NothingWaits
 pub mod Undone
+pub mod TurnParts
+pub mod EventParts
+pub mod NewRun
 pub mod laws

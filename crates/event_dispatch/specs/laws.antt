@@ -15,6 +15,7 @@ pub mod KeptLaws
 pub mod ItemLaws
 pub mod SteadyLaws
 pub mod PassesLaws
+pub mod PartsLaws
 pub mod TakingLaws
 pub mod NothingWaitsLaws
 pub mod AbreastItemLaws
@@ -28,6 +29,7 @@ pub mod EndedLaws
 pub mod NoEventLaws
 pub mod LeftLaws
 pub mod StoreLaws
+pub mod TurnPartLaws
 pub mod OfferLaws
 pub mod BeginLaws
 pub mod JoinLaws

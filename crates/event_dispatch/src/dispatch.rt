@@ -1,25 +1,19 @@
 //! Events, given to the application one after the other.
 
-ghost use Rattle.std.specs.Prelude.{◌≡◌, ℕ, ◌+◌, ◌^◌, ◌<◌, ◌≤◌, [], ◌++◌, length, IfOk, IfErr, OnOk, OnErr};
+ghost use Rattle.std.specs.Prelude.{◌≡◌, ◌^◌, ◌<◌, ◌≤◌, [], ◌++◌, length, IfOk, OnOk, MatchResult};
 ghost use Rattle.lego_io.specs.Count.{NeverFell};
 ghost use Rattle.app_frames.specs.declared.frame.HostFrame.TheVariants as host;
 ghost use Rattle.app_frames.specs.Frames.{HostFits};
-ghost use Rattle.outside.specs.Seen.{Continues};
-ghost use Rattle.event_dispatch.specs.Steady.{NoStray, Reads, NoPoint, AtMostThisPoint};
-ghost use Rattle.app_visor.specs.CallsFor.{CalmLater, OwnSteps};
-ghost use Rattle.event_dispatch.specs.Runs.{AreRead, StoreRests, CoreGoes, AreGoing, AreBefore, IsCountedTo, SameManaged, Going, Waits};
-ghost use Rattle.event_dispatch.specs.Stored.{KeepsSlots, KeepsOthers, closes_slot, PlaysStaged, HoldsTurn};
-ghost use Rattle.app_visor.specs.Attempts.{kept_of};
+ghost use Rattle.app_visor.specs.CallsFor.{CalmLater};
 ghost use Rattle.checkpoint_store.specs.Slots.{with_slot};
-ghost use Rattle.event_dispatch.specs.Why.{IsReason, served_by};
-ghost use Rattle.event_dispatch.specs.Plain.{PlainTurn, PlainRun};
 ghost use Rattle.lego_model.specs.RunReport.{turn_line as turn_line_of, gone_line as gone_line_of};
-ghost use Rattle.run_laws.specs.Facts.{out_text, starts_text, says_stop};
-ghost use Rattle.event_dispatch.specs.Shows.{engine_of, Adds};
-ghost use Rattle.event_dispatch.specs.Serves.{end_of, Starts, Leaves, GoesOn, Closes, TurnNoted, OfferNoted, AllOffered, IsDispatched, DispatchesOldest, DispatchesWaiting};
-ghost use Rattle.event_dispatch.specs.Talking.{KeepsTalking, TurnTalks};
-ghost use Rattle.event_dispatch.specs.Undone.{IsShort, TurnLeft};
-ghost use Rattle.event_dispatch.specs.Cut.{OfferFails, OffersFail, FailsIn, CutOne, CutSome};
+ghost use Rattle.run_laws.specs.Facts.{out_text, starts_text};
+ghost use Rattle.event_dispatch.specs.Passes.{Passes, PassesQuietly};
+ghost use Rattle.event_dispatch.specs.Lines.{Notes};
+ghost use Rattle.event_dispatch.specs.Runs.{AreRead, StoreRests, CoreGoes, AreGoing, AreBefore, Going};
+ghost use Rattle.event_dispatch.specs.Stored.{closes_slot};
+ghost use Rattle.event_dispatch.specs.TurnParts.{TurnFails, PlayDone, PlayKeeps, HoldDone, HoldFails, HoldKeeps, TurnDone, StartDone, StartKeeps, LeaveDone, GoOnDone, CloseDone, CloseKeeps};
+ghost use Rattle.event_dispatch.specs.EventParts.{OfferDone, OfferStops, OffersDone, OffersStop, DispatchDone, DispatchStops, OldestDone, OldestStops, WaitingDone, WaitingStops};
 
 use crate::closing::Closing;
 use crate::engine_core::Core;
@@ -49,7 +43,6 @@ struct Occasion<'a, J> {
 
 /// Plays a turn of the application. Where it was done its changes are kept and its packets released; where it failed its
 /// changes are undone. The checkpoint that it hands over is staged, and no more.
-#[tactic(auto, using(crate::specs::laws::WhyLaws::continues_then, crate::specs::laws::WhyLaws::why_then, crate::specs::laws::WhyLaws::why_before, crate::specs::laws::FaultLaws::undo_why, crate::specs::laws::FaultLaws::stops_why))]
 fn play_turn<W: World, J: Judge>(
     world: &mut W,
     net: &mut Net,
@@ -61,21 +54,12 @@ fn play_turn<W: World, J: Judge>(
     requires room { 1 ≤ net.old.room }
     requires place { app.old.index < length store.old }
     requires fits { HostFits (host.Event occasion.number net.old.moment occasion.event.now) }
-    ensures room { OnOk result (net.new.room ≡ net.old.room) }
-    ensures index { app.new.index ≡ app.old.index }
-    ensures alive { app.new.alive ≡ app.old.alive }
-    ensures plays { IfOk result (λ end. PlaysStaged W.Tells (J.accepts occasion.entry.judge.now) app.old.index occasion.entry.budget occasion.entry.number occasion.entry.event.now end (W.seen world.old) (W.seen world.new)
-        net.old net.new queue.old queue.new app.old.rest app.new.rest store.old store.new) }
-    ensures slots { KeepsSlots app.old.index store.old store.new }
-    ensures read { OnOk result (AreRead net.old.kept → AreRead net.new.kept) }
-    ensures continues { Continues W.Tells (W.seen world.old) (W.seen world.new) }
-    ensures places { NoStray W.Tells (length store.old) (W.seen world.old) (W.seen world.new) net.old }
-    ensures reads { OnOk result (Reads W.Tells (W.seen world.old) (W.seen world.new) net.old net.new) }
-    ensures later { W.Tells → CalmLater app.old.index (W.seen world.old) (W.seen world.new) }
-    ensures talks { OnErr result (TurnTalks W.Tells app.old.index app.old.rest (W.seen world.old) (W.seen world.new)) }
-    ensures why { IfErr result (IsReason W.Tells (W.seen world.old) (W.seen world.new) 0 0) }
-    ensures plain { IfErr result (PlainTurn W.Tells (W.seen world.old) (W.seen world.new) net.old) }
-    ensures left { IfErr result (λ fault. TurnLeft W.Tells (IsShort fault) app.old.index occasion.entry.budget app.old.rest (W.seen world.old) (W.seen world.new) net.old) }
+    ensures passes { Passes W.Tells (length store.old) (W.seen world.old) (W.seen world.new) net.old net.new result }
+    ensures keeps { PlayKeeps W.Tells app.old app.new (W.seen world.old) (W.seen world.new) store.old store.new }
+    ensures done { MatchResult result (λ end. PlayDone W.Tells (J.accepts occasion.entry.judge.now) app.old.index occasion.entry.budget occasion.entry.number
+        occasion.entry.event.now end
+        (W.seen world.old) (W.seen world.new) net.old net.new queue.old queue.new app.old.rest app.new.rest store.old store.new)
+        (TurnFails W.Tells app.old.index occasion.entry.budget app.old.rest (W.seen world.old) (W.seen world.new) net.old) }
 {
     let Occasion {
         alloc,
@@ -128,24 +112,13 @@ fn hold_turn<W: World, J: Judge>(
     requires place { app.old.index < length store.old }
     requires fits { HostFits (host.Event occasion.number net.old.moment occasion.event.now) }
     requires rests { StoreRests store.old }
-    ensures room { OnOk result (net.new.room ≡ net.old.room) }
-    ensures index { app.new.index ≡ app.old.index }
-    ensures alive { app.new.alive ≡ app.old.alive }
-    ensures plays { IfOk result (λ end. HoldsTurn W.Tells (J.accepts occasion.entry.judge.now) app.old.index occasion.entry.budget occasion.entry.number occasion.entry.event.now end (W.seen world.old) (W.seen world.new)
-        net.old net.new queue.old queue.new app.old.rest app.new.rest (kept_of app.old.index store.old) (kept_of app.old.index store.new)) }
+    ensures passes { Passes W.Tells (length store.old) (W.seen world.old) (W.seen world.new) net.old net.new result }
     // However it went, nothing that it staged is left; where it did not go well, the kept checkpoint is the one before. Those of others stay.
-    ensures rests { StoreRests store.new }
-    ensures others { KeepsOthers app.old.index store.old store.new }
-    ensures unkept { OnErr result (kept_of app.old.index store.new ≡ kept_of app.old.index store.old) }
-    ensures read { OnOk result (AreRead net.old.kept → AreRead net.new.kept) }
-    ensures continues { Continues W.Tells (W.seen world.old) (W.seen world.new) }
-    ensures places { NoStray W.Tells (length store.old) (W.seen world.old) (W.seen world.new) net.old }
-    ensures reads { OnOk result (Reads W.Tells (W.seen world.old) (W.seen world.new) net.old net.new) }
-    ensures later { W.Tells → CalmLater app.old.index (W.seen world.old) (W.seen world.new) }
-    ensures talks { OnErr result (TurnTalks W.Tells app.old.index app.old.rest (W.seen world.old) (W.seen world.new)) }
-    ensures why { IfErr result (IsReason W.Tells (W.seen world.old) (W.seen world.new) 0 0) }
-    ensures plain { IfErr result (PlainTurn W.Tells (W.seen world.old) (W.seen world.new) net.old) }
-    ensures left { IfErr result (λ fault. TurnLeft W.Tells (IsShort fault) app.old.index occasion.entry.budget app.old.rest (W.seen world.old) (W.seen world.new) net.old) }
+    ensures keeps { HoldKeeps W.Tells app.old app.new (W.seen world.old) (W.seen world.new) store.old store.new }
+    ensures done { MatchResult result (λ end. HoldDone W.Tells (J.accepts occasion.entry.judge.now) app.old.index occasion.entry.budget occasion.entry.number
+        occasion.entry.event.now end
+        (W.seen world.old) (W.seen world.new) net.old net.new queue.old queue.new app.old.rest app.new.rest store.old store.new)
+        (HoldFails W.Tells app.old.index occasion.entry.budget app.old.rest (W.seen world.old) (W.seen world.new) net.old store.old store.new) }
 {
     let index = app.index;
     let closing = play_turn(world, net, queue, store, app, occasion);
@@ -156,8 +129,7 @@ fn hold_turn<W: World, J: Judge>(
 impl Core {
     /// Appends the line of how a turn of the application of a name ended.
     fn note_turn(&mut self, name: &str, word: TurnWord) -> Result<(), AllocError>
-        ensures waits { OnOk result (Waits self.old self.new) }
-        ensures adds { OnOk result (Adds (turn_line_of (name.now) word) self.old self.new) }
+        ensures { OnOk result (Notes (turn_line_of (name.now) word) self.old self.new) }
     {
         let line = turn_line(self.alloc, name, &word)?;
         self.note(&line)
@@ -172,17 +144,9 @@ impl Core {
     ) -> Result<(), AllocError>
         requires place { app.old.state.index < length self.old.store }
         requires store { StoreRests self.old.store }
-        ensures waits { OnOk result (Waits self.old self.new) }
-        ensures same { SameManaged app.old app.new }
-        ensures net { OnOk result (self.new.net ≡ self.old.net) }
-        ensures queue { OnOk result (self.new.queue ≡ self.old.queue) }
-        ensures starts { OnOk result (Starts W.Tells (W.seen world.old) (W.seen world.new) self.old self.new app.old app.new) }
-        ensures continues { Continues W.Tells (W.seen world.old) (W.seen world.new) }
-        ensures places { NoStray W.Tells (length self.old.store) (W.seen world.old) (W.seen world.new) self.old.net }
-        ensures reads { OnOk result (Reads W.Tells (W.seen world.old) (W.seen world.new) self.old.net self.new.net) }
-        ensures no_point { NoPoint W.Tells (length self.old.store) (W.seen world.old) (W.seen world.new) }
-        ensures talks { KeepsTalking W.Tells (W.seen world.old) (W.seen world.new) }
-        ensures own { W.Tells → OwnSteps app.old.state.index (W.seen world.old) (W.seen world.new) }
+        ensures passes { PassesQuietly W.Tells (length self.old.store) (W.seen world.old) (W.seen world.new) self.old.net self.new.net result }
+        ensures keeps { StartKeeps W.Tells (W.seen world.old) (W.seen world.new) app.old app.new }
+        ensures done { OnOk result (StartDone W.Tells (W.seen world.old) (W.seen world.new) self.old self.new app.old app.new) }
     {
         let back = restart(
             self.alloc,
@@ -197,8 +161,7 @@ impl Core {
     /// Appends the lines of the attempts to start the application of a name.
     #[tactic(auto, using(crate::specs::laws::WhyLaws::waits_then))]
     fn note_start(&mut self, name: &str, back: Back) -> Result<(), AllocError>
-        ensures waits { OnOk result (Waits self.old self.new) }
-        ensures adds { OnOk result (Adds (starts_text (name.now) back.tries.items back.back) self.old self.new) }
+        ensures { OnOk result (Notes (starts_text (name.now) back.tries.items back.back) self.old self.new) }
     {
         for tried in back.tries.iter() {
             let line = start_line(self.alloc, name, tried)?;
@@ -212,8 +175,7 @@ impl Core {
 
     /// Appends the line that says that the application of a name is gone.
     fn note_gone(&mut self, name: &str) -> Result<(), AllocError>
-        ensures waits { OnOk result (Waits self.old self.new) }
-        ensures adds { OnOk result (Adds (gone_line_of (name.now)) self.old self.new) }
+        ensures { OnOk result (Notes (gone_line_of (name.now)) self.old self.new) }
     {
         let line = gone_line(self.alloc, name)?;
         self.note(&line)
@@ -222,16 +184,9 @@ impl Core {
     /// Ends an application, which is gone from now on.
     fn leave<W: World>(&mut self, world: &mut W, app: &mut Managed<'_>) -> Result<(), AllocError>
         requires place { app.old.state.index < length self.old.store }
-        ensures waits { OnOk result (Waits self.old self.new) }
-        ensures same { SameManaged app.old app.new }
-        ensures net { OnOk result (self.new.net ≡ self.old.net) }
-        ensures leaves { OnOk result (Leaves W.Tells (W.seen world.old) (W.seen world.new) self.old self.new app.old app.new) }
-        ensures continues { Continues W.Tells (W.seen world.old) (W.seen world.new) }
-        ensures places { NoStray W.Tells (length self.old.store) (W.seen world.old) (W.seen world.new) self.old.net }
-        ensures reads { OnOk result (Reads W.Tells (W.seen world.old) (W.seen world.new) self.old.net self.new.net) }
-        ensures no_point { NoPoint W.Tells (length self.old.store) (W.seen world.old) (W.seen world.new) }
-        ensures talks { KeepsTalking W.Tells (W.seen world.old) (W.seen world.new) }
-        ensures own { W.Tells → OwnSteps app.old.state.index (W.seen world.old) (W.seen world.new) }
+        ensures passes { PassesQuietly W.Tells (length self.old.store) (W.seen world.old) (W.seen world.new) self.old.net self.new.net result }
+        ensures keeps { StartKeeps W.Tells (W.seen world.old) (W.seen world.new) app.old app.new }
+        ensures done { OnOk result (LeaveDone W.Tells (W.seen world.old) (W.seen world.new) self.old self.new app.old app.new) }
     {
         world.end(app.state.index);
         app.state.alive = false;
@@ -248,16 +203,9 @@ impl Core {
     ) -> Result<(), AllocError>
         requires place { app.old.state.index < length self.old.store }
         requires store { StoreRests self.old.store }
-        ensures waits { OnOk result (Waits self.old self.new) }
-        ensures same { SameManaged app.old app.new }
-        ensures net { OnOk result (self.new.net ≡ self.old.net) }
-        ensures goes_on { OnOk result (GoesOn W.Tells kind (W.seen world.old) (W.seen world.new) self.old self.new app.old app.new) }
-        ensures continues { Continues W.Tells (W.seen world.old) (W.seen world.new) }
-        ensures places { NoStray W.Tells (length self.old.store) (W.seen world.old) (W.seen world.new) self.old.net }
-        ensures reads { OnOk result (Reads W.Tells (W.seen world.old) (W.seen world.new) self.old.net self.new.net) }
-        ensures no_point { NoPoint W.Tells (length self.old.store) (W.seen world.old) (W.seen world.new) }
-        ensures talks { KeepsTalking W.Tells (W.seen world.old) (W.seen world.new) }
-        ensures own { W.Tells → OwnSteps app.old.state.index (W.seen world.old) (W.seen world.new) }
+        ensures passes { PassesQuietly W.Tells (length self.old.store) (W.seen world.old) (W.seen world.new) self.old.net self.new.net result }
+        ensures keeps { StartKeeps W.Tells (W.seen world.old) (W.seen world.new) app.old app.new }
+        ensures done { OnOk result (GoOnDone W.Tells kind (W.seen world.old) (W.seen world.new) self.old self.new app.old app.new) }
     {
         match rule(app.rule, kind) {
             Policy::None => self.leave(world, app),
@@ -268,8 +216,7 @@ impl Core {
     /// Appends the lines of the packets that were released.
     #[tactic(auto, using(crate::specs::laws::WhyLaws::waits_then))]
     fn note_out(&mut self, out: &[(Dpid, u32)]) -> Result<(), AllocError>
-        ensures waits { OnOk result (Waits self.old self.new) }
-        ensures adds { OnOk result (Adds (out_text out.now) self.old self.new) }
+        ensures { OnOk result (Notes (out_text out.now) self.old self.new) }
     {
         for &(dpid, len) in out {
             let line = out_line(self.alloc, dpid, len)?;
@@ -279,15 +226,13 @@ impl Core {
     }
 
     /// Appends the lines of a turn that was done: how it ended, and the packets that were released.
-    #[tactic(auto, using(crate::specs::laws::WhyLaws::waits_then))]
     fn note_done(
         &mut self,
         name: &str,
         word: TurnWord,
         out: &[(Dpid, u32)],
     ) -> Result<(), AllocError>
-        ensures waits { OnOk result (Waits self.old self.new) }
-        ensures adds { OnOk result (Adds (turn_line_of (name.now) word ++ out_text out.now) self.old self.new) }
+        ensures { OnOk result (Notes (turn_line_of (name.now) word ++ out_text out.now) self.old self.new) }
     {
         self.note_turn(name, word)?;
         self.note_out(out)
@@ -295,7 +240,6 @@ impl Core {
 
     /// Closes a turn of an application at an event of a kind: counts and tells it, with the switches that were lost in it, and
     /// does what the policy says of one that failed. Answers whether the event goes no further.
-    #[tactic(auto, using(crate::specs::laws::TalkingLaws::keeps_none))]
     fn close<W: World>(
         &mut self,
         world: &mut W,
@@ -309,20 +253,9 @@ impl Core {
         requires place { app.old.state.index < length self.old.store }
         requires read { AreRead self.old.net.kept }
         requires store { StoreRests self.old.store }
-        ensures goes { OnOk result (CoreGoes self.new) }
-        ensures events { OnOk result (self.new.events ≡ self.old.events) }
-        ensures store { OnOk result (self.new.store ≡ self.old.store) }
-        ensures counted { OnOk result (IsCountedTo self.old.events app.new) }
-        ensures index { app.new.state.index ≡ app.old.state.index }
-        ensures rule { app.new.rule ≡ app.old.rule }
-        ensures stops { IfOk result (λ stops. stops ≡ says_stop (end_of closing)) }
-        ensures closes { OnOk result (Closes W.Tells kind closing (W.seen world.old) (W.seen world.new) self.old self.new app.old app.new) }
-        ensures continues { Continues W.Tells (W.seen world.old) (W.seen world.new) }
-        ensures places { NoStray W.Tells (length self.old.store) (W.seen world.old) (W.seen world.new) self.old.net }
-        ensures reads { OnOk result (Reads W.Tells (W.seen world.old) (W.seen world.new) self.old.net self.new.net) }
-        ensures no_point { NoPoint W.Tells (length self.old.store) (W.seen world.old) (W.seen world.new) }
-        ensures talks { KeepsTalking W.Tells (W.seen world.old) (W.seen world.new) }
-        ensures own { W.Tells → OwnSteps app.old.state.index (W.seen world.old) (W.seen world.new) }
+        ensures passes { PassesQuietly W.Tells (length self.old.store) (W.seen world.old) (W.seen world.new) self.old.net self.new.net result }
+        ensures keeps { CloseKeeps W.Tells (W.seen world.old) (W.seen world.new) app.old app.new }
+        ensures done { IfOk result (λ stops. CloseDone W.Tells kind closing stops (W.seen world.old) (W.seen world.new) self.old self.new app.old app.new) }
     {
         let name = app.rule.name.as_str();
         match closing {
@@ -359,21 +292,11 @@ impl Core {
         requires failed { app.old.failed < self.old.events }
         requires place { app.old.state.index < length self.old.store }
         requires fits { HostFits (host.Event self.old.events self.old.net.moment event.now) }
-        ensures goes { OnOk result (CoreGoes self.new) }
-        ensures events { OnOk result (self.new.events ≡ self.old.events) }
-        ensures others { OnOk result (KeepsOthers app.old.state.index self.old.store self.new.store) }
-        ensures counted { OnOk result (IsCountedTo self.old.events app.new) }
-        ensures index { OnOk result (app.new.state.index ≡ app.old.state.index) }
-        ensures rule { OnOk result (app.new.rule ≡ app.old.rule) }
-        ensures turn { IfOk result (λ stops. TurnNoted W.Tells (J.accepts judge.now) event.now stops (W.seen world.old) (W.seen world.new) self.old self.new app.old app.new) }
-        ensures continues { Continues W.Tells (W.seen world.old) (W.seen world.new) }
-        ensures places { NoStray W.Tells (length self.old.store) (W.seen world.old) (W.seen world.new) self.old.net }
-        ensures reads { OnOk result (Reads W.Tells (W.seen world.old) (W.seen world.new) self.old.net self.new.net) }
+        ensures passes { Passes W.Tells (length self.old.store) (W.seen world.old) (W.seen world.new) self.old.net self.new.net result }
         ensures later { W.Tells → CalmLater app.old.state.index (W.seen world.old) (W.seen world.new) }
-        ensures talks { OnErr result (TurnTalks W.Tells app.old.state.index app.old.state.rest (W.seen world.old) (W.seen world.new)) }
-        ensures why { IfErr result (IsReason W.Tells (W.seen world.old) (W.seen world.new) 0 0) }
-        ensures plain { IfErr result (PlainTurn W.Tells (W.seen world.old) (W.seen world.new) self.old.net) }
-        ensures left { IfErr result (λ fault. TurnLeft W.Tells (IsShort fault) app.old.state.index app.old.rule.now.budget app.old.state.rest (W.seen world.old) (W.seen world.new) self.old.net) }
+        ensures done { MatchResult result (λ stops. TurnDone W.Tells (J.accepts judge.now) event.now stops (W.seen world.old) (W.seen world.new) self.old
+            self.new app.old app.new)
+            (TurnFails W.Tells app.old.state.index app.old.rule.now.budget app.old.state.rest (W.seen world.old) (W.seen world.new) self.old.net) }
     {
         let budget = app.rule.budget;
         let closing = hold_turn(
@@ -407,18 +330,10 @@ fn offer<'x, W: World, J: Judge>(
     requires done { app.old.done < core.old.events }
     requires failed { app.old.failed < core.old.events }
     requires place { app.old.state.index < length core.old.store }
-    ensures goes { OnOk result (CoreGoes core.new) }
-    ensures events { OnOk result (core.new.events ≡ core.old.events) }
-    ensures others { OnOk result (KeepsOthers app.old.state.index core.old.store core.new.store) }
-    ensures counted { OnOk result (IsCountedTo core.old.events app.new) }
-    ensures index { OnOk result (app.new.state.index ≡ app.old.state.index) }
-    ensures rule { OnOk result (app.new.rule ≡ app.old.rule) }
-    ensures offered { IfOk result (λ stops. OfferNoted W.Tells (J.accepts judge.now) event.now stops (W.seen world.old) (W.seen world.new) core.old core.new app.old app.new) }
-    ensures continues { Continues W.Tells (W.seen world.old) (W.seen world.new) }
-    ensures places { NoStray W.Tells (length core.old.store) (W.seen world.old) (W.seen world.new) core.old.net }
-    ensures reads { OnOk result (Reads W.Tells (W.seen world.old) (W.seen world.new) core.old.net core.new.net) }
-    ensures fails { IfErr result (λ fault. OfferFails W.Tells fault event.now (W.seen world.old) (W.seen world.new) core.old app.old) }
-    ensures why { IfErr result (IsReason W.Tells (W.seen world.old) (W.seen world.new) 0 0) }
+    ensures passes { Passes W.Tells (length core.old.store) (W.seen world.old) (W.seen world.new) core.old.net core.new.net result }
+    ensures done { MatchResult result (λ stops. OfferDone W.Tells (J.accepts judge.now) event.now stops (W.seen world.old) (W.seen world.new) core.old core.new
+        app.old app.new)
+        (OfferStops W.Tells event.now (W.seen world.old) (W.seen world.new) core.old app.old) }
 {
     if !app.takes(event) {
         return Ok(false);
@@ -440,15 +355,10 @@ fn offer_all<'x, W: World, J: Judge>(
     requires going { AreGoing core.old apps.old.items }
     requires before { AreBefore core.old.events apps.old.items }
     requires few { core.old.events < 2 ^ 64 }
-    ensures going { OnOk result (AreGoing core.new apps.new.items) }
-    ensures events { OnOk result (core.new.events ≡ core.old.events) }
-    ensures number { OnOk result (length core.new.store ≡ length core.old.store) }
-    ensures offered { OnOk result (AllOffered W.Tells (J.accepts judge.now) event.now (W.seen world.old) (W.seen world.new) core.old core.new apps.old.items apps.new.items) }
-    ensures continues { Continues W.Tells (W.seen world.old) (W.seen world.new) }
-    ensures places { NoStray W.Tells (length core.old.store) (W.seen world.old) (W.seen world.new) core.old.net }
-    ensures reads { OnOk result (Reads W.Tells (W.seen world.old) (W.seen world.new) core.old.net core.new.net) }
-    ensures fails { IfErr result (λ fault. OffersFail W.Tells (J.accepts judge.now) fault event.now (W.seen world.old) (W.seen world.new) core.old apps.old.items) }
-    ensures why { IfErr result (IsReason W.Tells (W.seen world.old) (W.seen world.new) 0 0) }
+    ensures passes { Passes W.Tells (length core.old.store) (W.seen world.old) (W.seen world.new) core.old.net core.new.net result }
+    ensures done { MatchResult result (λ _. OffersDone W.Tells (J.accepts judge.now) event.now (W.seen world.old) (W.seen world.new) core.old core.new
+        apps.old.items apps.new.items)
+        (OffersStop W.Tells (J.accepts judge.now) event.now (W.seen world.old) (W.seen world.new) core.old apps.old.items) }
 {
     for at in 0..apps.len() {
         if offer(core, world, &mut apps[at], judge, event)? {
@@ -468,15 +378,9 @@ impl Run<'_> {
     ) -> Result<(), Fault>
         requires going { Going self.old }
         requires few { self.old.core.events < 2 ^ 63 }
-        ensures going { OnOk result (Going self.new) }
-        ensures events { OnOk result (self.new.core.events ≡ self.old.core.events + 1) }
-        ensures number { OnOk result (length self.new.core.store ≡ length self.old.core.store) }
-        ensures dispatched { OnOk result (IsDispatched W.Tells (J.accepts judge.now) event.now (W.seen world.old) (W.seen world.new) self.old self.new) }
-        ensures continues { Continues W.Tells (W.seen world.old) (W.seen world.new) }
-        ensures places { NoStray W.Tells (length self.old.core.store) (W.seen world.old) (W.seen world.new) self.old.core.net }
-        ensures reads { OnOk result (Reads W.Tells (W.seen world.old) (W.seen world.new) self.old.core.net self.new.core.net) }
-        ensures fails { IfErr result (λ fault. FailsIn W.Tells (J.accepts judge.now) fault event.now (W.seen world.old) (W.seen world.new) (engine_of self.old)) }
-        ensures why { IfErr result (IsReason W.Tells (W.seen world.old) (W.seen world.new) 0 0) }
+        ensures passes { Passes W.Tells (length self.old.core.store) (W.seen world.old) (W.seen world.new) self.old.core.net self.new.core.net result }
+        ensures done { MatchResult result (λ _. DispatchDone W.Tells (J.accepts judge.now) event.now (W.seen world.old) (W.seen world.new) self.old self.new)
+            (DispatchStops W.Tells (J.accepts judge.now) event.now (W.seen world.old) (W.seen world.new) self.old) }
     {
         self.core.events += 1;
         let line = event_line(self.core.alloc, self.core.events, event.kind, event.dpid)?;
@@ -485,7 +389,6 @@ impl Run<'_> {
     }
 
     /// Dispatches the oldest event that waits, and writes its lines; answers whether there was one.
-    #[tactic(auto, using(crate::specs::laws::WhyLaws::why_sink))]
     fn dispatch_oldest<W: World, J: Judge, K: Sink>(
         &mut self,
         world: &mut W,
@@ -495,19 +398,12 @@ impl Run<'_> {
         requires going { Going self.old }
         requires few { self.old.core.events < 2 ^ 63 }
         requires none_waits { self.old.core.lines.items ≡ [] }
-        ensures going { OnOk result (Going self.new) }
-        ensures events { OnOk result (self.new.core.events ≤ self.old.core.events + 1) }
-        ensures number { OnOk result (length self.new.core.store ≡ length self.old.core.store) }
-        ensures dispatches { IfOk result (λ found. DispatchesOldest W.Tells (J.accepts judge.now) found (K.contents sink.old) (K.contents sink.new)
-            (W.seen world.old) (W.seen world.new) self.old self.new) }
-        ensures cut { IfErr result (λ fault. CutOne W.Tells (J.accepts judge.now) fault (K.contents sink.old) (K.contents sink.new)
-            (W.seen world.old) (W.seen world.new) (engine_of self.old)) }
-        ensures continues { Continues W.Tells (W.seen world.old) (W.seen world.new) }
-        ensures places { NoStray W.Tells (length self.old.core.store) (W.seen world.old) (W.seen world.new) self.old.core.net }
-        ensures reads { OnOk result (Reads W.Tells (W.seen world.old) (W.seen world.new) self.old.core.net self.new.core.net) }
+        ensures passes { Passes W.Tells (length self.old.core.store) (W.seen world.old) (W.seen world.new) self.old.core.net self.new.core.net result }
         ensures never_fell { NeverFell (K.faults sink.old) (K.faults sink.new) }
-        ensures why { IfErr result (IsReason W.Tells (W.seen world.old) (W.seen world.new) (K.faults sink.old) (K.faults sink.new)) }
-        ensures plain { IfErr result (λ fault. PlainRun W.Tells (J.accepts judge.now) (W.seen world.old) (W.seen world.new) (engine_of self.old) (served_by fault)) }
+        ensures done { MatchResult result (λ found. OldestDone W.Tells (J.accepts judge.now) found (K.contents sink.old) (K.contents sink.new)
+            (W.seen world.old) (W.seen world.new) self.old self.new)
+            (OldestStops W.Tells (J.accepts judge.now) (K.contents sink.old) (K.contents sink.new) (K.faults sink.old) (K.faults sink.new) (W.seen world.old)
+            (W.seen world.new) self.old) }
     {
         let Some(event) = self.core.queue.take_first() else {
             return Ok(false);
@@ -518,7 +414,6 @@ impl Run<'_> {
     }
 
     /// Dispatches the events that wait, first in first out, and those that join them meanwhile, up to 1,000.
-    #[tactic(auto, using(crate::specs::laws::WhyLaws::continues_then, crate::specs::laws::WhyLaws::why_behind, crate::specs::laws::WhyLaws::fell_then))]
     pub(crate) fn dispatch_waiting<W: World, J: Judge, K: Sink>(
         &mut self,
         world: &mut W,
@@ -528,25 +423,15 @@ impl Run<'_> {
         requires going { Going self.old }
         requires few { self.old.core.events < 2 ^ 62 }
         requires none_waits { self.old.core.lines.items ≡ [] }
-        ensures going { OnOk result (Going self.new) }
-        ensures events { OnOk result (self.new.core.events ≤ self.old.core.events + 1000) }
-        ensures number { OnOk result (length self.new.core.store ≡ length self.old.core.store) }
-
-        // In a world that keeps its word this is what the reference controller does with the events that wait.
-        ensures dispatches { OnOk result (DispatchesWaiting W.Tells (J.accepts judge.now) (K.contents sink.old) (K.contents sink.new)
-            (W.seen world.old) (W.seen world.new) self.old self.new) }
-
-        // Where a fault ends it, it is so up to an event.
-        ensures cut { IfErr result (λ fault. CutSome W.Tells (J.accepts judge.now) fault (K.contents sink.old) (K.contents sink.new)
-            (W.seen world.old) (W.seen world.new) self.old) }
-        ensures continues { Continues W.Tells (W.seen world.old) (W.seen world.new) }
-        ensures places { NoStray W.Tells (length self.old.core.store) (W.seen world.old) (W.seen world.new) self.old.core.net }
-        ensures reads { OnOk result (Reads W.Tells (W.seen world.old) (W.seen world.new) self.old.core.net self.new.core.net) }
+        ensures passes { Passes W.Tells (length self.old.core.store) (W.seen world.old) (W.seen world.new) self.old.core.net self.new.core.net result }
         ensures never_fell { NeverFell (K.faults sink.old) (K.faults sink.new) }
-        ensures why { IfErr result (IsReason W.Tells (W.seen world.old) (W.seen world.new) (K.faults sink.old) (K.faults sink.new)) }
 
-        // Where the world keeps its word and all was settled, a fault is a plain one.
-        ensures plain { IfErr result (λ fault. PlainRun W.Tells (J.accepts judge.now) (W.seen world.old) (W.seen world.new) (engine_of self.old) (served_by fault)) }
+        // In a world that keeps its word this is what the reference controller does with the events that wait. Where a fault ends it, it is so up to an
+        // event; and where all was settled, too, the fault is a plain one.
+        ensures done { MatchResult result (λ _. WaitingDone W.Tells (J.accepts judge.now) (K.contents sink.old) (K.contents sink.new) (W.seen world.old)
+            (W.seen world.new) self.old self.new)
+            (WaitingStops W.Tells (J.accepts judge.now) (K.contents sink.old) (K.contents sink.new) (K.faults sink.old) (K.faults sink.new) (W.seen world.old)
+            (W.seen world.new) self.old) }
     {
         for _event in 0..MOST_EVENTS {
             if !self.dispatch_oldest(world, judge, sink)? {

@@ -1,12 +1,11 @@
 //! A run so far: what the engine keeps, and its applications.
 
-ghost use Rattle.std.specs.Prelude.{◌≡◌, ◌<◌, ◌≤◌, ◌^◌, List, [], length, map, IfOk};
+ghost use Rattle.std.specs.Prelude.{◌≡◌, ◌<◌, ◌^◌, List, length, IfOk};
 ghost use Rattle.checkpoint_store.specs.Slots.{Slot};
-ghost use Rattle.crash_policy.specs.Policies.{app_value};
-ghost use Rattle.event_dispatch.specs.Runs.{Going, AreFresh};
-ghost use Rattle.run_laws.specs.First.{engine_at_first};
+ghost use Rattle.event_dispatch.specs.NewRun.{IsNewRun};
+ghost use Rattle.event_dispatch.specs.Runs.{AreFresh};
 ghost use Rattle.run_laws.specs.Facts.{is_taking};
-ghost use Rattle.event_dispatch.specs.Shows.{engine_of, application_of};
+ghost use Rattle.event_dispatch.specs.Shows.{application_of};
 
 use crate::engine_core::Core;
 use app_frames::Event;
@@ -73,10 +72,7 @@ fn number_of(rules: &[AppRule]) -> Result<u32, AllocError>
 impl<'a> Run<'a> {
     /// Makes a run of applications of which nothing has happened.
     pub(crate) fn new(alloc: Global, rules: &'a [AppRule]) -> Result<Run<'a>, AllocError>
-        ensures number { IfOk result (λ r. length rules.now < 2 ^ 32) }
-        ensures going { IfOk result Going }
-        ensures first { IfOk result (λ r. engine_of r ≡ engine_at_first (map app_value rules.now)) }
-        ensures none_waits { IfOk result (λ r. r.core.lines.items ≡ []) }
+        ensures done { IfOk result (IsNewRun rules.now) }
     {
         let number = number_of(rules)?;
         Ok(Run {

@@ -1,6 +1,6 @@
 -- Laws of an event that is offered to one application after the other: what was offered so far, up to one that stopped the event there, to the
 -- last one, or to a fault.
-use Rattle.std.specs.Prelude.{◌≡◌, ℕ, zero, suc, ◌+◌, ◌<◌, ◌≤◌, Bool, true, false, List, [], ◌∷◌, ◌++◌, length, take, drop, map, get_or, set, slice_get, Some, Result, Ok, Err, OnOk, OnErr, IfOk, IfErr, refl}
+use Rattle.std.specs.Prelude.{◌≡◌, ℕ, zero, suc, ◌+◌, ◌<◌, ◌≤◌, Bool, true, false, List, [], ◌∷◌, ◌++◌, length, take, drop, map, get_or, set, slice_get, Some, Result, Ok, Err, MatchResult, refl}
 use Rattle.std.specs.List.{AllByRecursion, list_any}
 use Rattle.std.proofs.Common.{sym, ap, ap₂, ◌∙◌, subst, append_assoc, add-one, arith, inl, inr, true≢false}
 use Rattle.std.proofs.lemmas.Bool.{and_parts, cases_Bool, cases_eq}
@@ -11,7 +11,7 @@ use Rattle.crash_policy.specs.Policies.{app_value}
 use Rattle.lego_model.specs.AtOnce.{AtOnce}
 use Rattle.lego_model.specs.RunReport.{event_line}
 use Rattle.outside.specs.Seen.{Seen, Continues, journal}
-use Rattle.outside.specs.laws.SeenLaws.{Continues-refl, Continues-trans}
+use Rattle.outside.specs.laws.SeenLaws.{Continues-refl}
 use Rattle.net_txn.specs.Net.{NetState}
 use Rattle.net_txn.specs.laws.SaidLaws.{all_two}
 use Rattle.checkpoint_store.specs.Slots.{Slot}
@@ -27,16 +27,20 @@ use Rattle.event_dispatch.specs.declared.fault.Fault.TheVariants as faults
 use Rattle.event_dispatch.specs.declared.engine_core.Core.{Core}
 use Rattle.event_dispatch.specs.declared.run.Managed.{Managed}
 use Rattle.event_dispatch.specs.declared.run.Run.{Run}
-use Rattle.event_dispatch.specs.Runs.{AreRead, StoreRests, CoreGoes, IsCountedTo, IsCountedBefore, AreBefore, AreNumbered, AreGoing}
+use Rattle.event_dispatch.specs.Runs.{AreRead, StoreRests, CoreGoes, IsCountedTo, IsCountedBefore, AreBefore, AreNumbered, AreGoing, Going}
 use Rattle.event_dispatch.specs.Stored.{KeepsOthers}
-use Rattle.event_dispatch.specs.Shows.{application_of, engine_with, engine_of, Adds}
+use Rattle.event_dispatch.specs.Shows.{application_of, engine_with, engine_of, Adds, queued_run}
 use Rattle.event_dispatch.specs.Serves.{Notes, TurnNoted, stand, OfferNoted, AllOffered, IsDispatched}
-use Rattle.event_dispatch.specs.Steady.{NoStray, Reads}
-use Rattle.event_dispatch.specs.Plain.{PlainTurn}
-use Rattle.event_dispatch.specs.Undone.{IsShort, TurnLeft}
-use Rattle.event_dispatch.specs.Talking.{TurnTalks}
+use Rattle.event_dispatch.specs.Passes.{Passes, PassesSoFar}
+use Rattle.event_dispatch.specs.Why.{served_by}
+use Rattle.event_dispatch.specs.Undone.{IsShort}
+use Rattle.event_dispatch.specs.TurnParts.{TurnFails, TurnDone}
+use Rattle.event_dispatch.specs.EventParts.{OfferDone, OfferStops, OffersDone, OffersStop, DispatchDone, DispatchStops}
 use Rattle.event_dispatch.specs.Cut.{IsOfTurn, OfferFails, StopsWithin, OffersFail, FailsIn}
-use Rattle.event_dispatch.specs.laws.SteadyLaws.{places_none, reads_none, quietly_none, quietly_here, places_number, places_then, reads_then}
+use Rattle.event_dispatch.specs.laws.SteadyLaws.{reads_none, quietly_none, quietly_here}
+use Rattle.event_dispatch.specs.laws.PassesLaws.{passes_number, so_far_none, so_far_then}
+use Rattle.event_dispatch.specs.laws.TurnPartLaws.{passes_over}
+use Rattle.event_dispatch.specs.laws.WhyLaws.{why_then}
 use Rattle.event_dispatch.specs.laws.DispatchStrayLaws.{reads_over, later_here}
 use Rattle.event_dispatch.specs.laws.NoEventLaws.{no_event_none}
 use Rattle.event_dispatch.specs.laws.TalkingLaws.{rests_at_once, goes_none}
@@ -240,21 +244,7 @@ pub record OffersSoFar {Own : Type 0} (Tells : Type 0) (accepts : List TableView
   pub text : List ℕ
   pub offers : Offers Tells accepts event c.events 0 (map (application_of c.store) (take n apps)) text (stand old c) (stand now now_c) (map (application_of now_c.store) front) false
   pub notes : Notes text c now_c
-  pub continues : Continues Tells old now
-  pub places : NoStray Tells (length c.store) old now c.net
-  pub reads : Reads Tells old now c.net now_c.net
-
--- one more was offered it
-pub record OfferDone {Own : Type 0} (Tells : Type 0) (accepts : List TableView → Bool) (event : Event) (stops : Bool) (now new : Seen Own) (c now_c : Core) (m now_m : Managed) : Type 0 where
-  pub goes : CoreGoes now_c
-  pub events : now_c.events ≡ c.events
-  pub others : KeepsOthers m.state.index c.store now_c.store
-  pub counted : IsCountedTo c.events now_m
-  pub index : now_m.state.index ≡ m.state.index
-  pub offered : OfferNoted Tells accepts event stops now new c now_c m now_m
-  pub continues : Continues Tells now new
-  pub places : NoStray Tells (length c.store) now new c.net
-  pub reads : Reads Tells now new c.net now_c.net
+  pub passes : PassesSoFar Tells (length c.store) old now c.net now_c.net
 
 pub offers_first : {Own : Type 0} (Tells : Type 0) (accepts : List TableView → Bool) (event : Event) (seen : Seen Own) (c : Core) (apps : List Managed) → AreGoing c apps → AreBefore c.events apps → OffersSoFar Tells accepts event 0 seen seen c c apps apps
 offers_first Tells accepts event seen c apps going before = record {
@@ -272,9 +262,7 @@ offers_first Tells accepts event seen c apps going before = record {
   text = [];
   offers = (refl, refl, refl, refl);
   notes = sym (append-nil c.lines.items);
-  continues = Continues-refl Tells seen;
-  places = places_none Tells seen c.net;
-  reads = reads_none Tells seen c.net c.net refl;
+  passes = so_far_none Tells seen c.net;
 }
 
 -- the one that is next
@@ -298,7 +286,9 @@ next_place n m so_far less is =
     omega (arith, at, less, so_far.number, so_far.number_is)
 
 module _ {Own : Type 0} {Tells : Type 0} {accepts : List TableView → Bool} {event : Event} (n : ℕ) (old now new : Seen Own) (c now_c later_c : Core) (apps now_apps : List Managed) (m now_m : Managed) (stops : Bool)
-    (so_far : OffersSoFar Tells accepts event n old now c now_c apps now_apps) (split : drop n apps ≡ m ∷ drop (suc n) apps) (done : OfferDone Tells accepts event stops now new now_c later_c m now_m) where
+    (so_far : OffersSoFar Tells accepts event n old now c now_c apps now_apps) (split : drop n apps ≡ m ∷ drop (suc n) apps)
+    (passes : Passes {T = Bool} {E = Fault} Tells (length now_c.store) now new now_c.net later_c.net (Ok stops))
+    (done : OfferDone Tells accepts event stops now new now_c later_c m now_m) where
   abbrev past_it : List Managed
   past_it = drop (suc n) apps
 
@@ -360,12 +350,6 @@ module _ {Own : Type 0} {Tells : Type 0} {accepts : List TableView → Bool} {ev
       same_length [] ys x y = refl
       same_length (z ∷ xs) ys x y = ap suc (same_length xs ys x y)
 
-  places_now : NoStray Tells (length c.store) old new c.net
-  places_now = places_then old now new c.net now_c.net so_far.continues done.continues so_far.places so_far.reads (places_number (length c.store) (length now_c.store) so_far.number done.places)
-
-  reads_now : Reads Tells old new c.net later_c.net
-  reads_now = reads_then old now new c.net now_c.net later_c.net so_far.continues done.continues so_far.reads done.reads
-
   going_now : AreGoing later_c (set now_apps n now_m)
   going_now = record {
     core = done.goes;
@@ -400,9 +384,7 @@ module _ {Own : Type 0} {Tells : Type 0} {accepts : List TableView → Bool} {ev
         (offers_one Tells accepts event c.events n done.offered.text (stand now now_c) (stand new later_c) (application_of c.store m) (application_of later_c.store now_m)
         (subst (λ (b : Bool). IsOffered Tells accepts event c.events n (is_taking event (application_of c.store m)) b done.offered.text (stand now now_c) (stand new later_c) (application_of c.store m) (application_of later_c.store now_m)) go offered_here))));
     notes = notes_now;
-    continues = Continues-trans Tells old now new so_far.continues done.continues;
-    places = places_now;
-    reads = reads_now;
+    passes = so_far_then so_far.passes (passes_number (length c.store) (length now_c.store) so_far.number passes);
   })
     where
       length_last : (xs : List Managed) (x : Managed) → length (xs ++ x ∷ []) ≡ length xs + 1
@@ -410,8 +392,8 @@ module _ {Own : Type 0} {Tells : Type 0} {accepts : List TableView → Bool} {ev
       length_last (y ∷ ys) x = omega (arith, length_last ys x)
 
   -- it stops there
-  pub offers_end : stops ≡ true → AllOffered Tells accepts event old new c later_c apps (set now_apps n now_m)
-  offers_end stop = record {
+  stopped_there : stops ≡ true → AllOffered Tells accepts event old new c later_c apps (set now_apps n now_m)
+  stopped_there stop = record {
     text = so_far.text ++ done.offered.text;
     stopped = true;
     offers = subst (λ (items : List Application). Offers Tells accepts event c.events 0 items (so_far.text ++ done.offered.text) (stand old c) (stand new later_c) (map (application_of later_c.store) (set now_apps n now_m)) true)
@@ -426,17 +408,8 @@ module _ {Own : Type 0} {Tells : Type 0} {accepts : List TableView → Bool} {ev
     notes = notes_now;
   }
 
-  pub offers_going : AreGoing later_c (set now_apps n now_m)
-  offers_going = going_now
-
-  pub offers_number : length later_c.store ≡ length c.store
-  offers_number = number_now
-
-  pub offers_places : NoStray Tells (length c.store) old new c.net
-  offers_places = places_now
-
-  pub offers_reads : Reads Tells old new c.net later_c.net
-  offers_reads = reads_now
+  pub offers_end : stops ≡ true → OffersDone Tells accepts event old new c later_c apps (set now_apps n now_m)
+  offers_end stop = record { going = going_now; events = done.events ∙ so_far.events; number = number_now; offered = stopped_there stop }
 
 -- all were offered it
 module _ {Own : Type 0} {Tells : Type 0} {accepts : List TableView → Bool} {event : Event} (n : ℕ) (old now : Seen Own) (c now_c : Core) (apps now_apps : List Managed) (so_far : OffersSoFar Tells accepts event n old now c now_c apps now_apps) (all : length now_apps ≤ n) where
@@ -457,8 +430,8 @@ module _ {Own : Type 0} {Tells : Type 0} {accepts : List TableView → Bool} {ev
   taken_is : take n apps ≡ apps
   taken_is = sym (append-nil (take n apps)) ∙ ap (λ (ms : List Managed). take n apps ++ ms) (sym none_behind) ∙ taken_whole n apps
 
-  pub all_offered : AllOffered Tells accepts event old now c now_c apps now_apps
-  all_offered = record {
+  offered_all : AllOffered Tells accepts event old now c now_c apps now_apps
+  offered_all = record {
     text = so_far.text;
     stopped = false;
     offers = subst (λ (items : List Application). Offers Tells accepts event c.events 0 items so_far.text (stand old c) (stand now now_c) (map (application_of now_c.store) now_apps) false) (ap (λ (ms : List Managed). map (application_of c.store) ms) taken_is)
@@ -466,13 +439,16 @@ module _ {Own : Type 0} {Tells : Type 0} {accepts : List TableView → Bool} {ev
     notes = so_far.notes;
   }
 
-  pub all_going : AreGoing now_c now_apps
-  all_going = record {
+  going_all : AreGoing now_c now_apps
+  going_all = record {
     core = so_far.goes;
     counted = subst (λ (ms : List Managed). AllByRecursion (IsCountedTo now_c.events) ms) (sym front_is) (subst (λ (k : ℕ). AllByRecursion (IsCountedTo k) so_far.front) (sym so_far.events) so_far.counted);
     numbered = subst (λ (ms : List Managed). AreNumbered 0 ms) (sym so_far.now_is) so_far.numbered;
     number = so_far.number ∙ so_far.number_is;
   }
+
+  pub all_offered : OffersDone Tells accepts event old now c now_c apps now_apps
+  all_offered = record { going = going_all; events = so_far.events; number = so_far.number; offered = offered_all }
 
 -- ---- A fault ended it
 
@@ -492,7 +468,11 @@ of_turn_at faults.Write p n apps m rest split holds = tt
 of_turn_at faults.NoMemory p n apps m rest split holds = tt
 
 module _ {Own : Type 0} {Tells : Type 0} {accepts : List TableView → Bool} {event : Event} (n : ℕ) (old now new : Seen Own) (c now_c : Core) (apps now_apps : List Managed) (m : Managed) (fault : Fault)
-    (so_far : OffersSoFar Tells accepts event n old now c now_c apps now_apps) (split : drop n apps ≡ m ∷ drop (suc n) apps) (later : Continues Tells now new) (fails : OfferFails Tells fault event now new now_c m) where
+    (so_far : OffersSoFar Tells accepts event n old now c now_c apps now_apps) (split : drop n apps ≡ m ∷ drop (suc n) apps) (later : Continues Tells now new)
+    (stops : OfferStops Tells event now new now_c m fault) where
+  abbrev fails : OfferFails Tells fault event now new now_c m
+  fails = stops.fails
+
   abbrev behind : List Managed
   behind = drop (suc n) apps
 
@@ -542,13 +522,13 @@ module _ {Own : Type 0} {Tells : Type 0} {accepts : List TableView → Bool} {ev
     plain = fails.plain;
   }
 
-  pub offers_fail : OffersFail Tells accepts fault event old new c apps
-  offers_fail = record {
+  stopped_within : OffersFail Tells accepts fault event old new c apps
+  stopped_within = record {
     number = n;
     mid = now;
     mid_core = now_c;
     mid_apps = now_apps;
-    on = so_far.continues;
+    on = so_far.passes.continues;
     text = so_far.text;
     front = so_far.front;
     offers = so_far.offers;
@@ -556,26 +536,39 @@ module _ {Own : Type 0} {Tells : Type 0} {accepts : List TableView → Bool} {ev
         ∙ ap (λ (items : List Application). map (application_of now_c.store) so_far.front ++ items) so_far.kept;
     events_is = so_far.events;
     of_turn = of_turn_at fault (λ x. is_taking event (application_of c.store x)) n apps m behind split (subst (λ (b : Bool). IsOfTurn fault b) same_taking fails.of_turn);
-    reads = so_far.reads;
+    reads = so_far.passes.reads;
     later = later;
     within = within_stops;
   }
 
-  pub fails_places : NoStray Tells (length now_c.store) now new now_c.net → NoStray Tells (length c.store) old new c.net
-  fails_places places = places_then old now new c.net now_c.net so_far.continues later so_far.places so_far.reads (places_number (length c.store) (length now_c.store) so_far.number places)
+  pub offers_stop_at : OffersStop Tells accepts event old new c apps fault
+  offers_stop_at = record { fails = stopped_within; why = why_then old now new (served_by fault) so_far.passes.continues stops.why }
 
 -- ---- What one application was to have
 
 -- it is passed over
-pub offer_passed : {Own : Type 0} (Tells : Type 0) (accepts : List TableView → Bool) (event : Event) (seen : Seen Own) (c : Core) (m : Managed) → is_taking event (application_of c.store m) ≡ false → OfferNoted Tells accepts event false seen seen c c m m
-offer_passed Tells accepts event seen c m passed = record {
-  text = [];
-  offered = subst (λ (b : Bool). IsOffered Tells accepts event c.events m.state.index b false [] (stand seen c) (stand seen c) (application_of c.store m) (application_of c.store m)) (sym passed) (refl, refl, refl, refl);
-  notes = sym (append-nil c.lines.items);
+pub offer_passed : {Own : Type 0} (Tells : Type 0) (accepts : List TableView → Bool) (event : Event) (seen : Seen Own) (c : Core) (m : Managed) → CoreGoes c
+    → m.done < c.events → m.failed < c.events → is_taking event (application_of c.store m) ≡ false
+    → OfferDone Tells accepts event false seen seen c c m m
+offer_passed Tells accepts event seen c m goes done failed passed = record {
+  goes = goes;
+  events = refl;
+  others = record { number = refl; others = λ i other. refl };
+  counted = record { done = omega (arith, done); failed = omega (arith, failed) };
+  index = refl;
+  rule = refl;
+  offered = record {
+    text = [];
+    offered = subst (λ (b : Bool). IsOffered Tells accepts event c.events m.state.index b false [] (stand seen c) (stand seen c) (application_of c.store m)
+        (application_of c.store m)) (sym passed) (refl, refl, refl, refl);
+    notes = sym (append-nil c.lines.items);
+  };
 }
 
 -- it had its turn
-pub offer_taken : {Own : Type 0} {Tells : Type 0} {accepts : List TableView → Bool} {event : Event} {stops : Bool} (old new : Seen Own) (c now_c : Core) (m now_m : Managed) → is_taking event (application_of c.store m) ≡ true → now_c.events ≡ c.events → now_m.state.index ≡ m.state.index → (Tells → CallsFor m.state.index old new)
+offer_taken : {Own : Type 0} {Tells : Type 0} {accepts : List TableView → Bool} {event : Event} {stops : Bool} (old new : Seen Own) (c now_c : Core)
+    (m now_m : Managed) → is_taking event (application_of c.store m) ≡ true → now_c.events ≡ c.events → now_m.state.index ≡ m.state.index
+    → (Tells → CallsFor m.state.index old new)
     → TurnNoted Tells accepts event stops old new c now_c m now_m → OfferNoted Tells accepts event stops old new c now_c m now_m
 offer_taken {Tells = Tells} {accepts = accepts} {event = event} {stops = stops} old new c now_c m now_m takes events index own noted = record {
   text = noted.text;
@@ -592,26 +585,32 @@ offer_taken {Tells = Tells} {accepts = accepts} {event = event} {stops = stops} 
         record { takes = both.0; own = own; stops_is = both.1 }
 
 -- it has none, or memory was wanting before it
-pub offer_none : {Own : Type 0} (Tells : Type 0) (event : Event) (seen : Seen Own) (c : Core) (m : Managed) → OfferFails Tells faults.NoMemory event seen seen c m
+pub offer_none : {Own : Type 0} (Tells : Type 0) (event : Event) (seen : Seen Own) (c : Core) (m : Managed)
+    → OfferStops Tells event seen seen c m faults.NoMemory
 offer_none Tells event seen c m = record {
-  talks = λ told rests. rests.at_once;
-  of_turn = tt;
-  left = λ told keeps order ready rests. inl (no_event_none seen);
-  later = λ told. calm_later (calm_none m.state.index seen);
-  plain = record { plain = λ told keeps ready. inl tt };
+  fails = record {
+    talks = λ told rests. rests.at_once;
+    of_turn = tt;
+    left = λ told keeps order ready rests. inl (no_event_none seen);
+    later = λ told. calm_later (calm_none m.state.index seen);
+    plain = record { plain = λ told keeps ready. inl tt };
+  };
+  why = tt;
 }
 
 -- a fault ended its turn
-pub offer_fails : {Own : Type 0} {Tells : Type 0} {event : Event} (fault : Fault) (old new : Seen Own) (c : Core) (m : Managed) → is_taking event (application_of c.store m) ≡ true → TurnTalks Tells m.state.index m.state.rest old new → (Tells → CalmLater m.state.index old new)
-    → TurnLeft Tells (IsShort fault) m.state.index m.rule.now.budget m.state.rest old new c.net → PlainTurn Tells old new c.net fault → OfferFails Tells fault event old new c m
-offer_fails {event = event} fault old new c m takes talks later left plain =
+offer_fails : {Own : Type 0} {Tells : Type 0} {event : Event} (fault : Fault) (old new : Seen Own) (c : Core) (m : Managed)
+    → is_taking event (application_of c.store m) ≡ true → (Tells → CalmLater m.state.index old new)
+    → TurnFails Tells m.state.index m.rule.now.budget m.state.rest old new c.net fault
+    → OfferFails Tells fault event old new c m
+offer_fails {event = event} fault old new c m takes later turn =
     let alive = taking_alive event (application_of c.store m) takes in
     record {
-      talks = λ told rests. talks.talks told rests.at_once (rests.rest_is alive).0 (rests.rest_is alive).1;
+      talks = λ told rests. turn.talks.talks told rests.at_once (rests.rest_is alive).0 (rests.rest_is alive).1;
       of_turn = takes_of fault takes;
-      left = λ told keeps order ready rests. left.left told keeps order ready rests.at_once (rests.rest_is alive).1;
+      left = λ told keeps order ready rests. turn.left.left told keeps order ready rests.at_once (rests.rest_is alive).1;
       later = later;
-      plain = plain;
+      plain = turn.plain;
     }
   where
     taking_alive : (event : Event) (a : Application) → is_taking event a ≡ true → a.alive ≡ true
@@ -624,21 +623,21 @@ offer_fails {event = event} fault old new c m takes talks later left plain =
     takes_of faults.NoMemory holds = tt
 
 -- however it ended
-pub offer_failed : {Own : Type 0} {Tells : Type 0} (event : Event) (result : Result Bool Fault) (old new : Seen Own) (c : Core) (m : Managed) → is_taking event (application_of c.store m) ≡ true → OnErr result (TurnTalks Tells m.state.index m.state.rest old new) → (Tells → CalmLater m.state.index old new)
-    → IfErr result (λ fault. TurnLeft Tells (IsShort fault) m.state.index m.rule.now.budget m.state.rest old new c.net) → IfErr result (PlainTurn Tells old new c.net) → IfErr result (λ fault. OfferFails Tells fault event old new c m)
-offer_failed event (Ok stops) old new c m takes talks later left plain = tt
-offer_failed event (Err fault) old new c m takes talks later left plain = offer_fails fault old new c m takes talks later left plain
-
-pub offer_noted : {Own : Type 0} {Tells : Type 0} (accepts : List TableView → Bool) (event : Event) (result : Result Bool Fault) (old new : Seen Own) (c now_c : Core) (m now_m : Managed) → is_taking event (application_of c.store m) ≡ true → OnOk result (now_c.events ≡ c.events) → OnOk result (now_m.state.index ≡ m.state.index)
-    → (Tells → CalmLater m.state.index old new) → IfOk result (λ stops. TurnNoted Tells accepts event stops old new c now_c m now_m) → IfOk result (λ stops. OfferNoted Tells accepts event stops old new c now_c m now_m)
-offer_noted accepts event (Ok stops) old new c now_c m now_m takes events index later noted = offer_taken old new c now_c m now_m takes events index (λ told. (later told).own) noted
-offer_noted accepts event (Err fault) old new c now_c m now_m takes events index later noted = tt
-
-pub keeps_all : (app : ℕ) (slots : List Slot) → KeepsOthers app slots slots
-keeps_all app slots = record { number = refl; others = λ i other. refl }
-
-pub counted_still : (events : ℕ) (m : Managed) → m.done < events → m.failed < events → IsCountedTo events m
-counted_still events m done failed = record { done = omega (arith, done); failed = omega (arith, failed) }
+pub offer_ended : {Own : Type 0} {Tells : Type 0} (accepts : List TableView → Bool) (event : Event) (result : Result Bool Fault) (old new : Seen Own)
+    (c now_c : Core) (m now_m : Managed) → is_taking event (application_of c.store m) ≡ true → (Tells → CalmLater m.state.index old new)
+    → MatchResult result (λ stops. TurnDone Tells accepts event stops old new c now_c m now_m)
+    (TurnFails Tells m.state.index m.rule.now.budget m.state.rest old new c.net)
+    → MatchResult result (λ stops. OfferDone Tells accepts event stops old new c now_c m now_m) (OfferStops Tells event old new c m)
+offer_ended accepts event (Ok stops) old new c now_c m now_m takes later turn = record {
+  goes = turn.goes;
+  events = turn.events;
+  others = turn.others;
+  counted = turn.counted;
+  index = turn.index;
+  rule = turn.rule;
+  offered = offer_taken old new c now_c m now_m takes turn.events turn.index (λ told. (later told).own) turn.turn;
+}
+offer_ended accepts event (Err fault) old new c now_c m now_m takes later turn = record { fails = offer_fails fault old new c m takes later turn; why = turn.why }
 
 -- ---- The event, with its line
 
@@ -671,7 +670,8 @@ module _ (event : Event) (r : Run) (c : Core) (adds : Adds (event_line (r.core.e
   pub noted_views : c.net.views ≡ r.core.net.views
   noted_views = ap (λ (net : NetState). net.views) adds.stays.net
 
-  pub dispatched_is : {Own : Type 0} {Tells : Type 0} {accepts : List TableView → Bool} (old new : Seen Own) (now_r : Run) → now_r.core.events ≡ c.events → AllOffered Tells accepts event old new c now_r.core r.apps.items now_r.apps.items → IsDispatched Tells accepts event old new r now_r
+  dispatched_is : {Own : Type 0} {Tells : Type 0} {accepts : List TableView → Bool} (old new : Seen Own) (now_r : Run) → now_r.core.events ≡ c.events
+      → AllOffered Tells accepts event old new c now_r.core r.apps.items now_r.apps.items → IsDispatched Tells accepts event old new r now_r
   dispatched_is {Own = Own} {Tells = Tells} {accepts = accepts} old new now_r events all = record {
     text = event_line (r.core.events + 1) event.kind event.dpid ++ all.text;
     dispatches = record {
@@ -686,11 +686,8 @@ module _ (event : Event) (r : Run) (c : Core) (adds : Adds (event_line (r.core.e
     notes = all.notes ∙ ap (λ (xs : List ℕ). xs ++ all.text) adds.lines ∙ append_assoc r.core.lines.items (event_line (r.core.events + 1) event.kind event.dpid) all.text;
   }
 
-  pub dispatched_if : {Own : Type 0} (Tells : Type 0) (accepts : List TableView → Bool) (result : Result (Unit {0}) Fault) (old new : Seen Own) (now_r : Run) → OnOk result (now_r.core.events ≡ c.events) → OnOk result (AllOffered Tells accepts event old new c now_r.core r.apps.items now_r.apps.items) → OnOk result (IsDispatched Tells accepts event old new r now_r)
-  dispatched_if Tells accepts (Ok x) old new now_r events all = dispatched_is old new now_r events all
-  dispatched_if Tells accepts (Err fault) old new now_r events all = tt
-
-  pub fails_is : {Own : Type 0} {Tells : Type 0} {accepts : List TableView → Bool} (fault : Fault) (old new : Seen Own) → OffersFail Tells accepts fault event old new c r.apps.items → FailsIn Tells accepts fault event old new (engine_of r)
+  fails_is : {Own : Type 0} {Tells : Type 0} {accepts : List TableView → Bool} (fault : Fault) (old new : Seen Own)
+      → OffersFail Tells accepts fault event old new c r.apps.items → FailsIn Tells accepts fault event old new (engine_of r)
   fails_is {Own = Own} {Tells = Tells} {accepts = accepts} fault old new f = record {
     number = f.number;
     mid = f.mid;
@@ -714,23 +711,53 @@ module _ (event : Event) (r : Run) (c : Core) (adds : Adds (event_line (r.core.e
     within = f.within;
   }
 
+  -- however it ended
+  pub dispatch_ended : {Own : Type 0} (Tells : Type 0) (accepts : List TableView → Bool) (result : Result (Unit {0}) Fault) (old new : Seen Own) (now_r : Run)
+      → MatchResult result (λ _. OffersDone Tells accepts event old new c now_r.core r.apps.items now_r.apps.items)
+      (OffersStop Tells accepts event old new c r.apps.items)
+      → MatchResult result (λ _. DispatchDone Tells accepts event old new r now_r) (DispatchStops Tells accepts event old new r)
+  dispatch_ended Tells accepts (Ok x) old new now_r all = record {
+    going = all.going;
+    events = all.events ∙ adds.stays.events;
+    number = all.number ∙ noted_number;
+    dispatched = dispatched_is old new now_r all.events all.offered;
+  }
+  dispatch_ended Tells accepts (Err fault) old new now_r stops = record { fails = fails_is fault old new stops.fails; why = stops.why }
+
+  pub dispatch_passes : {Own T E : Type 0} {Tells : Type 0} {old new : Seen Own} {now_net : NetState} {result : Result T E}
+      → Passes Tells (length c.store) old new c.net now_net result → Passes Tells (length r.core.store) old new r.core.net now_net result
+  dispatch_passes passes = passes_number (length r.core.store) (length c.store) noted_number (passes_over r.core.net c.net noted_views passes)
+
+-- another event waits
+pub going_queued : (queue : List Event) (r : Run) → Going r → Going (queued_run queue r)
+going_queued queue r going = record {
+  core = record { room = going.core.room; read = going.core.read; store = going.core.store; left = going.core.left };
+  counted = going.counted;
+  numbered = going.numbered;
+  number = going.number;
+}
+
 -- memory was wanting for its line
-pub fails_short : {Own : Type 0} (Tells : Type 0) (accepts : List TableView → Bool) (event : Event) (seen : Seen Own) (r : Run) → FailsIn Tells accepts faults.NoMemory event seen seen (engine_of r)
-fails_short Tells accepts event seen r =
+pub dispatch_short : {Own : Type 0} (Tells : Type 0) (accepts : List TableView → Bool) (event : Event) (seen : Seen Own) (r : Run)
+    → DispatchStops Tells accepts event seen seen r faults.NoMemory
+dispatch_short Tells accepts event seen r =
     let e : Engine = record (engine_of r) { events = r.core.events + 1 } in
     record {
-      number = 0;
-      mid = seen;
-      mid_engine = e;
-      on = Continues-refl Tells seen;
-      given = record { text = []; front = []; offers = (refl, refl, refl, refl); apps_is = refl; events_is = refl };
-      of_turn = tt;
-      reads = reads_none Tells seen r.core.net r.core.net refl;
-      later = Continues-refl Tells seen;
-      within = record {
-        talks = goes_none Tells seen e;
-        left = left_none Tells (IsShort faults.NoMemory) seen e;
-        here = quietly_here (quietly_none Tells seen);
-        plain = record { plain = λ told keeps ready. inl tt };
+      fails = record {
+        number = 0;
+        mid = seen;
+        mid_engine = e;
+        on = Continues-refl Tells seen;
+        given = record { text = []; front = []; offers = (refl, refl, refl, refl); apps_is = refl; events_is = refl };
+        of_turn = tt;
+        reads = reads_none Tells seen r.core.net r.core.net refl;
+        later = Continues-refl Tells seen;
+        within = record {
+          talks = goes_none Tells seen e;
+          left = left_none Tells (IsShort faults.NoMemory) seen e;
+          here = quietly_here (quietly_none Tells seen);
+          plain = record { plain = λ told keeps ready. inl tt };
+        };
       };
+      why = tt;
     }
