@@ -5,7 +5,7 @@ use Rattle.event_dispatch.specs.laws.WholeLaws.{ended_leaves, ended_point, ended
 use Rattle.event_dispatch.proofs.whole.run_then_end.Goals as goal
 
 pub returns : goal.returns
-returns g c = 
+returns g c =
     let apps : vec_len c.args.run.now.apps ≡ length c.args.run.now.apps.items = search rules in
     let first = c.run_opened-ended.ensures in
     let last = c.end_all.ensures in

@@ -29,7 +29,7 @@ returns-in_err-write g c = record {
 }
 
 pub returns : goal.returns
-returns g c = 
+returns g c =
     let waits = c.in_ok-start_all.ensures.done.waits in
     record {
       passes = on_written Fault c.in_ok-start_all.ensures.passes.passes c.write.ensures;

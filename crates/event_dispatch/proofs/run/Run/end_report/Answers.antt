@@ -11,7 +11,7 @@ use Rattle.event_dispatch.specs.laws.WhyLaws.{why_sink, same_fell}
 use Rattle.event_dispatch.proofs.run.Run.end_report.Goals as goal
 
 pub returns-in_err-note_last : goal.returns-in_err-note_last
-returns-in_err-note_last g c = 
+returns-in_err-note_last g c =
     let fault = c.in_err-note_last.field-0.0 in
     let fails = c.in_err-note_last.ensures.done in
     record {

@@ -15,7 +15,7 @@ returns-then-not-is_empty g c = record {
 }
 
 pub returns-in_err-end_report : goal.returns-in_err-end_report
-returns-in_err-end_report g c = 
+returns-in_err-end_report g c =
     let fault = c.in_err-end_report.field-0.0 in
     let fails = c.in_err-end_report.ensures.done in
     record {

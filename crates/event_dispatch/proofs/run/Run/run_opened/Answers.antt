@@ -9,7 +9,7 @@ use Rattle.event_dispatch.specs.laws.WhyLaws.{why_behind, fell_then}
 use Rattle.event_dispatch.proofs.run.Run.run_opened.Goals as goal
 
 pub returns-in_err-begin : goal.returns-in_err-begin
-returns-in_err-begin g c = 
+returns-in_err-begin g c =
     let fault = c.in_err-begin.field-0.0 in
     let fails = c.in_err-begin.ensures.done in
     record {
@@ -22,7 +22,7 @@ returns-in_err-begin g c =
     }
 
 pub returns-in_err-run_rounds : goal.returns-in_err-run_rounds
-returns-in_err-run_rounds g c = 
+returns-in_err-run_rounds g c =
     let fault = c.in_err-run_rounds.field-0.0 in
     let first = c.in_ok-begin.ensures in
     let fails = c.in_err-run_rounds.ensures.done in
@@ -37,7 +37,7 @@ returns-in_err-run_rounds g c =
     }
 
 pub returns : goal.returns
-returns g c = 
+returns g c =
     let first = c.in_ok-begin.ensures in
     let rounds = c.in_ok-run_rounds.ensures in
     let last = c.finish.ensures in

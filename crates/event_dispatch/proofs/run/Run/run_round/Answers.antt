@@ -13,7 +13,7 @@ use Rattle.event_dispatch.specs.laws.WhyLaws.{why_sink, why_behind, same_fell}
 use Rattle.event_dispatch.proofs.run.Run.run_round.Goals as goal
 
 pub returns-in_err-rest : goal.returns-in_err-rest
-returns-in_err-rest g c = 
+returns-in_err-rest g c =
     let fault = c.in_err-rest.field-0.0 in
     let fails = c.in_err-rest.ensures.done in
     record {
@@ -26,7 +26,7 @@ returns-in_err-rest g c =
     }
 
 pub returns-in_err-write_noted : goal.returns-in_err-write_noted
-returns-in_err-write_noted g c = 
+returns-in_err-write_noted g c =
     let batch = c.in_ok-rest.ensures in
     record {
       passes = record { on = on_fails _ _ (on_written Fault c.in_ok-rest.ensures.passes c.write_noted.ensures.lines) c.from_residual-in_err-write_noted.ensures.0; buffer = c.take_batch.ensures.buffer };
@@ -38,7 +38,7 @@ returns-in_err-write_noted g c =
     }
 
 pub returns-in_err-dispatch_waiting : goal.returns-in_err-dispatch_waiting
-returns-in_err-dispatch_waiting g c = 
+returns-in_err-dispatch_waiting g c =
     let fault = c.in_err-dispatch_waiting.field-0.0 in
     let batch = c.in_ok-rest.ensures in
     let fails = c.in_err-dispatch_waiting.ensures.done in
@@ -54,7 +54,7 @@ returns-in_err-dispatch_waiting g c =
     }
 
 pub returns : goal.returns
-returns g c = 
+returns g c =
     let batch = c.in_ok-rest.ensures in
     let waiting = c.in_ok-dispatch_waiting.ensures in
     record {
@@ -68,7 +68,7 @@ returns g c =
     }
 
 pub dispatch_waiting-requires-clause-going : goal.dispatch_waiting-requires-clause-going
-dispatch_waiting-requires-clause-going g c = 
+dispatch_waiting-requires-clause-going g c =
     going_written c.args.self.now c.take_batch.new.self c.write_noted.new.self c.requires.going c.in_ok-rest.ensures.done.waits c.in_ok-rest.ensures.done.read c.in_ok-write_noted.ensures.lines.waits c.write_noted.ensures.lines.stays
 
 pub dispatch_waiting-requires-clause-few : goal.dispatch_waiting-requires-clause-few
