@@ -68,7 +68,8 @@ pub record AsksNext {Own : Type 0} (Tells : Type 0) (old new : Seen Own) (buf no
   pub bytes : IsBytes now_buf
 
 -- and what was told is handled
-pub record PassesNext {Own T E : Type 0} (Tells : Type 0) (number : ℕ) (old new : Seen Own) (net now_net : NetState) (buf now_buf : List ℕ) (result : Result T E) : Type 0 where
+pub record PassesNext {Own T E : Type 0} (Tells : Type 0) (number : ℕ) (old new : Seen Own) (net now_net : NetState) (buf now_buf : List ℕ)
+    (result : Result T E) : Type 0 where
   pub passes : Passes Tells number old new net now_net result
   pub talks : KeepsTalking Tells old new
   -- One stimulus is begun at most, before all else.
@@ -77,9 +78,9 @@ pub record PassesNext {Own T E : Type 0} (Tells : Type 0) (number : ℕ) (old ne
 
 -- ---- Where it was done
 
-pub record NextDone {Own : Type 0} (Tells : Type 0) (item : Item) (buf : List ℕ) (old new : Seen Own) : Type 0 where
-  pub item : IsItemIn Tells item buf
-  pub nexts : Nexts Tells old new (Ok item) buf
+pub record NextDone {Own : Type 0} (Tells : Type 0) (told : Item) (buf : List ℕ) (old new : Seen Own) : Type 0 where
+  pub item : IsItemIn Tells told buf
+  pub nexts : Nexts Tells old new (Ok told) buf
 
 pub record ItemDone {Own : Type 0} (Tells : Type 0) (step : WorldStep) (old new : Seen Own) (run now_run : Core) : Type 0 where
   pub waits : Waits run now_run

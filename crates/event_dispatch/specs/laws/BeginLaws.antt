@@ -70,9 +70,6 @@ empty_at zero i = refl
 empty_at (suc n) zero = refl
 empty_at (suc n) (suc i) = empty_at n i
 
-pub empty_rests : (n : ℕ) → StoreRests (replicate n empty_slot)
-empty_rests n = λ i less. subst (λ (x : Slot). x.pending ≡ after x.kept []) (sym (empty_at n i)) refl
-
 pub empty_length : (n : ℕ) → length (replicate n empty_slot) ≡ n
 empty_length zero = refl
 empty_length (suc n) = ap suc (empty_length n)

@@ -70,9 +70,6 @@ adds_then {first = first} {rest = rest} {a = a} one two = record {
   lines = two.lines ∙ ap (λ (xs : List ℕ). xs ++ rest) one.lines ∙ append_assoc a.lines.items first rest;
 }
 
-pub adds_none : (c : Core) → Adds [] c c
-adds_none c = record { stays = record { net = refl; queue = refl; events = refl; store = refl }; lines = sym (nothing_more c.lines.items) }
-
 -- ---- The rows of a switch
 
 -- what stands where the rest of a list begins
@@ -327,10 +324,6 @@ says_then lost more first rest old mid new a b c one two = record {
   waits = two.waits;
   asked = asked-then lost more old mid new one.asked two.asked;
 }
-
--- and what it leaves
-pub says_leaves : {Own : Type 0} {lost text : List ℕ} {number : ℕ} {old new : Seen Own} {r now_r : Run} → LastSays lost text old new r now_r → Leaves number lost old new
-says_leaves {lost = lost} {number = number} {old = old} {new = new} says = asked-leaves number lost old new says.asked says.switches
 
 flat_map-last : (f : ℕ → List ℕ) (xs : List ℕ) (x : ℕ) → flat_map f (xs ++ x ∷ []) ≡ flat_map f xs ++ f x
 flat_map-last f [] x = nothing_more (f x)

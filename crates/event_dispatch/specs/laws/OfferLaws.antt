@@ -170,9 +170,6 @@ pub before_of : (events now_events : ℕ) (apps : List Managed) → now_events �
 before_of events now_events [] is all = tt
 before_of events now_events (m ∷ apps) is all = (record { done = omega (arith, is, all.0.done); failed = omega (arith, is, all.0.failed) }, before_of events now_events apps is all.1)
 
-pub before_at : (events : ℕ) (front : List Managed) (m : Managed) (back : List Managed) → AreBefore events (m ∷ back) → IsCountedBefore events m
-before_at events front m back all = all.0
-
 -- ---- Offers behind one another
 
 no_stop : (stops : Bool) (Stopped Goes : Type 0) → (Stopped → true ≡ false) → if_stopped stops Stopped Goes → (stops ≡ false) × Goes
@@ -182,10 +179,6 @@ no_stop false Stopped Goes never both = (refl, both)
 goes_so : (stops : Bool) (Stopped Goes : Type 0) → stops ≡ false → Goes → if_stopped stops Stopped Goes
 goes_so true Stopped Goes is goes = absurd (true≢false is)
 goes_so false Stopped Goes is goes = goes
-
-stops_so : (stops : Bool) (Stopped Goes : Type 0) → stops ≡ true → Stopped → if_stopped stops Stopped Goes
-stops_so true Stopped Goes is stopped = stopped
-stops_so false Stopped Goes is stopped = absurd (true≢false (sym is))
 
 module _ {Own : Type 0} (Tells : Type 0) (accepts : List TableView → Bool) (event : Event) (number : ℕ) where
   pub offers_then : (i k : ℕ) (xs ys : List Application) (text more : List ℕ) (from mid to : Between Own) (front back : List Application) (stopped : Bool) → k ≡ i + length xs
@@ -623,12 +616,12 @@ offer_fails {event = event} fault old new c m takes later turn =
     takes_of faults.NoMemory holds = tt
 
 -- however it ended
-pub offer_ended : {Own : Type 0} {Tells : Type 0} {accepts : List TableView → Bool} (event : Event) (result : Result Bool Fault) (old new : Seen Own)
+pub offer_ended : {Own : Type 0} {Tells : Type 0} (accepts : List TableView → Bool) (event : Event) (result : Result Bool Fault) (old new : Seen Own)
     (c now_c : Core) (m now_m : Managed) → is_taking event (application_of c.store m) ≡ true → (Tells → CalmLater m.state.index old new)
     → MatchResult result (λ stops. TurnDone Tells accepts event stops old new c now_c m now_m)
     (TurnFails Tells m.state.index m.rule.now.budget m.state.rest old new c.net)
     → MatchResult result (λ stops. OfferDone Tells accepts event stops old new c now_c m now_m) (OfferStops Tells event old new c m)
-offer_ended event (Ok stops) old new c now_c m now_m takes later turn = record {
+offer_ended accepts event (Ok stops) old new c now_c m now_m takes later turn = record {
   goes = turn.goes;
   events = turn.events;
   others = turn.others;
@@ -637,7 +630,7 @@ offer_ended event (Ok stops) old new c now_c m now_m takes later turn = record {
   rule = turn.rule;
   offered = offer_taken old new c now_c m now_m takes turn.events turn.index (λ told. (later told).own) turn.turn;
 }
-offer_ended event (Err fault) old new c now_c m now_m takes later turn = record { fails = offer_fails fault old new c m takes later turn; why = turn.why }
+offer_ended accepts event (Err fault) old new c now_c m now_m takes later turn = record { fails = offer_fails fault old new c m takes later turn; why = turn.why }
 
 -- ---- The event, with its line
 
@@ -712,17 +705,17 @@ module _ (event : Event) (r : Run) (c : Core) (adds : Adds (event_line (r.core.e
   }
 
   -- however it ended
-  pub dispatch_ended : {Own : Type 0} {Tells : Type 0} {accepts : List TableView → Bool} (result : Result (Unit {0}) Fault) (old new : Seen Own) (now_r : Run)
+  pub dispatch_ended : {Own : Type 0} (Tells : Type 0) (accepts : List TableView → Bool) (result : Result (Unit {0}) Fault) (old new : Seen Own) (now_r : Run)
       → MatchResult result (λ _. OffersDone Tells accepts event old new c now_r.core r.apps.items now_r.apps.items)
       (OffersStop Tells accepts event old new c r.apps.items)
       → MatchResult result (λ _. DispatchDone Tells accepts event old new r now_r) (DispatchStops Tells accepts event old new r)
-  dispatch_ended (Ok x) old new now_r all = record {
+  dispatch_ended Tells accepts (Ok x) old new now_r all = record {
     going = all.going;
     events = all.events ∙ adds.stays.events;
     number = all.number ∙ noted_number;
     dispatched = dispatched_is old new now_r all.events all.offered;
   }
-  dispatch_ended (Err fault) old new now_r stops = record { fails = fails_is fault old new stops.fails; why = stops.why }
+  dispatch_ended Tells accepts (Err fault) old new now_r stops = record { fails = fails_is fault old new stops.fails; why = stops.why }
 
   pub dispatch_passes : {Own T E : Type 0} {Tells : Type 0} {old new : Seen Own} {now_net : NetState} {result : Result T E}
       → Passes Tells (length c.store) old new c.net now_net result → Passes Tells (length r.core.store) old new r.core.net now_net result

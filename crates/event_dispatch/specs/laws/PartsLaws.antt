@@ -53,9 +53,9 @@ pub on_done : {Own A F T E Tells : Type 0} {number k l : ℕ} {old new : Seen Ow
 on_done {now_net = now_net} y all = record { passes = passes_as now_net (Ok y) all.passes refl; never_fell = all.never_fell }
 
 -- and then lines were written, or not
-pub on_written : {Own A F T B G Tells : Type 0} {number k l : ℕ} {old new : Seen Own} {net : NetState} {mid_c now_c : Core} {a b : Option (List ℕ)} {x : A} {written : Result B G} (E : Type 0) (y : T) → Passes {T = A} {E = F} Tells number old new net mid_c.net (Ok x) → WritesLines a b k l mid_c now_c written
-    → PassesOn {E = E} Tells number old new net now_c.net k l (Ok y)
-on_written {now_c = now_c} E y first lines = record { passes = passes_as now_c.net (Ok y) first (ap (λ (n : NetState). n.views) lines.stays.net); never_fell = lines.never_fell }
+pub on_written : {Own A F B G Tells : Type 0} {number k l : ℕ} {old new : Seen Own} {net : NetState} {mid_c now_c : Core} {a b : Option (List ℕ)} {x : A} {written : Result B G} (E : Type 0) → Passes {T = A} {E = F} Tells number old new net mid_c.net (Ok x) → WritesLines a b k l mid_c now_c written
+    → PassesOn {T = Unit {0}} {E = E} Tells number old new net now_c.net k l (Ok tt)
+on_written {now_c = now_c} E first lines = record { passes = passes_as now_c.net (Ok tt) first (ap (λ (n : NetState). n.views) lines.stays.net); never_fell = lines.never_fell }
 
 pub on_number : {Own T E Tells : Type 0} {k l : ℕ} {old new : Seen Own} {net now_net : NetState} {result : Result T E} (n m : ℕ) → m ≡ n → PassesOn Tells m old new net now_net k l result → PassesOn Tells n old new net now_net k l result
 on_number n m same all = record { passes = passes_number n m same all.passes; never_fell = all.never_fell }
@@ -129,35 +129,35 @@ ended_as {Tells = Tells} {k = k} {l = l} {old = old} {new = new} {result = resul
 -- ---- How a run ended
 
 -- a fault ended the end of the report
-pub finish_fails : {Own Tells : Type 0} {a b : Option (List ℕ)} {k l : ℕ} {old new : Seen Own} {r now_r : Run} (fault : Fault) (result : Result (Unit {0}) Served) → IsErrAnd result (λ e. e ≡ served_by fault) → FinishFails Tells a b k l old new r (served_by fault) → FinishesSo Tells a b k l old new r now_r result
-finish_fails {Tells = Tells} {a = a} {b = b} {k = k} {l = l} {old = old} {new = new} {r = r} {now_r = now_r} fault result failed fails = record {
+pub finish_fails : {Own Tells : Type 0} {a b : Option (List ℕ)} {old new : Seen Own} (k l : ℕ) (r now_r : Run) (fault : Fault) (result : Result (Unit {0}) Served) → IsErrAnd result (λ e. e ≡ served_by fault) → FinishFails Tells a b k l old new r (served_by fault) → FinishesSo Tells a b k l old new r now_r result
+finish_fails {Tells = Tells} {a = a} {b = b} {old = old} {new = new} k l r now_r fault result failed fails = record {
   finishes = finishes_by Tells a b old new r now_r fault result failed;
   fails = if_err (FinishFails Tells a b k l old new r) (served_by fault) result failed fails;
 }
 
 -- a fault ended a part of the run
-pub goes_fails : {Own Tells : Type 0} {accepts : List TableView → Bool} {most : ℕ} {a b : Option (List ℕ)} {k l : ℕ} {old new : Seen Own} {r now_r : Run} (fault : Fault) (result : Result (Unit {0}) Served) → IsErrAnd result (λ e. e ≡ served_by fault) → WholeFails Tells accepts most a b k l old new (engine_of r) (served_by fault)
+pub goes_fails : {Own Tells : Type 0} {accepts : List TableView → Bool} {most : ℕ} {a b : Option (List ℕ)} {old new : Seen Own} (k l : ℕ) (r now_r : Run) (fault : Fault) (result : Result (Unit {0}) Served) → IsErrAnd result (λ e. e ≡ served_by fault) → WholeFails Tells accepts most a b k l old new (engine_of r) (served_by fault)
     → GoesSo Tells accepts most a b k l old new r now_r result
-goes_fails {Tells = Tells} {accepts = accepts} {most = most} {a = a} {b = b} {k = k} {l = l} {old = old} {new = new} {r = r} {now_r = now_r} fault result failed fails = record {
+goes_fails {Tells = Tells} {accepts = accepts} {most = most} {a = a} {b = b} {old = old} {new = new} k l r now_r fault result failed fails = record {
   goes = goes_by Tells accepts most a b old new r now_r fault result failed;
   fails = if_err (WholeFails Tells accepts most a b k l old new (engine_of r)) (served_by fault) result failed fails;
 }
 
 -- the end of the report failed, or events were left
-pub went_fails : {Own Tells : Type 0} {accepts : List TableView → Bool} {most : ℕ} {a b c d : Option (List ℕ)} {k l m : ℕ} {old begun last new : Seen Own} {r r1 r2 : Run} (result : Result (Unit {0}) Served) → WentToEnd Tells accepts most a b c old begun last r r1 r2 → Continues Tells last new → NeverFell k l
+pub went_fails : {Own Tells : Type 0} (accepts : List TableView → Bool) (most : ℕ) (a b c d : Option (List ℕ)) (k l m : ℕ) (old begun last new : Seen Own) (r r1 r2 : Run) (result : Result (Unit {0}) Served) → WentToEnd Tells accepts most a b c old begun last r r1 r2 → Continues Tells last new → NeverFell k l
     → IfErr result (FinishFails Tells c d l m last new r2) → IfErr result (WholeFails Tells accepts most a d k m old new (engine_of r))
-went_fails (Ok x) went later fell fails = tt
-went_fails {Tells = Tells} {accepts = accepts} {most = most} {a = a} {b = b} {c = c} {d = d} {k = k} {l = l} {m = m} {old = old} {begun = begun} {last = last} {new = new} {r = r} {r1 = r1} {r2 = r2} (Err end) went later fell fails = record {
+went_fails accepts most a b c d k l m old begun last new r r1 r2 (Ok x) went later fell fails = tt
+went_fails {Tells = Tells} accepts most a b c d k l m old begun last new r r1 r2 (Err end) went later fell fails = record {
   cut = went_cut Tells accepts most (Err end) a b c d old begun last new r r1 r2 went later fails.cut;
   why = why_behind old last new k l m end (continues_then Tells old begun last went.first went.on) fell fails.why;
   plain = whole_finish old begun last new r r1 r2 (Err end) went.begins went.on went.rounds later fails.plain;
 }
 
 -- and then the applications were ended
-pub then_fails : {Own Tells : Type 0} {accepts : List TableView → Bool} {most : ℕ} {a b : Option (List ℕ)} {k l : ℕ} {old mid new : Seen Own} {e : Engine} (result : Result (Unit {0}) Served) → Continues Tells old mid → Continues Tells mid new → NeverFell k l → KeepsTalking Tells mid new → NoPoint Tells (length e.apps) mid new
+pub then_fails : {Own Tells : Type 0} (accepts : List TableView → Bool) (most : ℕ) (a b : Option (List ℕ)) (k l : ℕ) (old mid new : Seen Own) (e : Engine) (result : Result (Unit {0}) Served) → Continues Tells old mid → Continues Tells mid new → NeverFell k l → KeepsTalking Tells mid new → NoPoint Tells (length e.apps) mid new
     → NoneMoves Tells mid new → IfErr result (WholeFails Tells accepts most a b k l old mid e) → IfErr result (WholeFails Tells accepts most a b k l old new e)
-then_fails (Ok x) first later fell talks no_point none_moves fails = tt
-then_fails {Tells = Tells} {accepts = accepts} {most = most} {a = a} {b = b} {k = k} {l = l} {old = old} {mid = mid} {new = new} {e = e} (Err end) first later fell talks no_point none_moves fails = record {
+then_fails accepts most a b k l old mid new e (Ok x) first later fell talks no_point none_moves fails = tt
+then_fails {Tells = Tells} accepts most a b k l old mid new e (Err end) first later fell talks no_point none_moves fails = record {
   cut = goes_on_cut Tells accepts most (Err end) a b old mid new e later talks no_point none_moves fails.cut;
   why = why_still old mid new k l end first later fell fails.why;
   plain = whole_then accepts most old mid new e (Err end) later fails.plain;

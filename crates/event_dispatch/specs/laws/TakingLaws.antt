@@ -193,9 +193,9 @@ goes_at_first {Own = Own} old new run now_run kept = record { so_far = λ told k
     as_before : IsAsBefore old new run now_run → standing_of new now_run ≡ standing_of old run
     as_before same =
         ap (λ (seen : Seen Own). standing_of seen now_run) same.0
-        ∙ ap (λ (net : NetState). record { seen = old; net = net; queue = now_run.queue; text = now_run.lines.items }) same.1.0
-        ∙ ap (λ (queue : List Event). record { seen = old; net = run.net; queue = queue; text = now_run.lines.items }) same.1.1.0
-        ∙ ap (λ (text : List ℕ). record { seen = old; net = run.net; queue = run.queue; text = text }) same.1.1.1
+        ∙ ap (λ (net : NetState). record { seen = old; net = net; queue = now_run.queue; text = now_run.lines.items }) same.1
+        ∙ ap (λ (queue : List Event). record { seen = old; net = run.net; queue = queue; text = now_run.lines.items }) same.2
+        ∙ ap (λ (text : List ℕ). record { seen = old; net = run.net; queue = run.queue; text = text }) same.3
 
 all_taken : {A B C : Type 0} → A ⊎ (B × C) → A ⊎ B
 all_taken (inl none) = inl none

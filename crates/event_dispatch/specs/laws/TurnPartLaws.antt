@@ -1,6 +1,6 @@
 -- Laws of what the parts of a turn and of a start leave.
-use Rattle.std.proofs.Common.{◌≡◌, ◌<◌, ◌≤◌, ◌+◌, ℕ, Bool, false, List, [], ◌++◌, length, Result, Ok, Err, OnOk, refl, sym, ap, ap₂, ◌∙◌, subst, append_assoc, arith}
-use Rattle.std.specs.Prelude.{MatchResult, Vec}
+use Rattle.std.proofs.Common.{◌≡◌, ◌<◌, ◌≤◌, ◌+◌, ℕ, Bool, false, List, [], ◌++◌, length, Result, Ok, Err, OnOk, refl, sym, ap, ap₂, ◌∙◌, subst, append_assoc, arith, true≢false}
+use Rattle.std.specs.Prelude.{IsErr, IfOk, MatchResult, Vec}
 use Rattle.std.specs.Global.{Global}
 use Rattle.flow_table.specs.View.{TableView}
 use Rattle.app_frames.specs.declared.cause.Cause.{Cause}
@@ -37,6 +37,13 @@ use Rattle.event_dispatch.specs.laws.DispatchStrayLaws.{places_as, reads_over, s
 use Rattle.event_dispatch.specs.laws.KeptLaws.{turn_read}
 use Rattle.event_dispatch.specs.laws.StoreLaws.{held, unkept}
 
+-- ---- It failed
+
+-- where it did, nothing is owed of what it answers
+pub if_not : {T E : Type 0} (P : T → Type 0) (result : Result T E) → IsErr result → IfOk result P
+if_not P (Ok x) is = absurd (true≢false (sym is))
+if_not P (Err fault) is = tt
+
 -- ---- The same switches had views before
 
 pub passes_over : {Own T E Tells : Type 0} {number : ℕ} {old new : Seen Own} {now_net : NetState} {result : Result T E} (net mid_net : NetState)
@@ -68,149 +75,6 @@ quiet_own app net now_net (Err fault) small continues own talks views = record {
   talks = talks;
 }
 
--- what follows by the policy of an application that is ended, or started again
-follows_so : {Own : Type 0} {Tells : Type 0} {text : List ℕ} {old new : Seen Own} {c now_c : Core} {m now_m : Managed} {p : Policy} (kind : EventKind)
-    → p ≡ rule_at (app_value m.rule.now) kind → Follows Tells p text old new (focus_of c m) (focus_of now_c now_m)
-    → Follows Tells (rule_at (app_value m.rule.now) kind) text old new (focus_of c m) (focus_of now_c now_m)
-follows_so {Tells = Tells} {text = text} {old = old} {new = new} {c = c} {now_c = now_c} {m = m} {now_m = now_m} kind is follows =
-    subst (λ (p : Policy). Follows Tells p text old new (focus_of c m) (focus_of now_c now_m)) is follows
-
-pub left_so : {Own T E : Type 0} {Tells : Type 0} {old new : Seen Own} {c now_c : Core} {m now_m : Managed} (kind : EventKind) (result : Result T E)
-    → policy.None ≡ rule_at (app_value m.rule.now) kind → OnOk result (LeaveDone Tells old new c now_c m now_m)
-    → OnOk result (GoOnDone Tells kind old new c now_c m now_m)
-left_so kind (Ok x) is left = record {
-  waits = left.waits;
-  net = left.net;
-  goes_on = record { text = left.leaves.text; follows = follows_so kind is left.leaves.goes; notes = left.leaves.notes };
-}
-left_so kind (Err fault) is left = tt
-
--- where it says either of the other two
-pub started_so : {Own T E : Type 0} {Tells : Type 0} {old new : Seen Own} {c now_c : Core} {m now_m : Managed} (kind : EventKind) (p : Policy)
-    (result : Result T E) → p ≡ rule_at (app_value m.rule.now) kind → (p ≡ policy.None → ⊥) → OnOk result (StartDone Tells old new c now_c m now_m)
-    → OnOk result (GoOnDone Tells kind old new c now_c m now_m)
-started_so kind p (Err fault) is other started = tt
-started_so kind policy.None (Ok x) is other started = absurd (other refl)
-started_so kind policy.Absolute (Ok x) is other started = record {
-  waits = started.waits;
-  net = started.net;
-  goes_on = record { text = started.starts.text; follows = follows_so kind is started.starts.starts; notes = started.starts.notes };
-}
-started_so kind policy.Equivalence (Ok x) is other started = record {
-  waits = started.waits;
-  net = started.net;
-  goes_on = record { text = started.starts.text; follows = follows_so kind is started.starts.starts; notes = started.starts.notes };
-}
-
--- ---- It is started, or ended
-
--- what the engine keeps of an application, where nothing but lines was noted
-same_focus : (c now_c : Core) (m : Managed) → Stays c now_c → focus_of now_c m ≡ focus_of c m
-same_focus c now_c m stays =
-    ap₂ (λ (net : NetState) (queue : List Event). focus m.state.index (application_of now_c.store m) net queue now_c.events) stays.net stays.queue
-    ∙ ap₂ (λ (events : ℕ) (slots : List Slot). focus m.state.index (application_of slots m) c.net c.queue events) stays.events stays.store
-
-pub leave_so : {Own T E : Type 0} {Tells : Type 0} {old new : Seen Own} {c now_c : Core} (m : Managed) (result : Result T E) → Ends Tells m.state.index old new
-    → OnOk result (Notes (gone_line (name_of m)) c now_c) → OnOk result
-    (LeaveDone Tells old new c now_c m (record m { state = record m.state { alive = false } }))
-leave_so {c = c} {now_c = now_c} m (Ok x) ends noted = record {
-  waits = noted.waits;
-  net = noted.adds.stays.net;
-  leaves = record {
-    text = gone_line (name_of m);
-    goes = record { ends = ends; engine = same_focus c now_c (record m { state = record m.state { alive = false } }) noted.adds.stays; text_is = refl };
-    notes = noted.adds.lines;
-  };
-}
-leave_so m (Err fault) ends noted = tt
-
--- ---- A turn is counted and told, with the switches that were lost
-
-module _ {text : List ℕ} {c mid_c now_c : Core} (noted : Notes text c mid_c) (told : LostTold mid_c now_c) where
-  told_net : now_c.net ≡ none_left c.net
-  told_net = told.tells.net ∙ ap none_left noted.adds.stays.net
-
-  told_queue : now_c.queue ≡ c.queue ++ left_events c.net.left
-  told_queue = told.tells.queue ∙ ap₂ (λ (queue : List Event) (net : NetState). queue ++ left_events net.left) noted.adds.stays.queue noted.adds.stays.net
-
-  told_events : now_c.events ≡ c.events
-  told_events = told.tells.events ∙ noted.adds.stays.events
-
-  told_store : now_c.store ≡ c.store
-  told_store = told.tells.store ∙ noted.adds.stays.store
-
-  told_lines : now_c.lines.items ≡ c.lines.items ++ (text ++ lost_text c.net.left)
-  told_lines = told.tells.lines ∙ ap₂ (λ (lines : List ℕ) (net : NetState). lines ++ lost_text net.left) noted.adds.lines noted.adds.stays.net
-      ∙ append_assoc c.lines.items text (lost_text c.net.left)
-
-  told_goes : 1 ≤ c.net.room → AreRead c.net.kept → StoreRests c.store → CoreGoes now_c
-  told_goes room read store = record {
-    room = subst (λ (net : NetState). 1 ≤ net.room) (sym told_net) room;
-    read = subst (λ (net : NetState). AreRead net.kept) (sym told_net) read;
-    store = subst StoreRests (sym told_store) store;
-    left = ap (λ (net : NetState). net.left) told_net;
-  }
-
-  told_focus : (m : Managed) → focus_of now_c m ≡ all_told c.net c.queue (focus_of c m)
-  told_focus m =
-      ap₂ (λ (net : NetState) (queue : List Event). focus m.state.index (application_of now_c.store m) net queue now_c.events) told_net told_queue
-      ∙ ap₂ (λ (events : ℕ) (slots : List Slot). focus m.state.index (application_of slots m) (none_left c.net) (c.queue ++ left_events c.net.left) events)
-      told_events told_store
-
-  pub told_views : now_c.net.views ≡ c.net.views
-  told_views = ap (λ (net : NetState). net.views) told_net
-
-  -- it was done
-  pub done_so : {Own : Type 0} {Tells : Type 0} {out : Vec (ℕ × ℕ) Global} (kind : EventKind) (stop : Bool) (seen : Seen Own) (m : Managed) → m.done < c.events
-      → m.failed < c.events
-      → 1 ≤ c.net.room → AreRead c.net.kept → StoreRests c.store → text ≡ turn_line (name_of m) (turn_word (ends.Done stop)) ++ out_text out.items
-      → CloseDone Tells kind (closings.Done stop out) stop seen seen c now_c m (record m { done = m.done + 1 })
-  done_so {out = out} kind stop seen m done failed room read store is = record {
-    goes = told_goes room read store;
-    events = told_events;
-    store = told_store;
-    counted = record { done = omega (arith, told_events, done); failed = omega (arith, told_events, failed) };
-    stops = refl;
-    closes = record {
-      seen = refl;
-      engine = told_focus (record m { done = m.done + 1 });
-      notes = told_lines ∙ ap (λ (xs : List ℕ). c.lines.items ++ (xs ++ lost_text c.net.left)) is
-          ∙ ap (λ (xs : List ℕ). c.lines.items ++ xs)
-          (append_assoc (turn_line (name_of m) (turn_word (ends.Done stop))) (out_text out.items) (lost_text c.net.left));
-    };
-  }
-
-  -- it failed, and the application goes by its policy
-  pub failed_so : {Own : Type 0} {Tells : Type 0} {old new : Seen Own} {later_c : Core} (kind : EventKind) (cause : Cause) (m now_m : Managed)
-      → m.done < c.events → m.failed < c.events
-      → 1 ≤ c.net.room → AreRead c.net.kept → StoreRests c.store → text ≡ turn_line (name_of m) (words.Failed cause)
-      → SameManaged (record m { failed = m.failed + 1 }) now_m
-      → GoOnDone Tells kind old new now_c later_c (record m { failed = m.failed + 1 }) now_m
-      → CloseDone Tells kind (closings.Failed cause) false old new c later_c m now_m
-  failed_so {Tells = Tells} {old = old} {new = new} {later_c = later_c} kind cause m now_m done failed room read store is same goes =
-      let core = told_goes room read store in
-      record {
-        goes = record {
-          room = subst (λ (net : NetState). 1 ≤ net.room) (sym goes.net) core.room;
-          read = subst (λ (net : NetState). AreRead net.kept) (sym goes.net) core.read;
-          store = subst StoreRests (sym goes.waits.store) core.store;
-          left = ap (λ (net : NetState). net.left) goes.net ∙ core.left;
-        };
-        events = goes.waits.events ∙ told_events;
-        store = goes.waits.store ∙ told_store;
-        counted = record { done = omega (arith, same.done, done); failed = omega (arith, same.failed, failed) };
-        stops = refl;
-        closes = record {
-          text = goes.goes_on.text;
-          follows = subst (λ (e : Focus). Follows Tells (rule_at (app_value m.rule.now) kind) goes.goes_on.text old new e (focus_of later_c now_m))
-              (told_focus (record m { failed = m.failed + 1 })) goes.goes_on.follows;
-          notes = goes.goes_on.notes ∙ ap (λ (xs : List ℕ). xs ++ goes.goes_on.text) told_lines ∙ append_assoc c.lines.items (text ++ lost_text c.net.left)
-              goes.goes_on.text
-              ∙ ap (λ (xs : List ℕ). c.lines.items ++ xs) (append_assoc text (lost_text c.net.left) goes.goes_on.text)
-              ∙ ap (λ (xs : List ℕ). c.lines.items ++ (xs ++ (lost_text c.net.left ++ goes.goes_on.text))) is;
-        };
-      }
-
 -- ---- A turn
 
 -- it was played
@@ -221,21 +85,19 @@ pub play_so : {Own : Type 0} {Tells : Type 0} {accepts : List TableView → Bool
 play_so {closing = closing} {net = net} {now_net = now_net} room plays = record { room = room; plays = plays; read = turn_read closing net now_net plays.plays }
 
 -- and what it staged is kept or dropped
-pub hold_so : {Own : Type 0} {Tells : Type 0} {accepts : List TableView → Bool} {budget number : ℕ} {event : Event} {old new : Seen Own}
-    {net now_net : NetState} {queue now_queue : List Event} {rest unread : List ℕ} (closing : Result Closing Fault) (app : ℕ)
+pub hold_so : (Own : Type 0) (Tells : Type 0) (accepts : List TableView → Bool) (budget number : ℕ) (event : Event) (old new : Seen Own)
+    (net now_net : NetState) (queue now_queue : List Event) (rest unread : List ℕ) (closing : Result Closing Fault) (app : ℕ)
     (store mid_store now_store : List Slot)
     → app < length store → StoreRests store → KeepsSlots app store mid_store → now_store ≡ with_slot app (closes_slot closing) mid_store
     → MatchResult closing (λ end. PlayDone Tells accepts app budget number event end old new net now_net queue now_queue rest unread store mid_store)
     (TurnFails Tells app budget rest old new net)
     → MatchResult closing (λ end. HoldDone Tells accepts app budget number event end old new net now_net queue now_queue rest unread store now_store)
     (HoldFails Tells app budget rest old new net store now_store)
-hold_so {Own} {Tells} {accepts} {budget} {number} {event} {old} {new} {net} {now_net} {queue} {now_queue} {rest} {unread} (Ok closing) app store mid_store
-    now_store lt rests keeps is played = record {
-      room = played.room;
-      plays = held Own Tells accepts budget number event old new net now_net queue now_queue rest unread (Ok closing) app store mid_store now_store lt rests
-          keeps
-          is played.plays;
-      read = played.read;
-    }
-hold_so (Err fault) app store mid_store now_store lt rests keeps is
-    fails = record { unkept = unkept (Err fault) app store mid_store now_store lt rests keeps is; fails = fails }
+hold_so Own Tells accepts budget number event old new net now_net queue now_queue rest unread (Ok closing) app store mid_store now_store lt rests keeps is played = record {
+  room = played.room;
+  plays = held Own Tells accepts budget number event old new net now_net queue now_queue rest unread (Ok closing) app store mid_store now_store lt rests keeps is
+      played.plays;
+  read = played.read;
+}
+hold_so Own Tells accepts budget number event old new net now_net queue now_queue rest unread (Err fault) app store mid_store now_store lt rests keeps is fails =
+    record { unkept = unkept (Err fault) app store mid_store now_store lt rests keeps is; fails = fails }

@@ -11,10 +11,10 @@ loop-at-preserved c = λ v later is key.
     absurd (true≢false (sym (key_same _ c.args.key.now (ap (λ (r : ViewRow). r.key) row ∙ key)) ∙ sym c.eq.ensures ∙ c.if-eq.false))
 
 pub returns-then-eq : goal.returns-then-eq
-returns-then-eq c = record { within = omega (arith, c.loop-at-test.true, c.len-at-end.ensures); here = λ v later is key. ap (λ (n : ℕ). Some n) (c.loop-at.invariant v later is key) }
+returns-then-eq c = record { within = omega (arith, c.loop-at-test.true); here = λ v later is key. ap (λ (n : ℕ). Some n) (c.loop-at.invariant v later is key) }
 
 pub returns : goal.returns
 returns c = record {
   within = tt;
-  here = λ v later is key. absurd (omega (arith, drop_inside c.args.from c.args.rows.now v later is, c.loop-at.invariant v later is key, c.loop-at-test.false, c.len-at-end.ensures));
+  here = λ v later is key. absurd (omega (arith, drop_inside c.args.from c.args.rows.now v later is, c.loop-at.invariant v later is key, c.loop-at-test.false));
 }

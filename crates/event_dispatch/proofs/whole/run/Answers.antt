@@ -19,7 +19,7 @@ returns-in_err-buf g c = record {
 }
 
 pub returns-in_err-run_then_end : goal.returns-in_err-run_then_end
-returns-in_err-run_then_end g c = 
+returns-in_err-run_then_end g c =
     let is = c.in_ok-run.ensures.done in
     record {
       passes = ended_fails c.from_residual-in_err-run_then_end.result (ended_as (length c.args.rules.now) (length c.in_ok-run.run'.core.store) net_at_first c.in_ok-run.run'.core.net (first_places c.args.rules.now c.in_ok-run.run' is.going is.first) (ap (λ (e : Engine). e.net) is.first) c.in_err-run_then_end.ensures.passes) c.from_residual-in_err-run_then_end.ensures.1;
@@ -27,7 +27,7 @@ returns-in_err-run_then_end g c =
     }
 
 pub returns : goal.returns
-returns g c = 
+returns g c =
     let is = c.in_ok-run.ensures.done in
     record {
       passes = ended_done _ (ended_as (length c.args.rules.now) (length c.in_ok-run.run'.core.store) net_at_first c.in_ok-run.run'.core.net (first_places c.args.rules.now c.in_ok-run.run' is.going is.first) (ap (λ (e : Engine). e.net) is.first) c.in_ok-run_then_end.ensures.passes);

@@ -13,13 +13,13 @@ pub start-requires-clause-store : goal.start-requires-clause-store
 start-requires-clause-store g c = start_rests c.loop-at.invariant c.requires.going.core.store
 
 pub loop-at-preserved : goal.loop-at-preserved
-loop-at-preserved g c = 
+loop-at-preserved g c =
     starts_next c.loop-at.at (g.W.World.seen c.args.world.now) (g.W.World.seen c.loop-at.world) (g.W.World.seen c.start.new.world) c.args.core.now c.loop-at.core c.start.new.self c.args.apps.now.items c.loop-at.apps.items c.index_mut.result.now c.start.new.app c.loop-at.invariant
     (start_split c.loop-at.at c.index_mut.result.now c.loop-at.invariant (omega (arith, c.loop-at-test.true, c.len-at-end.ensures, c.loop-at.invariant.number_is, c.requires.going.number)) c.index_mut.ensures.value)
     c.in_ok-start.ensures.passes c.start.ensures.keeps c.in_ok-start.ensures.done
 
 pub returns : goal.returns
-returns g c = 
+returns g c =
     let so_far = c.loop-at.invariant in
     record {
       passes = quiet_as _ _ so_far.passes refl;

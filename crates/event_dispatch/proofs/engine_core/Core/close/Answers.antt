@@ -1,8 +1,8 @@
 use Rattle.std.proofs.Common.{Ok, false, ap, ◌∙◌, refl}
 use Rattle.app_visor.specs.laws.OwnLaws.{own_none}
 use Rattle.net_txn.specs.Net.{NetState}
-use Rattle.event_dispatch.specs.laws.PassesLaws.{if_failed, quiet_none, quiet_not, quiet_fails, quiet_as, quiet_waits}
-use Rattle.event_dispatch.specs.laws.TurnPartLaws.{quiet_over}
+use Rattle.event_dispatch.specs.laws.PassesLaws.{quiet_none, quiet_not, quiet_fails, quiet_as, quiet_waits}
+use Rattle.event_dispatch.specs.laws.TurnPartLaws.{if_not, quiet_over}
 use Rattle.event_dispatch.specs.laws.WhyLaws.{waits_then}
 use Rattle.event_dispatch.proofs.engine_core.Core.close.Goals as goal
 
@@ -10,7 +10,7 @@ pub returns-in_err-note_done-in-Done : goal.returns-in_err-note_done-in-Done
 returns-in_err-note_done-in-Done g c = record {
   passes = quiet_not g.W.World.Tells (g.W.World.seen c.args.world.now) c.args.self.now.net _ c.from_residual.result c.from_residual.ensures.0;
   keeps = record { index = refl; rule = refl; own = λ told. own_none c.args.app.now.state.index (g.W.World.seen c.args.world.now) };
-  done = if_failed _ c.from_residual.result c.from_residual.ensures.0;
+  done = if_not _ c.from_residual.result c.from_residual.ensures.0;
 }
 
 pub returns-in_err-tell_lost-in-Done : goal.returns-in_err-tell_lost-in-Done
@@ -18,7 +18,7 @@ returns-in_err-tell_lost-in-Done g c = record {
   passes = quiet_not g.W.World.Tells (g.W.World.seen c.args.world.now) c.args.self.now.net _ c.from_residual-in_err-tell_lost-in-Done.result
       c.from_residual-in_err-tell_lost-in-Done.ensures.0;
   keeps = record { index = refl; rule = refl; own = λ told. own_none c.args.app.now.state.index (g.W.World.seen c.args.world.now) };
-  done = if_failed _ c.from_residual-in_err-tell_lost-in-Done.result c.from_residual-in_err-tell_lost-in-Done.ensures.0;
+  done = if_not _ c.from_residual-in_err-tell_lost-in-Done.result c.from_residual-in_err-tell_lost-in-Done.ensures.0;
 }
 
 pub returns-in_ok-tell_lost-in-Done-clause-passes : goal.returns-in_ok-tell_lost-in-Done-clause-passes
@@ -36,7 +36,7 @@ returns-in_err-note_turn-in-Failed g c = record {
   passes = quiet_not g.W.World.Tells (g.W.World.seen c.args.world.now) c.args.self.now.net _ c.from_residual-in_err-note_turn-in-Failed.result
       c.from_residual-in_err-note_turn-in-Failed.ensures.0;
   keeps = record { index = refl; rule = refl; own = λ told. own_none c.args.app.now.state.index (g.W.World.seen c.args.world.now) };
-  done = if_failed _ c.from_residual-in_err-note_turn-in-Failed.result c.from_residual-in_err-note_turn-in-Failed.ensures.0;
+  done = if_not _ c.from_residual-in_err-note_turn-in-Failed.result c.from_residual-in_err-note_turn-in-Failed.ensures.0;
 }
 
 pub returns-in_err-tell_lost-in-Failed : goal.returns-in_err-tell_lost-in-Failed
@@ -44,7 +44,7 @@ returns-in_err-tell_lost-in-Failed g c = record {
   passes = quiet_not g.W.World.Tells (g.W.World.seen c.args.world.now) c.args.self.now.net _ c.from_residual-in_err-tell_lost-in-Failed.result
       c.from_residual-in_err-tell_lost-in-Failed.ensures.0;
   keeps = record { index = refl; rule = refl; own = λ told. own_none c.args.app.now.state.index (g.W.World.seen c.args.world.now) };
-  done = if_failed _ c.from_residual-in_err-tell_lost-in-Failed.result c.from_residual-in_err-tell_lost-in-Failed.ensures.0;
+  done = if_not _ c.from_residual-in_err-tell_lost-in-Failed.result c.from_residual-in_err-tell_lost-in-Failed.ensures.0;
 }
 
 pub returns-in_err-go_on-in-Failed : goal.returns-in_err-go_on-in-Failed
@@ -56,7 +56,7 @@ returns-in_err-go_on-in-Failed g c = record {
       (ap (λ (n : NetState). n.views) c.in_ok-tell_lost-in-Failed.ensures.tells.net ∙ ap (λ (n : NetState). n.views)
       c.in_ok-note_turn-in-Failed.ensures.adds.stays.net) c.in_err-go_on-in-Failed.ensures.passes)) c.from_residual-in_err-go_on-in-Failed.ensures.0;
   keeps = record { index = c.go_on.ensures.keeps.same.index; rule = c.go_on.ensures.keeps.same.rule; own = c.go_on.ensures.keeps.own };
-  done = if_failed _ c.from_residual-in_err-go_on-in-Failed.result c.from_residual-in_err-go_on-in-Failed.ensures.0;
+  done = if_not _ c.from_residual-in_err-go_on-in-Failed.result c.from_residual-in_err-go_on-in-Failed.ensures.0;
 }
 
 pub returns-in_ok-go_on-in-Failed-clause-passes : goal.returns-in_ok-go_on-in-Failed-clause-passes

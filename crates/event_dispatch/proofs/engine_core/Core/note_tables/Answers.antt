@@ -18,7 +18,7 @@ loop-dpid-init g c = record {
 }
 
 pub loop-dpid-preserved : goal.loop-dpid-preserved
-loop-dpid-preserved g c = 
+loop-dpid-preserved g c =
     let ds = c.deref-dpid-items.result.now in
     let i = c.loop-dpid.dpid-index in
     record {
@@ -36,7 +36,7 @@ returns-in_err-switches g c = record {
 }
 
 pub returns-in_err-note_table : goal.returns-in_err-note_table
-returns-in_err-note_table g c = 
+returns-in_err-note_table g c =
     let fault = c.in_err-note_table.field-0.0 in
     record {
       passes = quiet_fails _ _ (quiet_then c.loop-dpid.invariant.passes (quiet_number (length c.args.self.now.store) (length c.loop-dpid.self.store) (ap (λ (slots : List Slot). length slots) c.loop-dpid.invariant.waits.store) c.note_table.ensures.passes)) c.from_residual-in_err-note_table.ensures.0;

@@ -11,7 +11,7 @@ use Rattle.event_dispatch.specs.laws.WhyLaws.{why_sink, same_fell}
 use Rattle.event_dispatch.proofs.run.Run.end_report.Goals as goal
 
 pub returns-in_err-note_last : goal.returns-in_err-note_last
-returns-in_err-note_last g c = 
+returns-in_err-note_last g c =
     let fault = c.in_err-note_last.field-0.0 in
     let fails = c.in_err-note_last.ensures.done in
     record {
@@ -25,7 +25,7 @@ returns-in_err-note_last g c =
 
 pub returns-in_err-write : goal.returns-in_err-write
 returns-in_err-write g c = record {
-  passes = on_fails _ _ (on_written Fault tt c.in_ok-note_last.ensures.passes.passes c.write.ensures) c.from_residual-in_err-write.ensures.0;
+  passes = on_fails _ _ (on_written Fault c.in_ok-note_last.ensures.passes.passes c.write.ensures) c.from_residual-in_err-write.ensures.0;
   done = at_fault _ _ faults.Write c.from_residual-in_err-write.result c.from_residual-in_err-write.ensures.1 (record {
     cut = end_unwritten g.W.World.Tells (g.K.Sink.contents c.args.sink.now) (g.K.Sink.contents c.write.new.sink) (g.W.World.seen c.args.world.now) (g.W.World.seen c.note_last.new.world) c.args.self.now c.note_last.new.self c.requires.none_waits c.in_ok-note_last.ensures.done.shown c.in_ok-note_last.ensures.passes.passes.reads c.in_err-write.ensures.part;
     why = c.in_err-write.ensures.rose;
@@ -35,6 +35,6 @@ returns-in_err-write g c = record {
 
 pub returns : goal.returns
 returns g c = record {
-  passes = on_written Fault tt c.in_ok-note_last.ensures.passes.passes c.write.ensures;
+  passes = on_written Fault c.in_ok-note_last.ensures.passes.passes c.write.ensures;
   done = ends_is g.W.World.Tells (g.K.Sink.contents c.args.sink.now) (g.K.Sink.contents c.write.new.sink) (g.W.World.seen c.args.world.now) (g.W.World.seen c.note_last.new.world) c.args.self.now c.note_last.new.self c.write.new.self c.requires.none_waits c.in_ok-note_last.ensures.done.shown c.in_ok-note_last.ensures.done.waits.events c.in_ok-write.ensures.writes c.write.ensures.stays;
 }

@@ -53,7 +53,7 @@ returns g c = record {
 }
 
 pub returns-in_err-run_round : goal.returns-in_err-run_round
-returns-in_err-run_round g c = 
+returns-in_err-run_round g c =
     let fault = c.in_err-run_round.field-0.0 in
     let before = c.loop-round.invariant.passes in
     let fails = c.in_err-run_round.ensures.done in
