@@ -180,11 +180,14 @@ pub hold_so : (Own : Type 0) (Tells : Type 0) (accepts : List TableView → Bool
     (TurnFails Tells app budget rest old new net)
     → MatchResult closing (λ end. HoldDone Tells accepts app budget number event end old new net now_net queue now_queue rest unread store now_store)
     (HoldFails Tells app budget rest old new net store now_store)
-hold_so Own Tells accepts budget number event old new net now_net queue now_queue rest unread (Ok closing) app store mid_store now_store lt rests keeps is played = record {
-  room = played.room;
-  plays = held Own Tells accepts budget number event old new net now_net queue now_queue rest unread (Ok closing) app store mid_store now_store lt rests keeps is
-      played.plays;
-  read = played.read;
-}
-hold_so Own Tells accepts budget number event old new net now_net queue now_queue rest unread (Err fault) app store mid_store now_store lt rests keeps is fails =
+hold_so Own Tells accepts budget number event old new net now_net queue now_queue rest unread (Ok closing) app store mid_store now_store lt rests keeps is
+    played = record {
+      room = played.room;
+      plays = held Own Tells accepts budget number event old new net now_net queue now_queue rest unread (Ok closing) app store mid_store now_store lt rests keeps
+          is
+          played.plays;
+      read = played.read;
+    }
+hold_so Own Tells accepts budget number event old new net now_net queue now_queue rest unread (Err fault) app store mid_store now_store lt rests keeps is
+    fails =
     record { unkept = unkept (Err fault) app store mid_store now_store lt rests keeps is; fails = fails }

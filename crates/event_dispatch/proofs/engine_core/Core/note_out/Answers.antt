@@ -6,4 +6,5 @@ pub loop-dpid-init : goal.loop-dpid-init
 loop-dpid-init c = notes_none c.args.self.now
 
 pub loop-dpid-preserved : goal.loop-dpid-preserved
-loop-dpid-preserved c = notes_next (λ p. out_line p.0 p.1) c.args.out.now c.loop-dpid.dpid-index (0, 0) c.loop-dpid-test.true c.in_ok-line.ensures c.loop-dpid.invariant c.in_ok-note.ensures
+loop-dpid-preserved c = notes_next (λ p. out_line p.0 p.1) c.args.out.now c.loop-dpid.dpid-index (0, 0) c.loop-dpid-test.true c.in_ok-line.ensures
+    c.loop-dpid.invariant c.in_ok-note.ensures

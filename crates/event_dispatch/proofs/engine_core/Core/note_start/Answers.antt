@@ -7,4 +7,5 @@ loop-tried-init c = notes_none c.args.self.now
 
 pub loop-tried-preserved : goal.loop-tried-preserved
 loop-tried-preserved c =
-    notes_next (start_line c.args.name.now) c.deref-tried-items.result.now c.loop-tried.tried-index _ c.loop-tried-test.true c.in_ok-line.ensures c.loop-tried.invariant c.in_ok-note.ensures
+    notes_next (start_line c.args.name.now) c.deref-tried-items.result.now c.loop-tried.tried-index _ c.loop-tried-test.true c.in_ok-line.ensures
+    c.loop-tried.invariant c.in_ok-note.ensures
