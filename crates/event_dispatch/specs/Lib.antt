@@ -10,6 +10,7 @@ pub mod Cut
 pub mod Talking
 pub mod Steady
 pub mod Passes
+pub mod Parts
 pub mod Lines
 pub mod Taking
 pub mod Told

@@ -1,5 +1,5 @@
 -- What the end of a report says in a world that keeps its word, and what it leaves. All of this is our own.
-use Rattle.std.specs.Prelude.{◌≡◌, ℕ, ◌+◌, true, false, List, [], ◌∷◌, ◌++◌, take, drop, Option, Some, None}
+use Rattle.std.specs.Prelude.{◌≡◌, ℕ, ◌+◌, ◌<◌, true, false, List, [], ◌∷◌, ◌++◌, length, take, drop, Option, Some, None, IfSome}
 use Rattle.std.specs.List.{flat_map}
 use Rattle.of_match.specs.declared.key.Key.{Key}
 use Rattle.of_stats.specs.declared.flow_row.FlowRow.{FlowRow}
@@ -17,11 +17,21 @@ use Rattle.switch_laws.specs.Since.{Ready}
 use Rattle.switch_laws.specs.Sound.{Sound}
 use Rattle.batch_laws.specs.Calm.{Calm}
 use Rattle.run_laws.specs.LastReport.{SameKeys, flow_lines, table_lines, shown_text, switch_left, last_text, OnlyAsked}
+use Rattle.net_txn.specs.Net.{NetState}
 use Rattle.event_dispatch.specs.declared.engine_core.Core.{Core}
+use Rattle.event_dispatch.specs.declared.fault.Fault.{Fault}
 use Rattle.event_dispatch.specs.declared.run.Run.{Run}
+use Rattle.event_dispatch.specs.Why.{IsReason, served_by}
+use Rattle.event_dispatch.specs.Runs.{Waits, WaitsAtEnd}
+use Rattle.event_dispatch.specs.Plain.{PlainTable, PlainCalm}
 use Rattle.event_dispatch.specs.Shows.{engine_of, Adds}
 
 -- ---- A switch, whatever the world does
+
+-- a place of the rows, and this position, where its row has the key
+pub record FindsPlace (from : ℕ) (key : Key) (rows : List ViewRow) (found : Option ℕ) : Type 0 where
+  pub within : IfSome found (λ at. at < length rows)
+  pub here : (v : ViewRow) (later : List ViewRow) → drop from rows ≡ v ∷ later → v.key ≡ key → found ≡ Some from
 
 -- the flags of the row that stands at this position, where it has the key, and the next position
 pub record FindsFlags (from : ℕ) (key : Key) (rows : List ViewRow) (found : ℕ × ℕ) : Type 0 where
@@ -112,3 +122,47 @@ pub record NextRow (row : FlowRow) (ws : List ViewRow) (rest : List FlowRow) : T
   pub split : ws ≡ first ∷ later
   pub key : first.key ≡ row.key
   pub same : SameKeys rest later
+
+-- ---- What each part of the end leaves, where it was done, and where a fault ended it
+
+-- the entries of a switch were told
+pub record FlowsNoted (d : ℕ) (rows : List FlowRow) (r now_r : Core) : Type 0 where
+  pub waits : Waits r now_r
+  pub net : now_r.net ≡ r.net
+  pub said : FlowsSaid d rows r now_r
+
+-- and how many they are
+pub record RowsNoted (d : ℕ) (rows : List FlowRow) (r now_r : Core) : Type 0 where
+  pub waits : Waits r now_r
+  pub net : now_r.net ≡ r.net
+  pub said : TableSaid d rows r now_r
+
+-- a switch was asked for its entries, or was lost meanwhile
+pub record RowsAsked {Own : Type 0} (Tells : Type 0) (d : ℕ) (old new : Seen Own) (r now_r : Core) (rows : Option (List FlowRow)) : Type 0 where
+  pub waits : WaitsAtEnd r now_r
+  pub asks : AsksAs Tells d old new r now_r rows
+
+-- its table was told, or its loss
+pub record TableNoted {Own : Type 0} (Tells : Type 0) (d : ℕ) (old new : Seen Own) (r now_r : Core) : Type 0 where
+  pub waits : WaitsAtEnd r now_r
+  pub shown : TableShown Tells d old new r now_r
+
+-- a fault ended that
+pub record TableFails {Own : Type 0} (Tells : Type 0) (old new : Seen Own) (net : NetState) (fault : Fault) : Type 0 where
+  pub why : IsReason Tells old new 0 0 fault
+  pub plain : PlainTable Tells old new net fault
+
+-- so it was with these switches
+pub record TablesNoted {Own : Type 0} (Tells : Type 0) (ds : List ℕ) (old new : Seen Own) (r now_r : Core) : Type 0 where
+  pub waits : WaitsAtEnd r now_r
+  pub shown : TablesShown Tells ds old new r now_r
+
+-- Where the world keeps its word, the whole end is what the reference controller says.
+pub record LastNoted {Own : Type 0} (Tells : Type 0) (old new : Seen Own) (r now_r : Run) : Type 0 where
+  pub waits : WaitsAtEnd r.core now_r.core
+  pub shown : LastShown Tells old new r now_r
+
+-- a fault ended the tables, or the lines behind them; where the world keeps its word it is a plain one
+pub record LastFails {Own : Type 0} (Tells : Type 0) (old new : Seen Own) (net : NetState) (fault : Fault) : Type 0 where
+  pub why : IsReason Tells old new 0 0 fault
+  pub plain : PlainCalm Tells old new net (served_by fault)

@@ -68,7 +68,8 @@ pub record AsksNext {Own : Type 0} (Tells : Type 0) (old new : Seen Own) (buf no
   pub bytes : IsBytes now_buf
 
 -- and what was told is handled
-pub record PassesNext {Own T E : Type 0} (Tells : Type 0) (number : ℕ) (old new : Seen Own) (net now_net : NetState) (buf now_buf : List ℕ) (result : Result T E) : Type 0 where
+pub record PassesNext {Own T E : Type 0} (Tells : Type 0) (number : ℕ) (old new : Seen Own) (net now_net : NetState) (buf now_buf : List ℕ)
+    (result : Result T E) : Type 0 where
   pub passes : Passes Tells number old new net now_net result
   pub talks : KeepsTalking Tells old new
   -- One stimulus is begun at most, before all else.

@@ -15,6 +15,7 @@ pub mod KeptLaws
 pub mod ItemLaws
 pub mod SteadyLaws
 pub mod PassesLaws
+pub mod PartsLaws
 pub mod TakingLaws
 pub mod NothingWaitsLaws
 pub mod AbreastItemLaws

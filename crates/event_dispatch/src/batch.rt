@@ -12,8 +12,8 @@ ghost use Rattle.event_dispatch.specs.Batch.{of_memory};
 ghost use Rattle.event_dispatch.specs.Why.{IsReason, WhyItem, WhyMessage};
 ghost use Rattle.event_dispatch.specs.Talking.{KeepsTalking};
 ghost use Rattle.event_dispatch.specs.Passes.{Passes};
-ghost use Rattle.event_dispatch.specs.Taking.{IsJoinedBy, AsksNext, NextDone, Fails, PassesOnLinks, ItemDone, LeaveDone, UsesLinksAt, UsesLinksOf, JoinDone, Announces};
-ghost use Rattle.event_dispatch.specs.Taking.{KeptDone, PassesNext, HandledNext, BatchDone, BatchFails};
+ghost use Rattle.event_dispatch.specs.Taking.{IsJoinedBy, AsksNext, NextDone, Fails, PassesOnLinks, ItemDone, LeaveDone, UsesLinksAt, UsesLinksOf};
+ghost use Rattle.event_dispatch.specs.Taking.{JoinDone, Announces, KeptDone, PassesNext, HandledNext, BatchDone, BatchFails};
 ghost use Rattle.event_dispatch.specs.Plain.{IsPlainEnd, PlainRead, PlainJoin, PlainItem, PlainNext, PlainKept};
 
 use crate::engine_core::Core;
@@ -128,7 +128,8 @@ impl Core {
         requires none_left { self.old.net.left ≡ [] }
         ensures uses { UsesLinksAt W.Tells (length self.old.store) (Joined dpid frame.now) (W.seen world.old) (W.seen world.new) self.old.net }
         ensures done { MatchResult result (λ _. ItemDone W.Tells (Joined dpid frame.now) (W.seen world.old) (W.seen world.new) self.old self.new)
-            (λ fault. Fails (IsReason W.Tells (W.seen world.old) (W.seen world.new) 0 0 fault) (PlainJoin W.Tells dpid (W.seen world.old) (W.seen world.new) fault)) }
+            (λ fault. Fails (IsReason W.Tells (W.seen world.old) (W.seen world.new) 0 0 fault)
+            (PlainJoin W.Tells dpid (W.seen world.old) (W.seen world.new) fault)) }
     {
         if is_joined(&self.net, dpid) {
             return Ok(());
@@ -150,7 +151,8 @@ impl Core {
         requires fits { message_size message.now ≤ 65535 }
         ensures uses { UsesLinksOf W.Tells dpid (W.seen world.old) (W.seen world.new) }
         ensures done { MatchResult result (λ _. JoinDone W.Tells dpid message.now (W.seen world.old) (W.seen world.new) self.old self.new)
-            (λ fault. Fails (IsReason W.Tells (W.seen world.old) (W.seen world.new) 0 0 fault) (PlainJoin W.Tells dpid (W.seen world.old) (W.seen world.new) fault)) }
+            (λ fault. Fails (IsReason W.Tells (W.seen world.old) (W.seen world.new) 0 0 fault)
+            (PlainJoin W.Tells dpid (W.seen world.old) (W.seen world.new) fault)) }
     {
         if let Message::FeaturesReply(features) = message {
             if self.net.joined(world, dpid, features)? {
@@ -218,7 +220,8 @@ impl Core {
         requires none_left { self.old.net.left ≡ [] }
         ensures passes { PassesNext W.Tells (length self.old.store) (W.seen world.old) (W.seen world.new) self.old.net self.new.net buf.old buf.new result }
         ensures done { MatchResult result (λ rest. HandledNext W.Tells rest (W.seen world.old) (W.seen world.new) self.old self.new)
-            (λ fault. Fails (IsReason W.Tells (W.seen world.old) (W.seen world.new) 0 0 fault) (PlainNext W.Tells (W.seen world.old) (W.seen world.new) fault)) }
+            (λ fault. Fails (IsReason W.Tells (W.seen world.old) (W.seen world.new) 0 0 fault)
+            (PlainNext W.Tells (W.seen world.old) (W.seen world.new) fault)) }
     {
         let item = next_item(world, buf)?;
         match item {

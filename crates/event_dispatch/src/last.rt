@@ -1,20 +1,16 @@
 //! The end of a report: the tables of the joined switches, the applications, and how many events there were. A switch that is lost when it
 //! is asked for its table is told in its place.
 
-ghost use Rattle.std.specs.Prelude.{◌≡◌, ◌<◌, [], ◌∷◌, List, length, map, drop, None, Some, MatchOption, IsSome, IfSome, IfOk, IfErr, OnOk};
+ghost use Rattle.std.specs.Prelude.{◌≡◌, [], ◌∷◌, List, length, map, None, Some, MatchOption, IsSome, IfOk, OnOk, MatchResult};
 ghost use Rattle.flow_table.specs.declared.view.ViewRow.{ViewRow};
 ghost use Rattle.flow_table.specs.View.{plains};
-ghost use Rattle.outside.specs.Seen.{Continues};
 ghost use Rattle.lego_model.specs.RunReport.{flow_line};
 ghost use Rattle.net_txn.specs.Views.{rows_at};
 ghost use Rattle.run_laws.specs.LastReport.{app_lines, engine_end};
-ghost use Rattle.event_dispatch.specs.Steady.{NoStray, Reads, NoPoint};
-ghost use Rattle.event_dispatch.specs.Runs.{Waits, WaitsAtEnd};
-ghost use Rattle.event_dispatch.specs.Why.{IsReason, served_by};
-ghost use Rattle.event_dispatch.specs.Plain.{PlainTable, PlainCalm};
-ghost use Rattle.event_dispatch.specs.Talking.{KeepsTalking};
-ghost use Rattle.event_dispatch.specs.Shows.{application_of, engine_with, Adds};
-ghost use Rattle.event_dispatch.specs.ReportEnd.{FindsFlags, FlowsSaid, TableSaid, AsksAs, TableShown, TablesShown, LastShown};
+ghost use Rattle.event_dispatch.specs.Passes.{PassesQuietly};
+ghost use Rattle.event_dispatch.specs.Lines.{Notes};
+ghost use Rattle.event_dispatch.specs.Shows.{application_of, engine_with};
+ghost use Rattle.event_dispatch.specs.ReportEnd.{FindsPlace, FindsFlags, FlowsNoted, RowsNoted, RowsAsked, TableNoted, TableFails, TablesNoted, LastNoted, LastFails};
 
 use crate::batch::is_joined;
 use crate::engine_core::Core;
@@ -30,8 +26,7 @@ use std::alloc::AllocError;
 
 /// Finds where the row of a key stands, from a position on.
 fn place_from(rows: &[ViewRow], from: usize, key: &Key) -> Option<usize>
-    ensures within { IfSome result (λ at. at < length rows.now) }
-    ensures here { (v : ViewRow) (later : List ViewRow) → drop from rows.now ≡ v ∷ later → v.key ≡ key.now → result ≡ Some from }
+    ensures { FindsPlace from key.now rows.now result }
 {
     for at in from..rows.len() {
         if rows[at].key == *key {
@@ -43,8 +38,7 @@ fn place_from(rows: &[ViewRow], from: usize, key: &Key) -> Option<usize>
 
 /// Finds where the row of a key stands, from a position on, and if none stands there, from the first one on.
 fn place_of(rows: &[ViewRow], from: usize, key: &Key) -> Option<usize>
-    ensures within { IfSome result (λ at. at < length rows.now) }
-    ensures here { (v : ViewRow) (later : List ViewRow) → drop from rows.now ≡ v ∷ later → v.key ≡ key.now → result ≡ Some from }
+    ensures { FindsPlace from key.now rows.now result }
 {
     match place_from(rows, from, key) {
         Some(at) => Some(at),
@@ -78,8 +72,7 @@ fn rows_of(views: &[TableView], dpid: Dpid) -> Option<&ViewList>
 impl Core {
     /// Appends the line of an entry, with the flags with which its owner asked for it.
     fn note_flow(&mut self, row: &FlowRow, flags: u16) -> Result<(), AllocError>
-        ensures waits { OnOk result (Waits self.old self.new) }
-        ensures adds { OnOk result (Adds (flow_line row.now flags) self.old self.new) }
+        ensures { OnOk result (Notes (flow_line row.now flags) self.old self.new) }
     {
         let line = flow_line(self.alloc, row, flags)?;
         self.note(&line)
@@ -96,11 +89,8 @@ impl Core {
     }
 
     /// Appends the lines of the entries of a switch.
-    #[tactic(auto, using(crate::specs::laws::WhyLaws::waits_then))]
     fn note_flows(&mut self, dpid: Dpid, rows: &RowList) -> Result<(), AllocError>
-        ensures waits { OnOk result (Waits self.old self.new) }
-        ensures net { OnOk result (self.new.net ≡ self.old.net) }
-        ensures said { OnOk result (FlowsSaid dpid rows.now self.old self.new) }
+        ensures { OnOk result (FlowsNoted dpid rows.now self.old self.new) }
     {
         let mut from = 0;
         for row in rows.as_slice() {
@@ -112,11 +102,8 @@ impl Core {
     }
 
     /// Appends how many entries a switch has, and each.
-    #[tactic(auto, using(crate::specs::laws::WhyLaws::waits_then))]
     fn note_rows(&mut self, dpid: Dpid, rows: &RowList) -> Result<(), AllocError>
-        ensures waits { OnOk result (Waits self.old self.new) }
-        ensures net { OnOk result (self.new.net ≡ self.old.net) }
-        ensures said { OnOk result (TableSaid dpid rows.now self.old self.new) }
+        ensures { OnOk result (RowsNoted dpid rows.now self.old self.new) }
     {
         let line = switch_line(self.alloc, dpid, rows.len() as u64)?;
         self.note(&line)?;
@@ -124,18 +111,11 @@ impl Core {
     }
 
     /// Asks a joined switch for its entries. There are none where it is lost meanwhile.
-    #[tactic(auto, using(crate::specs::laws::TalkingLaws::keeps_links))]
     fn ask_rows<W: World>(&mut self, world: &mut W, dpid: Dpid) -> Result<Option<RowList>, Fault>
         requires { IsSome (rows_at dpid self.old.net.views) }
-        ensures waits { OnOk result (WaitsAtEnd self.old self.new) }
-        ensures continues { Continues W.Tells (W.seen world.old) (W.seen world.new) }
-        ensures places { NoStray W.Tells (length self.old.store) (W.seen world.old) (W.seen world.new) self.old.net }
-        ensures reads { OnOk result (Reads W.Tells (W.seen world.old) (W.seen world.new) self.old.net self.new.net) }
-        ensures no_point { NoPoint W.Tells (length self.old.store) (W.seen world.old) (W.seen world.new) }
-        ensures talks { KeepsTalking W.Tells (W.seen world.old) (W.seen world.new) }
-        ensures why { IfErr result (IsReason W.Tells (W.seen world.old) (W.seen world.new) 0 0) }
-        ensures plain { IfErr result (PlainTable W.Tells (W.seen world.old) (W.seen world.new) self.old.net) }
-        ensures asks { IfOk result (λ rows. AsksAs W.Tells dpid (W.seen world.old) (W.seen world.new) self.old self.new rows) }
+        ensures passes { PassesQuietly W.Tells (length self.old.store) (W.seen world.old) (W.seen world.new) self.old.net self.new.net result }
+        ensures done { MatchResult result (λ rows. RowsAsked W.Tells dpid (W.seen world.old) (W.seen world.new) self.old self.new rows)
+            (TableFails W.Tells (W.seen world.old) (W.seen world.new) self.old.net) }
     {
         match self.net.rows(world, dpid) {
             Ok(rows) => Ok(rows),
@@ -145,17 +125,10 @@ impl Core {
 
     /// Asks a switch for its entries, and appends their lines. One that is not joined has none; of one that is lost meanwhile that is
     /// told.
-    #[tactic(auto, using(crate::specs::laws::WhyLaws::waits_at_end, crate::specs::laws::TalkingLaws::keeps_none))]
     fn note_table<W: World>(&mut self, world: &mut W, dpid: Dpid) -> Result<(), Fault>
-        ensures waits { OnOk result (WaitsAtEnd self.old self.new) }
-        ensures continues { Continues W.Tells (W.seen world.old) (W.seen world.new) }
-        ensures places { NoStray W.Tells (length self.old.store) (W.seen world.old) (W.seen world.new) self.old.net }
-        ensures reads { OnOk result (Reads W.Tells (W.seen world.old) (W.seen world.new) self.old.net self.new.net) }
-        ensures no_point { NoPoint W.Tells (length self.old.store) (W.seen world.old) (W.seen world.new) }
-        ensures talks { KeepsTalking W.Tells (W.seen world.old) (W.seen world.new) }
-        ensures why { IfErr result (IsReason W.Tells (W.seen world.old) (W.seen world.new) 0 0) }
-        ensures plain { IfErr result (PlainTable W.Tells (W.seen world.old) (W.seen world.new) self.old.net) }
-        ensures shown { OnOk result (TableShown W.Tells dpid (W.seen world.old) (W.seen world.new) self.old self.new) }
+        ensures passes { PassesQuietly W.Tells (length self.old.store) (W.seen world.old) (W.seen world.new) self.old.net self.new.net result }
+        ensures done { MatchResult result (λ _. TableNoted W.Tells dpid (W.seen world.old) (W.seen world.new) self.old self.new)
+            (TableFails W.Tells (W.seen world.old) (W.seen world.new) self.old.net) }
     {
         if !is_joined(&self.net, dpid) {
             return Ok(());
@@ -178,19 +151,10 @@ impl Core {
     }
 
     /// Appends the tables of the joined switches, by number.
-    #[tactic(auto, using(crate::specs::laws::WhyLaws::continues_then, crate::specs::laws::WhyLaws::why_then, crate::specs::laws::WhyLaws::waits_at_end, crate::specs::laws::TalkingLaws::keeps_none, crate::specs::laws::TalkingLaws::keeps_then))]
     fn note_tables<W: World>(&mut self, world: &mut W) -> Result<(), Fault>
-        ensures waits { OnOk result (WaitsAtEnd self.old self.new) }
-        ensures continues { Continues W.Tells (W.seen world.old) (W.seen world.new) }
-        ensures places { NoStray W.Tells (length self.old.store) (W.seen world.old) (W.seen world.new) self.old.net }
-        ensures reads { OnOk result (Reads W.Tells (W.seen world.old) (W.seen world.new) self.old.net self.new.net) }
-        ensures no_point { NoPoint W.Tells (length self.old.store) (W.seen world.old) (W.seen world.new) }
-        ensures talks { KeepsTalking W.Tells (W.seen world.old) (W.seen world.new) }
-        ensures why { IfErr result (IsReason W.Tells (W.seen world.old) (W.seen world.new) 0 0) }
-        ensures shown { OnOk result (TablesShown W.Tells (map (λ v. v.dpid) self.old.net.views) (W.seen world.old) (W.seen world.new) self.old self.new) }
-
-        // There a fault is a plain one.
-        ensures plain { IfErr result (λ fault. PlainCalm W.Tells (W.seen world.old) (W.seen world.new) self.old.net (served_by fault)) }
+        ensures passes { PassesQuietly W.Tells (length self.old.store) (W.seen world.old) (W.seen world.new) self.old.net self.new.net result }
+        ensures done { MatchResult result (λ _. TablesNoted W.Tells (map (λ v. v.dpid) self.old.net.views) (W.seen world.old) (W.seen world.new) self.old self.new)
+            (LastFails W.Tells (W.seen world.old) (W.seen world.new) self.old.net) }
     {
         let switches = self.switches()?;
         for dpid in switches.iter() {
@@ -201,8 +165,7 @@ impl Core {
 
     /// Appends the line of an application.
     fn note_app(&mut self, app: &Managed<'_>) -> Result<(), AllocError>
-        ensures waits { OnOk result (Waits self.old self.new) }
-        ensures adds { OnOk result (Adds (app_lines (application_of self.old.store app.now ∷ [])) self.old self.new) }
+        ensures { OnOk result (Notes (app_lines (application_of self.old.store app.now ∷ [])) self.old self.new) }
     {
         let line = app_line(
             self.alloc,
@@ -215,10 +178,8 @@ impl Core {
     }
 
     /// Appends the lines of applications, and of the end.
-    #[tactic(auto, using(crate::specs::laws::WhyLaws::waits_then))]
     fn note_end(&mut self, apps: &[Managed<'_>]) -> Result<(), AllocError>
-        ensures waits { OnOk result (Waits self.old self.new) }
-        ensures adds { OnOk result (Adds (engine_end (engine_with self.old apps.now)) self.old self.new) }
+        ensures { OnOk result (Notes (engine_end (engine_with self.old apps.now)) self.old self.new) }
     {
         for app in apps {
             self.note_app(app)?;
@@ -231,20 +192,12 @@ impl Core {
 impl Run<'_> {
     /// Appends the last lines: the tables of the joined switches, by number, the applications, and the end.
     pub(crate) fn note_last<W: World>(&mut self, world: &mut W) -> Result<(), Fault>
-        ensures waits { OnOk result (WaitsAtEnd self.old.core self.new.core) }
+        ensures passes { PassesQuietly W.Tells (length self.old.core.store) (W.seen world.old) (W.seen world.new) self.old.core.net self.new.core.net result }
         ensures apps { self.new.apps ≡ self.old.apps }
-        ensures continues { Continues W.Tells (W.seen world.old) (W.seen world.new) }
-        ensures places { NoStray W.Tells (length self.old.core.store) (W.seen world.old) (W.seen world.new) self.old.core.net }
-        ensures reads { OnOk result (Reads W.Tells (W.seen world.old) (W.seen world.new) self.old.core.net self.new.core.net) }
-        ensures no_point { NoPoint W.Tells (length self.old.core.store) (W.seen world.old) (W.seen world.new) }
-        ensures talks { KeepsTalking W.Tells (W.seen world.old) (W.seen world.new) }
-        ensures why { IfErr result (IsReason W.Tells (W.seen world.old) (W.seen world.new) 0 0) }
 
-        // Where the world keeps its word, this is what the reference controller says at the end.
-        ensures shown { OnOk result (LastShown W.Tells (W.seen world.old) (W.seen world.new) self.old self.new) }
-
-        // There a fault is a plain one.
-        ensures plain { IfErr result (λ fault. PlainCalm W.Tells (W.seen world.old) (W.seen world.new) self.old.core.net (served_by fault)) }
+        // Where the world keeps its word, this is what the reference controller says at the end, and a fault is a plain one.
+        ensures done { MatchResult result (λ _. LastNoted W.Tells (W.seen world.old) (W.seen world.new) self.old self.new)
+            (LastFails W.Tells (W.seen world.old) (W.seen world.new) self.old.core.net) }
     {
         self.core.note_tables(world)?;
         Ok(self.core.note_end(&self.apps)?)

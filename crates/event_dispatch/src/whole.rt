@@ -1,27 +1,24 @@
 //! A whole run.
 
-ghost use Rattle.std.specs.Prelude.{◌≡◌, ℕ, ◌+◌, ◌^◌, ◌<◌, ◌≤◌, Bool, List, [], ◌∷◌, ◌++◌, length, map, IfOk, IfErr, OnOk, OnErr};
-ghost use Rattle.lego_io.specs.Count.{Rose, NeverFell};
-ghost use Rattle.lego_io.specs.Sink.{TookPart};
+ghost use Rattle.std.specs.Prelude.{◌≡◌, ◌^◌, ◌<◌, ◌≤◌, Bool, List, [], length, map, OnOk, MatchResult};
+ghost use Rattle.lego_io.specs.Count.{NeverFell};
 ghost use Rattle.outside.specs.Seen.{Continues};
-ghost use Rattle.outside.specs.Calls.{Ends, most_message};
+ghost use Rattle.outside.specs.Calls.{most_message};
 ghost use Rattle.outside.specs.State.{state};
 ghost use Rattle.outside.specs.InOrder.{InOrder};
 ghost use Rattle.net_txn.specs.LinkSteps.{MakesNoStrayCall};
-ghost use Rattle.event_dispatch.specs.Runs.{AreGoing, Going, Waits, most_rounds};
-ghost use Rattle.event_dispatch.specs.Why.{IsWhy, IsReason, served_by};
-ghost use Rattle.event_dispatch.specs.Shows.{Stays, engine_of};
-ghost use Rattle.event_dispatch.specs.Plain.{IsPlainEnd, EndsPlain, PlainCalm, PlainRun, PlainWhole};
+ghost use Rattle.event_dispatch.specs.Runs.{AreGoing, Going, most_rounds};
+ghost use Rattle.event_dispatch.specs.Why.{IsWhy};
+ghost use Rattle.event_dispatch.specs.Plain.{EndsPlain};
 ghost use Rattle.crash_policy.specs.Policies.{app_value};
 ghost use Rattle.lego_model.specs.Places.{Place};
-ghost use Rattle.outside.specs.declared.step.WorldStep.TheVariants.{Opened};
-ghost use Rattle.run_laws.specs.Endings.{ShownLeaves};
 ghost use Rattle.run_laws.specs.First.{net_at_first, engine_at_first};
 ghost use Rattle.run_laws.specs.Promise.{PremiseSoFar, Premise};
-ghost use Rattle.event_dispatch.specs.Talking.{KeepsTalking};
-ghost use Rattle.event_dispatch.specs.Steady.{NoStray, Reads, NoPoint, IsEnded, NoneRuns};
-ghost use Rattle.event_dispatch.specs.Cut.{CutRound, CutRounds, CutStart, CutEnd, CutFinishAs, CutAs, ReadsAs, IsReadServed};
-ghost use Rattle.event_dispatch.specs.Serves.{AllStarted, Writes, GoesRound, GoesToEnd, Begins, EndsReport, Finishes, GoesAs, RunsAs, IsUnopened, IsCut, IsAlike};
+ghost use Rattle.event_dispatch.specs.Cut.{IsReadServed};
+ghost use Rattle.event_dispatch.specs.Serves.{EndsReport, IsCut, IsAlike};
+ghost use Rattle.event_dispatch.specs.Passes.{PassesQuietly};
+ghost use Rattle.event_dispatch.specs.Parts.{PassesOn, PassesRound, PassesServed, PassesEnded, WritesNoted, StartedAll, BeginDone, BeginFails};
+ghost use Rattle.event_dispatch.specs.Parts.{RoundDone, RoundFails, RoundsDone, RoundsFail, ReportFails, FinishesSo, GoesSo, RunsSo, Opens, EndsOne, EndsAll};
 
 use crate::batch::Rest;
 use crate::engine_core::Core;
@@ -37,13 +34,7 @@ use std::alloc::{AllocError, Global};
 impl Core {
     /// Writes the lines that a batch noted, of a switch that was lost; mostly there are none.
     fn write_noted<K: Sink>(&mut self, sink: &mut K) -> Result<(), WriteFault>
-        ensures waits { OnOk result (Waits self.old self.new) }
-        ensures stays { Stays self.old self.new }
-        ensures writes { OnOk result (Writes self.old.lines.items (K.contents sink.old) (K.contents sink.new) self.new) }
-        ensures some { OnErr result (self.old.lines.items ≡ [] → ⊥) }
-        ensures part { OnErr result (TookPart (K.contents sink.old) (K.contents sink.new) self.old.lines.items) }
-        ensures rose { OnErr result (Rose (K.faults sink.old) (K.faults sink.new)) }
-        ensures never_fell { NeverFell (K.faults sink.old) (K.faults sink.new) }
+        ensures { WritesNoted (K.contents sink.old) (K.contents sink.new) (K.faults sink.old) (K.faults sink.new) self.old self.new result }
     {
         if self.lines.is_empty() {
             return Ok(());
@@ -59,14 +50,8 @@ fn start_all<W: World>(
     apps: &mut Vec<Managed<'_>>,
 ) -> Result<(), AllocError>
     requires going { AreGoing core.old apps.old.items }
-    ensures going { OnOk result (AreGoing core.new apps.new.items) }
-    ensures waits { OnOk result (Waits core.old core.new) }
-    ensures started { OnOk result (AllStarted W.Tells (W.seen world.old) (W.seen world.new) core.old core.new apps.old.items apps.new.items) }
-    ensures continues { Continues W.Tells (W.seen world.old) (W.seen world.new) }
-    ensures places { NoStray W.Tells (length core.old.store) (W.seen world.old) (W.seen world.new) core.old.net }
-    ensures reads { OnOk result (Reads W.Tells (W.seen world.old) (W.seen world.new) core.old.net core.new.net) }
-    ensures no_point { NoPoint W.Tells (length core.old.store) (W.seen world.old) (W.seen world.new) }
-    ensures talks { KeepsTalking W.Tells (W.seen world.old) (W.seen world.new) }
+    ensures passes { PassesQuietly W.Tells (length core.old.store) (W.seen world.old) (W.seen world.new) core.old.net core.new.net result }
+    ensures done { OnOk result (StartedAll W.Tells (W.seen world.old) (W.seen world.new) core.old core.new apps.old.items apps.new.items) }
 {
     for at in 0..apps.len() {
         core.start(world, &mut apps[at])?;
@@ -76,7 +61,6 @@ fn start_all<W: World>(
 
 impl Run<'_> {
     /// Runs one round: a batch, whose lines are written, and then the events that wait.
-    #[tactic(auto, using(crate::specs::laws::WhyLaws::continues_then, crate::specs::laws::WhyLaws::why_behind, crate::specs::laws::WhyLaws::why_sink))]
     fn run_round<W: World, J: Judge, K: Sink>(
         &mut self,
         world: &mut W,
@@ -88,20 +72,12 @@ impl Run<'_> {
         requires going { Going self.old }
         requires few { self.old.core.events < 2 ^ 62 }
         requires none_waits { self.old.core.lines.items ≡ [] }
-        ensures round { IfOk result (λ rest. GoesRound W.Tells (J.accepts judge.now) rest (K.contents sink.old) (K.contents sink.new)
-            (W.seen world.old) (W.seen world.new) self.old self.new) }
-        ensures cut { IfErr result (λ fault. CutRound W.Tells (J.accepts judge.now) fault (K.contents sink.old) (K.contents sink.new)
-            (W.seen world.old) (W.seen world.new) self.old) }
-        ensures buffer { length buf.new ≡ length buf.old }
-        ensures going { OnOk result (Going self.new) }
-        ensures number { OnOk result (length self.new.core.store ≡ length self.old.core.store) }
-        ensures events { OnOk result (self.new.core.events ≤ self.old.core.events + 1000) }
-        ensures continues { Continues W.Tells (W.seen world.old) (W.seen world.new) }
-        ensures places { NoStray W.Tells (length self.old.core.store) (W.seen world.old) (W.seen world.new) self.old.core.net }
-        ensures reads { OnOk result (Reads W.Tells (W.seen world.old) (W.seen world.new) self.old.core.net self.new.core.net) }
-        ensures never_fell { NeverFell (K.faults sink.old) (K.faults sink.new) }
-        ensures why { IfErr result (IsReason W.Tells (W.seen world.old) (W.seen world.new) (K.faults sink.old) (K.faults sink.new)) }
-        ensures plain { IfErr result (λ fault. PlainRun W.Tells (J.accepts judge.now) (W.seen world.old) (W.seen world.new) (engine_of self.old) (served_by fault)) }
+        ensures passes { PassesRound W.Tells (length self.old.core.store) (W.seen world.old) (W.seen world.new) self.old.core.net self.new.core.net
+            (K.faults sink.old) (K.faults sink.new) buf.old buf.new result }
+        ensures done { MatchResult result (λ rest. RoundDone W.Tells (J.accepts judge.now) rest (K.contents sink.old) (K.contents sink.new)
+            (W.seen world.old) (W.seen world.new) self.old self.new)
+            (RoundFails W.Tells (J.accepts judge.now) (K.contents sink.old) (K.contents sink.new) (K.faults sink.old) (K.faults sink.new)
+                (W.seen world.old) (W.seen world.new) self.old) }
     {
         let rest = self.core.take_batch(world, buf)?;
         self.core.write_noted(sink)?;
@@ -110,7 +86,6 @@ impl Run<'_> {
     }
 
     /// Runs batch after batch, at most so many, until nothing comes any more.
-    #[tactic(auto, using(crate::specs::laws::WhyLaws::continues_then, crate::specs::laws::WhyLaws::why_behind, crate::specs::laws::WhyLaws::fell_then))]
     fn run_rounds<W: World, J: Judge, K: Sink>(
         &mut self,
         world: &mut W,
@@ -124,18 +99,12 @@ impl Run<'_> {
         requires going { Going self.old }
         requires none { self.old.core.events ≡ 0 }
         requires none_waits { self.old.core.lines.items ≡ [] }
-        ensures going { OnOk result (Going self.new) }
-        ensures number { OnOk result (length self.new.core.store ≡ length self.old.core.store) }
-        ensures to_end { OnOk result (GoesToEnd W.Tells (J.accepts judge.now) rounds (K.contents sink.old) (K.contents sink.new)
-            (W.seen world.old) (W.seen world.new) self.old self.new) }
-        ensures cut { IfErr result (λ fault. CutRounds W.Tells (J.accepts judge.now) fault (K.contents sink.old) (K.contents sink.new)
-            (W.seen world.old) (W.seen world.new) self.old) }
-        ensures continues { Continues W.Tells (W.seen world.old) (W.seen world.new) }
-        ensures places { NoStray W.Tells (length self.old.core.store) (W.seen world.old) (W.seen world.new) self.old.core.net }
-        ensures reads { OnOk result (Reads W.Tells (W.seen world.old) (W.seen world.new) self.old.core.net self.new.core.net) }
-        ensures never_fell { NeverFell (K.faults sink.old) (K.faults sink.new) }
-        ensures why { IfErr result (IsReason W.Tells (W.seen world.old) (W.seen world.new) (K.faults sink.old) (K.faults sink.new)) }
-        ensures plain { IfErr result (λ fault. PlainRun W.Tells (J.accepts judge.now) (W.seen world.old) (W.seen world.new) (engine_of self.old) (served_by fault)) }
+        ensures passes { PassesOn W.Tells (length self.old.core.store) (W.seen world.old) (W.seen world.new) self.old.core.net self.new.core.net
+            (K.faults sink.old) (K.faults sink.new) result }
+        ensures done { MatchResult result (λ _. RoundsDone W.Tells (J.accepts judge.now) rounds (K.contents sink.old) (K.contents sink.new)
+            (W.seen world.old) (W.seen world.new) self.old self.new)
+            (RoundsFail W.Tells (J.accepts judge.now) (K.contents sink.old) (K.contents sink.new) (K.faults sink.old) (K.faults sink.new)
+                (W.seen world.old) (W.seen world.new) self.old) }
     {
         for _round in 0..rounds {
             match self.run_round(world, judge, sink, buf)? {
@@ -147,22 +116,15 @@ impl Run<'_> {
     }
 
     /// Starts the applications, and writes how their attempts ended.
-    #[tactic(auto, using(crate::specs::laws::WhyLaws::why_sink))]
     fn begin<W: World, K: Sink>(&mut self, world: &mut W, sink: &mut K) -> Result<(), Fault>
         requires going { Going self.old }
         requires none { self.old.core.events ≡ 0 }
         requires none_waits { self.old.core.lines.items ≡ [] }
-        ensures begins { OnOk result (Begins W.Tells (K.contents sink.old) (K.contents sink.new) (W.seen world.old) (W.seen world.new) self.old self.new) }
-        ensures cut { IfErr result (λ fault. CutStart W.Tells fault (K.contents sink.old) (K.contents sink.new) (W.seen world.old) (W.seen world.new) (engine_of self.old)) }
-        ensures going { OnOk result (Going self.new) }
-        ensures none { OnOk result (self.new.core.events ≡ 0) }
-        ensures number { OnOk result (length self.new.core.store ≡ length self.old.core.store) }
-        ensures continues { Continues W.Tells (W.seen world.old) (W.seen world.new) }
-        ensures places { NoStray W.Tells (length self.old.core.store) (W.seen world.old) (W.seen world.new) self.old.core.net }
-        ensures reads { OnOk result (Reads W.Tells (W.seen world.old) (W.seen world.new) self.old.core.net self.new.core.net) }
-        ensures never_fell { NeverFell (K.faults sink.old) (K.faults sink.new) }
-        ensures why { IfErr result (IsReason W.Tells (W.seen world.old) (W.seen world.new) (K.faults sink.old) (K.faults sink.new)) }
-        ensures plain { IfErr result IsPlainEnd }
+        ensures passes { PassesOn W.Tells (length self.old.core.store) (W.seen world.old) (W.seen world.new) self.old.core.net self.new.core.net
+            (K.faults sink.old) (K.faults sink.new) result }
+        ensures done { MatchResult result (λ _. BeginDone W.Tells (K.contents sink.old) (K.contents sink.new)
+            (W.seen world.old) (W.seen world.new) self.old self.new)
+            (BeginFails W.Tells (K.contents sink.old) (K.contents sink.new) (K.faults sink.old) (K.faults sink.new) (W.seen world.old) (W.seen world.new) self.old) }
     {
         start_all(&mut self.core, world, &mut self.apps)?;
         self.core.write(sink)?;
@@ -170,18 +132,15 @@ impl Run<'_> {
     }
 
     /// Writes the end of the report.
-    #[tactic(auto, using(crate::specs::laws::WhyLaws::why_sink))]
     fn end_report<W: World, K: Sink>(&mut self, world: &mut W, sink: &mut K) -> Result<(), Fault>
         requires going { Going self.old }
         requires none_waits { self.old.core.lines.items ≡ [] }
-        ensures ends { OnOk result (EndsReport W.Tells (K.contents sink.old) (K.contents sink.new) (W.seen world.old) (W.seen world.new) self.old self.new) }
-        ensures cut { IfErr result (λ fault. CutEnd W.Tells fault (K.contents sink.old) (K.contents sink.new) (W.seen world.old) (W.seen world.new) (engine_of self.old)) }
-        ensures continues { Continues W.Tells (W.seen world.old) (W.seen world.new) }
-        ensures places { NoStray W.Tells (length self.old.core.store) (W.seen world.old) (W.seen world.new) self.old.core.net }
-        ensures reads { OnOk result (Reads W.Tells (W.seen world.old) (W.seen world.new) self.old.core.net self.new.core.net) }
-        ensures never_fell { NeverFell (K.faults sink.old) (K.faults sink.new) }
-        ensures why { IfErr result (IsReason W.Tells (W.seen world.old) (W.seen world.new) (K.faults sink.old) (K.faults sink.new)) }
-        ensures plain { IfErr result (λ fault. PlainCalm W.Tells (W.seen world.old) (W.seen world.new) self.old.core.net (served_by fault)) }
+        ensures passes { PassesOn W.Tells (length self.old.core.store) (W.seen world.old) (W.seen world.new) self.old.core.net self.new.core.net
+            (K.faults sink.old) (K.faults sink.new) result }
+        ensures done { MatchResult result (λ _. EndsReport W.Tells (K.contents sink.old) (K.contents sink.new)
+            (W.seen world.old) (W.seen world.new) self.old self.new)
+            (ReportFails W.Tells (K.contents sink.old) (K.contents sink.new) (K.faults sink.old) (K.faults sink.new)
+                (W.seen world.old) (W.seen world.new) self.old) }
     {
         self.note_last(world)?;
         self.core.write(sink)?;
@@ -189,18 +148,13 @@ impl Run<'_> {
     }
 
     /// Writes the end of the report, where no event is left.
-    #[tactic(auto, using(crate::specs::laws::WhyLaws::why_sink))]
     fn finish<W: World, K: Sink>(&mut self, world: &mut W, sink: &mut K) -> Result<(), Served>
         requires going { Going self.old }
         requires none_waits { self.old.core.lines.items ≡ [] }
-        ensures finishes { Finishes W.Tells result (K.contents sink.old) (K.contents sink.new) (W.seen world.old) (W.seen world.new) self.old self.new }
-        ensures cut { IfErr result (λ end. CutFinishAs W.Tells end (K.contents sink.old) (K.contents sink.new) (W.seen world.old) (W.seen world.new) (engine_of self.old)) }
-        ensures continues { Continues W.Tells (W.seen world.old) (W.seen world.new) }
-        ensures places { NoStray W.Tells (length self.old.core.store) (W.seen world.old) (W.seen world.new) self.old.core.net }
-        ensures reads { ReadsAs W.Tells result (W.seen world.old) (W.seen world.new) self.old.core.net }
-        ensures never_fell { NeverFell (K.faults sink.old) (K.faults sink.new) }
-        ensures why { IfErr result (IsWhy W.Tells (W.seen world.old) (W.seen world.new) (K.faults sink.old) (K.faults sink.new)) }
-        ensures plain { IfErr result (PlainCalm W.Tells (W.seen world.old) (W.seen world.new) self.old.core.net) }
+        ensures passes { PassesServed W.Tells (length self.old.core.store)
+            (W.seen world.old) (W.seen world.new) self.old.core.net (K.faults sink.old) (K.faults sink.new) result }
+        ensures done { FinishesSo W.Tells (K.contents sink.old) (K.contents sink.new) (K.faults sink.old) (K.faults sink.new)
+            (W.seen world.old) (W.seen world.new) self.old self.new result }
     {
         if !self.core.queue.is_empty() {
             return Err(Served::EventsLeft(self.core.queue.len()));
@@ -209,7 +163,6 @@ impl Run<'_> {
     }
 
     /// Runs a world that was opened, from the start of its applications to the end of the report.
-    #[tactic(auto, using(crate::specs::laws::WhyLaws::continues_then, crate::specs::laws::WhyLaws::why_behind, crate::specs::laws::WhyLaws::fell_then))]
     fn run_opened<W: World, J: Judge, K: Sink>(
         &mut self,
         world: &mut W,
@@ -223,14 +176,10 @@ impl Run<'_> {
         requires going { Going self.old }
         requires none { self.old.core.events ≡ 0 }
         requires none_waits { self.old.core.lines.items ≡ [] }
-        ensures goes { GoesAs W.Tells (J.accepts judge.now) rounds result (K.contents sink.old) (K.contents sink.new) (W.seen world.old) (W.seen world.new) self.old self.new }
-        ensures cut { IfErr result (λ end. CutAs W.Tells (J.accepts judge.now) rounds end (K.contents sink.old) (K.contents sink.new) (W.seen world.old) (W.seen world.new) (engine_of self.old)) }
-        ensures continues { Continues W.Tells (W.seen world.old) (W.seen world.new) }
-        ensures places { NoStray W.Tells (length self.old.core.store) (W.seen world.old) (W.seen world.new) self.old.core.net }
-        ensures reads { ReadsAs W.Tells result (W.seen world.old) (W.seen world.new) self.old.core.net }
-        ensures never_fell { NeverFell (K.faults sink.old) (K.faults sink.new) }
-        ensures why { IfErr result (IsWhy W.Tells (W.seen world.old) (W.seen world.new) (K.faults sink.old) (K.faults sink.new)) }
-        ensures plain { IfErr result (PlainWhole W.Tells (J.accepts judge.now) rounds (W.seen world.old) (W.seen world.new) (engine_of self.old)) }
+        ensures passes { PassesServed W.Tells (length self.old.core.store)
+            (W.seen world.old) (W.seen world.new) self.old.core.net (K.faults sink.old) (K.faults sink.new) result }
+        ensures done { GoesSo W.Tells (J.accepts judge.now) rounds (K.contents sink.old) (K.contents sink.new) (K.faults sink.old) (K.faults sink.new)
+            (W.seen world.old) (W.seen world.new) self.old self.new result }
     {
         self.begin(world, sink)?;
         self.run_rounds(world, judge, sink, buf, rounds)?;
@@ -240,10 +189,7 @@ impl Run<'_> {
 
 /// Opens the world at a port.
 fn open<W: World>(world: &mut W, port: u16) -> Result<(), Served>
-    ensures opened { OnOk result (W.Tells → (W.seen world.new).history ≡ (W.seen world.old).history ++ Opened ∷ []) }
-    ensures unopened { IfErr result (IsUnopened W.Tells (W.seen world.old) (W.seen world.new)) }
-    ensures continues { Continues W.Tells (W.seen world.old) (W.seen world.new) }
-    ensures why { IfErr result (IsWhy W.Tells (W.seen world.old) (W.seen world.new) 0 0) }
+    ensures { Opens W.Tells (W.seen world.old) (W.seen world.new) result }
 {
     match world.open(port) {
         Ok(()) => Ok(()),
@@ -253,20 +199,15 @@ fn open<W: World>(world: &mut W, port: u16) -> Result<(), Served>
 }
 
 /// Ends an application, if it runs.
-#[tactic(auto, using(crate::specs::laws::WhyLaws::ends_continue))]
 fn end_one<W: World>(world: &mut W, app: u32)
-    ensures continues { Continues W.Tells (W.seen world.old) (W.seen world.new) }
-    ensures ends { Ends W.Tells app (W.seen world.old) (W.seen world.new) }
+    ensures { EndsOne W.Tells app (W.seen world.old) (W.seen world.new) }
 {
     world.end(app);
 }
 
 /// Ends the first so many applications, those of them that run.
 fn end_all<W: World>(world: &mut W, apps: u32)
-    ensures continues { Continues W.Tells (W.seen world.old) (W.seen world.new) }
-    ensures ended { IsEnded W.Tells apps (W.seen world.old) (W.seen world.new) }
-    ensures leaves { ShownLeaves W.Tells apps (W.seen world.old) (W.seen world.new) }
-    ensures talks { KeepsTalking W.Tells (W.seen world.old) (W.seen world.new) }
+    ensures { EndsAll W.Tells apps (W.seen world.old) (W.seen world.new) }
 {
     for app in 0..apps {
         end_one(world, app);
@@ -274,7 +215,6 @@ fn end_all<W: World>(world: &mut W, apps: u32)
 }
 
 /// Runs an opened world to its end, after which its applications are ended.
-#[tactic(auto, using(crate::specs::laws::WhyLaws::continues_then, crate::specs::laws::WhyLaws::why_still))]
 fn run_then_end<W: World, J: Judge, K: Sink>(
     run: &mut Run<'_>,
     world: &mut W,
@@ -289,14 +229,10 @@ fn run_then_end<W: World, J: Judge, K: Sink>(
     requires number { length run.old.apps.items < 2 ^ 32 }
     requires none { run.old.core.events ≡ 0 }
     requires none_waits { run.old.core.lines.items ≡ [] }
-    ensures goes { GoesAs W.Tells (J.accepts judge.now) rounds result (K.contents sink.old) (K.contents sink.new) (W.seen world.old) (W.seen world.new) run.old run.new }
-    ensures cut { IfErr result (λ end. CutAs W.Tells (J.accepts judge.now) rounds end (K.contents sink.old) (K.contents sink.new) (W.seen world.old) (W.seen world.new) (engine_of run.old)) }
-    ensures continues { Continues W.Tells (W.seen world.old) (W.seen world.new) }
-    ensures none_runs { NoneRuns W.Tells (length run.old.core.store) (W.seen world.old) (W.seen world.new) run.old.core.net }
-    ensures reads { ReadsAs W.Tells result (W.seen world.old) (W.seen world.new) run.old.core.net }
-    ensures never_fell { NeverFell (K.faults sink.old) (K.faults sink.new) }
-    ensures why { IfErr result (IsWhy W.Tells (W.seen world.old) (W.seen world.new) (K.faults sink.old) (K.faults sink.new)) }
-    ensures plain { IfErr result (PlainWhole W.Tells (J.accepts judge.now) rounds (W.seen world.old) (W.seen world.new) (engine_of run.old)) }
+    ensures passes { PassesEnded W.Tells (length run.old.core.store)
+        (W.seen world.old) (W.seen world.new) run.old.core.net (K.faults sink.old) (K.faults sink.new) result }
+    ensures done { GoesSo W.Tells (J.accepts judge.now) rounds (K.contents sink.old) (K.contents sink.new) (K.faults sink.old) (K.faults sink.new)
+        (W.seen world.old) (W.seen world.new) run.old run.new result }
 {
     let apps = run.apps.len() as u32;
     let ended = run.run_opened(world, judge, sink, buf, rounds);
@@ -314,14 +250,9 @@ fn run<W: World, J: Judge, K: Sink>(
     rounds: u64,
 ) -> Result<u64, Served>
     requires few { rounds ≤ most_rounds }
-    ensures runs { RunsAs (map app_value rules.now) W.Tells (J.accepts judge.now) rounds result (K.contents sink.old) (K.contents sink.new) (W.seen world.old) (W.seen world.new) }
-    ensures cut { IfErr result (λ end. CutAs W.Tells (J.accepts judge.now) rounds end (K.contents sink.old) (K.contents sink.new) (W.seen world.old) (W.seen world.new) (engine_at_first (map app_value rules.now))) }
-    ensures continues { Continues W.Tells (W.seen world.old) (W.seen world.new) }
-    ensures none_runs { NoneRuns W.Tells (length rules.now) (W.seen world.old) (W.seen world.new) net_at_first }
-    ensures reads { ReadsAs W.Tells result (W.seen world.old) (W.seen world.new) net_at_first }
-    ensures never_fell { NeverFell (K.faults sink.old) (K.faults sink.new) }
-    ensures why { IfErr result (IsWhy W.Tells (W.seen world.old) (W.seen world.new) (K.faults sink.old) (K.faults sink.new)) }
-    ensures plain { IfErr result (PlainWhole W.Tells (J.accepts judge.now) rounds (W.seen world.old) (W.seen world.new) (engine_at_first (map app_value rules.now))) }
+    ensures passes { PassesEnded W.Tells (length rules.now) (W.seen world.old) (W.seen world.new) net_at_first (K.faults sink.old) (K.faults sink.new) result }
+    ensures done { RunsSo (map app_value rules.now) W.Tells (J.accepts judge.now) rounds (K.contents sink.old) (K.contents sink.new) (K.faults sink.old) (K.faults sink.new)
+        (W.seen world.old) (W.seen world.new) (engine_at_first (map app_value rules.now)) result }
 {
     let mut run = Run::new(alloc, rules)?;
     let mut buf = vec![in alloc; 0; MOST_MESSAGE_BYTES]?;
@@ -340,7 +271,6 @@ fn run<W: World, J: Judge, K: Sink>(
 ///
 /// What is said of the reference run holds where fewer stimuli come than there are rounds. Of a run with as many stimuli as
 /// rounds, or more, nothing is promised of it yet. No clause speaks of the port or of the words of the command.
-#[tactic(auto, using(crate::specs::laws::WhyLaws::continues_then, crate::specs::laws::WhyLaws::why_behind, crate::specs::laws::WhyLaws::why_sink, crate::specs::laws::WhyLaws::same_fell))]
 pub fn serve<W: World, J: Judge, K: Sink>(
     alloc: Global,
     rules: &[AppRule],

@@ -1,5 +1,5 @@
 -- Laws of a batch: one item more takes it on or ends it, and it ends before so many items were told.
-use Rattle.std.specs.Prelude.{◌≡◌, ◌==◌, IsSome, ℕ, ◌+◌, ◌-◌, ◌≤◌, ◌⊎◌, Bool, true, List, [], ◌∷◌, ◌++◌, drop, slice_get, take, Option, Some, None, is_some, Result, Ok, Err, OnOk, false, refl}
+use Rattle.std.specs.Prelude.{◌≡◌, ◌==◌, IsSome, ℕ, ◌+◌, ◌-◌, ◌≤◌, ◌⊎◌, Bool, true, List, [], ◌∷◌, ◌++◌, drop, slice_get, take, Option, Some, None, is_some, Result, Ok, Err, false, refl}
 use Rattle.std.proofs.Common.{sym, ap, ap₂, ◌∙◌, subst, arith, inl, inr, true≢false, append_assoc}
 use Rattle.std.proofs.lemmas.List.{append-nil, length-append}
 use Rattle.std.proofs.lemmas.Option.{same_Some}

@@ -34,7 +34,7 @@ use Rattle.event_dispatch.specs.Batch.{TakesItem, rest_by}
 use Rattle.event_dispatch.specs.laws.BatchLaws.{joined_step, rest_handles}
 use Rattle.event_dispatch.specs.laws.KeptLaws.{read_rest, read_same, read_alike}
 use Rattle.event_dispatch.specs.Steady.{NoStray, Reads, NothingUnderWay, AtMostThisPoint}
-use Rattle.event_dispatch.specs.laws.SteadyLaws.{reads_as, places_then, reads_then, quietly_here, calls_then, links_among}
+use Rattle.event_dispatch.specs.laws.SteadyLaws.{quietly_here, calls_then, links_among}
 use Rattle.event_dispatch.specs.Told.{OnlyMessages, NoStrayAtItem, CatchesUp, NextPoint, GoesBegun, BatchPoint}
 use Rattle.event_dispatch.specs.laws.AbreastItemLaws.{next_tells}
 use Rattle.event_dispatch.specs.laws.NextPointLaws.{next_in_place, next_messages, next_still, next_anew}

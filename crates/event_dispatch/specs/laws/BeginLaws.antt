@@ -1,13 +1,12 @@
 -- Laws of the start: applications of which nothing has happened, and that they are started, one after the other.
-use Rattle.std.specs.Prelude.{◌≡◌, ℕ, zero, suc, ◌+◌, ◌<◌, ◌≤◌, false, List, [], ◌∷◌, ◌++◌, length, take, drop, map, get_or, set, replicate, refl}
+use Rattle.std.specs.Prelude.{◌≡◌, ℕ, zero, suc, ◌+◌, ◌<◌, ◌≤◌, false, List, [], ◌∷◌, ◌++◌, length, take, drop, map, get_or, set, replicate, Ok, refl}
 use Rattle.std.specs.List.{AllByRecursion}
 use Rattle.std.proofs.Common.{sym, ap, ap₂, ◌∙◌, subst, append_assoc, add-one, arith}
 use Rattle.std.proofs.lemmas.List.{append-nil, take_more}
 use Rattle.app_frames.specs.declared.frame.Event.{Event}
 use Rattle.crash_policy.specs.declared.policy_file.AppRule.{AppRule}
 use Rattle.crash_policy.specs.Policies.{app_value}
-use Rattle.outside.specs.Seen.{Seen, Continues}
-use Rattle.outside.specs.laws.SeenLaws.{Continues-refl, Continues-trans}
+use Rattle.outside.specs.Seen.{Seen}
 use Rattle.net_txn.specs.Net.{NetState}
 use Rattle.checkpoint_store.specs.Past.{after}
 use Rattle.checkpoint_store.specs.Slots.{Slot, empty_slot, slot_of}
@@ -19,15 +18,14 @@ use Rattle.run_laws.specs.Facts.{StartsAgain, StartsOne, StartsFrom}
 use Rattle.run_laws.specs.First.{net_at_first, app_at_first, engine_at_first}
 use Rattle.event_dispatch.specs.declared.engine_core.Core.{Core}
 use Rattle.event_dispatch.specs.declared.run.Managed.{Managed}
-use Rattle.event_dispatch.specs.Runs.{AreRead, StoreRests, CoreGoes, IsCountedTo, AreNumbered, AreGoing, SameManaged, IsFresh, AreFresh, Waits}
+use Rattle.event_dispatch.specs.Runs.{AreRead, StoreRests, CoreGoes, IsCountedTo, AreNumbered, AreGoing, IsFresh, AreFresh, Waits}
 use Rattle.event_dispatch.specs.Shows.{application_of, focus_of, engine_with, Stays}
-use Rattle.event_dispatch.specs.Serves.{Notes, Starts, AllStarted}
-use Rattle.event_dispatch.specs.Steady.{NoStray, Reads, NoPoint}
-use Rattle.event_dispatch.specs.Talking.{KeepsTalking}
+use Rattle.event_dispatch.specs.Serves.{Notes, AllStarted}
+use Rattle.event_dispatch.specs.Passes.{PassesQuietly, PassesQuietlySoFar}
+use Rattle.event_dispatch.specs.TurnParts.{StartKeeps, StartDone}
 use Rattle.event_dispatch.specs.laws.WhyLaws.{waits_then}
 use Rattle.event_dispatch.specs.laws.LastLaws.{stays_then}
-use Rattle.event_dispatch.specs.laws.SteadyLaws.{places_none, reads_none, quietly_none, places_number, quietly_number, places_then, reads_then, quietly_then}
-use Rattle.event_dispatch.specs.laws.TalkingLaws.{keeps_none, keeps_then}
+use Rattle.event_dispatch.specs.laws.PassesLaws.{quiet_waits, quiet_so_far_none, quiet_so_far_then}
 use Rattle.event_dispatch.specs.laws.OfferLaws.{map_both, split_at, set_at, drop_one, take_next, taken_length, taken_whole, numbered_at, numbered_set}
 
 -- ---- Applications of which nothing has happened
@@ -158,24 +156,7 @@ pub record StartsSoFar {Own : Type 0} (Tells : Type 0) (n : ℕ) (old now : Seen
   pub text : List ℕ
   pub started : StartsFrom Tells 0 (map (application_of c.store) (take n apps)) text old now c.net c.queue c.events (map (application_of c.store) front)
   pub notes : Notes text c now_c
-  pub continues : Continues Tells old now
-  pub places : NoStray Tells (length c.store) old now c.net
-  pub reads : Reads Tells old now c.net now_c.net
-  pub no_point : NoPoint Tells (length c.store) old now
-  pub talks : KeepsTalking Tells old now
-
-pub record StartDone {Own : Type 0} (Tells : Type 0) (now new : Seen Own) (c now_c : Core) (m now_m : Managed) : Type 0 where
-  pub waits : Waits c now_c
-  pub same : SameManaged m now_m
-  pub net : now_c.net ≡ c.net
-  pub queue : now_c.queue ≡ c.queue
-  pub starts : Starts Tells now new c now_c m now_m
-  pub continues : Continues Tells now new
-  pub places : NoStray Tells (length c.store) now new c.net
-  pub reads : Reads Tells now new c.net now_c.net
-  pub no_point : NoPoint Tells (length c.store) now new
-  pub talks : KeepsTalking Tells now new
-  pub own : Tells → OwnSteps m.state.index now new
+  pub passes : PassesQuietlySoFar Tells (length c.store) old now c.net now_c.net
 
 pub starts_first : {Own : Type 0} (Tells : Type 0) (seen : Seen Own) (c : Core) (apps : List Managed) → AreGoing c apps → StartsSoFar Tells 0 seen seen c c apps apps
 starts_first Tells seen c apps going = record {
@@ -190,11 +171,7 @@ starts_first Tells seen c apps going = record {
   text = [];
   started = (refl, refl, refl);
   notes = sym (append-nil c.lines.items);
-  continues = Continues-refl Tells seen;
-  places = places_none Tells seen c.net;
-  reads = reads_none Tells seen c.net c.net refl;
-  no_point = quietly_none Tells seen;
-  talks = keeps_none Tells seen;
+  passes = quiet_so_far_none Tells seen c.net;
 }
 
 pub start_split : {Own Tells : Type 0} {old now : Seen Own} {c now_c : Core} {apps now_apps : List Managed} (n : ℕ) (m : Managed) → StartsSoFar Tells n old now c now_c apps now_apps → n < length now_apps → m ≡ get_or now_apps n m → drop n apps ≡ m ∷ drop (suc n) apps
@@ -216,8 +193,8 @@ start_place {c = c} {now_c = now_c} n m so_far less is =
 pub start_rests : {Own Tells : Type 0} {n : ℕ} {old now : Seen Own} {c now_c : Core} {apps now_apps : List Managed} → StartsSoFar Tells n old now c now_c apps now_apps → StoreRests c.store → StoreRests now_c.store
 start_rests so_far rests = subst (λ (slots : List Slot). StoreRests slots) (sym so_far.stays.store) rests
 
-module _ {Own : Type 0} {Tells : Type 0} (n : ℕ) (old now new : Seen Own) (c now_c later_c : Core) (apps now_apps : List Managed) (m now_m : Managed)
-    (so_far : StartsSoFar Tells n old now c now_c apps now_apps) (split : drop n apps ≡ m ∷ drop (suc n) apps) (done : StartDone Tells now new now_c later_c m now_m) where
+module _ {Own A F : Type 0} {Tells : Type 0} {x : A} (n : ℕ) (old now new : Seen Own) (c now_c later_c : Core) (apps now_apps : List Managed) (m now_m : Managed) (so_far : StartsSoFar Tells n old now c now_c apps now_apps)
+    (split : drop n apps ≡ m ∷ drop (suc n) apps) (passes : PassesQuietly {T = A} {E = F} Tells (length now_c.store) now new now_c.net later_c.net (Ok x)) (keeps : StartKeeps Tells now new m now_m) (done : StartDone Tells now new now_c later_c m now_m) where
   abbrev past_it : List Managed
   past_it = drop (suc n) apps
 
@@ -249,7 +226,7 @@ module _ {Own : Type 0} {Tells : Type 0} (n : ℕ) (old now new : Seen Own) (c n
 
   focus_behind : focus_of later_c now_m ≡ focus n (application_of c.store now_m) c.net c.queue c.events
   focus_behind =
-      ap (λ (i : ℕ). focus i (application_of later_c.store now_m) later_c.net later_c.queue later_c.events) (done.same.index ∙ at_place)
+      ap (λ (i : ℕ). focus i (application_of later_c.store now_m) later_c.net later_c.queue later_c.events) (keeps.same.index ∙ at_place)
       ∙ ap (λ (slots : List Slot). focus n (application_of slots now_m) later_c.net later_c.queue later_c.events) stays_later.store
       ∙ ap₂ (λ (net : NetState) (queue : List Event). focus n (application_of c.store now_m) net queue later_c.events) stays_later.net stays_later.queue
       ∙ ap (λ (k : ℕ). focus n (application_of c.store now_m) c.net c.queue k) stays_later.events
@@ -258,14 +235,14 @@ module _ {Own : Type 0} {Tells : Type 0} (n : ℕ) (old now new : Seen Own) (c n
   one_started = record {
     starts = subst (λ (e : Focus). StartsAgain Tells done.starts.text now new e (focus n (application_of c.store now_m) c.net c.queue c.events)) focus_before
         (subst (λ (e : Focus). StartsAgain Tells done.starts.text now new (focus_of now_c m) e) focus_behind done.starts.starts);
-    own = λ told. subst (λ (i : ℕ). CallsFor i now new) at_place (own_calls (done.own told));
+    own = λ told. subst (λ (i : ℕ). CallsFor i now new) at_place (own_calls (keeps.own told));
   }
 
   counted_set : AllByRecursion (IsCountedTo c.events) (so_far.front ++ now_m ∷ past_it)
   counted_set = set_counted so_far.front past_it counted_now
     where
       set_counted : (xs ys : List Managed) → AllByRecursion (IsCountedTo c.events) (xs ++ m ∷ ys) → AllByRecursion (IsCountedTo c.events) (xs ++ now_m ∷ ys)
-      set_counted [] ys all = (record { done = subst (λ (k : ℕ). k ≤ c.events) (sym done.same.done) all.0.done; failed = subst (λ (k : ℕ). k ≤ c.events) (sym done.same.failed) all.0.failed }, all.1)
+      set_counted [] ys all = (record { done = subst (λ (k : ℕ). k ≤ c.events) (sym keeps.same.done) all.0.done; failed = subst (λ (k : ℕ). k ≤ c.events) (sym keeps.same.failed) all.0.failed }, all.1)
       set_counted (x ∷ xs) ys all = (all.0, set_counted xs ys all.1)
 
   length_now : length c.store ≡ length (set now_apps n now_m)
@@ -274,9 +251,6 @@ module _ {Own : Type 0} {Tells : Type 0} (n : ℕ) (old now new : Seen Own) (c n
       same_length : (xs ys : List Managed) → length (xs ++ m ∷ ys) ≡ length (xs ++ now_m ∷ ys)
       same_length [] ys = refl
       same_length (z ∷ xs) ys = ap suc (same_length xs ys)
-
-  same_number : length now_c.store ≡ length c.store
-  same_number = ap (λ (slots : List Slot). length slots) so_far.stays.store
 
   pub starts_next : StartsSoFar Tells (n + 1) old new c later_c apps (set now_apps n now_m)
   starts_next = subst (λ (k : ℕ). StartsSoFar Tells k old new c later_c apps (set now_apps n now_m)) (sym (add-one n)) (record {
@@ -287,7 +261,7 @@ module _ {Own : Type 0} {Tells : Type 0} (n : ℕ) (old now new : Seen Own) (c n
     waits = waits_then c now_c later_c so_far.waits done.waits;
     stays = stays_later;
     counted = subst (λ (ms : List Managed). AllByRecursion (IsCountedTo c.events) ms) (sym (append_assoc so_far.front (now_m ∷ []) past_it)) counted_set;
-    numbered = subst (λ (ms : List Managed). AreNumbered 0 ms) (sym (append_assoc so_far.front (now_m ∷ []) past_it)) (numbered_set 0 so_far.front m now_m past_it done.same.index numbered_now);
+    numbered = subst (λ (ms : List Managed). AreNumbered 0 ms) (sym (append_assoc so_far.front (now_m ∷ []) past_it)) (numbered_set 0 so_far.front m now_m past_it keeps.same.index numbered_now);
     text = so_far.text ++ done.starts.text;
     started = subst (λ (items : List Application). StartsFrom Tells 0 items (so_far.text ++ done.starts.text) old new c.net c.queue c.events (map (application_of c.store) (so_far.front ++ now_m ∷ [])))
         (sym (ap (λ (ms : List Managed). map (application_of c.store) ms) (take_next n apps m past_it split) ∙ map_both (application_of c.store) (take n apps) (m ∷ [])))
@@ -296,11 +270,7 @@ module _ {Own : Type 0} {Tells : Type 0} (n : ℕ) (old now new : Seen Own) (c n
         (starts_behind Tells c.net c.queue c.events 0 n (map (application_of c.store) (take n apps)) (application_of c.store m) (application_of c.store now_m) so_far.text done.starts.text old now new (map (application_of c.store) so_far.front)
         (omega (arith, taken_length (application_of c.store) n apps m past_it split)) so_far.started one_started));
     notes = done.starts.notes ∙ ap (λ (xs : List ℕ). xs ++ done.starts.text) so_far.notes ∙ append_assoc c.lines.items so_far.text done.starts.text;
-    continues = Continues-trans Tells old now new so_far.continues done.continues;
-    places = places_then old now new c.net now_c.net so_far.continues done.continues so_far.places so_far.reads (places_number (length c.store) (length now_c.store) same_number done.places);
-    reads = reads_then old now new c.net now_c.net later_c.net so_far.continues done.continues so_far.reads done.reads;
-    no_point = quietly_then Tells old now new so_far.no_point (quietly_number (length c.store) (length now_c.store) same_number done.no_point);
-    talks = keeps_then Tells old now new so_far.talks done.talks;
+    passes = quiet_so_far_then so_far.passes (quiet_waits so_far.waits passes);
   })
     where
       length_last : (xs : List Managed) → length (xs ++ now_m ∷ []) ≡ length xs + 1

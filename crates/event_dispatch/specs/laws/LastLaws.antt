@@ -44,7 +44,7 @@ use Rattle.event_dispatch.specs.declared.run.Managed.{Managed}
 use Rattle.event_dispatch.specs.declared.run.Run.{Run}
 use Rattle.checkpoint_store.specs.Slots.{Slot}
 use Rattle.event_dispatch.specs.Shows.{application_of, engine_with, Stays, Adds}
-use Rattle.event_dispatch.specs.ReportEnd.{FindsFlags, FlowsSoFar, TableSaid, AsksShown, AsksNone, AsksAs, Says, SaysOf, TableShown, TablesShown, SameBesides, LastSays, LastShown, NextRow}
+use Rattle.event_dispatch.specs.ReportEnd.{FindsFlags, FlowsSoFar, FlowsSaid, TableSaid, AsksShown, AsksNone, AsksAs, Says, SaysOf, TableShown, TablesShown, SameBesides, LastSays, LastShown, NextRow}
 
 -- ---- Text that is noted
 
@@ -81,6 +81,13 @@ drop_head zero [] x y later h = absurd cc
 drop_head zero (z ∷ zs) x y later h = cc
 drop_head (suc n) [] x y later h = absurd cc
 drop_head (suc n) (z ∷ zs) x y later h = drop_head n zs x y later h
+
+-- such a place lies in the list
+pub drop_inside : {X : Type 0} (n : ℕ) (xs : List X) (x : X) (later : List X) → drop n xs ≡ x ∷ later → n < length xs
+drop_inside zero [] x later h = absurd cc
+drop_inside zero (z ∷ zs) x later h = omega arith
+drop_inside (suc n) [] x later h = absurd cc
+drop_inside (suc n) (z ∷ zs) x later h = omega (arith, drop_inside n zs x later h)
 
 -- the next item of a list
 pub drop_first : {X : Type 0} (i : ℕ) (xs : List X) (x : X) → i < length xs → x ≡ get_or xs i x → drop i xs ≡ x ∷ drop (suc i) xs
@@ -140,6 +147,10 @@ flows_next rows vs place from row more found a b c same is so finds adds =
           (ap (λ (n : ℕ). flow_lines (take place rows) vs ++ flow_line row n) line ∙ sym (flow_lines-more place rows vs row there.first more there.later is there.split) ∙ ap (λ (n : ℕ). flow_lines (take n rows) vs) (sym (add-one place)))
           (adds_then so.adds adds);
     }
+
+-- all of them were told
+pub flows_whole : (d : ℕ) (rows : List FlowRow) (i from : ℕ) (a b : Core) → length rows ≤ i → ((vs : List ViewRow) → rows_at d a.net.views ≡ Some vs → SameKeys rows vs → FlowsSoFar rows vs i from a b) → FlowsSaid d rows a b
+flows_whole d rows i from a b all so_far = record { adds = λ vs is same. subst (λ (rs : List FlowRow). Adds (flow_lines rs vs) a b) (take_all i rows all) (so_far vs is same).adds }
 
 -- ---- What is asked for leaves all but the transaction id and what is kept
 

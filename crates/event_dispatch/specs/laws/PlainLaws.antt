@@ -331,7 +331,3 @@ pub served_plain : {Own : Type 0} (rules : List AppValue) (Tells : Type 0) (acce
     → (allows : List Place → Bool) → Premise Tells accepts allows most old new → EndsPlain old new end
 served_plain rules Tells accepts most end old mid new opened whole allows p =
     ends_behind old mid new end (Opened ∷ [], opened p.told) (whole.plain allows p.told p.keeps p.judges (settled-first rules mid (opened_is old mid p.untouched (opened p.told))) p.few)
-
-pub on_err : {T E : Type 0} {P Q : E → Type 0} (r : Result T E) → ((e : E) → P e → Q e) → IfErr r P → IfErr r Q
-on_err (Ok x) f p = tt
-on_err (Err e) f p = f e p

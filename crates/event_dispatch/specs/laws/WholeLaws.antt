@@ -12,7 +12,7 @@ use Rattle.outside.specs.declared.step.WorldStep.TheVariants.{Opened, NotOpened}
 use Rattle.outside.specs.declared.faults.OpenFault.{OpenFault}
 use Rattle.outside.specs.declared.faults.OpenFault.TheVariants as opening
 use Rattle.outside.specs.Seen.{Seen, Continues}
-use Rattle.outside.specs.Calls.{open_steps, ToldOpen}
+use Rattle.outside.specs.Calls.{open_steps, ToldOpen, Opens}
 use Rattle.outside.specs.laws.SeenLaws.{Continues-trans}
 use Rattle.outside.specs.laws.StateLaws.{Conforming-before}
 use Rattle.switch_laws.specs.laws.OrderlyLaws.{orderly-none}
@@ -240,6 +240,9 @@ runs_short rules Tells accepts most a b old new (Ok x) is = absurd is
 runs_short rules Tells accepts most a b old new (Err s) is = subst (λ (e : Served). RunsAs rules Tells accepts most (Err e) a b old new) (sym is) tt
 
 -- ---- Of a world on which no call was made
+
+pub opens_continue : {Own T Tells : Type 0} {old new : Seen Own} {result : Result T OpenFault} → Opens Tells old new result → Continues Tells old new
+opens_continue {old = old} {result = result} opens = record { given = opens.given; none_fell = opens.none_fell; told = λ told. (open_steps result, (opens.told told).history) }
 
 pub opened_by : {Own T : Type 0} {old new : Seen Own} {x : T} → ToldOpen old new (Ok x) → new.history ≡ old.history ++ Opened ∷ []
 unfolding open_steps

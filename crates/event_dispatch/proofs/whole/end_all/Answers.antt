@@ -12,11 +12,10 @@ loop-app-preserved g c = record {
   so_far = ended_next c.loop-app.app (g.W.World.seen c.args.world.now) (g.W.World.seen c.loop-app.world) (g.W.World.seen c.end_one.new.world) c.loop-app-test.true c.loop-app.invariant.continues c.loop-app.invariant.so_far c.end_one.ensures.ends;
 }
 
-pub returns-clause-ended : goal.returns-clause-ended
-returns-clause-ended g c = are_ended c.loop-app.app (g.W.World.seen c.args.world.now) (g.W.World.seen c.loop-app.world) c.loop-app-test.false c.loop-app.invariant.so_far
-
-pub returns-clause-leaves : goal.returns-clause-leaves
-returns-clause-leaves g c = record { shown = λ told keeps. c.loop-app.invariant.so_far.leaves told }
-
-pub returns-clause-talks : goal.returns-clause-talks
-returns-clause-talks g c = c.loop-app.invariant.so_far.talks
+pub returns : goal.returns
+returns g c = record {
+  continues = c.loop-app.invariant.continues;
+  ended = are_ended c.loop-app.app (g.W.World.seen c.args.world.now) (g.W.World.seen c.loop-app.world) c.loop-app-test.false c.loop-app.invariant.so_far;
+  leaves = record { shown = λ told keeps. c.loop-app.invariant.so_far.leaves told };
+  talks = c.loop-app.invariant.so_far.talks;
+}

@@ -1,12 +1,21 @@
-use Rattle.event_dispatch.specs.laws.WholeLaws.{opened_by}
-use Rattle.event_dispatch.specs.laws.WholeLaws.{shut_by, short_by}
+use Rattle.event_dispatch.specs.laws.WholeLaws.{opened_by, shut_by, short_by, opens_continue}
 use Rattle.event_dispatch.proofs.whole.open.Goals as goal
 
-pub returns-in-Ok-clause-opened : goal.returns-in-Ok-clause-opened
-returns-in-Ok-clause-opened g c = λ told. opened_by (c.in-Ok.ensures.told told)
+pub returns-in-Ok : goal.returns-in-Ok
+returns-in-Ok g c = record { continues = opens_continue c.open.ensures; opened = λ told. opened_by (c.in-Ok.ensures.told told); unopened = tt; why = tt }
 
-pub returns-in-Err-Shut-clause-unopened : goal.returns-in-Err-Shut-clause-unopened
-returns-in-Err-Shut-clause-unopened g c = shut_by g.W.World.Tells (g.W.World.seen c.args.world.now) (g.W.World.seen c.open.new.self) c.in-Err-Shut.field-0 c.in-Err-Shut.field-0-is c.in-Err-Shut.ensures.told
+pub returns-in-Err-Shut : goal.returns-in-Err-Shut
+returns-in-Err-Shut g c = record {
+  continues = opens_continue c.open.ensures;
+  opened = tt;
+  unopened = shut_by g.W.World.Tells (g.W.World.seen c.args.world.now) (g.W.World.seen c.open.new.self) c.in-Err-Shut.field-0 c.in-Err-Shut.field-0-is c.in-Err-Shut.ensures.told;
+  why = c.in-Err-Shut.ensures.shut c.in-Err-Shut.field-0-is;
+}
 
-pub returns-in-Err-Short-clause-unopened : goal.returns-in-Err-Short-clause-unopened
-returns-in-Err-Short-clause-unopened g c = short_by g.W.World.Tells (g.W.World.seen c.args.world.now) (g.W.World.seen c.open.new.self) c.in-Err-Short.field-0 c.in-Err-Short.field-0-is c.in-Err-Short.ensures.told
+pub returns-in-Err-Short : goal.returns-in-Err-Short
+returns-in-Err-Short g c = record {
+  continues = opens_continue c.open.ensures;
+  opened = tt;
+  unopened = short_by g.W.World.Tells (g.W.World.seen c.args.world.now) (g.W.World.seen c.open.new.self) c.in-Err-Short.field-0 c.in-Err-Short.field-0-is c.in-Err-Short.ensures.told;
+  why = tt;
+}

@@ -1,4 +1,4 @@
-use Rattle.std.proofs.Common.{◌≡◌, List, length, refl, ap, subst, ◌∙◌, Option}
+use Rattle.std.proofs.Common.{List, length, refl, ap, subst, ◌∙◌, Option}
 use Rattle.checkpoint_store.specs.Slots.{Slot}
 use Rattle.event_dispatch.specs.declared.batch.Rest.{Rest}
 use Rattle.event_dispatch.specs.Batch.{NextTaken}
