@@ -36,15 +36,13 @@ use Rattle.switch_laws.specs.laws.StandLaws.{all-stand}
 use Rattle.switch_laws.specs.laws.ClockLaws.{switch-in_time, moment-within}
 use Rattle.run_laws.specs.LastReport.{SameKeys, flow_lines, table_lines, shown_text, switch_left, place_lines, app_lines, engine_end, OnlyAsked}
 use Rattle.run_laws.specs.laws.LastReportLaws.{keys-same, table-shown, joined-with, out-with, places-shown, asked-nothing, rows-asked, lost-asked, asked-then}
-use Rattle.run_laws.specs.Endings.{Leaves}
-use Rattle.run_laws.specs.laws.LeaveLaws.{asked-leaves}
 use Rattle.event_dispatch.specs.declared.engine_core.Core.{Core}
 use Rattle.event_dispatch.specs.Runs.{WaitsAtEnd}
 use Rattle.event_dispatch.specs.declared.run.Managed.{Managed}
 use Rattle.event_dispatch.specs.declared.run.Run.{Run}
 use Rattle.checkpoint_store.specs.Slots.{Slot}
 use Rattle.event_dispatch.specs.Shows.{application_of, engine_with, Stays, Adds}
-use Rattle.event_dispatch.specs.ReportEnd.{FindsFlags, FlowsSoFar, FlowsSaid, TableSaid, AsksShown, AsksNone, AsksAs, Says, SaysOf, TableShown, TablesShown, SameBesides, LastSays, LastShown, NextRow}
+use Rattle.event_dispatch.specs.ReportEnd.{FindsFlags, FlowsSoFar, FlowsSaid, TableSaid, AsksShown, AsksNone, AsksAs, Says, SaysOf, TableShown, TablesShown, SameBesides, LastShown, NextRow}
 
 -- ---- Text that is noted
 

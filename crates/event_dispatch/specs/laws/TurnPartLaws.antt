@@ -1,38 +1,19 @@
 -- Laws of what the parts of a turn and of a start leave.
-use Rattle.std.proofs.Common.{◌≡◌, ◌<◌, ◌≤◌, ◌+◌, ℕ, Bool, false, List, [], ◌++◌, length, Result, Ok, Err, OnOk, refl, sym, ap, ap₂, ◌∙◌, subst, append_assoc, arith, true≢false}
-use Rattle.std.specs.Prelude.{IsErr, IfOk, MatchResult, Vec}
-use Rattle.std.specs.Global.{Global}
+use Rattle.std.proofs.Common.{◌≡◌, ◌<◌, ℕ, Bool, List, length, Result, Ok, Err, OnOk, refl, sym, true≢false}
+use Rattle.std.specs.Prelude.{IsErr, IfOk, MatchResult}
 use Rattle.flow_table.specs.View.{TableView}
-use Rattle.app_frames.specs.declared.cause.Cause.{Cause}
 use Rattle.app_frames.specs.declared.frame.Event.{Event}
-use Rattle.app_frames.specs.declared.frame.EventKind.{EventKind}
-use Rattle.crash_policy.specs.declared.policy_file.Policy.{Policy}
-use Rattle.crash_policy.specs.declared.policy_file.Policy.TheVariants as policy
-use Rattle.crash_policy.specs.Policies.{app_value}
-use Rattle.crash_policy.specs.Asking.{rule_at}
-use Rattle.lego_model.specs.RunReport.{turn_line, gone_line}
-use Rattle.lego_model.specs.declared.turn.TurnWord.TheVariants as words
 use Rattle.outside.specs.Seen.{Seen, Continues}
-use Rattle.outside.specs.Calls.{Ends}
 use Rattle.net_txn.specs.Net.{NetState}
-use Rattle.app_visor.specs.declared.state.TurnEnd.TheVariants as ends
 use Rattle.app_visor.specs.CallsFor.{OwnSteps}
 use Rattle.checkpoint_store.specs.Slots.{Slot, with_slot}
-use Rattle.batch_laws.specs.Knowledge.{left_events, lost_text}
-use Rattle.run_laws.specs.Engine.{Focus, focus}
-use Rattle.run_laws.specs.Facts.{turn_word, out_text, all_told, Follows}
 use Rattle.event_dispatch.specs.declared.closing.Closing.{Closing}
-use Rattle.event_dispatch.specs.declared.closing.Closing.TheVariants as closings
-use Rattle.event_dispatch.specs.declared.engine_core.Core.{Core}
 use Rattle.event_dispatch.specs.declared.fault.Fault.{Fault}
-use Rattle.event_dispatch.specs.declared.run.Managed.{Managed}
-use Rattle.event_dispatch.specs.Runs.{AreRead, StoreRests, CoreGoes, SameManaged}
-use Rattle.event_dispatch.specs.Shows.{application_of, focus_of, name_of, Stays, none_left}
-use Rattle.event_dispatch.specs.Lines.{Notes, LostTold}
+use Rattle.event_dispatch.specs.Runs.{StoreRests}
 use Rattle.event_dispatch.specs.Stored.{KeepsSlots, closes_slot, PlaysStaged}
 use Rattle.event_dispatch.specs.Talking.{KeepsTalking}
 use Rattle.event_dispatch.specs.Passes.{Passes, PassesQuietly}
-use Rattle.event_dispatch.specs.TurnParts.{TurnFails, PlayDone, HoldDone, HoldFails, StartDone, LeaveDone, GoOnDone, CloseDone}
+use Rattle.event_dispatch.specs.TurnParts.{TurnFails, PlayDone, HoldDone, HoldFails}
 use Rattle.event_dispatch.specs.laws.DispatchStrayLaws.{places_as, reads_over, started_quietly, started_places, started_reads}
 use Rattle.event_dispatch.specs.laws.KeptLaws.{turn_read}
 use Rattle.event_dispatch.specs.laws.StoreLaws.{held, unkept}
