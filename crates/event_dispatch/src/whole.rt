@@ -77,7 +77,7 @@ impl Run<'_> {
         ensures done { MatchResult result (λ rest. RoundDone W.Tells (J.accepts judge.now) rest (K.contents sink.old) (K.contents sink.new)
             (W.seen world.old) (W.seen world.new) self.old self.new)
             (RoundFails W.Tells (J.accepts judge.now) (K.contents sink.old) (K.contents sink.new) (K.faults sink.old) (K.faults sink.new)
-                (W.seen world.old) (W.seen world.new) self.old) }
+            (W.seen world.old) (W.seen world.new) self.old) }
     {
         let rest = self.core.take_batch(world, buf)?;
         self.core.write_noted(sink)?;
@@ -104,7 +104,7 @@ impl Run<'_> {
         ensures done { MatchResult result (λ _. RoundsDone W.Tells (J.accepts judge.now) rounds (K.contents sink.old) (K.contents sink.new)
             (W.seen world.old) (W.seen world.new) self.old self.new)
             (RoundsFail W.Tells (J.accepts judge.now) (K.contents sink.old) (K.contents sink.new) (K.faults sink.old) (K.faults sink.new)
-                (W.seen world.old) (W.seen world.new) self.old) }
+            (W.seen world.old) (W.seen world.new) self.old) }
     {
         for _round in 0..rounds {
             match self.run_round(world, judge, sink, buf)? {
@@ -140,7 +140,7 @@ impl Run<'_> {
         ensures done { MatchResult result (λ _. EndsReport W.Tells (K.contents sink.old) (K.contents sink.new)
             (W.seen world.old) (W.seen world.new) self.old self.new)
             (ReportFails W.Tells (K.contents sink.old) (K.contents sink.new) (K.faults sink.old) (K.faults sink.new)
-                (W.seen world.old) (W.seen world.new) self.old) }
+            (W.seen world.old) (W.seen world.new) self.old) }
     {
         self.note_last(world)?;
         self.core.write(sink)?;

@@ -8,9 +8,8 @@ use Rattle.crash_policy.specs.declared.policy_file.AppRule.{AppRule}
 use Rattle.crash_policy.specs.Policies.{app_value}
 use Rattle.outside.specs.Seen.{Seen}
 use Rattle.net_txn.specs.Net.{NetState}
-use Rattle.checkpoint_store.specs.Past.{after}
 use Rattle.checkpoint_store.specs.Slots.{Slot, empty_slot, slot_of}
-use Rattle.app_visor.specs.CallsFor.{CallsFor, OwnSteps}
+use Rattle.app_visor.specs.CallsFor.{CallsFor}
 use Rattle.app_visor.specs.laws.OwnLaws.{own_calls}
 use Rattle.app_visor.specs.Attempts.{kept_of}
 use Rattle.run_laws.specs.Engine.{Application, Focus, focus}
@@ -69,9 +68,6 @@ empty_at : (n i : ℕ) → slot_of i (replicate n empty_slot) ≡ empty_slot
 empty_at zero i = refl
 empty_at (suc n) zero = refl
 empty_at (suc n) (suc i) = empty_at n i
-
-pub empty_rests : (n : ℕ) → StoreRests (replicate n empty_slot)
-empty_rests n = λ i less. subst (λ (x : Slot). x.pending ≡ after x.kept []) (sym (empty_at n i)) refl
 
 pub empty_length : (n : ℕ) → length (replicate n empty_slot) ≡ n
 empty_length zero = refl

@@ -170,9 +170,6 @@ pub before_of : (events now_events : ℕ) (apps : List Managed) → now_events �
 before_of events now_events [] is all = tt
 before_of events now_events (m ∷ apps) is all = (record { done = omega (arith, is, all.0.done); failed = omega (arith, is, all.0.failed) }, before_of events now_events apps is all.1)
 
-pub before_at : (events : ℕ) (front : List Managed) (m : Managed) (back : List Managed) → AreBefore events (m ∷ back) → IsCountedBefore events m
-before_at events front m back all = all.0
-
 -- ---- Offers behind one another
 
 no_stop : (stops : Bool) (Stopped Goes : Type 0) → (Stopped → true ≡ false) → if_stopped stops Stopped Goes → (stops ≡ false) × Goes
@@ -182,10 +179,6 @@ no_stop false Stopped Goes never both = (refl, both)
 goes_so : (stops : Bool) (Stopped Goes : Type 0) → stops ≡ false → Goes → if_stopped stops Stopped Goes
 goes_so true Stopped Goes is goes = absurd (true≢false is)
 goes_so false Stopped Goes is goes = goes
-
-stops_so : (stops : Bool) (Stopped Goes : Type 0) → stops ≡ true → Stopped → if_stopped stops Stopped Goes
-stops_so true Stopped Goes is stopped = stopped
-stops_so false Stopped Goes is stopped = absurd (true≢false (sym is))
 
 module _ {Own : Type 0} (Tells : Type 0) (accepts : List TableView → Bool) (event : Event) (number : ℕ) where
   pub offers_then : (i k : ℕ) (xs ys : List Application) (text more : List ℕ) (from mid to : Between Own) (front back : List Application) (stopped : Bool) → k ≡ i + length xs

@@ -39,8 +39,6 @@ use Rattle.checkpoint_store.specs.Slots.{Slot}
 use Rattle.lego_model.specs.Application.{names}
 use Rattle.event_dispatch.specs.Serves.{Notes, Writes, AllStarted, IsDispatched, DispatchesOldest, DispatchesSome, DispatchesWaiting, IsBatch, GoesRound, GoesRounds, GoesToEnd, Begins}
 use Rattle.run_laws.specs.laws.EndingLaws.{known-append}
-use Rattle.event_dispatch.specs.Steady.{NoStray, Reads}
-use Rattle.event_dispatch.specs.laws.SteadyLaws.{places_number, places_then}
 
 -- ---- What is written
 
@@ -76,10 +74,6 @@ pub stays_engine : (r : Run) (c now_c : Core) → Stays c now_c → engine_of (r
 stays_engine r c now_c stays =
     ap₂ (λ (net : NetState) (queue : List Event). record { net = net; queue = queue; events = now_c.events; apps = map (application_of now_c.store) r.apps.items }) stays.net stays.queue
     ∙ ap₂ (λ (events : ℕ) (slots : List Slot). record { net = c.net; queue = c.queue; events = events; apps = map (application_of slots) r.apps.items }) stays.events stays.store
-
--- no stray call behind a part that left as many places for checkpoints
-pub places_on : {Own : Type 0} {Tells : Type 0} {n m : ℕ} (old mid new : Seen Own) (net mid_net : NetState) → m ≡ n → Continues Tells old mid → Continues Tells mid new → NoStray Tells n old mid net → Reads Tells old mid net mid_net → NoStray Tells m mid new mid_net → NoStray Tells n old new net
-places_on {n = n} {m = m} old mid new net mid_net same before later first reads second = places_then old mid new net mid_net before later first reads (places_number n m same second)
 
 -- as many applications as places for checkpoints
 pub number_is : (r : Run) → Going r → length r.core.store ≡ length (engine_of r).apps

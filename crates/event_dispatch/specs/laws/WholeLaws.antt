@@ -1,8 +1,10 @@
 -- Laws of a whole run: its start, its rounds and its end are the run that is promised.
-use Rattle.std.proofs.Common.{◌≡◌, ℕ, ◌^◌, ◌<◌, Bool, List, [], ◌∷◌, ◌++◌, length, map, Option, Result, Ok, Err, IsErrAnd, refl, sym, ap, ◌∙◌, subst, inr}
+use Rattle.std.proofs.Common.{◌≡◌, ◌↔◌, ℕ, ◌^◌, ◌<◌, ◌≤◌, Bool, false, List, [], ◌∷◌, ◌++◌, length, map, Option, Result, Ok, Err, IsErrAnd, IsTrue, refl, sym, ap, ◌∙◌, subst, inr, arith, true≢false}
 use Rattle.std.specs.Io.KnownBytes.{append_known}
+use Rattle.lego_io.specs.Count.{Rose}
 use Rattle.std.proofs.lemmas.List.{append-nil, length-map}
 use Rattle.flow_table.specs.View.{TableView}
+use Rattle.app_frames.specs.declared.frame.Event.{Event}
 use Rattle.crash_policy.specs.Policies.{AppValue, app_value}
 use Rattle.crash_policy.specs.declared.policy_file.AppRule.{AppRule}
 use Rattle.lego_model.specs.Places.{Place}
@@ -58,6 +60,11 @@ ends_is Tells contents now_contents last new r mid now_c none shown counted writ
   };
   events = same.events ∙ counted;
 }
+
+-- events are left, where the queue is not empty
+pub some_left : (queue : List Event) (left : ℕ) (empty : Bool) → (IsTrue empty ↔ (queue ≡ [])) → empty ≡ false → left ≡ length queue → 1 ≤ left
+some_left [] left empty is none same = absurd (true≢false (sym (is.1 refl) ∙ none))
+some_left (event ∷ queue) left empty is none same = omega (arith, same)
 
 -- ---- From the start to the end
 
@@ -259,6 +266,9 @@ pub shut_by : {Own : Type 0} (Tells : Type 0) (old new : Seen Own) (fault : Open
 unfolding open_steps
 shut_by Tells old new opening.Shut is told = λ tells. (told tells).history
 shut_by Tells old new opening.Short is told = absurd cc
+
+pub why_shut : {Own Tells : Type 0} {old new : Seen Own} (fault : OpenFault) → fault ≡ opening.Shut → Opens Tells old new (failed_open fault) → Rose old.counts.shuts new.counts.shuts
+why_shut fault is opens = opens.shut (ap failed_open is)
 
 pub short_by : {Own : Type 0} (Tells : Type 0) (old new : Seen Own) (fault : OpenFault) → fault ≡ opening.Short → (Tells → ToldOpen old new (failed_open fault)) → IsUnopened Tells old new served.NoMemory
 unfolding open_steps
