@@ -30,24 +30,28 @@ use Rattle.event_dispatch.specs.Serves.{AllStarted, GoesRound, GoesToEnd, Begins
 -- ---- The world and the sink, however a part ended
 
 -- the world goes on, and no count of the sink falls
-pub record PassesOn {Own T E : Type 0} (Tells : Type 0) (number : ℕ) (old new : Seen Own) (net now_net : NetState) (sink_old sink_new : ℕ) (result : Result T E) : Type 0 where
+pub record PassesOn {Own T E : Type 0} (Tells : Type 0) (number : ℕ) (old new : Seen Own) (net now_net : NetState) (sink_old sink_new : ℕ)
+    (result : Result T E) : Type 0 where
   pub passes : Passes Tells number old new net now_net result
   pub never_fell : NeverFell sink_old sink_new
 
 -- and as much is read into as before
-pub record PassesRound {Own T E : Type 0} (Tells : Type 0) (number : ℕ) (old new : Seen Own) (net now_net : NetState) (sink_old sink_new : ℕ) (buf now_buf : List ℕ) (result : Result T E) : Type 0 where
+pub record PassesRound {Own T E : Type 0} (Tells : Type 0) (number : ℕ) (old new : Seen Own) (net now_net : NetState) (sink_old sink_new : ℕ)
+    (buf now_buf : List ℕ) (result : Result T E) : Type 0 where
   pub on : PassesOn Tells number old new net now_net sink_old sink_new result
   pub buffer : length now_buf ≡ length buf
 
 -- of a part that says how a run ended: all that came of switches are messages, where no fault ended it
-pub record PassesServed {Own T : Type 0} (Tells : Type 0) (number : ℕ) (old new : Seen Own) (net : NetState) (sink_old sink_new : ℕ) (result : Result T Served) : Type 0 where
+pub record PassesServed {Own T : Type 0} (Tells : Type 0) (number : ℕ) (old new : Seen Own) (net : NetState) (sink_old sink_new : ℕ)
+    (result : Result T Served) : Type 0 where
   pub continues : Continues Tells old new
   pub places : NoStray Tells number old new net
   pub reads : ReadsAs Tells result old new net
   pub never_fell : NeverFell sink_old sink_new
 
 -- of a run whose applications were ended at last
-pub record PassesEnded {Own T : Type 0} (Tells : Type 0) (number : ℕ) (old new : Seen Own) (net : NetState) (sink_old sink_new : ℕ) (result : Result T Served) : Type 0 where
+pub record PassesEnded {Own T : Type 0} (Tells : Type 0) (number : ℕ) (old new : Seen Own) (net : NetState) (sink_old sink_new : ℕ)
+    (result : Result T Served) : Type 0 where
   pub continues : Continues Tells old new
   pub none_runs : NoneRuns Tells number old new net
   pub reads : ReadsAs Tells result old new net
@@ -75,7 +79,8 @@ pub record BeginDone {Own : Type 0} (Tells : Type 0) (contents now_contents : Op
   pub none : now_r.core.events ≡ 0
   pub number : length now_r.core.store ≡ length r.core.store
 
-pub record BeginFails {Own : Type 0} (Tells : Type 0) (contents now_contents : Option (List ℕ)) (sink_old sink_new : ℕ) (old new : Seen Own) (r : Run) (fault : Fault) : Type 0 where
+pub record BeginFails {Own : Type 0} (Tells : Type 0) (contents now_contents : Option (List ℕ)) (sink_old sink_new : ℕ) (old new : Seen Own) (r : Run)
+    (fault : Fault) : Type 0 where
   pub cut : CutStart Tells fault contents now_contents old new (engine_of r)
   pub why : IsReason Tells old new sink_old sink_new fault
   pub plain : IsPlainEnd fault
@@ -83,24 +88,28 @@ pub record BeginFails {Own : Type 0} (Tells : Type 0) (contents now_contents : O
 -- ---- Rounds
 
 -- one was gone
-pub record RoundDone {Own : Type 0} (Tells : Type 0) (accepts : List TableView → Bool) (rest : Rest) (contents now_contents : Option (List ℕ)) (old new : Seen Own) (r now_r : Run) : Type 0 where
+pub record RoundDone {Own : Type 0} (Tells : Type 0) (accepts : List TableView → Bool) (rest : Rest) (contents now_contents : Option (List ℕ))
+    (old new : Seen Own) (r now_r : Run) : Type 0 where
   pub round : GoesRound Tells accepts rest contents now_contents old new r now_r
   pub going : Going now_r
   pub number : length now_r.core.store ≡ length r.core.store
   pub events : now_r.core.events ≤ r.core.events + 1000
 
-pub record RoundFails {Own : Type 0} (Tells : Type 0) (accepts : List TableView → Bool) (contents now_contents : Option (List ℕ)) (sink_old sink_new : ℕ) (old new : Seen Own) (r : Run) (fault : Fault) : Type 0 where
+pub record RoundFails {Own : Type 0} (Tells : Type 0) (accepts : List TableView → Bool) (contents now_contents : Option (List ℕ)) (sink_old sink_new : ℕ)
+    (old new : Seen Own) (r : Run) (fault : Fault) : Type 0 where
   pub cut : CutRound Tells accepts fault contents now_contents old new r
   pub why : IsReason Tells old new sink_old sink_new fault
   pub plain : PlainRun Tells accepts old new (engine_of r) (served_by fault)
 
 -- all of them
-pub record RoundsDone {Own : Type 0} (Tells : Type 0) (accepts : List TableView → Bool) (most : ℕ) (contents now_contents : Option (List ℕ)) (old new : Seen Own) (r now_r : Run) : Type 0 where
+pub record RoundsDone {Own : Type 0} (Tells : Type 0) (accepts : List TableView → Bool) (most : ℕ) (contents now_contents : Option (List ℕ))
+    (old new : Seen Own) (r now_r : Run) : Type 0 where
   pub to_end : GoesToEnd Tells accepts most contents now_contents old new r now_r
   pub going : Going now_r
   pub number : length now_r.core.store ≡ length r.core.store
 
-pub record RoundsFail {Own : Type 0} (Tells : Type 0) (accepts : List TableView → Bool) (contents now_contents : Option (List ℕ)) (sink_old sink_new : ℕ) (old new : Seen Own) (r : Run) (fault : Fault) : Type 0 where
+pub record RoundsFail {Own : Type 0} (Tells : Type 0) (accepts : List TableView → Bool) (contents now_contents : Option (List ℕ)) (sink_old sink_new : ℕ)
+    (old new : Seen Own) (r : Run) (fault : Fault) : Type 0 where
   pub cut : CutRounds Tells accepts fault contents now_contents old new r
   pub why : IsReason Tells old new sink_old sink_new fault
   pub plain : PlainRun Tells accepts old new (engine_of r) (served_by fault)
@@ -108,35 +117,41 @@ pub record RoundsFail {Own : Type 0} (Tells : Type 0) (accepts : List TableView 
 -- ---- The end
 
 -- a fault ended the end of the report
-pub record ReportFails {Own : Type 0} (Tells : Type 0) (contents now_contents : Option (List ℕ)) (sink_old sink_new : ℕ) (old new : Seen Own) (r : Run) (fault : Fault) : Type 0 where
+pub record ReportFails {Own : Type 0} (Tells : Type 0) (contents now_contents : Option (List ℕ)) (sink_old sink_new : ℕ) (old new : Seen Own) (r : Run)
+    (fault : Fault) : Type 0 where
   pub cut : CutEnd Tells fault contents now_contents old new (engine_of r)
   pub why : IsReason Tells old new sink_old sink_new fault
   pub plain : PlainCalm Tells old new r.core.net (served_by fault)
 
 -- or events were left
-pub record FinishFails {Own : Type 0} (Tells : Type 0) (contents now_contents : Option (List ℕ)) (sink_old sink_new : ℕ) (old new : Seen Own) (r : Run) (end : Served) : Type 0 where
+pub record FinishFails {Own : Type 0} (Tells : Type 0) (contents now_contents : Option (List ℕ)) (sink_old sink_new : ℕ) (old new : Seen Own) (r : Run)
+    (end : Served) : Type 0 where
   pub cut : CutFinishAs Tells end contents now_contents old new (engine_of r)
   pub why : IsWhy Tells old new sink_old sink_new end
   pub plain : PlainCalm Tells old new r.core.net end
 
-pub record FinishesSo {Own : Type 0} (Tells : Type 0) (contents now_contents : Option (List ℕ)) (sink_old sink_new : ℕ) (old new : Seen Own) (r now_r : Run) (result : Result (Unit {0}) Served) : Type 0 where
+pub record FinishesSo {Own : Type 0} (Tells : Type 0) (contents now_contents : Option (List ℕ)) (sink_old sink_new : ℕ) (old new : Seen Own) (r now_r : Run)
+    (result : Result (Unit {0}) Served) : Type 0 where
   pub finishes : Finishes Tells result contents now_contents old new r now_r
   pub fails : IfErr result (FinishFails Tells contents now_contents sink_old sink_new old new r)
 
 -- ---- A whole run
 
 -- a fault ended it, or events were left
-pub record WholeFails {Own : Type 0} (Tells : Type 0) (accepts : List TableView → Bool) (most : ℕ) (contents now_contents : Option (List ℕ)) (sink_old sink_new : ℕ) (old new : Seen Own) (e : Engine) (end : Served) : Type 0 where
+pub record WholeFails {Own : Type 0} (Tells : Type 0) (accepts : List TableView → Bool) (most : ℕ) (contents now_contents : Option (List ℕ))
+    (sink_old sink_new : ℕ) (old new : Seen Own) (e : Engine) (end : Served) : Type 0 where
   pub cut : CutAs Tells accepts most end contents now_contents old new e
   pub why : IsWhy Tells old new sink_old sink_new end
   pub plain : PlainWhole Tells accepts most old new e end
 
-pub record GoesSo {Own : Type 0} (Tells : Type 0) (accepts : List TableView → Bool) (most : ℕ) (contents now_contents : Option (List ℕ)) (sink_old sink_new : ℕ) (old new : Seen Own) (r now_r : Run) (result : Result (Unit {0}) Served) : Type 0 where
+pub record GoesSo {Own : Type 0} (Tells : Type 0) (accepts : List TableView → Bool) (most : ℕ) (contents now_contents : Option (List ℕ))
+    (sink_old sink_new : ℕ) (old new : Seen Own) (r now_r : Run) (result : Result (Unit {0}) Served) : Type 0 where
   pub goes : GoesAs Tells accepts most result contents now_contents old new r now_r
   pub fails : IfErr result (WholeFails Tells accepts most contents now_contents sink_old sink_new old new (engine_of r))
 
 -- of applications of these rules, of which nothing had happened
-pub record RunsSo {Own : Type 0} (rules : List AppValue) (Tells : Type 0) (accepts : List TableView → Bool) (most : ℕ) (contents now_contents : Option (List ℕ)) (sink_old sink_new : ℕ) (old new : Seen Own) (e : Engine) (result : Result ℕ Served) : Type 0 where
+pub record RunsSo {Own : Type 0} (rules : List AppValue) (Tells : Type 0) (accepts : List TableView → Bool) (most : ℕ)
+    (contents now_contents : Option (List ℕ)) (sink_old sink_new : ℕ) (old new : Seen Own) (e : Engine) (result : Result ℕ Served) : Type 0 where
   pub runs : RunsAs rules Tells accepts most result contents now_contents old new
   pub fails : IfErr result (WholeFails Tells accepts most contents now_contents sink_old sink_new old new e)
 

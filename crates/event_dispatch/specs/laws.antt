@@ -29,6 +29,7 @@ pub mod EndedLaws
 pub mod NoEventLaws
 pub mod LeftLaws
 pub mod StoreLaws
+pub mod NotesLaws
 pub mod TurnPartLaws
 pub mod OfferLaws
 pub mod BeginLaws

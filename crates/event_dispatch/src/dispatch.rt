@@ -136,7 +136,6 @@ impl Core {
     }
 
     /// Starts an application at its kept checkpoint, in at most three attempts.
-    #[tactic(auto, using(crate::specs::laws::WhyLaws::waits_then))]
     pub(crate) fn start<W: World>(
         &mut self,
         world: &mut W,
@@ -159,7 +158,6 @@ impl Core {
     }
 
     /// Appends the lines of the attempts to start the application of a name.
-    #[tactic(auto, using(crate::specs::laws::WhyLaws::waits_then))]
     fn note_start(&mut self, name: &str, back: Back) -> Result<(), AllocError>
         ensures { OnOk result (Notes (starts_text (name.now) back.tries.items back.back) self.old self.new) }
     {
@@ -214,7 +212,6 @@ impl Core {
     }
 
     /// Appends the lines of the packets that were released.
-    #[tactic(auto, using(crate::specs::laws::WhyLaws::waits_then))]
     fn note_out(&mut self, out: &[(Dpid, u32)]) -> Result<(), AllocError>
         ensures { OnOk result (Notes (out_text out.now) self.old self.new) }
     {

@@ -8,9 +8,8 @@ use Rattle.crash_policy.specs.declared.policy_file.AppRule.{AppRule}
 use Rattle.crash_policy.specs.Policies.{app_value}
 use Rattle.outside.specs.Seen.{Seen}
 use Rattle.net_txn.specs.Net.{NetState}
-use Rattle.checkpoint_store.specs.Past.{after}
 use Rattle.checkpoint_store.specs.Slots.{Slot, empty_slot, slot_of}
-use Rattle.app_visor.specs.CallsFor.{CallsFor, OwnSteps}
+use Rattle.app_visor.specs.CallsFor.{CallsFor}
 use Rattle.app_visor.specs.laws.OwnLaws.{own_calls}
 use Rattle.app_visor.specs.Attempts.{kept_of}
 use Rattle.run_laws.specs.Engine.{Application, Focus, focus}

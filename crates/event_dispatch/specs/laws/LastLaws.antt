@@ -36,15 +36,13 @@ use Rattle.switch_laws.specs.laws.StandLaws.{all-stand}
 use Rattle.switch_laws.specs.laws.ClockLaws.{switch-in_time, moment-within}
 use Rattle.run_laws.specs.LastReport.{SameKeys, flow_lines, table_lines, shown_text, switch_left, place_lines, app_lines, engine_end, OnlyAsked}
 use Rattle.run_laws.specs.laws.LastReportLaws.{keys-same, table-shown, joined-with, out-with, places-shown, asked-nothing, rows-asked, lost-asked, asked-then}
-use Rattle.run_laws.specs.Endings.{Leaves}
-use Rattle.run_laws.specs.laws.LeaveLaws.{asked-leaves}
 use Rattle.event_dispatch.specs.declared.engine_core.Core.{Core}
 use Rattle.event_dispatch.specs.Runs.{WaitsAtEnd}
 use Rattle.event_dispatch.specs.declared.run.Managed.{Managed}
 use Rattle.event_dispatch.specs.declared.run.Run.{Run}
 use Rattle.checkpoint_store.specs.Slots.{Slot}
 use Rattle.event_dispatch.specs.Shows.{application_of, engine_with, Stays, Adds}
-use Rattle.event_dispatch.specs.ReportEnd.{FindsFlags, FlowsSoFar, FlowsSaid, TableSaid, AsksShown, AsksNone, AsksAs, Says, SaysOf, TableShown, TablesShown, SameBesides, LastSays, LastShown, NextRow}
+use Rattle.event_dispatch.specs.ReportEnd.{FindsFlags, FlowsSoFar, TableSaid, AsksShown, AsksNone, AsksAs, Says, SaysOf, TableShown, TablesShown, SameBesides, LastShown, NextRow}
 
 -- ---- Text that is noted
 
@@ -144,10 +142,6 @@ flows_next rows vs place from row more found a b c same is so finds adds =
           (ap (λ (n : ℕ). flow_lines (take place rows) vs ++ flow_line row n) line ∙ sym (flow_lines-more place rows vs row there.first more there.later is there.split) ∙ ap (λ (n : ℕ). flow_lines (take n rows) vs) (sym (add-one place)))
           (adds_then so.adds adds);
     }
-
--- all of them were told
-pub flows_whole : (d : ℕ) (rows : List FlowRow) (i from : ℕ) (a b : Core) → length rows ≤ i → ((vs : List ViewRow) → rows_at d a.net.views ≡ Some vs → SameKeys rows vs → FlowsSoFar rows vs i from a b) → FlowsSaid d rows a b
-flows_whole d rows i from a b all so_far = record { adds = λ vs is same. subst (λ (rs : List FlowRow). Adds (flow_lines rs vs) a b) (take_all i rows all) (so_far vs is same).adds }
 
 -- ---- What is asked for leaves all but the transaction id and what is kept
 

@@ -39,8 +39,6 @@ use Rattle.checkpoint_store.specs.Slots.{Slot}
 use Rattle.lego_model.specs.Application.{names}
 use Rattle.event_dispatch.specs.Serves.{Notes, Writes, AllStarted, IsDispatched, DispatchesOldest, DispatchesSome, DispatchesWaiting, IsBatch, GoesRound, GoesRounds, GoesToEnd, Begins}
 use Rattle.run_laws.specs.laws.EndingLaws.{known-append}
-use Rattle.event_dispatch.specs.Steady.{NoStray, Reads}
-use Rattle.event_dispatch.specs.laws.SteadyLaws.{places_number, places_then}
 
 -- ---- What is written
 

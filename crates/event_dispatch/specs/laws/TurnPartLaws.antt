@@ -1,19 +1,16 @@
 -- Laws of what the parts of a turn and of a start leave.
-use Rattle.std.proofs.Common.{◌≡◌, ◌<◌, ◌≤◌, ◌+◌, ℕ, Bool, false, List, [], ◌++◌, length, Result, Ok, Err, OnOk, refl, sym, ap, ap₂, ◌∙◌, subst, append_assoc, arith, true≢false}
+use Rattle.std.proofs.Common.{◌≡◌, ◌<◌, ◌≤◌, ◌+◌, ℕ, Bool, false, List, ◌++◌, length, Result, Ok, Err, OnOk, refl, sym, ap, ap₂, ◌∙◌, subst, append_assoc, arith, true≢false}
 use Rattle.std.specs.Prelude.{IsErr, IfOk, MatchResult, Vec}
 use Rattle.std.specs.Global.{Global}
 use Rattle.flow_table.specs.View.{TableView}
 use Rattle.app_frames.specs.declared.cause.Cause.{Cause}
 use Rattle.app_frames.specs.declared.frame.Event.{Event}
 use Rattle.app_frames.specs.declared.frame.EventKind.{EventKind}
-use Rattle.crash_policy.specs.declared.policy_file.Policy.{Policy}
-use Rattle.crash_policy.specs.declared.policy_file.Policy.TheVariants as policy
 use Rattle.crash_policy.specs.Policies.{app_value}
 use Rattle.crash_policy.specs.Asking.{rule_at}
-use Rattle.lego_model.specs.RunReport.{turn_line, gone_line}
+use Rattle.lego_model.specs.RunReport.{turn_line}
 use Rattle.lego_model.specs.declared.turn.TurnWord.TheVariants as words
 use Rattle.outside.specs.Seen.{Seen, Continues}
-use Rattle.outside.specs.Calls.{Ends}
 use Rattle.net_txn.specs.Net.{NetState}
 use Rattle.app_visor.specs.declared.state.TurnEnd.TheVariants as ends
 use Rattle.app_visor.specs.CallsFor.{OwnSteps}
@@ -27,12 +24,12 @@ use Rattle.event_dispatch.specs.declared.engine_core.Core.{Core}
 use Rattle.event_dispatch.specs.declared.fault.Fault.{Fault}
 use Rattle.event_dispatch.specs.declared.run.Managed.{Managed}
 use Rattle.event_dispatch.specs.Runs.{AreRead, StoreRests, CoreGoes, SameManaged}
-use Rattle.event_dispatch.specs.Shows.{application_of, focus_of, name_of, Stays, none_left}
+use Rattle.event_dispatch.specs.Shows.{application_of, focus_of, name_of, none_left}
 use Rattle.event_dispatch.specs.Lines.{Notes, LostTold}
 use Rattle.event_dispatch.specs.Stored.{KeepsSlots, closes_slot, PlaysStaged}
 use Rattle.event_dispatch.specs.Talking.{KeepsTalking}
 use Rattle.event_dispatch.specs.Passes.{Passes, PassesQuietly}
-use Rattle.event_dispatch.specs.TurnParts.{TurnFails, PlayDone, HoldDone, HoldFails, StartDone, LeaveDone, GoOnDone, CloseDone}
+use Rattle.event_dispatch.specs.TurnParts.{TurnFails, PlayDone, HoldDone, HoldFails, GoOnDone, CloseDone}
 use Rattle.event_dispatch.specs.laws.DispatchStrayLaws.{places_as, reads_over, started_quietly, started_places, started_reads}
 use Rattle.event_dispatch.specs.laws.KeptLaws.{turn_read}
 use Rattle.event_dispatch.specs.laws.StoreLaws.{held, unkept}
@@ -75,6 +72,90 @@ quiet_own app net now_net (Err fault) small continues own talks views = record {
   talks = talks;
 }
 
+-- ---- A turn is counted and told, with the switches that were lost
+
+module _ {text : List ℕ} {c mid_c now_c : Core} (noted : Notes text c mid_c) (told : LostTold mid_c now_c) where
+  told_net : now_c.net ≡ none_left c.net
+  told_net = told.tells.net ∙ ap none_left noted.adds.stays.net
+
+  told_queue : now_c.queue ≡ c.queue ++ left_events c.net.left
+  told_queue = told.tells.queue ∙ ap₂ (λ (queue : List Event) (net : NetState). queue ++ left_events net.left) noted.adds.stays.queue noted.adds.stays.net
+
+  told_events : now_c.events ≡ c.events
+  told_events = told.tells.events ∙ noted.adds.stays.events
+
+  told_store : now_c.store ≡ c.store
+  told_store = told.tells.store ∙ noted.adds.stays.store
+
+  told_lines : now_c.lines.items ≡ c.lines.items ++ (text ++ lost_text c.net.left)
+  told_lines = told.tells.lines ∙ ap₂ (λ (lines : List ℕ) (net : NetState). lines ++ lost_text net.left) noted.adds.lines noted.adds.stays.net
+      ∙ append_assoc c.lines.items text (lost_text c.net.left)
+
+  told_goes : 1 ≤ c.net.room → AreRead c.net.kept → StoreRests c.store → CoreGoes now_c
+  told_goes room read store = record {
+    room = subst (λ (net : NetState). 1 ≤ net.room) (sym told_net) room;
+    read = subst (λ (net : NetState). AreRead net.kept) (sym told_net) read;
+    store = subst StoreRests (sym told_store) store;
+    left = ap (λ (net : NetState). net.left) told_net;
+  }
+
+  told_focus : (m : Managed) → focus_of now_c m ≡ all_told c.net c.queue (focus_of c m)
+  told_focus m =
+      ap₂ (λ (net : NetState) (queue : List Event). focus m.state.index (application_of now_c.store m) net queue now_c.events) told_net told_queue
+      ∙ ap₂ (λ (events : ℕ) (slots : List Slot). focus m.state.index (application_of slots m) (none_left c.net) (c.queue ++ left_events c.net.left) events)
+      told_events told_store
+
+  -- it was done
+  pub done_so : {Own : Type 0} {Tells : Type 0} {out : Vec (ℕ × ℕ) Global} (kind : EventKind) (stop : Bool) (seen : Seen Own) (m : Managed) → m.done < c.events
+      → m.failed < c.events
+      → 1 ≤ c.net.room → AreRead c.net.kept → StoreRests c.store → text ≡ turn_line (name_of m) (turn_word (ends.Done stop)) ++ out_text out.items
+      → CloseDone Tells kind (closings.Done stop out) stop seen seen c now_c m (record m { done = m.done + 1 })
+  done_so {out = out} kind stop seen m done failed room read store is = record {
+    goes = told_goes room read store;
+    events = told_events;
+    store = told_store;
+    counted = record { done = omega (arith, told_events, done); failed = omega (arith, told_events, failed) };
+    stops = refl;
+    closes = record {
+      seen = refl;
+      engine = told_focus (record m { done = m.done + 1 });
+      notes = told_lines ∙ ap (λ (xs : List ℕ). c.lines.items ++ (xs ++ lost_text c.net.left)) is
+          ∙ ap (λ (xs : List ℕ). c.lines.items ++ xs)
+          (append_assoc (turn_line (name_of m) (turn_word (ends.Done stop))) (out_text out.items) (lost_text c.net.left));
+    };
+  }
+
+  -- it failed, and the application goes by its policy
+  pub failed_so : {Own : Type 0} {Tells : Type 0} {old new : Seen Own} {later_c : Core} (kind : EventKind) (cause : Cause) (m now_m : Managed)
+      → m.done < c.events → m.failed < c.events
+      → 1 ≤ c.net.room → AreRead c.net.kept → StoreRests c.store → text ≡ turn_line (name_of m) (words.Failed cause)
+      → SameManaged (record m { failed = m.failed + 1 }) now_m
+      → GoOnDone Tells kind old new now_c later_c (record m { failed = m.failed + 1 }) now_m
+      → CloseDone Tells kind (closings.Failed cause) false old new c later_c m now_m
+  failed_so {Tells = Tells} {old = old} {new = new} {later_c = later_c} kind cause m now_m done failed room read store is same goes =
+      let core = told_goes room read store in
+      record {
+        goes = record {
+          room = subst (λ (net : NetState). 1 ≤ net.room) (sym goes.net) core.room;
+          read = subst (λ (net : NetState). AreRead net.kept) (sym goes.net) core.read;
+          store = subst StoreRests (sym goes.waits.store) core.store;
+          left = ap (λ (net : NetState). net.left) goes.net ∙ core.left;
+        };
+        events = goes.waits.events ∙ told_events;
+        store = goes.waits.store ∙ told_store;
+        counted = record { done = omega (arith, same.done, done); failed = omega (arith, same.failed, failed) };
+        stops = refl;
+        closes = record {
+          text = goes.goes_on.text;
+          follows = subst (λ (e : Focus). Follows Tells (rule_at (app_value m.rule.now) kind) goes.goes_on.text old new e (focus_of later_c now_m))
+              (told_focus (record m { failed = m.failed + 1 })) goes.goes_on.follows;
+          notes = goes.goes_on.notes ∙ ap (λ (xs : List ℕ). xs ++ goes.goes_on.text) told_lines ∙ append_assoc c.lines.items (text ++ lost_text c.net.left)
+              goes.goes_on.text
+              ∙ ap (λ (xs : List ℕ). c.lines.items ++ xs) (append_assoc text (lost_text c.net.left) goes.goes_on.text)
+              ∙ ap (λ (xs : List ℕ). c.lines.items ++ (xs ++ (lost_text c.net.left ++ goes.goes_on.text))) is;
+        };
+      }
+
 -- ---- A turn
 
 -- it was played
@@ -93,11 +174,12 @@ pub hold_so : (Own : Type 0) (Tells : Type 0) (accepts : List TableView → Bool
     (TurnFails Tells app budget rest old new net)
     → MatchResult closing (λ end. HoldDone Tells accepts app budget number event end old new net now_net queue now_queue rest unread store now_store)
     (HoldFails Tells app budget rest old new net store now_store)
-hold_so Own Tells accepts budget number event old new net now_net queue now_queue rest unread (Ok closing) app store mid_store now_store lt rests keeps is played = record {
-  room = played.room;
-  plays = held Own Tells accepts budget number event old new net now_net queue now_queue rest unread (Ok closing) app store mid_store now_store lt rests keeps is
-      played.plays;
-  read = played.read;
-}
-hold_so Own Tells accepts budget number event old new net now_net queue now_queue rest unread (Err fault) app store mid_store now_store lt rests keeps is fails =
-    record { unkept = unkept (Err fault) app store mid_store now_store lt rests keeps is; fails = fails }
+hold_so Own Tells accepts budget number event old new net now_net queue now_queue rest unread (Ok closing) app store mid_store now_store lt rests keeps is
+    played = record {
+      room = played.room;
+      plays = held Own Tells accepts budget number event old new net now_net queue now_queue rest unread (Ok closing) app store mid_store now_store
+          lt rests keeps is played.plays;
+      read = played.read;
+    }
+hold_so Own Tells accepts budget number event old new net now_net queue now_queue rest unread (Err fault) app store mid_store now_store lt rests keeps is
+    fails = record { unkept = unkept (Err fault) app store mid_store now_store lt rests keeps is; fails = fails }

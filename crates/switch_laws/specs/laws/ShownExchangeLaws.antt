@@ -15,7 +15,7 @@ use Rattle.flow_table.specs.declared.view.ViewRow.{ViewRow}
 use Rattle.flow_table.specs.View.{TableView}
 use Rattle.flow_table.specs.Table.{IsTable}
 use Rattle.flow_table.specs.Switch.{Declared, SwitchState}
-use Rattle.flow_table.specs.Change.{notices_of}
+use Rattle.flow_table.specs.Change.{notices_of, describes}
 use Rattle.flow_table.specs.Refusals.{message_refusal}
 use Rattle.flow_table.specs.Step.{after_message}
 use Rattle.undo_laws.specs.Owned.{owned, owned_switch}
@@ -85,7 +85,7 @@ answer-shown flags m s rows p = ap answer_by (refusal-shown flags m s p.unrefuse
 -- ---- What a change that removes nothing holds
 
 no-notices : (m : Change) (es : List Entry) (now : ℕ) → would_touch m (rows_of_table es) ≡ false → notices_of now m es ≡ []
-unfolding notices_of
+unfolding notices_of describes
 no-notices m es now none = no_notices m es now none
 
 quiet-by : (o : Option OfError) (d : ℕ) (m : Change) (s : SwitchState) → notices_of s.moment m s.table.entries ≡ [] → notices_unless o d m s ≡ []

@@ -14,7 +14,7 @@ use Rattle.flow_table.specs.Undone.{used_or, restored, undone}
 use Rattle.undo_laws.specs.Corrected.{corrected}
 use Rattle.undo_laws.specs.Owned.{owned, owned_switch}
 use Rattle.lego_model.specs.Answers.{Rows, rows_of_table, rows_of_view}
-use Rattle.lego_model.specs.Controller.{lose, undoing}
+use Rattle.lego_model.specs.Packets.{lose, undoing}
 use Rattle.lego_model.specs.History.{lost_of}
 use Rattle.lego_model.specs.Places.{Place, switch_undone, undone_places}
 use Rattle.outside.specs.Seen.{Seen}

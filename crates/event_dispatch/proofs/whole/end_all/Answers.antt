@@ -4,12 +4,18 @@ use Rattle.event_dispatch.specs.laws.EndedLaws.{ended_none, ended_next, are_ende
 use Rattle.event_dispatch.proofs.whole.end_all.Goals as goal
 
 pub loop-app-init : goal.loop-app-init
-loop-app-init g c = record { continues = Continues-refl g.W.World.Tells (g.W.World.seen c.args.world.now); so_far = ended_none g.W.World.Tells (g.W.World.seen c.args.world.now) }
+loop-app-init g c = record {
+  continues = Continues-refl g.W.World.Tells (g.W.World.seen c.args.world.now);
+  so_far = ended_none g.W.World.Tells
+      (g.W.World.seen c.args.world.now);
+}
 
 pub loop-app-preserved : goal.loop-app-preserved
 loop-app-preserved g c = record {
-  continues = continues_then g.W.World.Tells (g.W.World.seen c.args.world.now) (g.W.World.seen c.loop-app.world) (g.W.World.seen c.end_one.new.world) c.loop-app.invariant.continues c.end_one.ensures.continues;
-  so_far = ended_next c.loop-app.app (g.W.World.seen c.args.world.now) (g.W.World.seen c.loop-app.world) (g.W.World.seen c.end_one.new.world) c.loop-app-test.true c.loop-app.invariant.continues c.loop-app.invariant.so_far c.end_one.ensures.ends;
+  continues = continues_then g.W.World.Tells (g.W.World.seen c.args.world.now) (g.W.World.seen c.loop-app.world) (g.W.World.seen c.end_one.new.world)
+      c.loop-app.invariant.continues c.end_one.ensures.continues;
+  so_far = ended_next c.loop-app.app (g.W.World.seen c.args.world.now) (g.W.World.seen c.loop-app.world) (g.W.World.seen c.end_one.new.world)
+      c.loop-app-test.true c.loop-app.invariant.continues c.loop-app.invariant.so_far c.end_one.ensures.ends;
 }
 
 pub returns : goal.returns

@@ -8,7 +8,8 @@ pub returns-in-Err-Shut : goal.returns-in-Err-Shut
 returns-in-Err-Shut g c = record {
   continues = opens_continue c.open.ensures;
   opened = tt;
-  unopened = shut_by g.W.World.Tells (g.W.World.seen c.args.world.now) (g.W.World.seen c.open.new.self) c.in-Err-Shut.field-0 c.in-Err-Shut.field-0-is c.in-Err-Shut.ensures.told;
+  unopened = shut_by g.W.World.Tells (g.W.World.seen c.args.world.now) (g.W.World.seen c.open.new.self) c.in-Err-Shut.field-0 c.in-Err-Shut.field-0-is
+      c.in-Err-Shut.ensures.told;
   why = why_shut c.in-Err-Shut.field-0 c.in-Err-Shut.field-0-is c.in-Err-Shut.ensures;
 }
 
@@ -16,6 +17,7 @@ pub returns-in-Err-Short : goal.returns-in-Err-Short
 returns-in-Err-Short g c = record {
   continues = opens_continue c.open.ensures;
   opened = tt;
-  unopened = short_by g.W.World.Tells (g.W.World.seen c.args.world.now) (g.W.World.seen c.open.new.self) c.in-Err-Short.field-0 c.in-Err-Short.field-0-is c.in-Err-Short.ensures.told;
+  unopened = short_by g.W.World.Tells (g.W.World.seen c.args.world.now) (g.W.World.seen c.open.new.self) c.in-Err-Short.field-0 c.in-Err-Short.field-0-is
+      c.in-Err-Short.ensures.told;
   why = tt;
 }

@@ -8,31 +8,40 @@ use Rattle.event_dispatch.proofs.whole.run.Goals as goal
 
 pub returns-in_err-run : goal.returns-in_err-run
 returns-in_err-run g c = record {
-  passes = ended_short g.W.World.Tells (g.W.World.seen c.args.world.now) net_at_first (g.K.Sink.faults c.args.sink.now) c.from_residual.result c.from_residual.ensures.1;
+  passes = ended_short g.W.World.Tells (g.W.World.seen c.args.world.now) net_at_first (g.K.Sink.faults c.args.sink.now) c.from_residual.result
+      c.from_residual.ensures.1;
   done = runs_wanting (map app_value c.args.rules.now) g.W.World.Tells (g.W.World.seen c.args.world.now) c.from_residual.result c.from_residual.ensures.1;
 }
 
 pub returns-in_err-buf : goal.returns-in_err-buf
 returns-in_err-buf g c = record {
-  passes = ended_short g.W.World.Tells (g.W.World.seen c.args.world.now) net_at_first (g.K.Sink.faults c.args.sink.now) c.from_residual-in_err-buf.result c.from_residual-in_err-buf.ensures.1;
-  done = runs_wanting (map app_value c.args.rules.now) g.W.World.Tells (g.W.World.seen c.args.world.now) c.from_residual-in_err-buf.result c.from_residual-in_err-buf.ensures.1;
+  passes = ended_short g.W.World.Tells (g.W.World.seen c.args.world.now) net_at_first (g.K.Sink.faults c.args.sink.now) c.from_residual-in_err-buf.result
+      c.from_residual-in_err-buf.ensures.1;
+  done = runs_wanting (map app_value c.args.rules.now) g.W.World.Tells (g.W.World.seen c.args.world.now) c.from_residual-in_err-buf.result
+      c.from_residual-in_err-buf.ensures.1;
 }
 
 pub returns-in_err-run_then_end : goal.returns-in_err-run_then_end
 returns-in_err-run_then_end g c =
     let is = c.in_ok-run.ensures.done in
     record {
-      passes = ended_fails c.from_residual-in_err-run_then_end.result (ended_as (length c.args.rules.now) (length c.in_ok-run.run'.core.store) net_at_first c.in_ok-run.run'.core.net (first_places c.args.rules.now c.in_ok-run.run' is.going is.first) (ap (λ (e : Engine). e.net) is.first) c.in_err-run_then_end.ensures.passes) c.from_residual-in_err-run_then_end.ensures.1;
-      done = runs_fail (map app_value c.args.rules.now) c.in_ok-run.run' c.run_then_end.new.run c.in_err-run_then_end.field-0.0 c.from_residual-in_err-run_then_end.result c.from_residual-in_err-run_then_end.ensures.1 is.first c.in_err-run_then_end.ensures.done;
+      passes = ended_fails c.from_residual-in_err-run_then_end.result (ended_as (length c.args.rules.now) (length c.in_ok-run.run'.core.store) net_at_first
+          c.in_ok-run.run'.core.net (first_places c.args.rules.now c.in_ok-run.run' is.going is.first) (ap (λ (e : Engine). e.net) is.first)
+          c.in_err-run_then_end.ensures.passes) c.from_residual-in_err-run_then_end.ensures.1;
+      done = runs_fail (map app_value c.args.rules.now) c.in_ok-run.run' c.run_then_end.new.run c.in_err-run_then_end.field-0.0
+          c.from_residual-in_err-run_then_end.result c.from_residual-in_err-run_then_end.ensures.1 is.first c.in_err-run_then_end.ensures.done;
     }
 
 pub returns : goal.returns
 returns g c =
     let is = c.in_ok-run.ensures.done in
     record {
-      passes = ended_done _ (ended_as (length c.args.rules.now) (length c.in_ok-run.run'.core.store) net_at_first c.in_ok-run.run'.core.net (first_places c.args.rules.now c.in_ok-run.run' is.going is.first) (ap (λ (e : Engine). e.net) is.first) c.in_ok-run_then_end.ensures.passes);
+      passes = ended_done _ (ended_as (length c.args.rules.now) (length c.in_ok-run.run'.core.store) net_at_first c.in_ok-run.run'.core.net
+          (first_places c.args.rules.now c.in_ok-run.run' is.going is.first) (ap (λ (e : Engine). e.net) is.first) c.in_ok-run_then_end.ensures.passes);
       done = record {
-        runs = runs_done (map app_value c.args.rules.now) g.W.World.Tells (g.J.Judge.accepts c.args.judge.now) c.args.rounds (g.K.Sink.contents c.args.sink.now) (g.K.Sink.contents c.run_then_end.new.sink) (g.W.World.seen c.args.world.now) (g.W.World.seen c.run_then_end.new.world) c.in_ok-run.run' c.run_then_end.new.run is.first c.in_ok-run_then_end.ensures.done.goes;
+        runs = runs_done (map app_value c.args.rules.now) g.W.World.Tells (g.J.Judge.accepts c.args.judge.now) c.args.rounds
+            (g.K.Sink.contents c.args.sink.now) (g.K.Sink.contents c.run_then_end.new.sink) (g.W.World.seen c.args.world.now)
+            (g.W.World.seen c.run_then_end.new.world) c.in_ok-run.run' c.run_then_end.new.run is.first c.in_ok-run_then_end.ensures.done.goes;
         fails = tt;
       };
     }

@@ -7,15 +7,23 @@ pub loop-at-init : goal.loop-at-init
 loop-at-init g c = starts_first g.W.World.Tells (g.W.World.seen c.args.world.now) c.args.core.now c.args.apps.now.items c.requires.going
 
 pub start-requires-clause-place : goal.start-requires-clause-place
-start-requires-clause-place g c = start_place c.loop-at.at c.index_mut.result.now c.loop-at.invariant (omega (arith, c.loop-at-test.true, c.len-at-end.ensures, c.loop-at.invariant.number_is, c.requires.going.number)) c.index_mut.ensures.value
+start-requires-clause-place g c = start_place c.loop-at.at c.index_mut.result.now c.loop-at.invariant
+    (omega (arith, c.loop-at-test.true, c.len-at-end.ensures, c.loop-at.invariant.number_is, c.requires.going.number)) c.index_mut.ensures.value
 
 pub start-requires-clause-store : goal.start-requires-clause-store
 start-requires-clause-store g c = start_rests c.loop-at.invariant c.requires.going.core.store
 
 pub loop-at-preserved : goal.loop-at-preserved
 loop-at-preserved g c =
-    starts_next c.loop-at.at (g.W.World.seen c.args.world.now) (g.W.World.seen c.loop-at.world) (g.W.World.seen c.start.new.world) c.args.core.now c.loop-at.core c.start.new.self c.args.apps.now.items c.loop-at.apps.items c.index_mut.result.now c.start.new.app c.loop-at.invariant
-    (start_split c.loop-at.at c.index_mut.result.now c.loop-at.invariant (omega (arith, c.loop-at-test.true, c.len-at-end.ensures, c.loop-at.invariant.number_is, c.requires.going.number)) c.index_mut.ensures.value)
+    starts_next c.loop-at.at (g.W.World.seen c.args.world.now) (g.W.World.seen c.loop-at.world) (g.W.World.seen c.start.new.world) c.args.core.now
+    c.loop-at.core c.start.new.self c.args.apps.now.items c.loop-at.apps.items c.index_mut.result.now c.start.new.app c.loop-at.invariant
+    (start_split c.loop-at.at c.index_mut.result.now c.loop-at.invariant (omega (
+      arith,
+      c.loop-at-test.true,
+      c.len-at-end.ensures,
+      c.loop-at.invariant.number_is,
+      c.requires.going.number,
+    )) c.index_mut.ensures.value)
     c.in_ok-start.ensures.passes c.start.ensures.keeps c.in_ok-start.ensures.done
 
 pub returns : goal.returns
@@ -24,9 +32,23 @@ returns g c =
     record {
       passes = quiet_as _ _ so_far.passes refl;
       done = record {
-        going = starts_going c.loop-at.at (g.W.World.seen c.args.world.now) (g.W.World.seen c.loop-at.world) c.args.core.now c.loop-at.core c.args.apps.now.items c.loop-at.apps.items so_far (omega (arith, c.loop-at-test.false, c.len-at-end.ensures, so_far.number_is, c.requires.going.number)) c.requires.going.core;
+        going = starts_going c.loop-at.at (g.W.World.seen c.args.world.now) (g.W.World.seen c.loop-at.world) c.args.core.now c.loop-at.core
+            c.args.apps.now.items c.loop-at.apps.items so_far (omega (
+              arith,
+              c.loop-at-test.false,
+              c.len-at-end.ensures,
+              so_far.number_is,
+              c.requires.going.number,
+            )) c.requires.going.core;
         waits = so_far.waits;
-        started = all_started c.loop-at.at (g.W.World.seen c.args.world.now) (g.W.World.seen c.loop-at.world) c.args.core.now c.loop-at.core c.args.apps.now.items c.loop-at.apps.items so_far (omega (arith, c.loop-at-test.false, c.len-at-end.ensures, so_far.number_is, c.requires.going.number));
+        started = all_started c.loop-at.at (g.W.World.seen c.args.world.now) (g.W.World.seen c.loop-at.world) c.args.core.now c.loop-at.core
+            c.args.apps.now.items c.loop-at.apps.items so_far (omega (
+              arith,
+              c.loop-at-test.false,
+              c.len-at-end.ensures,
+              so_far.number_is,
+              c.requires.going.number,
+            ));
       };
     }
 

@@ -16,15 +16,23 @@ returns-in-Ok g c = record {
   }) c.in-Ok.ensures.asks.links;
   done = record {
     waits = asks_wait c.args.self.now c.rows.new.self c.in-Ok.rows c.in-Ok.ensures.asks;
-    asks = asks_as g.W.World.Tells c.args.dpid (g.W.World.seen c.args.world.now) (g.W.World.seen c.rows.new.world) c.args.self.now c.rows.new.self c.in-Ok.rows c.in-Ok.ensures.asks c.in-Ok.ensures.in_step;
+    asks = asks_as g.W.World.Tells c.args.dpid (g.W.World.seen c.args.world.now) (g.W.World.seen c.rows.new.world) c.args.self.now c.rows.new.self
+        c.in-Ok.rows c.in-Ok.ensures.asks c.in-Ok.ensures.in_step;
   };
 }
 
 pub returns-in-Err : goal.returns-in-Err
 returns-in-Err g c = record {
-  passes = quiet_links (record { continues = c.in-Err.ensures.asks.continues; places = asked_places c.args.self.now.net c.requires c.in-Err.ensures.asks; reads = tt }) c.in-Err.ensures.asks.links;
-  done = subst (TableFails g.W.World.Tells (g.W.World.seen c.args.world.now) (g.W.World.seen c.rows.new.world) c.args.self.now.net) (sym c.from.ensures) (record {
-    why = asks_why c.in-Err.fault c.in-Err.ensures.asks;
-    plain = table_asked c.args.dpid c.args.self.now.net.kept c.rows.new.self.kept c.in-Err.fault c.requires c.in-Err.ensures.asks.continues c.in-Err.ensures.in_step;
-  });
+  passes = quiet_links (record {
+    continues = c.in-Err.ensures.asks.continues;
+    places = asked_places c.args.self.now.net c.requires
+        c.in-Err.ensures.asks;
+    reads = tt;
+  }) c.in-Err.ensures.asks.links;
+  done = subst (TableFails g.W.World.Tells (g.W.World.seen c.args.world.now) (g.W.World.seen c.rows.new.world) c.args.self.now.net) (sym c.from.ensures)
+      (record {
+        why = asks_why c.in-Err.fault c.in-Err.ensures.asks;
+        plain = table_asked c.args.dpid c.args.self.now.net.kept c.rows.new.self.kept c.in-Err.fault c.requires c.in-Err.ensures.asks.continues
+            c.in-Err.ensures.in_step;
+      });
 }

@@ -1,10 +1,19 @@
-use Rattle.std.proofs.Common.{Ok, false, ap, ◌∙◌, refl}
+use Rattle.std.proofs.Common.{◌≡◌, ◌+◌, ℕ, Bool, List, ◌++◌, Ok, false, ap, ap₂, sym, subst, ◌∙◌, refl}
+use Rattle.lego_model.specs.RunReport.{turn_line}
+use Rattle.lego_model.specs.declared.turn.TurnWord.{TurnWord}
+use Rattle.lego_model.specs.declared.turn.TurnWord.TheVariants as words
+use Rattle.app_visor.specs.declared.state.TurnEnd.TheVariants as ends
+use Rattle.run_laws.specs.Facts.{turn_word, out_text}
+use Rattle.event_dispatch.specs.declared.closing.Closing.{Closing}
+use Rattle.event_dispatch.specs.Shows.{name_of}
+use Rattle.event_dispatch.specs.TurnParts.{CloseDone}
 use Rattle.app_visor.specs.laws.OwnLaws.{own_none}
 use Rattle.net_txn.specs.Net.{NetState}
 use Rattle.event_dispatch.specs.laws.PassesLaws.{quiet_none, quiet_not, quiet_fails, quiet_as, quiet_waits}
-use Rattle.event_dispatch.specs.laws.TurnPartLaws.{if_not, quiet_over}
+use Rattle.event_dispatch.specs.laws.TurnPartLaws.{if_not, quiet_over, done_so, failed_so}
 use Rattle.event_dispatch.specs.laws.WhyLaws.{waits_then}
 use Rattle.event_dispatch.proofs.engine_core.Core.close.Goals as goal
+use Rattle.event_dispatch.proofs.engine_core.Core.close.Goals.{then-stop, else-stop}
 
 pub returns-in_err-note_done-in-Done : goal.returns-in_err-note_done-in-Done
 returns-in_err-note_done-in-Done g c = record {
@@ -70,3 +79,27 @@ returns-in_ok-go_on-in-Failed-clause-passes g c =
 pub returns-in_ok-go_on-in-Failed-clause-keeps : goal.returns-in_ok-go_on-in-Failed-clause-keeps
 returns-in_ok-go_on-in-Failed-clause-keeps g c =
     record { index = c.go_on.ensures.keeps.same.index; rule = c.go_on.ensures.keeps.same.rule; own = c.go_on.ensures.keeps.own }
+
+pub returns-in_ok-tell_lost-in-Done-clause-done : goal.returns-in_ok-tell_lost-in-Done-clause-done
+returns-in_ok-tell_lost-in-Done-clause-done g c =
+    let seen = g.W.World.seen c.args.world.now in
+    let stop = c.in-Done.stop in
+    let word : c.if-stop.note_done ≡ turn_word (ends.Done stop) = elim c.if-stop.branch [
+      | then-stop w ↦ w.note_done-is ∙ ap (λ (b : Bool). turn_word (ends.Done b)) (sym w.if-stop.true)
+      | else-stop w ↦ w.note_done-is ∙ ap (λ (b : Bool). turn_word (ends.Done b)) (sym w.if-stop.false)
+    ] in
+    let text = ap₂ (λ (name : List ℕ) (w : TurnWord). turn_line name w ++ out_text c.deref.result.now) c.as_str-name.ensures.value word
+    ∙ ap (λ (out : List (ℕ × ℕ)). turn_line (name_of c.args.app.now) (turn_word (ends.Done stop)) ++ out_text out) c.deref.ensures.value in
+    subst (λ (end : Closing). CloseDone g.W.World.Tells c.args.kind end stop seen seen c.args.self.now c.tell_lost.new.self c.args.app.now
+    (record c.args.app.now { done = c.args.app.now.done + 1 })) (sym c.in-Done.is)
+    (done_so c.in_ok-note_done-in-Done.ensures c.in_ok-tell_lost-in-Done.ensures c.args.kind stop seen c.args.app.now c.requires.done c.requires.failed
+    c.requires.room c.requires.read c.requires.store text)
+
+pub returns-in_ok-go_on-in-Failed-clause-done : goal.returns-in_ok-go_on-in-Failed-clause-done
+returns-in_ok-go_on-in-Failed-clause-done g c =
+    subst (λ (end : Closing). CloseDone g.W.World.Tells c.args.kind end false (g.W.World.seen c.args.world.now) (g.W.World.seen c.go_on.new.world)
+    c.args.self.now c.go_on.new.self c.args.app.now c.go_on.new.app) (sym c.in-Failed.is)
+    (failed_so c.in_ok-note_turn-in-Failed.ensures c.in_ok-tell_lost-in-Failed.ensures c.args.kind c.in-Failed.cause c.args.app.now c.go_on.new.app
+    c.requires.done c.requires.failed c.requires.room c.requires.read c.requires.store
+    (ap (λ (name : List ℕ). turn_line name (words.Failed c.in-Failed.cause)) c.as_str-name.ensures.value) c.go_on.ensures.keeps.same
+    c.in_ok-go_on-in-Failed.ensures.done)

@@ -1,7 +1,7 @@
 use Rattle.std.proofs.Common.{◌≡◌, ◌∷◌, suc, List, drop, subst, ◌∙◌}
 use Rattle.of_stats.specs.declared.flow_row.FlowRow.{FlowRow}
 use Rattle.event_dispatch.specs.laws.WhyLaws.{waits_then}
-use Rattle.event_dispatch.specs.laws.LastLaws.{drop_first, flows_next, flows_whole, views_kept}
+use Rattle.event_dispatch.specs.laws.LastLaws.{drop_first, flows_next, views_kept}
 use Rattle.event_dispatch.proofs.engine_core.Core.note_flows.Goals as goal
 
 pub loop-row-preserved : goal.loop-row-preserved

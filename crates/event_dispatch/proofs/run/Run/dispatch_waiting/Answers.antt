@@ -1,6 +1,5 @@
 use Rattle.std.proofs.Common.{◌+◌, ◌∙◌, Ok, length, rules, arith, refl}
 use Rattle.event_dispatch.specs.EventParts.{WaitingStops}
-use Rattle.event_dispatch.specs.Shows.{engine_of}
 use Rattle.event_dispatch.specs.Why.{served_by}
 use Rattle.event_dispatch.specs.laws.PassesLaws.{at_fault, passes_then, passes_fails, passes_as, passes_number, so_far_none, so_far_then}
 use Rattle.event_dispatch.specs.laws.PlainLaws.{run_settled}

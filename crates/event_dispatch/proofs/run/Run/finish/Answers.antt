@@ -10,7 +10,12 @@ returns-then-not-is_empty g c = record {
   passes = served_left g.W.World.Tells (g.W.World.seen c.args.world.now) c.args.self.now.core.net (g.K.Sink.faults c.args.sink.now);
   done = record {
     finishes = (c.len.ensures, refl, refl);
-    fails = record { cut = tt; why = some_left c.args.self.now.core.queue c.len.result c.is_empty.result c.is_empty.ensures c.if-not-is_empty.true c.len.ensures; plain = calm_anyway (g.W.World.seen c.args.world.now) (g.W.World.seen c.args.world.now) c.args.self.now.core.net _ tt };
+    fails = record {
+      cut = tt;
+      why = some_left c.args.self.now.core.queue c.len.result c.is_empty.result c.is_empty.ensures c.if-not-is_empty.true
+          c.len.ensures;
+      plain = calm_anyway (g.W.World.seen c.args.world.now) (g.W.World.seen c.args.world.now) c.args.self.now.core.net _ tt;
+    };
   };
 }
 
@@ -20,12 +25,20 @@ returns-in_err-end_report g c =
     let fails = c.in_err-end_report.ensures.done in
     record {
       passes = served_fails fault c.from_residual.result c.end_report.ensures.passes c.from_residual.ensures.1;
-      done = finish_fails (g.K.Sink.faults c.args.sink.now) (g.K.Sink.faults c.end_report.new.sink) c.args.self.now c.end_report.new.self fault c.from_residual.result c.from_residual.ensures.1 (record {
-        cut = finish_cut g.W.World.Tells fault (g.K.Sink.contents c.args.sink.now) (g.K.Sink.contents c.end_report.new.sink) (g.W.World.seen c.args.world.now) (g.W.World.seen c.end_report.new.world) _ (search rules) fails.cut;
-        why = fails.why;
-        plain = fails.plain;
-      });
+      done = finish_fails (g.K.Sink.faults c.args.sink.now) (g.K.Sink.faults c.end_report.new.sink) c.args.self.now c.end_report.new.self fault
+          c.from_residual.result c.from_residual.ensures.1 (record {
+            cut = finish_cut g.W.World.Tells fault (g.K.Sink.contents c.args.sink.now) (g.K.Sink.contents c.end_report.new.sink)
+                (g.W.World.seen c.args.world.now) (g.W.World.seen c.end_report.new.world) _ (search rules) fails.cut;
+            why = fails.why;
+            plain = fails.plain;
+          });
     }
 
 pub returns : goal.returns
-returns g c = record { passes = served_done tt c.in_ok-end_report.ensures.passes; done = record { finishes = ((search rules), c.in_ok-end_report.ensures.done); fails = tt } }
+returns g c = record {
+  passes = served_done tt c.in_ok-end_report.ensures.passes;
+  done = record {
+    finishes = ((search rules), c.in_ok-end_report.ensures.done);
+    fails = tt;
+  };
+}

@@ -19,7 +19,12 @@ pub returns-in_err-note_end : goal.returns-in_err-note_end
 returns-in_err-note_end g c = record {
   passes = quiet_fails _ _ c.note_tables.ensures.passes c.from_residual-in_err-note_end.ensures.0;
   apps = refl;
-  done = at_fault _ _ faults.NoMemory c.from_residual-in_err-note_end.result c.from_residual-in_err-note_end.ensures.1 (record { why = tt; plain = calm_anyway (g.W.World.seen c.args.world.now) (g.W.World.seen c.note_tables.new.world) c.args.self.now.core.net (served_by faults.NoMemory) tt });
+  done = at_fault _ _ faults.NoMemory c.from_residual-in_err-note_end.result c.from_residual-in_err-note_end.ensures.1
+      (record {
+        why = tt;
+        plain = calm_anyway (g.W.World.seen c.args.world.now) (g.W.World.seen c.note_tables.new.world) c.args.self.now.core.net
+            (served_by faults.NoMemory) tt;
+      });
 }
 
 pub returns : goal.returns
@@ -28,6 +33,7 @@ returns g c = record {
   apps = refl;
   done = record {
     waits = waits_at_end c.args.self.now.core c.note_tables.new.self c.note_end.new.self c.in_ok-note_tables.ensures.done.waits c.in_ok-note_end.ensures.waits;
-    shown = last_shown c.args.self.now c.note_tables.new.self c.note_end.new.self c.deref.result.now c.in_ok-note_tables.ensures.passes.passes.continues c.in_ok-note_tables.ensures.done.shown c.deref.ensures.value c.in_ok-note_end.ensures.adds;
+    shown = last_shown c.args.self.now c.note_tables.new.self c.note_end.new.self c.deref.result.now c.in_ok-note_tables.ensures.passes.passes.continues
+        c.in_ok-note_tables.ensures.done.shown c.deref.ensures.value c.in_ok-note_end.ensures.adds;
   };
 }

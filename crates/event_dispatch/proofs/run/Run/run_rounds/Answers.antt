@@ -16,7 +16,8 @@ loop-round-init g c = record {
   events = (search rules);
   number = refl;
   passes = on_none g.W.World.Tells (g.W.World.seen c.args.world.now) c.args.self.now.core.net (g.K.Sink.faults c.args.sink.now) _;
-  rounds = rounds_none g.W.World.Tells (g.J.Judge.accepts c.args.judge.now) (g.K.Sink.contents c.args.sink.now) (g.W.World.seen c.args.world.now) c.args.self.now c.requires.none_waits;
+  rounds = rounds_none g.W.World.Tells (g.J.Judge.accepts c.args.judge.now) (g.K.Sink.contents c.args.sink.now) (g.W.World.seen c.args.world.now)
+      c.args.self.now c.requires.none_waits;
 }
 
 pub run_round-requires-clause-none_waits : goal.run_round-requires-clause-none_waits
@@ -28,15 +29,27 @@ loop-round-preserved g c = record {
   going = c.in_ok-run_round.ensures.done.going;
   events = omega (arith, c.loop-round.invariant.events, c.in_ok-run_round.ensures.done.events);
   number = c.in_ok-run_round.ensures.done.number ∙ c.loop-round.invariant.number;
-  passes = on_done tt (on_then c.loop-round.invariant.passes (on_number (length c.args.self.now.core.store) (length c.loop-round.self.core.store) c.loop-round.invariant.number c.in_ok-run_round.ensures.passes.on));
-  rounds = rounds_next g.W.World.Tells (g.J.Judge.accepts c.args.judge.now) c.loop-round._round (g.K.Sink.contents c.args.sink.now) (g.K.Sink.contents c.loop-round.sink) (g.K.Sink.contents c.run_round.new.sink) (g.W.World.seen c.args.world.now) (g.W.World.seen c.loop-round.world) (g.W.World.seen c.run_round.new.world) c.args.self.now c.loop-round.self c.run_round.new.self c.loop-round.invariant.rounds (subst (λ (rest : Rest). GoesRound g.W.World.Tells (g.J.Judge.accepts c.args.judge.now) rest (g.K.Sink.contents c.loop-round.sink) (g.K.Sink.contents c.run_round.new.sink) (g.W.World.seen c.loop-round.world) (g.W.World.seen c.run_round.new.world) c.loop-round.self c.run_round.new.self) c.in-Idle.is c.in_ok-run_round.ensures.done.round);
+  passes = on_done tt (on_then c.loop-round.invariant.passes (on_number (length c.args.self.now.core.store) (length c.loop-round.self.core.store)
+      c.loop-round.invariant.number c.in_ok-run_round.ensures.passes.on));
+  rounds = rounds_next g.W.World.Tells (g.J.Judge.accepts c.args.judge.now) c.loop-round._round (g.K.Sink.contents c.args.sink.now)
+      (g.K.Sink.contents c.loop-round.sink) (g.K.Sink.contents c.run_round.new.sink) (g.W.World.seen c.args.world.now) (g.W.World.seen c.loop-round.world)
+      (g.W.World.seen c.run_round.new.world) c.args.self.now c.loop-round.self c.run_round.new.self c.loop-round.invariant.rounds
+      (subst (λ (rest : Rest). GoesRound g.W.World.Tells (g.J.Judge.accepts c.args.judge.now) rest (g.K.Sink.contents c.loop-round.sink)
+      (g.K.Sink.contents c.run_round.new.sink) (g.W.World.seen c.loop-round.world) (g.W.World.seen c.run_round.new.world) c.loop-round.self
+      c.run_round.new.self) c.in-Idle.is c.in_ok-run_round.ensures.done.round);
 }
 
 pub returns-in-End : goal.returns-in-End
 returns-in-End g c = record {
-  passes = on_done tt (on_then c.loop-round.invariant.passes (on_number (length c.args.self.now.core.store) (length c.loop-round.self.core.store) c.loop-round.invariant.number c.in_ok-run_round.ensures.passes.on));
+  passes = on_done tt (on_then c.loop-round.invariant.passes (on_number (length c.args.self.now.core.store) (length c.loop-round.self.core.store)
+      c.loop-round.invariant.number c.in_ok-run_round.ensures.passes.on));
   done = record {
-    to_end = rounds_last g.W.World.Tells (g.J.Judge.accepts c.args.judge.now) c.args.rounds c.loop-round._round (g.K.Sink.contents c.args.sink.now) (g.K.Sink.contents c.loop-round.sink) (g.K.Sink.contents c.run_round.new.sink) (g.W.World.seen c.args.world.now) (g.W.World.seen c.loop-round.world) (g.W.World.seen c.run_round.new.world) c.args.self.now c.loop-round.self c.run_round.new.self c.loop-round.invariant.rounds (subst (λ (rest : Rest). GoesRound g.W.World.Tells (g.J.Judge.accepts c.args.judge.now) rest (g.K.Sink.contents c.loop-round.sink) (g.K.Sink.contents c.run_round.new.sink) (g.W.World.seen c.loop-round.world) (g.W.World.seen c.run_round.new.world) c.loop-round.self c.run_round.new.self) c.in-End.is c.in_ok-run_round.ensures.done.round);
+    to_end = rounds_last g.W.World.Tells (g.J.Judge.accepts c.args.judge.now) c.args.rounds c.loop-round._round (g.K.Sink.contents c.args.sink.now)
+        (g.K.Sink.contents c.loop-round.sink) (g.K.Sink.contents c.run_round.new.sink) (g.W.World.seen c.args.world.now) (g.W.World.seen c.loop-round.world)
+        (g.W.World.seen c.run_round.new.world) c.args.self.now c.loop-round.self c.run_round.new.self c.loop-round.invariant.rounds
+        (subst (λ (rest : Rest). GoesRound g.W.World.Tells (g.J.Judge.accepts c.args.judge.now) rest (g.K.Sink.contents c.loop-round.sink)
+        (g.K.Sink.contents c.run_round.new.sink) (g.W.World.seen c.loop-round.world) (g.W.World.seen c.run_round.new.world) c.loop-round.self
+        c.run_round.new.self) c.in-End.is c.in_ok-run_round.ensures.done.round);
     going = c.in_ok-run_round.ensures.done.going;
     number = c.in_ok-run_round.ensures.done.number ∙ c.loop-round.invariant.number;
   };
@@ -46,7 +59,9 @@ pub returns : goal.returns
 returns g c = record {
   passes = c.loop-round.invariant.passes;
   done = record {
-    to_end = rounds_out g.W.World.Tells (g.J.Judge.accepts c.args.judge.now) c.args.rounds c.loop-round._round (g.K.Sink.contents c.args.sink.now) (g.K.Sink.contents c.loop-round.sink) (g.W.World.seen c.args.world.now) (g.W.World.seen c.loop-round.world) c.args.self.now c.loop-round.self c.loop-round-test.false c.loop-round.invariant.rounds;
+    to_end = rounds_out g.W.World.Tells (g.J.Judge.accepts c.args.judge.now) c.args.rounds c.loop-round._round (g.K.Sink.contents c.args.sink.now)
+        (g.K.Sink.contents c.loop-round.sink) (g.W.World.seen c.args.world.now) (g.W.World.seen c.loop-round.world) c.args.self.now c.loop-round.self
+        c.loop-round-test.false c.loop-round.invariant.rounds;
     going = c.loop-round.invariant.going;
     number = c.loop-round.invariant.number;
   };
@@ -59,7 +74,8 @@ returns-in_err-run_round g c =
     let fails = c.in_err-run_round.ensures.done in
     let later = c.run_round.ensures.passes.on.passes.continues in
     record {
-      passes = on_fails _ _ (on_then c.loop-round.invariant.passes (on_number (length c.args.self.now.core.store) (length c.loop-round.self.core.store) c.loop-round.invariant.number c.run_round.ensures.passes.on)) c.from_residual.ensures.0;
+      passes = on_fails _ _ (on_then c.loop-round.invariant.passes (on_number (length c.args.self.now.core.store) (length c.loop-round.self.core.store)
+          c.loop-round.invariant.number c.run_round.ensures.passes.on)) c.from_residual.ensures.0;
       done = at_fault _ _ fault c.from_residual.result c.from_residual.ensures.1 (record {
         cut = record {
           number = c.loop-round._round;
@@ -72,7 +88,10 @@ returns-in_err-run_round g c =
           later = later;
           round = fails.cut;
         };
-        why = why_behind (g.W.World.seen c.args.world.now) (g.W.World.seen c.loop-round.world) (g.W.World.seen c.run_round.new.world) (g.K.Sink.faults c.args.sink.now) (g.K.Sink.faults c.loop-round.sink) (g.K.Sink.faults c.run_round.new.sink) (served_by fault) before.passes.continues before.never_fell fails.why;
-        plain = run_rounds (g.W.World.seen c.args.world.now) (g.W.World.seen c.loop-round.world) (g.W.World.seen c.run_round.new.world) c.args.self.now c.loop-round.self (served_by fault) before.passes.continues c.loop-round.invariant.rounds later fails.plain;
+        why = why_behind (g.W.World.seen c.args.world.now) (g.W.World.seen c.loop-round.world) (g.W.World.seen c.run_round.new.world)
+            (g.K.Sink.faults c.args.sink.now) (g.K.Sink.faults c.loop-round.sink) (g.K.Sink.faults c.run_round.new.sink)
+            (served_by fault) before.passes.continues before.never_fell fails.why;
+        plain = run_rounds (g.W.World.seen c.args.world.now) (g.W.World.seen c.loop-round.world) (g.W.World.seen c.run_round.new.world) c.args.self.now
+            c.loop-round.self (served_by fault) before.passes.continues c.loop-round.invariant.rounds later fails.plain;
       });
     }
