@@ -1,6 +1,8 @@
 //! How a run ends, what it wrote, and which acts its world wrote down: worked out by hand. Nothing happens in the world, and one call of it or one
 //! write is to fail.
 
+ghost use Rattle.sim_world.specs.Building.{IsNew};
+
 use crash_policy::{AppRule, DEFAULT_BUDGET, Policy};
 use event_dispatch::{Served, serve};
 use lego_io::{MemSink, Sink};
@@ -57,12 +59,20 @@ fn run<W: World, K: Sink>(
     Ok(ending_of(&served))
 }
 
+/// Lets a call fail, if one is named.
+fn let_fail(world: &mut SimWorld, fails: Option<(CallKind, u64)>) -> Result<(), AllocError>
+    requires { IsNew world.old }
+{
+    match fails {
+        Some((kind, number)) => world.fail_call(kind, 0, number),
+        None => Ok(()),
+    }
+}
+
 /// A world in which nothing happens, where a call is to fail, if one is named.
 fn quiet_world(alloc: Global, fails: Option<(CallKind, u64)>) -> Result<SimWorld, AllocError> {
     let mut sim = SimWorld::new(alloc)?;
-    if let Some((kind, number)) = fails {
-        sim.fail_call(kind, 0, number)?;
-    }
+    let_fail(&mut sim, fails)?;
     Ok(sim)
 }
 
