@@ -76,18 +76,30 @@ fn quiet_world(alloc: Global, fails: Option<(CallKind, u64)>) -> Result<SimWorld
     Ok(sim)
 }
 
-/// How a run ended, its report, and the acts of its world, of which some writes are to fail.
+/// Runs any world to its end, and writes its acts down in words.
+fn run_traced<W: World + Drop>(
+    alloc: Global,
+    world: W,
+    acts: MemSink,
+    report: &mut MemSink,
+) -> Result<(Ending, MemSink), AllocError> {
+    let mut traced = Traced::new(alloc, world, acts);
+    let ending = run(alloc, &mut traced, report)?;
+    let (_world, acts) = traced.into_parts();
+    Ok((ending, acts))
+}
+
+/// How a run ended, its report, and the acts of its world; of these two some writes are to fail.
 fn outcome(
     alloc: Global,
     fails: Option<(CallKind, u64)>,
     writes: &[u64],
     lines: &[u64],
 ) -> Result<(Ending, MemSink, MemSink), AllocError> {
-    let sim = quiet_world(alloc, fails)?;
-    let mut world = Traced::new(alloc, sim, MemSink::new(alloc, 4096, lines)?);
+    let acts = MemSink::new(alloc, 4096, lines)?;
     let mut report = MemSink::new(alloc, 4096, writes)?;
-    let ending = run(alloc, &mut world, &mut report)?;
-    let (_sim, acts) = world.into_parts();
+    let sim = quiet_world(alloc, fails)?;
+    let (ending, acts) = run_traced(alloc, sim, acts, &mut report)?;
     Ok((ending, report, acts))
 }
 
