@@ -1,6 +1,8 @@
 //! How a run ends, what it wrote, and which acts its world wrote down: worked out by hand. Nothing happens in the world, and one call of it or one
 //! write is to fail.
 
+ghost use Rattle.sim_world.specs.Building.{IsNew};
+
 use crash_policy::{AppRule, DEFAULT_BUDGET, Policy};
 use event_dispatch::{Served, serve};
 use lego_io::{MemSink, Sink};
@@ -57,27 +59,47 @@ fn run<W: World, K: Sink>(
     Ok(ending_of(&served))
 }
 
+/// Lets a call fail, if one is named.
+fn let_fail(world: &mut SimWorld, fails: Option<(CallKind, u64)>) -> Result<(), AllocError>
+    requires { IsNew world.old }
+{
+    match fails {
+        Some((kind, number)) => world.fail_call(kind, 0, number),
+        None => Ok(()),
+    }
+}
+
 /// A world in which nothing happens, where a call is to fail, if one is named.
 fn quiet_world(alloc: Global, fails: Option<(CallKind, u64)>) -> Result<SimWorld, AllocError> {
     let mut sim = SimWorld::new(alloc)?;
-    if let Some((kind, number)) = fails {
-        sim.fail_call(kind, 0, number)?;
-    }
+    let_fail(&mut sim, fails)?;
     Ok(sim)
 }
 
-/// How a run ended, its report, and the acts of its world, of which some writes are to fail.
+/// Runs any world to its end, and writes its acts down in words.
+fn run_traced<W: World + Drop>(
+    alloc: Global,
+    world: W,
+    acts: MemSink,
+    report: &mut MemSink,
+) -> Result<(Ending, MemSink), AllocError> {
+    let mut traced = Traced::new(alloc, world, acts);
+    let ending = run(alloc, &mut traced, report)?;
+    let (_world, acts) = traced.into_parts();
+    Ok((ending, acts))
+}
+
+/// How a run ended, its report, and the acts of its world; of these two some writes are to fail.
 fn outcome(
     alloc: Global,
     fails: Option<(CallKind, u64)>,
     writes: &[u64],
     lines: &[u64],
 ) -> Result<(Ending, MemSink, MemSink), AllocError> {
-    let sim = quiet_world(alloc, fails)?;
-    let mut world = Traced::new(alloc, sim, MemSink::new(alloc, 4096, lines)?);
+    let acts = MemSink::new(alloc, 4096, lines)?;
     let mut report = MemSink::new(alloc, 4096, writes)?;
-    let ending = run(alloc, &mut world, &mut report)?;
-    let (_sim, acts) = world.into_parts();
+    let sim = quiet_world(alloc, fails)?;
+    let (ending, acts) = run_traced(alloc, sim, acts, &mut report)?;
     Ok((ending, report, acts))
 }
 

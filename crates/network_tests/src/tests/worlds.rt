@@ -10,31 +10,27 @@ use outside::CallKind;
 use sim_world::SimWorld;
 use std::alloc::{AllocError, Global};
 
-/// Declares two switches with two ports each.
+/// Declares switch 1, with two ports.
 fn declare(world: &mut SimWorld) -> Result<(), AllocError>
     requires new { IsNew world.old }
     requires nothing { given_of world.old ≡ nothing_given }
     ensures new { OnOk result (IsNew world.new) }
     ensures first { OnOk result (IsTrue (is_declared 1 (given_of world.new).declared)) }
-    ensures second { OnOk result (IsTrue (is_declared 2 (given_of world.new).declared)) }
     ensures stimuli { OnOk result ((given_of world.new).stimuli ≡ []) }
 {
-    world.add_switch(1, 8, &[1, 2])?;
-    world.add_switch(2, 8, &[1, 2])
+    world.add_switch(1, 8, &[1, 2])
 }
 
-/// Switch 1 joins, then it is moment 5, and then switch 2 joins.
+/// Switch 1 joins, and then it is moment 5.
 #[tactic(auto, unfolding(outside::specs::Conforming::IsWorldStim))]
 fn let_happen(world: &mut SimWorld) -> Result<(), AllocError>
     requires new { IsNew world.old }
     requires first { IsTrue (is_declared 1 (given_of world.old).declared) }
-    requires second { IsTrue (is_declared 2 (given_of world.old).declared) }
     requires stimuli { (given_of world.old).stimuli ≡ [] }
     ensures { OnOk result (IsNew world.new) }
 {
     world.add_stimulus(WorldStim::Join(1))?;
-    world.add_stimulus(WorldStim::At(5))?;
-    world.add_stimulus(WorldStim::Join(2))
+    world.add_stimulus(WorldStim::At(5))
 }
 
 /// Lets a call fail, if one is named: the kind of call, of which switch or application it is, and its number.
@@ -47,8 +43,7 @@ fn let_fail(world: &mut SimWorld, fails: Option<(CallKind, u64, u64)>) -> Result
     }
 }
 
-/// A world in which switch 1 joins, then it is moment 5, and then switch 2 joins; in it one call is to fail, if one is
-/// named.
+/// A world in which switch 1 joins, and then it is moment 5; in it one call is to fail, if one is named.
 pub fn small_world(
     alloc: Global,
     fails: Option<(CallKind, u64, u64)>,
