@@ -43,8 +43,7 @@ use Rattle.outside.specs.laws.StateLaws.{state-append}
 use Rattle.lego_model.specs.declared.wait.Awaited.{Awaited}
 use Rattle.lego_model.specs.declared.wait.Heard.{Heard}
 use Rattle.lego_model.specs.declared.wait.Heard.TheVariants as kinds
-use Rattle.lego_model.specs.declared.wait.Refusal.{Refusal}
-use Rattle.net_txn.specs.Waits.{Waits}
+use Rattle.net_txn.specs.Waits.{Waits, Brought}
 use Rattle.lego_model.specs.BarrierWaits.{heard, steps_by, wait_steps, barrier_sent, reply_got}
 use Rattle.net_txn.specs.Net.{NetState}
 use Rattle.net_txn.specs.LinkSteps.{OnLinks, AsksWithoutStrays}
@@ -340,16 +339,16 @@ only-asked old new steps given more are orderly none =
       orderly = λ number. record { steps = steps; history = more; orderly = orderly number };
     }
 
-waits-asked : {Own : Type 0} (Tells : Type 0) (d xid : ℕ) (old new : Seen Own) (came : List (ℕ × List ℕ)) (refusal : Option Refusal) → Tells → Waits Tells (asked_from d xid) (request_sent d xid ∷ barrier_sent (asked_from d xid) ∷ []) old new [] came refusal
+waits-asked : {Own : Type 0} (Tells : Type 0) (d xid : ℕ) (old new : Seen Own) (came : List (ℕ × List ℕ)) (brought : Brought) → Tells → Waits Tells (asked_from d xid) (request_sent d xid ∷ barrier_sent (asked_from d xid) ∷ []) old new [] came brought
     → OnlyAsked [] old new
-waits-asked Tells d xid old new came refusal told waits =
+waits-asked Tells d xid old new came brought told waits =
     let a : Awaited = asked_from d xid in
     only-asked old new (request_sent d xid ∷ barrier_sent a ∷ (wait_steps a waits.got ++ reply_got a ∷ [])) waits.hears.continues.given (waits.hears.told told)
     (tt, (tt, all_talk (wait_steps a waits.got) (reply_got a ∷ []) (wait-talk a waits.got) (tt, tt))) (λ number. rows-orderly number d xid waits.got) (rows-release-none d xid waits.got)
 
 -- To ask a switch for its rows leaves all that is told of the applications.
 pub rows-asked : {Own : Type 0} (Tells : Type 0) (d xid : ℕ) (old new : Seen Own) (kept now_kept : List (ℕ × List ℕ)) (rows : List FlowRow) → Tells → GivesRows Tells d xid old new kept now_kept rows → OnlyAsked [] old new
-rows-asked Tells d xid old new kept now_kept rows told gives = waits-asked Tells d xid old new gives.came gives.answered.refusal told gives.answered.waits
+rows-asked Tells d xid old new kept now_kept rows told gives = waits-asked Tells d xid old new gives.came gives.answered.brought told gives.answered.waits
 
 -- Where it was lost meanwhile, that leaves it too.
 pub lost-asked : {Own : Type 0} (Tells : Type 0) (d : ℕ) (old new : Seen Own) (net now_net : NetState) → Tells → Conforming new → is_joined d (state old) ≡ true → Continues Tells old new → OnLinks Tells old new → AsksWithoutStrays Tells d old new → AsksLost Tells d old new net now_net
