@@ -35,6 +35,12 @@ pub part_of_third : (old mid late new : Option (List ℕ)) (a b c : List ℕ) �
 part_of_third old mid late new a b c first second part =
     part_behind old late new (a ++ b) c (second ∙ ap (λ (told : Option (List ℕ)). append_known told b) first ∙ sym (append_known-append old a b)) part
 
+-- all three
+pub whole_of_three : (old mid late new : Option (List ℕ)) (a b c : List ℕ) → mid ≡ append_known old a → late ≡ append_known mid b → new ≡ append_known late c → new ≡ append_known old (a ++ b ++ c)
+whole_of_three old mid late new a b c first second third =
+    third ∙ ap (λ (told : Option (List ℕ)). append_known told c) (second ∙ ap (λ (told : Option (List ℕ)). append_known told b) first)
+    ∙ ap (λ (told : Option (List ℕ)). append_known told c) (sym (append_known-append old a b)) ∙ sym (append_known-append old (a ++ b) c)
+
 -- the line of a session's fault, in its pieces
 pub session_line : (refusal : Refusal) (fault : SessionFault) (end : List ℕ) → refusal ≡ Session fault → end ≡ line_of (codes " " ++ kind_word fault.kind)
     → refusal_line refusal ≡ codes "bad session " ++ decimal fault.line ++ end

@@ -12,6 +12,8 @@
 #![tactic(auto)]
 
 ghost use Rattle.std.specs.Prelude.{◌≡◌};
+ghost use Rattle.sim_world.specs.World.{given_of};
+ghost use Rattle.sim_world.specs.Building.{nothing_given, IsNew};
 
 mod input;
 mod live;
@@ -23,12 +25,14 @@ mod world;
 
 use crate::settings::{SettingFault, Settings, SystemClock};
 use crate::top::legosdn;
-use lego_io::{Sink, StdSink, StdSource, write_all};
-use live_world::LiveWorld;
+use lego_io::{Sink, Source, StdSink, StdSource, write_all};
+use live_world::{Clock, LiveWorld};
 use outside::World;
 use sim_world::SimWorld;
 use std::alloc::{AllocError, Global};
-use std::process::ExitCode;
+use std::env::Env;
+use std::net::Net;
+use std::process::{ExitCode, Processes, SystemProcess};
 use std::{env, io};
 use trace_world::Traced;
 
@@ -63,19 +67,105 @@ fn traced<W: World + Drop, K: Sink + Drop>(
     }
 }
 
-/// Runs the command of the words over the standard streams, a simulated world and the world of real switches, and answers
-/// the status. The acts of both worlds are told on standard error where the environment asks for it.
+/// Makes the call over a simulated world and another one, whose acts are told where the environment asks for it.
+///
+/// Each world is made in a function of its own: to prove one that holds both takes a quarter of an hour.
+fn call_over<S: Source, K: Sink, E: Sink + Drop, L: World + Drop>(
+    settings: &Settings,
+    alloc: Global,
+    words: &[String],
+    source: &mut S,
+    sink: &mut K,
+    sim: &mut Traced<SimWorld, E>,
+    live: L,
+    errors: E,
+) -> u8
+    requires new_world { IsNew sim.old }
+    requires empty_world { given_of sim.old ≡ nothing_given }
+{
+    let mut live = traced(settings, alloc, live, errors);
+    legosdn(alloc, words, source, sink, sim, &mut live)
+}
+
+/// Makes the world of the switches that connect, and the call over it.
+fn run_beside<
+    R: Net + Processes<Started = SystemProcess> + Env + AllocGlobal + Drop,
+    C: Clock + Drop,
+    S: Source,
+    K: Sink,
+    E: Sink + Drop,
+>(
+    rt: R,
+    clock: C,
+    settings: &Settings,
+    words: &[String],
+    source: &mut S,
+    sink: &mut K,
+    sim: &mut Traced<SimWorld, E>,
+    errors: E,
+) -> Result<u8, AllocError>
+    requires new_world { IsNew sim.old }
+    requires empty_world { given_of sim.old ≡ nothing_given }
+{
+    let alloc = rt.alloc();
+    let mut live = LiveWorld::new(rt, alloc, clock)?;
+    live.listen_at(settings.address);
+    Ok(call_over(settings, alloc, words, source, sink, sim, live, errors))
+}
+
+/// Runs the command of the words over a simulated world and the world of real switches, and answers the status. The acts of
+/// both are told where the environment asks for it, each to its own sink.
+fn run_in_worlds<
+    R: Net + Processes<Started = SystemProcess> + Env + AllocGlobal + Drop,
+    C: Clock + Drop,
+    S: Source,
+    K: Sink,
+    E: Sink + Drop,
+>(
+    rt: R,
+    clock: C,
+    settings: &Settings,
+    words: &[String],
+    source: &mut S,
+    sink: &mut K,
+    errors: E,
+    live_errors: E,
+) -> Result<u8, AllocError> {
+    let alloc = rt.alloc();
+    let sim = SimWorld::new(alloc)?;
+    let mut sim = traced(settings, alloc, sim, errors);
+    run_beside(
+        rt,
+        clock,
+        settings,
+        words,
+        source,
+        sink,
+        &mut sim,
+        live_errors,
+    )
+}
+
+/// Runs the command of the words over the standard streams, and answers the status. What is told of the worlds goes to
+/// standard error.
 fn run(rt: &HostRuntime, settings: &Settings) -> Result<u8, AllocError> {
     let alloc = rt.alloc();
     let words = words_of(rt)?;
     let mut source = StdSource::new(rt, alloc)?;
     let mut sink = StdSink::new(rt, alloc)?;
-    let sim = SimWorld::new(alloc)?;
-    let mut sim = traced(settings, alloc, sim, StdSink::new(rt.stderr(), alloc)?);
-    let mut live = LiveWorld::new(rt, alloc, SystemClock::new(rt))?;
-    live.listen_at(settings.address);
-    let mut live = traced(settings, alloc, live, StdSink::new(rt.stderr(), alloc)?);
-    Ok(legosdn(alloc, &words, &mut source, &mut sink, &mut sim, &mut live))
+    let errors = StdSink::new(rt.stderr(), alloc)?;
+    let live_errors = StdSink::new(rt.stderr(), alloc)?;
+    let clock = SystemClock::new(rt);
+    run_in_worlds(
+        rt,
+        clock,
+        settings,
+        &words,
+        &mut source,
+        &mut sink,
+        errors,
+        live_errors,
+    )
 }
 
 /// Writes what is wrong with a setting of the environment, and answers the status.
