@@ -10,7 +10,8 @@ ghost use Rattle.run_laws.specs.LastReport.{app_lines, engine_end};
 ghost use Rattle.event_dispatch.specs.Passes.{PassesQuietly};
 ghost use Rattle.event_dispatch.specs.Lines.{Notes};
 ghost use Rattle.event_dispatch.specs.Shows.{application_of, engine_with};
-ghost use Rattle.event_dispatch.specs.ReportEnd.{FindsPlace, FindsFlags, FlowsNoted, RowsNoted, RowsAsked, TableNoted, TableFails, TablesNoted, LastNoted, LastFails};
+ghost use Rattle.event_dispatch.specs.ReportEnd.{FindsPlace, FindsFlags, FlowsNoted, RowsNoted, RowsAsked, TableNoted, TableFails};
+ghost use Rattle.event_dispatch.specs.ReportEnd.{TablesNoted, LastNoted, LastFails};
 
 use crate::batch::is_joined;
 use crate::engine_core::Core;

@@ -251,8 +251,8 @@ fn run<W: World, J: Judge, K: Sink>(
 ) -> Result<u64, Served>
     requires few { rounds ≤ most_rounds }
     ensures passes { PassesEnded W.Tells (length rules.now) (W.seen world.old) (W.seen world.new) net_at_first (K.faults sink.old) (K.faults sink.new) result }
-    ensures done { RunsSo (map app_value rules.now) W.Tells (J.accepts judge.now) rounds (K.contents sink.old) (K.contents sink.new) (K.faults sink.old) (K.faults sink.new)
-        (W.seen world.old) (W.seen world.new) (engine_at_first (map app_value rules.now)) result }
+    ensures done { RunsSo (map app_value rules.now) W.Tells (J.accepts judge.now) rounds (K.contents sink.old) (K.contents sink.new)
+        (K.faults sink.old) (K.faults sink.new) (W.seen world.old) (W.seen world.new) (engine_at_first (map app_value rules.now)) result }
 {
     let mut run = Run::new(alloc, rules)?;
     let mut buf = vec![in alloc; 0; MOST_MESSAGE_BYTES]?;

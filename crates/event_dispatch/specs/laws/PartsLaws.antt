@@ -78,7 +78,12 @@ on_number n m same all = record { passes = passes_number n m same all.passes; ne
 -- events were left, and nothing was done
 pub served_left : {Own T : Type 0} {number left : ℕ} (Tells : Type 0) (seen : Seen Own) (net : NetState) (k : ℕ)
     → PassesServed {T = T} Tells number seen seen net k k (Err (served.EventsLeft left))
-served_left Tells seen net k = record { continues = Continues-refl Tells seen; places = places_none Tells seen net; reads = read_none Tells seen net; never_fell = same_fell k }
+served_left Tells seen net k = record {
+  continues = Continues-refl Tells seen;
+  places = places_none Tells seen net;
+  reads = read_none Tells seen net;
+  never_fell = same_fell k;
+}
 
 -- a fault ended it
 pub served_fails : {Own A F T Tells : Type 0} {number k l : ℕ} {old new : Seen Own} {net mid_net : NetState} {first : Result A F} (fault : Fault)

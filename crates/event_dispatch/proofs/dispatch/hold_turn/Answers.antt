@@ -14,8 +14,10 @@ returns g c = record {
         c.play_turn-closing.ensures.keeps.slots c.close_store.ensures;
     later = c.play_turn-closing.ensures.keeps.later;
   };
-  done = hold_so g.W.World.Own g.W.World.Tells (g.J.Judge.accepts c.args.occasion.judge.now) c.args.occasion.budget c.args.occasion.number c.args.occasion.event.now
+  done = hold_so g.W.World.Own g.W.World.Tells (g.J.Judge.accepts c.args.occasion.judge.now) c.args.occasion.budget c.args.occasion.number
+      c.args.occasion.event.now
       (g.W.World.seen c.args.world.now) (g.W.World.seen c.play_turn-closing.new.world) c.args.net.now c.play_turn-closing.new.net c.args.queue.now
-      c.play_turn-closing.new.queue c.args.app.now.rest c.play_turn-closing.new.app.rest c.play_turn-closing.result c.args.app.now.index c.args.store.now c.play_turn-closing.new.store c.close_store.new.store c.requires.place
+      c.play_turn-closing.new.queue c.args.app.now.rest c.play_turn-closing.new.app.rest c.play_turn-closing.result c.args.app.now.index c.args.store.now
+      c.play_turn-closing.new.store c.close_store.new.store c.requires.place
       c.requires.rests c.play_turn-closing.ensures.keeps.slots c.close_store.ensures c.play_turn-closing.ensures.done;
 }

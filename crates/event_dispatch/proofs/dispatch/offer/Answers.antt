@@ -20,7 +20,8 @@ returns-then-len-gt-MOST_BODY g c = record {
 pub returns : goal.returns
 returns g c = record {
   passes = c.take_turn.ensures.passes;
-  done = offer_ended (g.J.Judge.accepts c.args.judge.now) c.args.event.now c.take_turn.result (g.W.World.seen c.args.world.now) (g.W.World.seen c.take_turn.new.world) c.args.core.now
+  done = offer_ended (g.J.Judge.accepts c.args.judge.now) c.args.event.now c.take_turn.result (g.W.World.seen c.args.world.now)
+      (g.W.World.seen c.take_turn.new.world) c.args.core.now
       c.take_turn.new.self c.args.app.now c.take_turn.new.app (sym (c.if-not-takes.ensures c.args.core.now.store)) c.take_turn.ensures.later
       c.take_turn.ensures.done;
 }

@@ -38,5 +38,6 @@ returns g c = record {
       c.in_ok-note.ensures.adds) c.offer_all.ensures.passes;
   done = dispatch_ended c.args.event.now c.args.self.now c.note.new.self
       (subst (λ (t : List ℕ). Adds t (record c.args.self.now.core { events = c.args.self.now.core.events + 1 }) c.note.new.self) c.in_ok-line.ensures
-      c.in_ok-note.ensures.adds) g.W.World.Tells (g.J.Judge.accepts c.args.judge.now) c.offer_all.result (g.W.World.seen c.args.world.now) (g.W.World.seen c.offer_all.new.world) _ c.offer_all.ensures.done;
+      c.in_ok-note.ensures.adds) g.W.World.Tells (g.J.Judge.accepts c.args.judge.now) c.offer_all.result (g.W.World.seen c.args.world.now)
+      (g.W.World.seen c.offer_all.new.world) _ c.offer_all.ensures.done;
 }
