@@ -366,7 +366,7 @@ committed_why : {Own : Type 0} {Tells : Type 0} (start : ℕ) (old new : Seen Ow
     → IsWhy Tells old new 0 0 (ended_by fault)
 committed_why {Tells = Tells} start old new net now_net queue now_queue fault (inl undone) = subst (λ (f : TxnFault). IsWhy Tells old new 0 0 (ended_by f)) (sym undone.fault_is) tt
 committed_why {Tells = Tells} start old new net now_net queue now_queue fault (inr stops) =
-    IsWhy-behind old stops.mid new 0 0 0 (ended_by fault) (releases-continue Tells stops.front stops.sent old stops.mid (committed start net) stops.mid_net queue stops.mid_queue stops.before) (omega arith)
+    IsWhy-behind old stops.mid new 0 0 0 (ended_by fault) (releases-continue Tells stops.front stops.sent old stops.mid (committed start net) stops.mid_net (queue ++ net.held.notices) stops.mid_queue stops.before) (omega arith)
     (breaks_why stops.broken stops.mid new stops.mid_net fault stops.breaks)
 
 pub commit_why : {Own : Type 0} {Tells : Type 0} (start : ℕ) (old new : Seen Own) (net now_net : NetState) (queue now_queue : List Event) (fault : TxnFault) → Commits Tells start old new net now_net queue now_queue (Err fault) → IsWhy Tells old new 0 0 (ended_by fault)

@@ -24,8 +24,8 @@ use Rattle.lego_model.specs.declared.wait.Heard.TheVariants.{Reply, Refused, Not
 use Rattle.lego_model.specs.declared.wait.Refusal.{Refusal}
 use Rattle.net_txn.specs.Net.{NetState}
 use Rattle.net_txn.specs.MessageStore.{KeptWhereFit}
-use Rattle.net_txn.specs.Waits.{Waits as WaitsFor}
-use Rattle.lego_model.specs.BarrierWaits.{heard, is_awaited, refusal_of, kept_by, kept_of}
+use Rattle.net_txn.specs.Waits.{Waits as WaitsFor, Brought}
+use Rattle.lego_model.specs.BarrierWaits.{heard, is_awaited, is_apart, refusal_of, kept_by, kept_of}
 use Rattle.outside.specs.declared.step.WorldStep.{WorldStep}
 use Rattle.net_txn.specs.Answering.{known_rows}
 use Rattle.net_txn.specs.Changes.{answer_of_host, Changes, ChangesJoined, ChangesLost}
@@ -93,7 +93,7 @@ last_case false false false false refusal is = refl
 other_read : (a : Awaited) (b : List ℕ) → heard a b ≡ Other → (number_at 1 1 b == 2) ≡ false
 unfolding heard
 other_read a b is =
-    last_case (bytes_eq b (message_bytes a.barrier BarrierReply)) (number_at 1 1 b == 1 && is_awaited a (number_at 4 4 b)) (number_at 1 1 b == 11 && number_at 1 58 b == 2) (number_at 1 1 b == 2) (refusal_of b) is
+    last_case (bytes_eq b (message_bytes a.barrier BarrierReply)) (number_at 1 1 b == 1 && is_awaited a (number_at 4 4 b)) ((number_at 1 1 b == 11 && number_at 1 58 b == 2) && is_apart a.notices) (number_at 1 1 b == 2) (refusal_of b) is
 
 one_read : (a : Awaited) (b : List ℕ) (h : Heard) → heard a b ≡ h → IsOk (reading_of b) → AreRead (kept_by a.dpid h b)
 one_read a b Reply same is = tt
@@ -106,7 +106,7 @@ kept_read : (a : Awaited) (got : List (List ℕ)) → AllByRecursion (λ b. IsOk
 kept_read a [] all = tt
 kept_read a (b ∷ bs) all = read_append (kept_by a.dpid (heard a b) b) (kept_of a bs) (one_read a b (heard a b) refl all.0) (kept_read a bs all.1)
 
-waits_read : {Own Tells : Type 0} {a : Awaited} {front : List WorldStep} {old new : Seen Own} (kept now_kept : List (ℕ × List ℕ)) (answer : Option Refusal) → WaitsFor Tells a front old new kept now_kept answer → AreRead kept → AreRead now_kept
+waits_read : {Own Tells : Type 0} {a : Awaited} {front : List WorldStep} {old new : Seen Own} (kept now_kept : List (ℕ × List ℕ)) (answer : Brought) → WaitsFor Tells a front old new kept now_kept answer → AreRead kept → AreRead now_kept
 waits_read {a = a} kept now_kept answer w read = subst AreRead (sym w.hears.kept_is) (read_append kept (kept_of a w.got) read (kept_read a w.got (all_read w.got w.hears.read)))
 
 fit_read : (P : ℕ × List ℕ → Type 0) (kept more now_kept : List (ℕ × List ℕ)) → KeptWhereFit kept more now_kept → AllByRecursion P kept → AllByRecursion P more → AllByRecursion P now_kept
@@ -244,7 +244,7 @@ change_stays bytes net now_net answer changes (Some a) host read = read_alike ne
 change_stays {d = d} bytes net now_net answer changes None host read =
     let change = asked (known_rows d net.views) bytes host in
     let asks = changes.by_switch change.xid change.change host change.read in
-    waits_read net.kept now_net.kept asks.refusal asks.waits read
+    waits_read net.kept now_net.kept (record { refusal = asks.refusal; notices = asks.notices }) asks.waits read
 
 change_goes : {Own Tells : Type 0} {d : ℕ} {old new : Seen Own} (net now_net : NetState) → ChangesLost Tells d old new net now_net → AreRead net.kept → AreRead now_net.kept
 change_goes {d = d} net now_net lost read = read_alike (filter (λ m. not (m.0 == d)) net.kept) now_net.kept (ap (λ (n : NetState). n.kept) lost.net_is) (read_left d net.kept read)
