@@ -19,7 +19,7 @@ pub record CoreAtFirst (apps : ℕ) (c : Core) : Type 0 where
   pub none_waits : c.lines.items ≡ []
 
 -- text was noted, and no event dispatched
-pub record Notes (text : List ℕ) (c now_c : Core) : Type 0 where
+pub record OnlyNotes (text : List ℕ) (c now_c : Core) : Type 0 where
   pub waits : Waits c now_c
   pub adds : Adds text c now_c
 

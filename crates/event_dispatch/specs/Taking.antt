@@ -88,7 +88,7 @@ pub record ItemDone {Own : Type 0} (Tells : Type 0) (step : WorldStep) (old new 
   pub read : AreRead run.net.kept → AreRead now_run.net.kept
   pub takes : TakesItem Tells step old new run now_run
 
-pub record LeaveDone (d : ℕ) (run now_run : Core) : Type 0 where
+pub record TakeOutDone (d : ℕ) (run now_run : Core) : Type 0 where
   pub waits : Waits run now_run
   pub read : AreRead run.net.kept → AreRead now_run.net.kept
   pub departs : Departs d run.net now_run.net run.queue now_run.queue

@@ -12,7 +12,7 @@ ghost use Rattle.event_dispatch.specs.Batch.{of_memory};
 ghost use Rattle.event_dispatch.specs.Why.{IsReason, WhyItem, WhyMessage};
 ghost use Rattle.event_dispatch.specs.Talking.{KeepsTalking};
 ghost use Rattle.event_dispatch.specs.Passes.{Passes};
-ghost use Rattle.event_dispatch.specs.Taking.{IsJoinedBy, AsksNext, NextDone, Fails, PassesOnLinks, ItemDone, LeaveDone, UsesLinksAt, UsesLinksOf};
+ghost use Rattle.event_dispatch.specs.Taking.{IsJoinedBy, AsksNext, NextDone, Fails, PassesOnLinks, ItemDone, TakeOutDone, UsesLinksAt, UsesLinksOf};
 ghost use Rattle.event_dispatch.specs.Taking.{JoinDone, Announces, KeptDone, PassesNext, HandledNext, BatchDone, BatchFails};
 ghost use Rattle.event_dispatch.specs.Plain.{IsPlainEnd, PlainRead, PlainJoin, PlainItem, PlainNext, PlainKept};
 
@@ -114,7 +114,7 @@ impl Core {
     /// Takes a switch out that leaves. One that is not joined is ignored.
     fn take_out(&mut self, dpid: Dpid) -> Result<(), AllocError>
         ensures lines { self.new.lines ≡ self.old.lines }
-        ensures done { OnOk result (LeaveDone dpid self.old self.new) }
+        ensures done { OnOk result (TakeOutDone dpid self.old self.new) }
     {
         if is_joined(&self.net, dpid) {
             let event = self.net.left(dpid)?;

@@ -9,7 +9,7 @@ ghost use Rattle.checkpoint_store.specs.Slots.{with_slot};
 ghost use Rattle.lego_model.specs.RunReport.{turn_line as turn_line_of, gone_line as gone_line_of};
 ghost use Rattle.run_laws.specs.Facts.{out_text, starts_text};
 ghost use Rattle.event_dispatch.specs.Passes.{Passes, PassesQuietly};
-ghost use Rattle.event_dispatch.specs.Lines.{Notes};
+ghost use Rattle.event_dispatch.specs.Lines.{OnlyNotes};
 ghost use Rattle.event_dispatch.specs.Runs.{AreRead, StoreRests, CoreGoes, AreGoing, AreBefore, Going};
 ghost use Rattle.event_dispatch.specs.Stored.{closes_slot};
 ghost use Rattle.event_dispatch.specs.TurnParts.{TurnFails, PlayDone, PlayKeeps, HoldDone, HoldFails, HoldKeeps, TurnDone, StartDone, StartKeeps, LeaveDone, GoOnDone, CloseDone, CloseKeeps};
@@ -129,7 +129,7 @@ fn hold_turn<W: World, J: Judge>(
 impl Core {
     /// Appends the line of how a turn of the application of a name ended.
     fn note_turn(&mut self, name: &str, word: TurnWord) -> Result<(), AllocError>
-        ensures { OnOk result (Notes (turn_line_of (name.now) word) self.old self.new) }
+        ensures { OnOk result (OnlyNotes (turn_line_of (name.now) word) self.old self.new) }
     {
         let line = turn_line(self.alloc, name, &word)?;
         self.note(&line)
@@ -159,7 +159,7 @@ impl Core {
 
     /// Appends the lines of the attempts to start the application of a name.
     fn note_start(&mut self, name: &str, back: Back) -> Result<(), AllocError>
-        ensures { OnOk result (Notes (starts_text (name.now) back.tries.items back.back) self.old self.new) }
+        ensures { OnOk result (OnlyNotes (starts_text (name.now) back.tries.items back.back) self.old self.new) }
     {
         for tried in back.tries.iter() {
             let line = start_line(self.alloc, name, tried)?;
@@ -173,7 +173,7 @@ impl Core {
 
     /// Appends the line that says that the application of a name is gone.
     fn note_gone(&mut self, name: &str) -> Result<(), AllocError>
-        ensures { OnOk result (Notes (gone_line_of (name.now)) self.old self.new) }
+        ensures { OnOk result (OnlyNotes (gone_line_of (name.now)) self.old self.new) }
     {
         let line = gone_line(self.alloc, name)?;
         self.note(&line)
@@ -213,7 +213,7 @@ impl Core {
 
     /// Appends the lines of the packets that were released.
     fn note_out(&mut self, out: &[(Dpid, u32)]) -> Result<(), AllocError>
-        ensures { OnOk result (Notes (out_text out.now) self.old self.new) }
+        ensures { OnOk result (OnlyNotes (out_text out.now) self.old self.new) }
     {
         for &(dpid, len) in out {
             let line = out_line(self.alloc, dpid, len)?;
@@ -229,7 +229,7 @@ impl Core {
         word: TurnWord,
         out: &[(Dpid, u32)],
     ) -> Result<(), AllocError>
-        ensures { OnOk result (Notes (turn_line_of (name.now) word ++ out_text out.now) self.old self.new) }
+        ensures { OnOk result (OnlyNotes (turn_line_of (name.now) word ++ out_text out.now) self.old self.new) }
     {
         self.note_turn(name, word)?;
         self.note_out(out)

@@ -1,7 +1,7 @@
 //! What the engine keeps of a run beside its applications.
 
 ghost use Rattle.std.specs.Prelude.{IfOk, OnOk};
-ghost use Rattle.event_dispatch.specs.Lines.{CoreAtFirst, Notes, WritesLines};
+ghost use Rattle.event_dispatch.specs.Lines.{CoreAtFirst, OnlyNotes, WritesLines};
 
 use checkpoint_store::Store;
 use lego_io::{Sink, WriteFault, write_all};
@@ -40,7 +40,7 @@ impl Core {
 
     /// Appends a line to those that are to be written.
     pub(crate) fn note(&mut self, line: &ByteList) -> Result<(), AllocError>
-        ensures { OnOk result (Notes line.now self.old self.new) }
+        ensures { OnOk result (OnlyNotes line.now self.old self.new) }
     {
         self.lines.extend_from_slice(line.as_slice())?;
         Ok(())

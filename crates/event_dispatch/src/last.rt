@@ -8,7 +8,7 @@ ghost use Rattle.lego_model.specs.RunReport.{flow_line};
 ghost use Rattle.net_txn.specs.Views.{rows_at};
 ghost use Rattle.run_laws.specs.LastReport.{app_lines, engine_end};
 ghost use Rattle.event_dispatch.specs.Passes.{PassesQuietly};
-ghost use Rattle.event_dispatch.specs.Lines.{Notes};
+ghost use Rattle.event_dispatch.specs.Lines.{OnlyNotes};
 ghost use Rattle.event_dispatch.specs.Shows.{application_of, engine_with};
 ghost use Rattle.event_dispatch.specs.ReportEnd.{FindsPlace, FindsFlags, FlowsNoted, RowsNoted, RowsAsked, TableNoted, TableFails};
 ghost use Rattle.event_dispatch.specs.ReportEnd.{TablesNoted, LastNoted, LastFails};
@@ -73,7 +73,7 @@ fn rows_of(views: &[TableView], dpid: Dpid) -> Option<&ViewList>
 impl Core {
     /// Appends the line of an entry, with the flags with which its owner asked for it.
     fn note_flow(&mut self, row: &FlowRow, flags: u16) -> Result<(), AllocError>
-        ensures { OnOk result (Notes (flow_line row.now flags) self.old self.new) }
+        ensures { OnOk result (OnlyNotes (flow_line row.now flags) self.old self.new) }
     {
         let line = flow_line(self.alloc, row, flags)?;
         self.note(&line)
@@ -166,7 +166,7 @@ impl Core {
 
     /// Appends the line of an application.
     fn note_app(&mut self, app: &Managed<'_>) -> Result<(), AllocError>
-        ensures { OnOk result (Notes (app_lines (application_of self.old.store app.now ∷ [])) self.old self.new) }
+        ensures { OnOk result (OnlyNotes (app_lines (application_of self.old.store app.now ∷ [])) self.old self.new) }
     {
         let line = app_line(
             self.alloc,
@@ -180,7 +180,7 @@ impl Core {
 
     /// Appends the lines of applications, and of the end.
     fn note_end(&mut self, apps: &[Managed<'_>]) -> Result<(), AllocError>
-        ensures { OnOk result (Notes (engine_end (engine_with self.old apps.now)) self.old self.new) }
+        ensures { OnOk result (OnlyNotes (engine_end (engine_with self.old apps.now)) self.old self.new) }
     {
         for app in apps {
             self.note_app(app)?;

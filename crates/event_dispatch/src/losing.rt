@@ -2,7 +2,7 @@
 
 ghost use Rattle.std.specs.Prelude.{OnOk};
 ghost use Rattle.lego_model.specs.RunReport.{lost_line as lost_line_of};
-ghost use Rattle.event_dispatch.specs.Lines.{Notes, LostTold};
+ghost use Rattle.event_dispatch.specs.Lines.{OnlyNotes, LostTold};
 
 use crate::engine_core::Core;
 use of_types::Dpid;
@@ -12,7 +12,7 @@ use std::alloc::AllocError;
 impl Core {
     /// Appends the line of a switch that was lost.
     pub(crate) fn note_loss(&mut self, dpid: Dpid) -> Result<(), AllocError>
-        ensures { OnOk result (Notes (lost_line_of dpid) self.old self.new) }
+        ensures { OnOk result (OnlyNotes (lost_line_of dpid) self.old self.new) }
     {
         let line = lost_line(self.alloc, dpid)?;
         self.note(&line)

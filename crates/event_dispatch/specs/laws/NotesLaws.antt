@@ -4,18 +4,18 @@ use Rattle.std.specs.List.{flat_map}
 use Rattle.std.proofs.lemmas.List.{append-nil}
 use Rattle.std.proofs.lemmas.List.Concat.{flat_map-cons}
 use Rattle.event_dispatch.specs.declared.engine_core.Core.{Core}
-use Rattle.event_dispatch.specs.Lines.{Notes}
+use Rattle.event_dispatch.specs.Lines.{OnlyNotes}
 use Rattle.event_dispatch.specs.laws.LastLaws.{adds_then}
 use Rattle.event_dispatch.specs.laws.PassesLaws.{waits_none}
 use Rattle.event_dispatch.specs.laws.WhyLaws.{waits_then}
 
-pub notes_none : (c : Core) → Notes [] c c
+pub notes_none : (c : Core) → OnlyNotes [] c c
 notes_none c = record {
   waits = waits_none c;
   adds = record { stays = record { net = refl; queue = refl; events = refl; store = refl }; lines = sym (append-nil c.lines.items) };
 }
 
-pub notes_then : {first second : List ℕ} {c mid_c now_c : Core} → Notes first c mid_c → Notes second mid_c now_c → Notes (first ++ second) c now_c
+pub notes_then : {first second : List ℕ} {c mid_c now_c : Core} → OnlyNotes first c mid_c → OnlyNotes second mid_c now_c → OnlyNotes (first ++ second) c now_c
 notes_then {c = c} {mid_c = mid_c} {now_c = now_c} one two = record { waits = waits_then c mid_c now_c one.waits two.waits; adds = adds_then one.adds two.adds }
 
 -- ---- A line for each item of a list
@@ -30,8 +30,8 @@ more_text f (x ∷ xs) (suc i) d less =
     (sym (flat_map-cons f x (take i xs)))
 
 pub notes_next : {A : Type 0} {text : List ℕ} {c mid_c now_c : Core} (f : A → List ℕ) (xs : List A) (i : ℕ) (d : A) → i < length xs → text ≡ f (get_or xs i d)
-    → Notes (flat_map f (take i xs)) c mid_c → Notes text mid_c now_c → Notes (flat_map f (take (i + 1) xs)) c now_c
+    → OnlyNotes (flat_map f (take i xs)) c mid_c → OnlyNotes text mid_c now_c → OnlyNotes (flat_map f (take (i + 1) xs)) c now_c
 notes_next {c = c} {now_c = now_c} f xs i d less is so_far more =
-    subst (λ (text : List ℕ). Notes text c now_c)
+    subst (λ (text : List ℕ). OnlyNotes text c now_c)
     (ap (λ (text : List ℕ). flat_map f (take i xs) ++ text) is ∙ sym (more_text f xs i d less) ∙ ap (λ (n : ℕ). flat_map f (take n xs)) (sym (add-one i)))
     (notes_then so_far more)

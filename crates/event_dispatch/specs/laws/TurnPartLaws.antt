@@ -25,7 +25,7 @@ use Rattle.event_dispatch.specs.declared.fault.Fault.{Fault}
 use Rattle.event_dispatch.specs.declared.run.Managed.{Managed}
 use Rattle.event_dispatch.specs.Runs.{AreRead, StoreRests, CoreGoes, SameManaged}
 use Rattle.event_dispatch.specs.Shows.{application_of, focus_of, name_of, none_left}
-use Rattle.event_dispatch.specs.Lines.{Notes, LostTold}
+use Rattle.event_dispatch.specs.Lines.{OnlyNotes, LostTold}
 use Rattle.event_dispatch.specs.Stored.{KeepsSlots, closes_slot, PlaysStaged}
 use Rattle.event_dispatch.specs.Talking.{KeepsTalking}
 use Rattle.event_dispatch.specs.Passes.{Passes, PassesQuietly}
@@ -74,7 +74,7 @@ quiet_own app net now_net (Err fault) small continues own talks views = record {
 
 -- ---- A turn is counted and told, with the switches that were lost
 
-module _ {text : List ℕ} {c mid_c now_c : Core} (noted : Notes text c mid_c) (told : LostTold mid_c now_c) where
+module _ {text : List ℕ} {c mid_c now_c : Core} (noted : OnlyNotes text c mid_c) (told : LostTold mid_c now_c) where
   told_net : now_c.net ≡ none_left c.net
   told_net = told.tells.net ∙ ap none_left noted.adds.stays.net
 
