@@ -208,7 +208,14 @@ def write(text):
 
 
 def main(words):
-    names = [word for word in words if not word.startswith("--")]
+    if set(words) & {"-h", "--help"}:
+        print(__doc__.strip())
+        return 0
+    names = [word for word in words if not word.startswith("-")]
+    unknown = [word for word in words if word.startswith("-") and word not in ("--kept", "--write")]
+    if unknown:
+        print("bench/gate.py: there is no %s" % unknown[0], file=sys.stderr)
+        return 2
     with tempfile.TemporaryDirectory(prefix="gate-") as room:
         status, text = measured(names, room, "--kept" in words)
     print(text)
