@@ -67,15 +67,21 @@ fn traced<W: World + Drop, K: Sink + Drop>(
     }
 }
 
+/// What the program is called with: its words, and its standard streams.
+#[derive(Drop)]
+struct Console<S, K> {
+    words: Vec<String>,
+    source: S,
+    sink: K,
+}
+
 /// Makes the call over a simulated world and another one, whose acts are told where the environment asks for it.
 ///
 /// Each world is made in a function of its own: to prove one that holds both takes a quarter of an hour.
-fn call_over<S: Source, K: Sink, E: Sink + Drop, L: World + Drop>(
+fn call_over<S: Source + Drop, K: Sink + Drop, E: Sink + Drop, L: World + Drop>(
     settings: &Settings,
     alloc: Global,
-    words: &[String],
-    source: &mut S,
-    sink: &mut K,
+    console: &mut Console<S, K>,
     sim: &mut Traced<SimWorld, E>,
     live: L,
     errors: E,
@@ -84,23 +90,28 @@ fn call_over<S: Source, K: Sink, E: Sink + Drop, L: World + Drop>(
     requires empty_world { given_of sim.old ≡ nothing_given }
 {
     let mut live = traced(settings, alloc, live, errors);
-    legosdn(alloc, words, source, sink, sim, &mut live)
+    legosdn(
+        alloc,
+        &console.words,
+        &mut console.source,
+        &mut console.sink,
+        sim,
+        &mut live,
+    )
 }
 
 /// Makes the world of the switches that connect, and the call over it.
 fn run_beside<
     R: Net + Processes<Started = SystemProcess> + Env + AllocGlobal + Drop,
     C: Clock + Drop,
-    S: Source,
-    K: Sink,
+    S: Source + Drop,
+    K: Sink + Drop,
     E: Sink + Drop,
 >(
     rt: R,
     clock: C,
     settings: &Settings,
-    words: &[String],
-    source: &mut S,
-    sink: &mut K,
+    console: &mut Console<S, K>,
     sim: &mut Traced<SimWorld, E>,
     errors: E,
 ) -> Result<u8, AllocError>
@@ -110,7 +121,7 @@ fn run_beside<
     let alloc = rt.alloc();
     let mut live = LiveWorld::new(rt, alloc, clock)?;
     live.listen_at(settings.address);
-    Ok(call_over(settings, alloc, words, source, sink, sim, live, errors))
+    Ok(call_over(settings, alloc, console, sim, live, errors))
 }
 
 /// Runs the command of the words over a simulated world and the world of real switches, and answers the status. The acts of
@@ -118,54 +129,36 @@ fn run_beside<
 fn run_in_worlds<
     R: Net + Processes<Started = SystemProcess> + Env + AllocGlobal + Drop,
     C: Clock + Drop,
-    S: Source,
-    K: Sink,
+    S: Source + Drop,
+    K: Sink + Drop,
     E: Sink + Drop,
 >(
     rt: R,
     clock: C,
     settings: &Settings,
-    words: &[String],
-    source: &mut S,
-    sink: &mut K,
+    console: &mut Console<S, K>,
     errors: E,
     live_errors: E,
 ) -> Result<u8, AllocError> {
     let alloc = rt.alloc();
     let sim = SimWorld::new(alloc)?;
     let mut sim = traced(settings, alloc, sim, errors);
-    run_beside(
-        rt,
-        clock,
-        settings,
-        words,
-        source,
-        sink,
-        &mut sim,
-        live_errors,
-    )
+    run_beside(rt, clock, settings, console, &mut sim, live_errors)
 }
 
 /// Runs the command of the words over the standard streams, and answers the status. What is told of the worlds goes to
 /// standard error.
 fn run(rt: &HostRuntime, settings: &Settings) -> Result<u8, AllocError> {
     let alloc = rt.alloc();
-    let words = words_of(rt)?;
-    let mut source = StdSource::new(rt, alloc)?;
-    let mut sink = StdSink::new(rt, alloc)?;
+    let mut console = Console {
+        words: words_of(rt)?,
+        source: StdSource::new(rt, alloc)?,
+        sink: StdSink::new(rt, alloc)?,
+    };
     let errors = StdSink::new(rt.stderr(), alloc)?;
     let live_errors = StdSink::new(rt.stderr(), alloc)?;
     let clock = SystemClock::new(rt);
-    run_in_worlds(
-        rt,
-        clock,
-        settings,
-        &words,
-        &mut source,
-        &mut sink,
-        errors,
-        live_errors,
-    )
+    run_in_worlds(rt, clock, settings, &mut console, errors, live_errors)
 }
 
 /// Writes what is wrong with a setting of the environment, and answers the status.
