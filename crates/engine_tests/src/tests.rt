@@ -1,11 +1,13 @@
 //! How a run ends, what it wrote, and which acts its world wrote down: worked out by hand. Nothing happens in the world, and one call of it or one
-//! write is to fail.
+//! write is to fail; or three moments come, and a run has two rounds or more.
 
+ghost use Rattle.std.specs.Prelude.{◌≤◌};
 ghost use Rattle.sim_world.specs.Building.{IsNew};
 
 use crash_policy::{AppRule, DEFAULT_BUDGET, Policy};
 use event_dispatch::{Served, serve};
 use lego_io::{MemSink, Sink};
+use of_types::WorldStim;
 use of_types::limits::MOST_ROUNDS;
 use outside::{AllowAll, CallKind, World};
 use sim_world::SimWorld;
@@ -48,14 +50,17 @@ fn ending_of(served: &Served) -> Ending {
     }
 }
 
-/// Runs any world to its end. Nothing is said of the run, so that no proof looks into one.
+/// Runs any world, in at most so many rounds. Nothing is said of the run, so that no proof looks into one.
 fn run<W: World, K: Sink>(
     alloc: Global,
     world: &mut W,
     sink: &mut K,
-) -> Result<Ending, AllocError> {
+    rounds: u64,
+) -> Result<Ending, AllocError>
+    requires { rounds ≤ 1000000000 }
+{
     let apps = [usual_app(alloc)?];
-    let served = serve(alloc, &apps, world, &AllowAll, sink, 0, MOST_ROUNDS);
+    let served = serve(alloc, &apps, world, &AllowAll, sink, 0, rounds);
     Ok(ending_of(&served))
 }
 
@@ -76,15 +81,28 @@ fn quiet_world(alloc: Global, fails: Option<(CallKind, u64)>) -> Result<SimWorld
     Ok(sim)
 }
 
-/// Runs any world to its end, and writes its acts down in words.
+/// A world in which three moments come.
+#[tactic(auto, unfolding(outside::specs::Conforming::IsWorldStim))]
+fn world_of_moments(alloc: Global) -> Result<SimWorld, AllocError> {
+    let mut sim = SimWorld::new(alloc)?;
+    sim.add_stimulus(WorldStim::At(1))?;
+    sim.add_stimulus(WorldStim::At(2))?;
+    sim.add_stimulus(WorldStim::At(3))?;
+    Ok(sim)
+}
+
+/// Runs any world, in at most so many rounds, and writes its acts down in words.
 fn run_traced<W: World + Drop>(
     alloc: Global,
     world: W,
     acts: MemSink,
     report: &mut MemSink,
-) -> Result<(Ending, MemSink), AllocError> {
+    rounds: u64,
+) -> Result<(Ending, MemSink), AllocError>
+    requires { rounds ≤ 1000000000 }
+{
     let mut traced = Traced::new(alloc, world, acts);
-    let ending = run(alloc, &mut traced, report)?;
+    let ending = run(alloc, &mut traced, report, rounds)?;
     let (_world, acts) = traced.into_parts();
     Ok((ending, acts))
 }
@@ -99,7 +117,18 @@ fn outcome(
     let acts = MemSink::new(alloc, 4096, lines)?;
     let mut report = MemSink::new(alloc, 4096, writes)?;
     let sim = quiet_world(alloc, fails)?;
-    let (ending, acts) = run_traced(alloc, sim, acts, &mut report)?;
+    let (ending, acts) = run_traced(alloc, sim, acts, &mut report, MOST_ROUNDS)?;
+    Ok((ending, report, acts))
+}
+
+/// How a run of two, three or four rounds ended where three moments come, its report, and the acts of its world.
+fn outcome_in(alloc: Global, rounds: u64) -> Result<(Ending, MemSink, MemSink), AllocError>
+    requires { rounds ≤ 1000000000 }
+{
+    let acts = MemSink::new(alloc, 4096, &[])?;
+    let mut report = MemSink::new(alloc, 4096, &[])?;
+    let sim = world_of_moments(alloc)?;
+    let (ending, acts) = run_traced(alloc, sim, acts, &mut report, rounds)?;
     Ok((ending, report, acts))
 }
 
@@ -184,6 +213,62 @@ fn worlds_and_sinks_fail(rt: HostRuntime) -> Result<(), Fail> {
         assert_eq!(rt; ended, ending, "{fails:?}");
         assert!(rt; written.bytes() == report.as_bytes(), "{fails:?}");
         assert!(rt; told.bytes() == acts.as_bytes(), "{fails:?}");
+    }
+    Ok(())
+}
+
+/// The report where the last moment was this one.
+const REPORT_AT_TWO: &str = "start app ready\napp app alive done 0 failed 0\nend 2 events 0\n";
+
+const REPORT_AT_THREE: &str = "start app ready\napp app alive done 0 failed 0\nend 3 events 0\n";
+
+/// The acts in two rounds: the third moment does not come.
+const ACTS_OF_TWO: &str = "\
+world opened, port 0
+app 0 started
+app 0 <- RESTORE bytes=0
+app 0 -> READY
+moment 1
+moment 2
+app 0 ended
+";
+
+/// The acts in three rounds: it is not found that no more comes.
+const ACTS_OF_THREE: &str = "\
+world opened, port 0
+app 0 started
+app 0 <- RESTORE bytes=0
+app 0 -> READY
+moment 1
+moment 2
+moment 3
+app 0 ended
+";
+
+const ACTS_OF_FOUR: &str = "\
+world opened, port 0
+app 0 started
+app 0 <- RESTORE bytes=0
+app 0 -> READY
+moment 1
+moment 2
+moment 3
+world ended
+app 0 ended
+";
+
+#[test]
+fn each_stimulus_takes_a_round(rt: HostRuntime) -> Result<(), Fail> {
+    let cases = [
+        (2, REPORT_AT_TWO, ACTS_OF_TWO),
+        (3, REPORT_AT_THREE, ACTS_OF_THREE),
+        (4, REPORT_AT_THREE, ACTS_OF_FOUR),
+    ];
+    for (rounds, report, acts) in cases {
+        let (ended, written, told) = outcome_in(rt.alloc(), rounds)?;
+        assert_eq!(rt; ended, Ending::Whole, "{rounds}");
+        assert!(rt; written.bytes() == report.as_bytes(), "{rounds}");
+        assert!(rt; told.bytes() == acts.as_bytes(), "{rounds}");
     }
     Ok(())
 }

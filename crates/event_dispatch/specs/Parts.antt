@@ -19,7 +19,7 @@ use Rattle.event_dispatch.specs.declared.served.Served.{Served}
 use Rattle.event_dispatch.specs.Why.{IsWhy, IsReason, served_by}
 use Rattle.event_dispatch.specs.Runs.{AreGoing, Going, Waits}
 use Rattle.event_dispatch.specs.Shows.{engine_of}
-use Rattle.event_dispatch.specs.Plain.{IsPlainEnd, PlainCalm, PlainRun, PlainWhole}
+use Rattle.event_dispatch.specs.Plain.{IsPlainEnd, PlainCalm, PlainRun}
 use Rattle.event_dispatch.specs.Talking.{KeepsTalking}
 use Rattle.event_dispatch.specs.Steady.{NoStray, IsEnded, NoneRuns}
 use Rattle.event_dispatch.specs.Passes.{Passes}
@@ -142,7 +142,7 @@ pub record WholeFails {Own : Type 0} (Tells : Type 0) (accepts : List TableView 
     (sink_old sink_new : ℕ) (old new : Seen Own) (e : Engine) (end : Served) : Type 0 where
   pub cut : CutAs Tells accepts most end contents now_contents old new e
   pub why : IsWhy Tells old new sink_old sink_new end
-  pub plain : PlainWhole Tells accepts most old new e end
+  pub plain : PlainRun Tells accepts old new e end
 
 pub record GoesSo {Own : Type 0} (Tells : Type 0) (accepts : List TableView → Bool) (most : ℕ) (contents now_contents : Option (List ℕ))
     (sink_old sink_new : ℕ) (old new : Seen Own) (r now_r : Run) (result : Result (Unit {0}) Served) : Type 0 where

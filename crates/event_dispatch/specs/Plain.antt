@@ -1,7 +1,7 @@
 -- How a run may end in a world that keeps its word: no switch is at fault for what it sent, so that each end but the whole one is by the sink, by
 -- what comes next, by events that are left, or for want of memory; or a packet that was released made its switch send more messages than a wait
 -- takes. A switch whose link fails is lost, and ends no run. All of this is our own.
-use Rattle.std.specs.Prelude.{◌≡◌, ◌⊎◌, ℕ, ◌<◌, Bool, List, [], length, IsOk}
+use Rattle.std.specs.Prelude.{◌≡◌, ◌⊎◌, ℕ, Bool, List, [], IsOk}
 use Rattle.of_wire.specs.Reading.{reading_of}
 use Rattle.flow_table.specs.View.{TableView}
 use Rattle.lego_model.specs.Places.{Place}
@@ -18,7 +18,6 @@ use Rattle.switch_laws.specs.Sound.{Sound}
 use Rattle.batch_laws.specs.Calm.{Calm}
 use Rattle.batch_laws.specs.InBatch.{CanTake, CanTakeNext}
 use Rattle.run_laws.specs.Engine.{Engine}
-use Rattle.lego_model.specs.History.{stimuli_in}
 use Rattle.run_laws.specs.Readings.{JudgesAlike}
 use Rattle.run_laws.specs.Moves.{AtRest}
 use Rattle.event_dispatch.specs.declared.fault.Fault.{Fault}
@@ -86,7 +85,3 @@ pub record PlainTable {Own : Type 0} (Tells : Type 0) (old new : Seen Own) (net 
 
 pub record PlainRun {Own : Type 0} (Tells : Type 0) (accepts : List TableView → Bool) (old new : Seen Own) (e : Engine) (end : Served) : Type 0 where
   pub plain : (allows : List Place → Bool) → Tells → Conforming new → JudgesAlike Own allows accepts → AtRest old e → EndsPlain old new end
-
--- and the stimuli are fewer than this number of rounds
-pub record PlainWhole {Own : Type 0} (Tells : Type 0) (accepts : List TableView → Bool) (most : ℕ) (old new : Seen Own) (e : Engine) (end : Served) : Type 0 where
-  pub plain : (allows : List Place → Bool) → Tells → Conforming new → JudgesAlike Own allows accepts → AtRest old e → length (stimuli_in new) < most → EndsPlain old new end

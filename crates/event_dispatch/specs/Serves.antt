@@ -31,7 +31,7 @@ use Rattle.run_laws.specs.Moves.{AtRest, Shown, ShownIdle, ShownOver, ShownRound
 use Rattle.lego_model.specs.ReferenceRun.{dispatch_next, times}
 use Rattle.run_laws.specs.First.{engine_at_first}
 use Rattle.run_laws.specs.Endings.{ShownStart, ShownFinish, RanOut, RanFull}
-use Rattle.lego_model.specs.WholeRun.{EndsAlike, LeavesAlike}
+use Rattle.lego_model.specs.WholeRun.{TookFirst, is_spent, EndsAlike, LeavesAlike}
 use Rattle.run_laws.specs.Cut.{CutAlike, CutWithLines, CutWriting}
 use Rattle.event_dispatch.specs.declared.batch.Rest.{Rest}
 use Rattle.event_dispatch.specs.declared.batch.Rest.TheVariants as rests
@@ -260,15 +260,15 @@ IsUnopened Tells old new other = ⊥
 
 -- ---- What a whole run promises
 
--- All events were dispatched, and no stimulus is to come.
-pub record IsWhole {Own : Type 0} (rules : List AppValue) (allows : List Place → Bool) (seen : Seen Own) (contents now_contents : Option (List ℕ)) (events : ℕ) : Type 0 where
-  pub alike : EndsAlike rules allows seen contents now_contents events
-  pub none_to_come : (state seen).to_come ≡ []
+-- All events were dispatched. The stimuli that were taken are the first that the world was given, one for each round, or all of them.
+pub record IsWhole {Own : Type 0} (rules : List AppValue) (allows : List Place → Bool) (rounds : ℕ) (seen : Seen Own) (contents now_contents : Option (List ℕ)) (events : ℕ) : Type 0 where
+  pub alike : EndsAlike rules allows (is_spent rounds seen) seen contents now_contents events
+  pub took_first : TookFirst rounds seen
 
--- Some were left after the last batch.
-pub record IsPart {Own : Type 0} (rules : List AppValue) (allows : List Place → Bool) (seen : Seen Own) (contents now_contents : Option (List ℕ)) (left : ℕ) : Type 0 where
-  pub alike : LeavesAlike rules allows seen contents now_contents left
-  pub none_to_come : (state seen).to_come ≡ []
+-- Some were left after the last round.
+pub record IsPart {Own : Type 0} (rules : List AppValue) (allows : List Place → Bool) (rounds : ℕ) (seen : Seen Own) (contents now_contents : Option (List ℕ)) (left : ℕ) : Type 0 where
+  pub alike : LeavesAlike rules allows (is_spent rounds seen) seen contents now_contents left
+  pub took_first : TookFirst rounds seen
 
 -- Of a world that tells, on which no call was made before: where a fault ends the run, it is the reference controller's up to a point, if
 -- the world kept its word as far as there, and so is what was written. No line is missing of the start and of all events before where what
@@ -284,11 +284,11 @@ IsCut rules allows seen contents now_contents (served.Txn fault) = CutWithLines 
 IsCut rules allows seen contents now_contents served.NoMemory = CutAlike rules allows seen contents now_contents ⊎ NothingDone [] seen contents now_contents
 
 -- Of one that keeps its word, too: the run is the reference controller's, whole, and so is what was written.
-abbrev pub IsAlike : {Own : Type 0} → List AppValue → (List Place → Bool) → Seen Own → Option (List ℕ) → Option (List ℕ) → Served → Type 0
-IsAlike rules allows seen contents now_contents (served.Ended events) = IsWhole rules allows seen contents now_contents events
-IsAlike rules allows seen contents now_contents (served.EventsLeft left) = IsPart rules allows seen contents now_contents left
-IsAlike rules allows seen contents now_contents served.WriteFault = IsCut rules allows seen contents now_contents served.WriteFault
-IsAlike rules allows seen contents now_contents served.Shut = IsCut rules allows seen contents now_contents served.Shut
-IsAlike rules allows seen contents now_contents served.NextFault = IsCut rules allows seen contents now_contents served.NextFault
-IsAlike rules allows seen contents now_contents (served.Txn fault) = IsCut rules allows seen contents now_contents (served.Txn fault)
-IsAlike rules allows seen contents now_contents served.NoMemory = IsCut rules allows seen contents now_contents served.NoMemory
+abbrev pub IsAlike : {Own : Type 0} → List AppValue → (List Place → Bool) → (rounds : ℕ) → Seen Own → Option (List ℕ) → Option (List ℕ) → Served → Type 0
+IsAlike rules allows rounds seen contents now_contents (served.Ended events) = IsWhole rules allows rounds seen contents now_contents events
+IsAlike rules allows rounds seen contents now_contents (served.EventsLeft left) = IsPart rules allows rounds seen contents now_contents left
+IsAlike rules allows rounds seen contents now_contents served.WriteFault = IsCut rules allows seen contents now_contents served.WriteFault
+IsAlike rules allows rounds seen contents now_contents served.Shut = IsCut rules allows seen contents now_contents served.Shut
+IsAlike rules allows rounds seen contents now_contents served.NextFault = IsCut rules allows seen contents now_contents served.NextFault
+IsAlike rules allows rounds seen contents now_contents (served.Txn fault) = IsCut rules allows seen contents now_contents (served.Txn fault)
+IsAlike rules allows rounds seen contents now_contents served.NoMemory = IsCut rules allows seen contents now_contents served.NoMemory

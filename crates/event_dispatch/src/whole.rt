@@ -269,8 +269,9 @@ fn run<W: World, J: Judge, K: Sink>(
 /// then. The lines of an event are written when its dispatch has ended. However the run ends, all applications are ended. A switch whose link fails is lost: it leaves, and the run goes on. What else is wrong with the outside, the sink or a
 /// switch ends the run, and so do events that are left after the last batch.
 ///
-/// What is said of the reference run holds where fewer stimuli come than there are rounds. Of a run with as many stimuli as
-/// rounds, or more, nothing is promised of it yet. No clause speaks of the port or of the words of the command.
+/// Each stimulus takes a round, and so does the end of the stimuli, at which the events that are left have one batch more. So
+/// where as many stimuli come as there are rounds, or more, the run takes the first of them, and has no batch more. No clause
+/// speaks of the port or of the words of the command.
 pub fn serve<W: World, J: Judge, K: Sink>(
     alloc: Global,
     rules: &[AppRule],
@@ -285,24 +286,23 @@ pub fn serve<W: World, J: Judge, K: Sink>(
     ensures never_fell { NeverFell (K.faults sink.old) (K.faults sink.new) }
     // Each end but the whole one and want of memory has its cause in this call.
     ensures end_has_cause { IsWhy W.Tells (W.seen world.old) (W.seen world.new) (K.faults sink.old) (K.faults sink.new) result }
-    // In a world that tells and keeps its word, on which no call was made before, where fewer stimuli come than there are rounds, the run
-    // is the reference controller's over what the world told: the tables agree at every quiescent point, each application was given what it
+    // In a world that tells and keeps its word, on which no call was made before, the run takes the first stimuli that the world was given,
+    // as many as there are rounds, or all. It is the reference controller's over what the world told: the tables agree at every quiescent point, each application was given what it
     // is given there, the packets that were released are those that it releases and the switches that were lost those that it loses, in
     // their order, and what was written is the report, whole
     // where all events were dispatched, and as far as these go where some were left. It is so, too, over all that was said of the
     // applications, of which the world told the front.
-    ensures reference_run { (allows : List Place → Bool) → Premise W.Tells (J.accepts judge.now) allows rounds (W.seen world.old) (W.seen world.new)
-        → IsAlike (map app_value rules.now) allows (W.seen world.new) (K.contents sink.old) (K.contents sink.new) result }
+    ensures reference_run { (allows : List Place → Bool) → Premise W.Tells (J.accepts judge.now) allows (W.seen world.old) (W.seen world.new)
+        → IsAlike (map app_value rules.now) allows rounds (W.seen world.new) (K.contents sink.old) (K.contents sink.new) result }
     // Where a fault ends the run, it is so up to a point, with the lines of all that was done up to there, and where the sink failed,
-    // with a part of the lines of the last; if the world kept its word as far as there, with fewer stimuli than rounds, whatever came
-    // behind it. The whole journal is a dialogue with each application then. A world that tells in order kept its word as far as there,
+    // with a part of the lines of the last; if the world kept its word as far as there, whatever came behind it. The whole journal is a dialogue with each application then. A world that tells in order kept its word as far as there,
     // since all bytes that came are messages up to there. Behind it no quiescent point lies in such a world, and no other application than
     // those of the policy was called.
-    ensures reference_run_until_fault { (allows : List Place → Bool) → PremiseSoFar W.Tells (J.accepts judge.now) allows rounds (W.seen world.old) (W.seen world.new)
+    ensures reference_run_until_fault { (allows : List Place → Bool) → PremiseSoFar W.Tells (J.accepts judge.now) allows (W.seen world.old)
         → IsCut (map app_value rules.now) allows (W.seen world.new) (K.contents sink.old) (K.contents sink.new) result }
     // In a world that keeps its word to the end no switch is at fault for what it sent, and none ends the run, unless a packet that was
     // released made it send as many messages as are too many: one whose link fails is lost, and the run goes on.
-    ensures no_switch_at_fault { (allows : List Place → Bool) → Premise W.Tells (J.accepts judge.now) allows rounds (W.seen world.old) (W.seen world.new)
+    ensures no_switch_at_fault { (allows : List Place → Bool) → Premise W.Tells (J.accepts judge.now) allows (W.seen world.old) (W.seen world.new)
         → EndsPlain (W.seen world.old) (W.seen world.new) result }
     // In a world that tells in order, though bytes that come of switches may be no messages: no call of a link is a stray one, and at the end
     // of a run that no fault ends all that came of switches is messages, so that the world kept its word.

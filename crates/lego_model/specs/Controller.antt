@@ -397,9 +397,15 @@ at_first declared apps losses =
       marks = [];
     }
 
--- after each stimulus its events are dispatched, and after the last one what is left, as far as one batch goes
-unfoldable pub reference : (List Place → Bool) → List Declared → List App → Losses → List WorldStim → Run
-reference allows declared apps losses stimuli = settle allows (fold (λ run x. settle allows (happen x run)) (at_first declared apps losses) stimuli)
+-- what is left behind the last stimulus is dispatched, as far as one batch goes, but where the rounds are spent
+abbrev pub settle_last : (List Place → Bool) → (spent : Bool) → Run → Run
+settle_last allows true run = run
+settle_last allows false run = settle allows run
+
+-- After each stimulus its events are dispatched. Each takes one round of the run; behind the last one what is left takes one more, unless the
+-- stimuli took them all.
+unfoldable pub reference : (List Place → Bool) → List Declared → List App → Losses → (spent : Bool) → List WorldStim → Run
+reference allows declared apps losses spent stimuli = settle_last allows spent (fold (λ run x. settle allows (happen x run)) (at_first declared apps losses) stimuli)
 
 -- ---- The end: a switch that is lost when it is asked for its rows goes out, and makes no event
 

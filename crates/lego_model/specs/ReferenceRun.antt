@@ -52,16 +52,16 @@ all_started r = let begun = start_all 0 r.apps in record r { apps = begun.0; lin
 -- ---- What the reference controller does with what a world tells
 
 -- over the stimuli that it told and these losses, with applications that do this
-abbrev pub reference_said : {Own : Type 0} → List AppValue → (List Place → Bool) → Losses → Seen Own → (ℕ → Said) → Run
-reference_said rules allows losses seen said = reference allows seen.given.declared (fresh_from 0 rules said) losses (stimuli_in seen)
+abbrev pub reference_said : {Own : Type 0} → List AppValue → (List Place → Bool) → (spent : Bool) → Losses → Seen Own → (ℕ → Said) → Run
+reference_said rules allows spent losses seen said = reference allows seen.given.declared (fresh_from 0 rules said) losses spent (stimuli_in seen)
 
 -- what it told of each application, by its index
 abbrev pub told_of : {Own : Type 0} → Seen Own → ℕ → Said
 told_of seen i = record { starts = starts_in (own_acts i seen); replies = replies_in (own_acts i seen) }
 
 -- with applications that do what it told of them
-abbrev pub reference_of : {Own : Type 0} → List AppValue → (List Place → Bool) → Losses → Seen Own → Run
-reference_of rules allows losses seen = reference_said rules allows losses seen (told_of seen)
+abbrev pub reference_of : {Own : Type 0} → List AppValue → (List Place → Bool) → (spent : Bool) → Losses → Seen Own → Run
+reference_of rules allows spent losses seen = reference_said rules allows spent losses seen (told_of seen)
 
 -- what is said of each application, of which these are the fronts
 abbrev pub AreFrontsOf : (ℕ → Said) → (ℕ → Said) → Type 0

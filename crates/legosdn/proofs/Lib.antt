@@ -8,7 +8,6 @@ mod Losses
 mod Causes
 mod Places
 mod Served
-mod Stimuli
 mod Said
 mod CutRuns
 mod Runs

@@ -1,5 +1,7 @@
 -- The run of a session is the reference controller's.
-use Rattle.std.proofs.Common.{◌≡◌, ◌⊎◌, ℕ, ◌≤◌, List, [], ◌∷◌, length, Contains, Option, Some, None, Result, Ok, Err, IfErr, IfSome, refl, sym, ap, ◌∙◌, subst, arith, inl, inr}
+use Rattle.std.proofs.Common.{◌≡◌, ◌⊎◌, ℕ, ◌≤◌, Bool, false, List, [], ◌∷◌, length, Contains, Option, Some, None, Result, Ok, Err, IfErr, IfSome, refl, sym, ap, ◌∙◌, subst, arith, inl, inr}
+use Rattle.std.proofs.lemmas.Bool.{ne_eqb}
+use Rattle.std.proofs.lemmas.List.{take_all}
 use Rattle.std.specs.Result.{IsErrAnd}
 use Rattle.of_types.specs.declared.journal.WorldStim.{WorldStim}
 use Rattle.lego_io.specs.Count.{NeverFell}
@@ -10,6 +12,7 @@ use Rattle.lego_model.specs.SessionText.{session_text}
 use Rattle.lego_model.specs.laws.SessionTextLaws.{session_read}
 use Rattle.lego_model.specs.CutRun.{NothingDone}
 use Rattle.lego_model.specs.History.{stimuli_in}
+use Rattle.lego_model.specs.WholeRun.{TookFirst, is_spent, EndsAlike, LeavesAlike}
 use Rattle.outside.specs.declared.step.WorldStep.{WorldStep}
 use Rattle.outside.specs.Seen.{Seen, Continues}
 use Rattle.outside.specs.State.{at_first, after_steps, state}
@@ -24,6 +27,7 @@ use Rattle.legosdn.specs.declared.stop.Refusal.{Refusal}
 use Rattle.legosdn.specs.declared.stop.Stop.{Stop}
 use Rattle.legosdn.specs.declared.stop.Stop.TheVariants.{Usage, Refused, ReadFault, WriteFault, Shut, NextFault, SwitchBroke, Diverged, EventsLeft, NoMemory}
 use Rattle.legosdn.specs.Input.{session_of}
+use Rattle.legosdn.specs.Said.{all_allowed}
 use Rattle.legosdn.specs.Stops.{stop_status, stop_line, refusal_line}
 use Rattle.legosdn.specs.Headline.{Faults, IsNoSession, IsReadCause, IsCause, NoneFailed, IsEarly, IsLate, SpellsSession, OfInput, Loaded, KeepsLines, Wrote, RunsWhole, RunsPart, NoneFloods, SomeRefused, StopsAs, RunsAs, StopsBefore, RunsLoaded, LeftAs, CutShort, NotBegun}
 use Rattle.legosdn.specs.Live.{TellsInOrder, ServesWhole, ServesPart, ServesUntil, ServesAs}
@@ -31,7 +35,6 @@ use Rattle.legosdn.proofs.Causes.{no_both}
 use Rattle.legosdn.proofs.CutRuns.{lines_said, writing_said, memory_said}
 use Rattle.legosdn.proofs.Said.{kept_to_lines, ends_as_said, leaves_as_said}
 use Rattle.legosdn.proofs.Statuses.{is_left, is_broken, is_diverged, is_memory, not_before}
-use Rattle.legosdn.proofs.Stimuli.{told_in_order}
 
 -- a session that was read has so many stimuli at most
 pub loads_few : (names : List (List ℕ)) (n : ℕ) (bytes : List ℕ) (seen : Seen Scripts) → (s : SessionValue) × (session_text names n bytes ≡ Ok s) × Begins (given_by s) seen → length seen.given.stimuli ≤ 1000000
@@ -53,53 +56,69 @@ none_runs_yet seen is = ap (λ (steps : List WorldStep). (after_steps steps (at_
 pub none_runs : (w : WorldData) → IsNew w → (state (seen_of w)).running ≡ []
 none_runs w is = none_runs_yet (seen_of w) (untouched w is)
 
--- a session that was read tells in order, and tells few stimuli
-pub tells : (old new : Seen Scripts) → old.history ≡ [] → length old.given.stimuli ≤ 1000000 → Continues (Unit {0}) old new → InOrder new → TellsInOrder (Unit {0}) 1000000000 old new
-tells old new none few continues order =
-    let told : length (stimuli_in new) ≤ length new.given.stimuli = told_in_order new order in
-    let same : length new.given.stimuli ≡ length old.given.stimuli = ap (λ g. length g.stimuli) continues.given in
-    record { told = tt; untouched = none; order = order; few = omega (arith, told, same, few) }
+-- a simulated world tells in order
+pub tells : (old new : Seen Scripts) → old.history ≡ [] → InOrder new → TellsInOrder (Unit {0}) old new
+tells old new none order = record { told = tt; untouched = none; order = order }
+
+-- all stimuli of a session happen, since there are more rounds
+all_happen : (seen : Seen Scripts) → length seen.given.stimuli ≤ 1000000 → TookFirst 1000000000 seen → stimuli_in seen ≡ seen.given.stimuli
+all_happen seen few took = took ∙ take_all 1000000000 seen.given.stimuli (omega (arith, few))
+
+never_spent : (seen : Seen Scripts) → length seen.given.stimuli ≤ 1000000 → stimuli_in seen ≡ seen.given.stimuli → is_spent 1000000000 seen ≡ false
+never_spent seen few all =
+    let told : length (stimuli_in seen) ≡ length seen.given.stimuli = ap (λ (xs : List WorldStim). length xs) all in
+    ne_eqb (length (stimuli_in seen)) 1000000000 (λ same. omega (arith, few, told, same))
 
 -- the world kept to the lines that it was given
 lines_seen : (sim : WorldData) → KeepsLines sim → KeepsScripts (seen_of sim).given.own (without_links (seen_of sim).given.fails) (seen_of sim).history
 unfolding seen_of given_of
 lines_seen sim lines = lines
 
-runs_whole : (rules : List AppValue) (sim : WorldData) (a b : Option (List ℕ)) → KeepsLines sim → ServesWhole rules (seen_of sim) a b → RunsWhole rules (seen_of sim) a b
-runs_whole rules sim a b lines whole = record {
-  events = whole.events;
-  alike = whole.alike;
-  stimuli = whole.stimuli;
-  as_said = λ no_call. ends_as_said rules (seen_of sim) a b whole.events whole.alike whole.stimuli (kept_to_lines (length rules) (seen_of sim) (without_links (seen_of sim).given.fails) (lines_seen sim lines) no_call whole.alike.in_order whole.alike.at_once);
-}
+runs_whole : (rules : List AppValue) (sim : WorldData) (a b : Option (List ℕ)) → KeepsLines sim → length (seen_of sim).given.stimuli ≤ 1000000 → ServesWhole rules 1000000000 (seen_of sim) a b → RunsWhole rules (seen_of sim) a b
+runs_whole rules sim a b lines few whole =
+    let all = all_happen (seen_of sim) few whole.stimuli in
+    let alike = subst (λ (spent : Bool). EndsAlike rules all_allowed spent (seen_of sim) a b whole.events) (never_spent (seen_of sim) few all) whole.alike in
+    record {
+      events = whole.events;
+      alike = alike;
+      stimuli = all;
+      as_said = λ no_call. ends_as_said rules (seen_of sim) a b whole.events alike all (kept_to_lines (length rules) (seen_of sim) (without_links (seen_of sim).given.fails) (lines_seen sim lines) no_call alike.in_order alike.at_once);
+    }
 
-runs_part : (rules : List AppValue) (sim : WorldData) (a b : Option (List ℕ)) (left : ℕ) → KeepsLines sim → ServesPart rules (seen_of sim) a b left → RunsPart rules (seen_of sim) a b left
-runs_part rules sim a b left lines part = record {
-  alike = part.alike;
-  stimuli = part.stimuli;
-  as_said = λ no_call. leaves_as_said rules (seen_of sim) a b left part.alike part.stimuli (kept_to_lines (length rules) (seen_of sim) (without_links (seen_of sim).given.fails) (lines_seen sim lines) no_call part.alike.in_order part.alike.at_once);
-}
+runs_part : (rules : List AppValue) (sim : WorldData) (a b : Option (List ℕ)) (left : ℕ) → KeepsLines sim → length (seen_of sim).given.stimuli ≤ 1000000 → ServesPart rules 1000000000 (seen_of sim) a b left → RunsPart rules (seen_of sim) a b left
+runs_part rules sim a b left lines few part =
+    let all = all_happen (seen_of sim) few part.stimuli in
+    let alike = subst (λ (spent : Bool). LeavesAlike rules all_allowed spent (seen_of sim) a b left) (never_spent (seen_of sim) few all) part.alike in
+    record {
+      alike = alike;
+      stimuli = all;
+      as_said = λ no_call. leaves_as_said rules (seen_of sim) a b left alike all (kept_to_lines (length rules) (seen_of sim) (without_links (seen_of sim).given.fails) (lines_seen sim lines) no_call alike.in_order alike.at_once);
+    }
 
 some_refused : (sim : WorldData) → (BringMessages (seen_of sim).history → ⊥) → SomeRefused sim
 unfolding seen_of
 some_refused sim none = none
 
 -- how it goes, over what the lines of the session say
-stops_said : (rules : List AppValue) (sim : WorldData) (a b : Option (List ℕ)) (stop : Stop) → KeepsLines sim → ServesUntil rules stop (seen_of sim) a b → StopsAs rules stop sim a b
-stops_said rules sim a b Usage lines until = tt
-stops_said rules sim a b (Refused refusal) lines until = tt
-stops_said rules sim a b ReadFault lines until = tt
-stops_said rules sim a b WriteFault lines until = writing_said rules sim a b lines until
-stops_said rules sim a b Shut lines until = until
-stops_said rules sim a b NextFault lines until = lines_said rules sim a b lines until
-stops_said rules sim a b (SwitchBroke d) lines until = ((λ none. some_refused sim (until.0 none)), lines_said rules sim a b lines until.1)
-stops_said rules sim a b (Diverged d) lines until = (some_refused sim until.0, lines_said rules sim a b lines until.1)
-stops_said rules sim a b (EventsLeft left) lines until = runs_part rules sim a b left lines until
-stops_said rules sim a b NoMemory lines until = memory_said rules sim a b (NothingDone [] (seen_of sim) a b) lines until
+stops_said : (rules : List AppValue) (sim : WorldData) (a b : Option (List ℕ)) (stop : Stop) → KeepsLines sim → length (seen_of sim).given.stimuli ≤ 1000000 → ServesUntil rules 1000000000 stop (seen_of sim) a b → StopsAs rules stop sim a b
+stops_said rules sim a b Usage lines few until = tt
+stops_said rules sim a b (Refused refusal) lines few until = tt
+stops_said rules sim a b ReadFault lines few until = tt
+stops_said rules sim a b WriteFault lines few until = writing_said rules sim a b lines until
+stops_said rules sim a b Shut lines few until = until
+stops_said rules sim a b NextFault lines few until = lines_said rules sim a b lines until
+stops_said rules sim a b (SwitchBroke d) lines few until = ((λ none. some_refused sim (until.0 none)), lines_said rules sim a b lines until.1)
+stops_said rules sim a b (Diverged d) lines few until = (some_refused sim until.0, lines_said rules sim a b lines until.1)
+stops_said rules sim a b (EventsLeft left) lines few until = runs_part rules sim a b left lines few until
+stops_said rules sim a b NoMemory lines few until = memory_said rules sim a b (NothingDone [] (seen_of sim) a b) lines until
 
-pub runs_said : {T : Type 0} (rules : List AppValue) (sim : WorldData) (a b : Option (List ℕ)) (result : Result T Stop) → KeepsLines sim → ServesAs rules result (seen_of sim) a b → RunsAs rules result sim a b
-runs_said rules sim a b (Ok x) lines serves = runs_whole rules sim a b lines serves
-runs_said rules sim a b (Err stop) lines serves = stops_said rules sim a b stop lines serves
+pub runs_said : {T : Type 0} (rules : List AppValue) (sim : WorldData) (a b : Option (List ℕ)) (result : Result T Stop) → KeepsLines sim → length (seen_of sim).given.stimuli ≤ 1000000 → ServesAs rules 1000000000 result (seen_of sim) a b → RunsAs rules result sim a b
+runs_said rules sim a b (Ok x) lines few serves = runs_whole rules sim a b lines few serves
+runs_said rules sim a b (Err stop) lines few serves = stops_said rules sim a b stop lines few serves
+
+-- as few stimuli behind a run as before it
+pub still_few : (old new : Seen Scripts) → Continues (Unit {0}) old new → length old.given.stimuli ≤ 1000000 → length new.given.stimuli ≤ 1000000
+still_few old new continues few = subst (λ g. length g.stimuli ≤ 1000000) (sym continues.given) few
 
 -- ---- The run of the applications that were loaded
 
@@ -272,6 +291,6 @@ pub good_session : (told : Option (List ℕ)) (input : List ℕ) (apps : List Ap
 good_session told input apps session whole spelled refusal cause = no_both (apps, session) (refusal_line refusal) (sym spelled ∙ subst (λ (t : Option (List ℕ)). IfSome t (IsNoSession refusal)) whole cause)
 
 -- nothing was counted in a new world
-pub new_strays : (w : WorldData) → IsNew w → (seen_of w).counts.strays ≡ 0
+pub new_strays : (w : WorldData) → IsNew w → (seen_of w).counts.strays ≤ (seen_of w).counts.shorts
 unfolding seen_of counts_of
-new_strays w is = is.counts.strays
+new_strays w is = omega (arith, is.counts.strays)

@@ -163,21 +163,21 @@ kept_to_lines number seen fails keeps none orderly at_once = record {
 
 -- ---- The whole run, and one that leaves events
 
-pub ends_as_said : (rules : List AppValue) (seen : Seen Scripts) (contents now_contents : Option (List ℕ)) (events : ℕ) → (alike : EndsAlike rules all_allowed seen contents now_contents events) → stimuli_in seen ≡ seen.given.stimuli → KeptToLines (length rules) seen
+pub ends_as_said : (rules : List AppValue) (seen : Seen Scripts) (contents now_contents : Option (List ℕ)) (events : ℕ) → (alike : EndsAlike rules all_allowed false seen contents now_contents events) → stimuli_in seen ≡ seen.given.stimuli → KeptToLines (length rules) seen
     → WithEnough (λ more. EndsAs rules seen contents now_contents events (reference_over rules more alike.losses seen.given))
 ends_as_said rules seen contents now_contents events alike stimuli k = record {
   enough = told_in (length rules) seen;
   holds = λ more few. subst (λ (xs : List WorldStim). EndsAs rules seen contents now_contents events
-      (reference all_allowed seen.given.declared (fresh_from 0 rules (said_by more seen.given.own)) alike.losses xs)) stimuli
+      (reference all_allowed seen.given.declared (fresh_from 0 rules (said_by more seen.given.own)) alike.losses false xs)) stimuli
       (alike.as_said _ (are_said (length rules) seen more k few));
 }
 
-pub leaves_as_said : (rules : List AppValue) (seen : Seen Scripts) (contents now_contents : Option (List ℕ)) (left : ℕ) → (alike : LeavesAlike rules all_allowed seen contents now_contents left) → stimuli_in seen ≡ seen.given.stimuli → KeptToLines (length rules) seen
+pub leaves_as_said : (rules : List AppValue) (seen : Seen Scripts) (contents now_contents : Option (List ℕ)) (left : ℕ) → (alike : LeavesAlike rules all_allowed false seen contents now_contents left) → stimuli_in seen ≡ seen.given.stimuli → KeptToLines (length rules) seen
     → WithEnough (λ more. LeavesAs rules seen contents now_contents left (reference_over rules more alike.losses seen.given))
 leaves_as_said rules seen contents now_contents left alike stimuli k = record {
   enough = told_in (length rules) seen;
   holds = λ more few. subst (λ (xs : List WorldStim). LeavesAs rules seen contents now_contents left
-      (reference all_allowed seen.given.declared (fresh_from 0 rules (said_by more seen.given.own)) alike.losses xs)) stimuli
+      (reference all_allowed seen.given.declared (fresh_from 0 rules (said_by more seen.given.own)) alike.losses false xs)) stimuli
       (alike.as_said _ (are_said (length rules) seen more k few));
 }
 

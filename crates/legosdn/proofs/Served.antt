@@ -22,7 +22,6 @@ use Rattle.lego_model.specs.AllLines.{CutBehindLines, CutInLines, CutForMemory}
 use Rattle.lego_model.specs.CutRun.{NothingDone}
 use Rattle.run_laws.specs.Promise.{Premise, PremiseSoFar}
 use Rattle.run_laws.specs.Cut.{CutAt, CutAlike, CutWithLines, CutWriting}
-use Rattle.run_laws.specs.laws.StimuliLaws.{told-all, fewer-front}
 use Rattle.run_laws.specs.laws.DialogueLaws.{applications_in_place}
 use Rattle.event_dispatch.specs.declared.served.Served.{Served}
 use Rattle.event_dispatch.specs.declared.served.Served.TheVariants as served
@@ -46,56 +45,54 @@ abbrev pub Reads : {Own : Type 0} → Type 0 → Seen Own → Seen Own → Serve
 Reads Tells old new end = Tells → old.history ≡ [] → InOrder new → IsReadServed new end
 
 abbrev pub Promises : {Own : Type 0} → List AppValue → Type 0 → ℕ → Seen Own → Seen Own → Option (List ℕ) → Option (List ℕ) → Served → Type 0
-Promises rules Tells rounds old new a b end = (allows : List Place → Bool) → Premise Tells accepts_all allows rounds old new → IsAlike rules allows new a b end
+Promises rules Tells rounds old new a b end = (allows : List Place → Bool) → Premise Tells accepts_all allows old new → IsAlike rules allows rounds new a b end
 
-abbrev pub PromisesCut : {Own : Type 0} → List AppValue → Type 0 → ℕ → Seen Own → Seen Own → Option (List ℕ) → Option (List ℕ) → Served → Type 0
-PromisesCut rules Tells rounds old new a b end = (allows : List Place → Bool) → PremiseSoFar Tells accepts_all allows rounds old new → IsCut rules allows new a b end
+abbrev pub PromisesCut : {Own : Type 0} → List AppValue → Type 0 → Seen Own → Seen Own → Option (List ℕ) → Option (List ℕ) → Served → Type 0
+PromisesCut rules Tells old new a b end = (allows : List Place → Bool) → PremiseSoFar Tells accepts_all allows old → IsCut rules allows new a b end
 
-abbrev pub PromisesPlain : {Own : Type 0} → Type 0 → ℕ → Seen Own → Seen Own → Served → Type 0
-PromisesPlain Tells rounds old new end = (allows : List Place → Bool) → Premise Tells accepts_all allows rounds old new → EndsPlain old new end
+abbrev pub PromisesPlain : {Own : Type 0} → Type 0 → Seen Own → Seen Own → Served → Type 0
+PromisesPlain Tells old new end = (allows : List Place → Bool) → Premise Tells accepts_all allows old new → EndsPlain old new end
 
 abbrev pub NoStrays : {Own : Type 0} → Type 0 → Seen Own → Seen Own → Type 0
 NoStrays Tells old new = Tells → old.history ≡ [] → InOrder new → MakesNoStrayCall old new
 
-premise : {Own : Type 0} (Tells : Type 0) (rounds : ℕ) (old new : Seen Own) → TellsInOrder Tells rounds old new → Conforming new → Premise Tells accepts_all all_allowed rounds old new
-premise Tells rounds old new tells keeps = record {
+premise : {Own : Type 0} (Tells : Type 0) (old new : Seen Own) → TellsInOrder Tells old new → Conforming new → Premise Tells accepts_all all_allowed old new
+premise Tells old new tells keeps = record {
   told = tells.told;
   keeps = keeps;
   judges = record { alike = λ seen net. refl };
   untouched = tells.untouched;
-  few = tells.few;
 }
 
-premise_so_far : {Own : Type 0} (Tells : Type 0) (rounds : ℕ) (old new : Seen Own) → TellsInOrder Tells rounds old new → PremiseSoFar Tells accepts_all all_allowed rounds old new
-premise_so_far Tells rounds old new tells = record {
+premise_so_far : {Own : Type 0} (Tells : Type 0) (old new : Seen Own) → TellsInOrder Tells old new → PremiseSoFar Tells accepts_all all_allowed old
+premise_so_far Tells old new tells = record {
   told = tells.told;
   judges = record { alike = λ seen net. refl };
   untouched = tells.untouched;
-  few = λ front keeps given later. fewer-front front new later tells.few;
 }
 
 -- ---- A run that no fault ends
 
 -- the world kept its word
-ended_keeps : {Own : Type 0} (Tells : Type 0) (rounds : ℕ) (old new : Seen Own) (end : Served) (events : ℕ) → TellsInOrder Tells rounds old new → end ≡ served.Ended events → Reads Tells old new end → Conforming new
-ended_keeps Tells rounds old new end events tells is reads = in_order-Conforming new tells.order (subst (IsReadServed new) is (reads tells.told tells.untouched tells.order))
+ended_keeps : {Own : Type 0} (Tells : Type 0) (old new : Seen Own) (end : Served) (events : ℕ) → TellsInOrder Tells old new → end ≡ served.Ended events → Reads Tells old new end → Conforming new
+ended_keeps Tells old new end events tells is reads = in_order-Conforming new tells.order (subst (IsReadServed new) is (reads tells.told tells.untouched tells.order))
 
-left_keeps : {Own : Type 0} (Tells : Type 0) (rounds : ℕ) (old new : Seen Own) (end : Served) (left : ℕ) → TellsInOrder Tells rounds old new → end ≡ served.EventsLeft left → Reads Tells old new end → Conforming new
-left_keeps Tells rounds old new end left tells is reads = in_order-Conforming new tells.order (subst (IsReadServed new) is (reads tells.told tells.untouched tells.order))
+left_keeps : {Own : Type 0} (Tells : Type 0) (old new : Seen Own) (end : Served) (left : ℕ) → TellsInOrder Tells old new → end ≡ served.EventsLeft left → Reads Tells old new end → Conforming new
+left_keeps Tells old new end left tells is reads = in_order-Conforming new tells.order (subst (IsReadServed new) is (reads tells.told tells.untouched tells.order))
 
 pub serves_whole : {Own : Type 0} (rules : List AppValue) (Tells : Type 0) (rounds : ℕ) (old new : Seen Own) (a b : Option (List ℕ)) (end : Served) (events : ℕ) → end ≡ served.Ended events → Reads Tells old new end → Promises rules Tells rounds old new a b end
-    → TellsInOrder Tells rounds old new → ServesWhole rules new a b
+    → TellsInOrder Tells old new → ServesWhole rules rounds new a b
 serves_whole rules Tells rounds old new a b end events is reads promises tells =
-    let keeps = ended_keeps Tells rounds old new end events tells is reads in
-    let whole = subst (IsAlike rules all_allowed new a b) is (promises all_allowed (premise Tells rounds old new tells keeps)) in
-    record { events = events; alike = whole.alike; stimuli = told-all new keeps whole.none_to_come }
+    let keeps = ended_keeps Tells old new end events tells is reads in
+    let whole = subst (IsAlike rules all_allowed rounds new a b) is (promises all_allowed (premise Tells old new tells keeps)) in
+    record { events = events; alike = whole.alike; stimuli = whole.took_first }
 
 pub serves_part : {Own : Type 0} (rules : List AppValue) (Tells : Type 0) (rounds : ℕ) (old new : Seen Own) (a b : Option (List ℕ)) (end : Served) (left : ℕ) → end ≡ served.EventsLeft left → Reads Tells old new end → Promises rules Tells rounds old new a b end
-    → TellsInOrder Tells rounds old new → ServesPart rules new a b left
+    → TellsInOrder Tells old new → ServesPart rules rounds new a b left
 serves_part rules Tells rounds old new a b end left is reads promises tells =
-    let keeps = left_keeps Tells rounds old new end left tells is reads in
-    let part = subst (IsAlike rules all_allowed new a b) is (promises all_allowed (premise Tells rounds old new tells keeps)) in
-    record { alike = part.alike; stimuli = told-all new keeps part.none_to_come }
+    let keeps = left_keeps Tells old new end left tells is reads in
+    let part = subst (IsAlike rules all_allowed rounds new a b) is (promises all_allowed (premise Tells old new tells keeps)) in
+    record { alike = part.alike; stimuli = part.took_first }
 
 -- ---- A run that a fault ends
 
@@ -118,8 +115,8 @@ place_of rules seen Short Alike order cut =
     }
 
 -- what the engine promises where a fault ends the run
-pub cut_as : {Own : Type 0} (rules : List AppValue) (Tells : Type 0) (rounds : ℕ) (old new : Seen Own) (a b : Option (List ℕ)) (end fault : Served) → end ≡ fault → PromisesCut rules Tells rounds old new a b end → TellsInOrder Tells rounds old new → IsCut rules all_allowed new a b fault
-cut_as rules Tells rounds old new a b end fault is promises tells = subst (IsCut rules all_allowed new a b) is (promises all_allowed (premise_so_far Tells rounds old new tells))
+pub cut_as : {Own : Type 0} (rules : List AppValue) (Tells : Type 0) (old new : Seen Own) (a b : Option (List ℕ)) (end fault : Served) → end ≡ fault → PromisesCut rules Tells old new a b end → TellsInOrder Tells old new → IsCut rules all_allowed new a b fault
+cut_as rules Tells old new a b end fault is promises tells = subst (IsCut rules all_allowed new a b) is (promises all_allowed (premise_so_far Tells old new tells))
 
 pub writing_place : {Own : Type 0} (rules : List AppValue) (seen : Seen Own) (a b : Option (List ℕ)) → InOrder seen → CutWriting rules all_allowed seen a b → UpToPoint rules seen ⊥ (λ last. CutInLines rules all_allowed last a b)
 writing_place rules seen a b order cut = place_of rules seen ⊥ (λ last. CutInLines rules all_allowed last a b) order cut
@@ -165,25 +162,25 @@ not_diverged old new d sent got (inr flooded) = absurd (other flooded.0 flooded.
     other : (e : ℕ) → served.Txn (faults.Diverged d sent got) ≡ served.Txn (faults.Flooded e flood) → ⊥
     other e is = cc
 
-switch_until : {Own : Type 0} (rules : List AppValue) (old seen : Seen Own) (a b : Option (List ℕ)) (fault : TxnFault) → (BringMessages seen.history → EndsPlain old seen (served.Txn fault)) → UpToPoint rules seen ⊥ (λ last. CutBehindLines rules all_allowed last a b)
-    → ServesUntil rules (stop_of_switch fault) seen a b
-switch_until rules old seen a b (faults.SwitchBroke d bytes) plain place = ((λ none messages. ends_plainly old seen (served.Txn (faults.SwitchBroke d bytes)) none (plain messages)), place)
-switch_until rules old seen a b (faults.Flooded d n) plain place = ((λ none messages. ends_plainly old seen (served.Txn (faults.Flooded d n)) none (plain messages)), place)
-switch_until rules old seen a b (faults.Diverged d sent got) plain place = ((λ messages. not_diverged old seen d sent got (plain messages)), place)
-switch_until rules old seen a b faults.NoMemory plain place = inl (lines_for_memory rules seen a b place)
+switch_until : {Own : Type 0} (rules : List AppValue) (rounds : ℕ) (old seen : Seen Own) (a b : Option (List ℕ)) (fault : TxnFault) → (BringMessages seen.history → EndsPlain old seen (served.Txn fault)) → UpToPoint rules seen ⊥ (λ last. CutBehindLines rules all_allowed last a b)
+    → ServesUntil rules rounds (stop_of_switch fault) seen a b
+switch_until rules rounds old seen a b (faults.SwitchBroke d bytes) plain place = ((λ none messages. ends_plainly old seen (served.Txn (faults.SwitchBroke d bytes)) none (plain messages)), place)
+switch_until rules rounds old seen a b (faults.Flooded d n) plain place = ((λ none messages. ends_plainly old seen (served.Txn (faults.Flooded d n)) none (plain messages)), place)
+switch_until rules rounds old seen a b (faults.Diverged d sent got) plain place = ((λ messages. not_diverged old seen d sent got (plain messages)), place)
+switch_until rules rounds old seen a b faults.NoMemory plain place = inl (lines_for_memory rules seen a b place)
 
 -- where it is by a switch
 pub switch_serves : {Own : Type 0} (rules : List AppValue) (Tells : Type 0) (rounds : ℕ) (old new : Seen Own) (a b : Option (List ℕ)) (stop : Stop) (fault : TxnFault) (end : Served) → end ≡ served.Txn fault → stop ≡ stop_of_switch fault
-    → PromisesPlain Tells rounds old new end → PromisesCut rules Tells rounds old new a b end → TellsInOrder Tells rounds old new → ServesUntil rules stop new a b
+    → PromisesPlain Tells old new end → PromisesCut rules Tells old new a b end → TellsInOrder Tells old new → ServesUntil rules rounds stop new a b
 switch_serves rules Tells rounds old new a b stop fault end is so plain promises tells =
-    subst (λ (s : Stop). ServesUntil rules s new a b) (sym so)
-    (switch_until rules old new a b fault (λ messages. subst (EndsPlain old new) is (plain all_allowed (premise Tells rounds old new tells (in_order-Conforming new tells.order messages))))
-    (lines_place rules new a b tells.order (cut_as rules Tells rounds old new a b end (served.Txn fault) is promises tells)))
+    subst (λ (s : Stop). ServesUntil rules rounds s new a b) (sym so)
+    (switch_until rules rounds old new a b fault (λ messages. subst (EndsPlain old new) is (plain all_allowed (premise Tells old new tells (in_order-Conforming new tells.order messages))))
+    (lines_place rules new a b tells.order (cut_as rules Tells old new a b end (served.Txn fault) is promises tells)))
 
 -- ---- No call of it was a stray one
 
-links : {Own : Type 0} (Tells : Type 0) (rounds : ℕ) (old new : Seen Own) → Continues Tells old new → NoStrays Tells old new → TellsInOrder Tells rounds old new → AreExpectedOnLinks new.history (at_first new.given)
-links Tells rounds old new continues stays tells = links_from_first old new tells.untouched continues.given (stays tells.told tells.untouched tells.order)
+links : {Own : Type 0} (Tells : Type 0) (old new : Seen Own) → Continues Tells old new → NoStrays Tells old new → TellsInOrder Tells old new → AreExpectedOnLinks new.history (at_first new.given)
+links Tells old new continues stays tells = links_from_first old new tells.untouched continues.given (stays tells.told tells.untouched tells.order)
 
 abbrev AreAtOnce : {Own : Type 0} → ℕ → Seen Own → Type 0
 AreAtOnce number seen = (i : ℕ) → i < number → AtOnce i (journal seen.history)
@@ -219,19 +216,19 @@ fault_strays rules seen a b (served.Txn fault_of) order links fault cut = cut_st
 fault_strays rules seen a b served.NoMemory order links fault cut = memory_strays rules seen a b order links cut
 
 strays_by : {Own : Type 0} (rules : List AppValue) (Tells : Type 0) (rounds : ℕ) (old new : Seen Own) (a b : Option (List ℕ)) (whole end : Served) → whole ≡ end → AreExpectedOnLinks new.history (at_first new.given) → Reads Tells old new whole → Promises rules Tells rounds old new a b whole
-    → PromisesCut rules Tells rounds old new a b whole → TellsInOrder Tells rounds old new → NoneStray new
+    → PromisesCut rules Tells old new a b whole → TellsInOrder Tells old new → NoneStray new
 strays_by rules Tells rounds old new a b whole (served.Ended events) is links reads promises cut tells =
     let alike = (serves_whole rules Tells rounds old new a b whole events is reads promises tells).alike in
     whole_strays (length rules) new alike.in_order alike.at_once links
 strays_by rules Tells rounds old new a b whole (served.EventsLeft left) is links reads promises cut tells =
     let alike = (serves_part rules Tells rounds old new a b whole left is reads promises tells).alike in
     whole_strays (length rules) new alike.in_order alike.at_once links
-strays_by rules Tells rounds old new a b whole served.WriteFault is links reads promises cut tells = fault_strays rules new a b served.WriteFault tells.order links tt (cut_as rules Tells rounds old new a b whole served.WriteFault is cut tells)
-strays_by rules Tells rounds old new a b whole served.Shut is links reads promises cut tells = fault_strays rules new a b served.Shut tells.order links tt (cut_as rules Tells rounds old new a b whole served.Shut is cut tells)
-strays_by rules Tells rounds old new a b whole served.NextFault is links reads promises cut tells = fault_strays rules new a b served.NextFault tells.order links tt (cut_as rules Tells rounds old new a b whole served.NextFault is cut tells)
-strays_by rules Tells rounds old new a b whole (served.Txn fault) is links reads promises cut tells = fault_strays rules new a b (served.Txn fault) tells.order links tt (cut_as rules Tells rounds old new a b whole (served.Txn fault) is cut tells)
-strays_by rules Tells rounds old new a b whole served.NoMemory is links reads promises cut tells = fault_strays rules new a b served.NoMemory tells.order links tt (cut_as rules Tells rounds old new a b whole served.NoMemory is cut tells)
+strays_by rules Tells rounds old new a b whole served.WriteFault is links reads promises cut tells = fault_strays rules new a b served.WriteFault tells.order links tt (cut_as rules Tells old new a b whole served.WriteFault is cut tells)
+strays_by rules Tells rounds old new a b whole served.Shut is links reads promises cut tells = fault_strays rules new a b served.Shut tells.order links tt (cut_as rules Tells old new a b whole served.Shut is cut tells)
+strays_by rules Tells rounds old new a b whole served.NextFault is links reads promises cut tells = fault_strays rules new a b served.NextFault tells.order links tt (cut_as rules Tells old new a b whole served.NextFault is cut tells)
+strays_by rules Tells rounds old new a b whole (served.Txn fault) is links reads promises cut tells = fault_strays rules new a b (served.Txn fault) tells.order links tt (cut_as rules Tells old new a b whole (served.Txn fault) is cut tells)
+strays_by rules Tells rounds old new a b whole served.NoMemory is links reads promises cut tells = fault_strays rules new a b served.NoMemory tells.order links tt (cut_as rules Tells old new a b whole served.NoMemory is cut tells)
 
 pub none_stray : {Own : Type 0} (rules : List AppValue) (Tells : Type 0) (rounds : ℕ) (old new : Seen Own) (a b : Option (List ℕ)) (end : Served) → Continues Tells old new → NoStrays Tells old new → Reads Tells old new end → Promises rules Tells rounds old new a b end
-    → PromisesCut rules Tells rounds old new a b end → TellsInOrder Tells rounds old new → NoneStray new
-none_stray rules Tells rounds old new a b end continues stays reads promises cut tells = strays_by rules Tells rounds old new a b end end refl (links Tells rounds old new continues stays tells) reads promises cut tells
+    → PromisesCut rules Tells old new a b end → TellsInOrder Tells old new → NoneStray new
+none_stray rules Tells rounds old new a b end continues stays reads promises cut tells = strays_by rules Tells rounds old new a b end end refl (links Tells old new continues stays tells) reads promises cut tells

@@ -95,7 +95,7 @@ none_early Stays Tells k l old new (Ok x) cause = tt
 none_early Stays Tells k l old new (Err stop) cause = not_early Stays Tells k l old new stop cause
 
 pub serves_taken : {Own T : Type 0} (Tells : Type 0) (rounds : ℕ) (told left : Option (List ℕ)) (i j k l : ℕ) (old new : Seen Own) (a b : Option (List ℕ)) (Stays : Type 0) (result : Result T Stop) (apps : List AppValue) → Taken apps told left
-    → (TellsInOrder Tells rounds old new → ServesAs apps result new a b) → (TellsInOrder Tells rounds old new → NoneStray new) → IfErr result (IsRunCause Tells k l old new)
+    → (TellsInOrder Tells old new → ServesAs apps rounds result new a b) → (TellsInOrder Tells old new → NoneStray new) → IfErr result (IsRunCause Tells k l old new)
     → Serves Tells rounds result told left (faults_of i k old) (faults_of j l new) a b Stays
 serves_taken Tells rounds told left i j k l old new a b Stays result apps taken runs strays why = record {
   taken = taken_as told left result (apps, taken);
@@ -116,23 +116,23 @@ told_spelled (Some bytes) apps input whole spelled = subst (λ (b : List ℕ). r
 of_policy : (P : List AppValue → Type 0) (told left : Option (List ℕ)) (apps : List AppValue) → Taken apps told left → P apps → OfInput SpellsPolicy told P
 of_policy P told left apps taken holds = record { apps = apps; spelled = told_spelled told apps taken.input taken.whole taken.spelled; holds = holds }
 
-served_whole : {Own : Type 0} (told left : Option (List ℕ)) (seen : Seen Own) (a b : Option (List ℕ)) → ServesTaken {T = Unit {0}} (Ok tt) told left seen a b → (apps : List AppValue) × Taken apps told left × ServesWhole apps seen a b
+served_whole : {Own : Type 0} {rounds : ℕ} (told left : Option (List ℕ)) (seen : Seen Own) (a b : Option (List ℕ)) → ServesTaken {T = Unit {0}} rounds (Ok tt) told left seen a b → (apps : List AppValue) × Taken apps told left × ServesWhole apps rounds seen a b
 served_whole told left seen a b (inl served) = served
 served_whole told left seen a b (inr before) = absurd before
 
-pub served_of_policy : {Own : Type 0} (told left : Option (List ℕ)) (seen : Seen Own) (a b : Option (List ℕ)) → ServesTaken {T = Unit {0}} (Ok tt) told left seen a b → OfInput SpellsPolicy told (λ apps. ServesWhole apps seen a b)
-served_of_policy told left seen a b serves = let served = served_whole told left seen a b serves in of_policy (λ apps. ServesWhole apps seen a b) told left served.0 served.1 served.2
+pub served_of_policy : {Own : Type 0} {rounds : ℕ} (told left : Option (List ℕ)) (seen : Seen Own) (a b : Option (List ℕ)) → ServesTaken {T = Unit {0}} rounds (Ok tt) told left seen a b → OfInput SpellsPolicy told (λ apps. ServesWhole apps rounds seen a b)
+served_of_policy {rounds = rounds} told left seen a b serves = let served = served_whole told left seen a b serves in of_policy (λ apps. ServesWhole apps rounds seen a b) told left served.0 served.1 served.2
 
-served_late : {Own : Type 0} (told left : Option (List ℕ)) (seen : Seen Own) (a b : Option (List ℕ)) (stop : Stop) → IsLate stop → ServesTaken {T = Unit {0}} (Err stop) told left seen a b → (apps : List AppValue) × Taken apps told left × ServesUntil apps stop seen a b
-served_late told left seen a b stop late (inl served) = served
-served_late told left seen a b stop late (inr before) = not_before _ stop before.0 late
+served_late : {Own : Type 0} (rounds : ℕ) (told left : Option (List ℕ)) (seen : Seen Own) (a b : Option (List ℕ)) (stop : Stop) → IsLate stop → ServesTaken {T = Unit {0}} rounds (Err stop) told left seen a b → (apps : List AppValue) × Taken apps told left × ServesUntil apps rounds stop seen a b
+served_late rounds told left seen a b stop late (inl served) = served
+served_late rounds told left seen a b stop late (inr before) = not_before _ stop before.0 late
 
 -- at such a status it went so far, or did not begin
-pub served_or_not_begun : {Own : Type 0} (told left : Option (List ℕ)) (status : ℕ) (seen : Seen Own) (stop : Stop) (contents before now_contents : Option (List ℕ)) (faults_old faults faults_new : ℕ) → status ≡ stop_status stop
-    → Contains (5 ∷ 6 ∷ 8 ∷ 9 ∷ 10 ∷ 12 ∷ []) (stop_status stop) → NeverFell faults_old faults → ServesTaken {T = Unit {0}} (Err stop) told left seen contents before → Wrote before now_contents faults faults_new (stop_line stop)
-    → OfInput SpellsPolicy told (λ apps. ServesCut apps status seen contents now_contents faults_old faults_new) ⊎ NotBegun status seen contents now_contents faults_old faults_new
-served_or_not_begun told left status seen stop contents before now_contents faults_old faults faults_new is within up (inl served) written =
-    inl (of_policy (λ apps. ServesCut apps status seen contents now_contents faults_old faults_new) told left served.0 served.1 (record {
+pub served_or_not_begun : {Own : Type 0} {rounds : ℕ} (told left : Option (List ℕ)) (status : ℕ) (seen : Seen Own) (stop : Stop) (contents before now_contents : Option (List ℕ)) (faults_old faults faults_new : ℕ) → status ≡ stop_status stop
+    → Contains (5 ∷ 6 ∷ 8 ∷ 9 ∷ 10 ∷ 12 ∷ []) (stop_status stop) → NeverFell faults_old faults → ServesTaken {T = Unit {0}} rounds (Err stop) told left seen contents before → Wrote before now_contents faults faults_new (stop_line stop)
+    → OfInput SpellsPolicy told (λ apps. ServesCut apps rounds status seen contents now_contents faults_old faults_new) ⊎ NotBegun status seen contents now_contents faults_old faults_new
+served_or_not_begun {rounds = rounds} told left status seen stop contents before now_contents faults_old faults faults_new is within up (inl served) written =
+    inl (of_policy (λ apps. ServesCut apps rounds status seen contents now_contents faults_old faults_new) told left served.0 served.1 (record {
       stop = stop;
       status_is = is;
       before = before;
@@ -141,22 +141,22 @@ served_or_not_begun told left status seen stop contents before now_contents faul
       run = served.2;
       written = written;
     }))
-served_or_not_begun told left status seen stop contents before now_contents faults_old faults faults_new is within up (inr before_all) written =
+served_or_not_begun {rounds = rounds} told left status seen stop contents before now_contents faults_old faults faults_new is within up (inr before_all) written =
     inr (not_begun status seen stop contents before now_contents faults_old faults faults_new is (is_memory stop before_all.0 within) up before_all.1 before_all.2 written)
 
 -- ---- What follows
 
-pub broke_live : {Own : Type 0} (told left : Option (List ℕ)) (seen : Seen Own) (a b : Option (List ℕ)) (stop : Stop) → ServesTaken {T = Unit {0}} (Err stop) told left seen a b → NoneFloods seen → BringMessages seen.history → stop_status stop ≡ 8 → ⊥
-broke_live told left seen a b stop serves none messages eight =
+pub broke_live : {Own : Type 0} (rounds : ℕ) (told left : Option (List ℕ)) (seen : Seen Own) (a b : Option (List ℕ)) (stop : Stop) → ServesTaken {T = Unit {0}} rounds (Err stop) told left seen a b → NoneFloods seen → BringMessages seen.history → stop_status stop ≡ 8 → ⊥
+broke_live rounds told left seen a b stop serves none messages eight =
     let is = is_broken stop eight in
-    let served = served_late told left seen a b stop (subst IsLate (sym is.1) tt) serves in
-    (subst (λ (s : Stop). ServesUntil served.0 s seen a b) is.1 served.2).0 none messages
+    let served = served_late rounds told left seen a b stop (subst IsLate (sym is.1) tt) serves in
+    (subst (λ (s : Stop). ServesUntil served.0 rounds s seen a b) is.1 served.2).0 none messages
 
-pub diverged_live : {Own : Type 0} (told left : Option (List ℕ)) (seen : Seen Own) (a b : Option (List ℕ)) (stop : Stop) → ServesTaken {T = Unit {0}} (Err stop) told left seen a b → BringMessages seen.history → stop_status stop ≡ 9 → ⊥
-diverged_live told left seen a b stop serves messages nine =
+pub diverged_live : {Own : Type 0} (rounds : ℕ) (told left : Option (List ℕ)) (seen : Seen Own) (a b : Option (List ℕ)) (stop : Stop) → ServesTaken {T = Unit {0}} rounds (Err stop) told left seen a b → BringMessages seen.history → stop_status stop ≡ 9 → ⊥
+diverged_live rounds told left seen a b stop serves messages nine =
     let is = is_diverged stop nine in
-    let served = served_late told left seen a b stop (subst IsLate (sym is.1) tt) serves in
-    (subst (λ (s : Stop). ServesUntil served.0 s seen a b) is.1 served.2).0 messages
+    let served = served_late rounds told left seen a b stop (subst IsLate (sym is.1) tt) serves in
+    (subst (λ (s : Stop). ServesUntil served.0 rounds s seen a b) is.1 served.2).0 messages
 
 -- a policy that is taken is not refused
 pub good_policy : (told : Option (List ℕ)) (input : List ℕ) (apps : List AppValue) → told ≡ Some input → run_policy input ≡ Ok apps → (refusal : Refusal) → IfSome told (IsNoPolicy refusal) → ⊥

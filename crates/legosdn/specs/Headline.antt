@@ -1,5 +1,5 @@
 -- What a command promises: how it ends, why, and what it wrote last.
-use Rattle.std.specs.Prelude.{◌≡◌, ◌⊎◌, ◌<◌, ◌≤◌, ℕ, List, [], ◌∷◌, length, Option, Some, IfSome, Result, Ok, Err, IfErr, OnOk, Contains}
+use Rattle.std.specs.Prelude.{◌≡◌, ◌⊎◌, ◌<◌, ◌≤◌, ℕ, false, List, [], ◌∷◌, length, Option, Some, IfSome, Result, Ok, Err, IfErr, OnOk, Contains}
 use Rattle.std.specs.Io.KnownBytes.{append_known}
 use Rattle.lego_io.specs.Count.{Rose, NeverFell}
 use Rattle.lego_io.specs.Source.{ended}
@@ -173,14 +173,14 @@ NeverRuns status seen = Contains (2 ∷ 3 ∷ 4 ∷ 12 ∷ []) status × (seen.h
 -- at once when it was answered.
 pub record RunsWhole (rules : List AppValue) (seen : Seen Scripts) (contents now_contents : Option (List ℕ)) : Type 0 where
   pub events : ℕ
-  pub alike : EndsAlike rules all_allowed seen contents now_contents events
+  pub alike : EndsAlike rules all_allowed false seen contents now_contents events
   pub stimuli : stimuli_in seen ≡ seen.given.stimuli
   -- it is that over what the lines of the session say of the applications too
   pub as_said : without_links seen.given.fails ≡ [] → WithEnough (λ more. EndsAs rules seen contents now_contents events (reference_over rules more alike.losses seen.given))
 
 -- The same with so many events left, and with the lines of those that were dispatched.
 pub record RunsPart (rules : List AppValue) (seen : Seen Scripts) (contents now_contents : Option (List ℕ)) (left : ℕ) : Type 0 where
-  pub alike : LeavesAlike rules all_allowed seen contents now_contents left
+  pub alike : LeavesAlike rules all_allowed false seen contents now_contents left
   pub stimuli : stimuli_in seen ≡ seen.given.stimuli
   pub as_said : without_links seen.given.fails ≡ [] → WithEnough (λ more. LeavesAs rules seen contents now_contents left (reference_over rules more alike.losses seen.given))
 

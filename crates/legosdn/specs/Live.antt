@@ -1,5 +1,5 @@
 -- What `run` promises: how it takes its policy, and how a run over any world goes, where that world tells. All of this is our own choice.
-use Rattle.std.specs.Prelude.{◌≡◌, ℕ, ◌⊎◌, ◌<◌, List, [], ◌∷◌, length, Option, IfSome, Result, Ok, Err, IfErr}
+use Rattle.std.specs.Prelude.{◌≡◌, ℕ, ◌⊎◌, List, [], ◌∷◌, Option, IfSome, Result, Ok, Err, IfErr}
 use Rattle.crash_policy.specs.Policies.{AppValue}
 use Rattle.lego_io.specs.Count.{NeverFell}
 use Rattle.lego_io.specs.Source.{ended}
@@ -8,8 +8,7 @@ use Rattle.outside.specs.Seen.{Seen}
 use Rattle.outside.specs.State.{at_first}
 use Rattle.outside.specs.InOrder.{BringMessages, InOrder}
 use Rattle.sim_world.specs.Places.{AreExpected}
-use Rattle.lego_model.specs.History.{stimuli_in}
-use Rattle.lego_model.specs.WholeRun.{EndsAlike, LeavesAlike}
+use Rattle.lego_model.specs.WholeRun.{TookFirst, is_spent, EndsAlike, LeavesAlike}
 use Rattle.lego_model.specs.AllLines.{CutBehindLines, CutInLines, CutForMemory}
 use Rattle.lego_model.specs.CutRun.{NothingDone}
 use Rattle.legosdn.specs.declared.stop.Stop.{Stop}
@@ -34,13 +33,11 @@ IsTaken told left = (apps : List AppValue) × Taken apps told left
 
 -- ---- The world
 
--- Of a world on which no call was made before: it tells, in order, what its switches send, though that may be no messages; and it tells
--- fewer stimuli than there are rounds.
-pub record TellsInOrder {Own : Type 0} (Tells : Type 0) (rounds : ℕ) (old new : Seen Own) : Type 0 where
+-- Of a world on which no call was made before: it tells, in order, what its switches send, though that may be no messages.
+pub record TellsInOrder {Own : Type 0} (Tells : Type 0) (old new : Seen Own) : Type 0 where
   pub told : Tells
   pub untouched : old.history ≡ []
   pub order : InOrder new
-  pub few : length (stimuli_in new) < rounds
 
 -- each call that failed, and each that found an application gone, was in place
 abbrev pub NoneStray : {Own : Type 0} → Seen Own → Type 0
@@ -48,47 +45,48 @@ NoneStray seen = AreExpected seen.history (at_first seen.given)
 
 -- ---- The run
 
--- All stimuli that the world was given were told, and the run is that of the reference controller over them: at every quiescent point the
+-- The first stimuli that the world was given were told, as many as there are rounds, or all of them; and the run is that of the reference
+-- controller over them, with no batch behind the last where they took all rounds: at every quiescent point the
 -- tables agree, each application was given what it is given there, the packets that were released are those that it releases, the switches that
 -- were lost are those that it loses, no event is left, and what was written is the whole report. The journal is a dialogue with each application, in which each change had reached its switch
 -- at once when it was answered.
-pub record ServesWhole {Own : Type 0} (rules : List AppValue) (seen : Seen Own) (contents now_contents : Option (List ℕ)) : Type 0 where
+pub record ServesWhole {Own : Type 0} (rules : List AppValue) (rounds : ℕ) (seen : Seen Own) (contents now_contents : Option (List ℕ)) : Type 0 where
   pub events : ℕ
-  pub alike : EndsAlike rules all_allowed seen contents now_contents events
-  pub stimuli : stimuli_in seen ≡ seen.given.stimuli
+  pub alike : EndsAlike rules all_allowed (is_spent rounds seen) seen contents now_contents events
+  pub stimuli : TookFirst rounds seen
 
 -- The same with so many events left, and with the lines of those that were dispatched.
-pub record ServesPart {Own : Type 0} (rules : List AppValue) (seen : Seen Own) (contents now_contents : Option (List ℕ)) (left : ℕ) : Type 0 where
-  pub alike : LeavesAlike rules all_allowed seen contents now_contents left
-  pub stimuli : stimuli_in seen ≡ seen.given.stimuli
+pub record ServesPart {Own : Type 0} (rules : List AppValue) (rounds : ℕ) (seen : Seen Own) (contents now_contents : Option (List ℕ)) (left : ℕ) : Type 0 where
+  pub alike : LeavesAlike rules all_allowed (is_spent rounds seen) seen contents now_contents left
+  pub stimuli : TookFirst rounds seen
 
 -- How a run goes that ends so. Where events are left it is as above. Where a fault ends it, it is that of the reference controller up to the
 -- last quiescent point, with the lines of all that was done up to there. None is missing, of the start and of all events before, where what
 -- comes next failed, or a switch; where the sink failed it took a part of the lines of the last; where memory was wanting those of the start
 -- are there, if a stimulus happened. Or nothing was done. Only where bytes come that are no message, a switch diverges, or breaks, unless a
 -- packet that was released made it send as many messages as are too many.
-abbrev pub ServesUntil : {Own : Type 0} → List AppValue → Stop → Seen Own → Option (List ℕ) → Option (List ℕ) → Type 0
-ServesUntil rules (EventsLeft left) seen contents now_contents = ServesPart rules seen contents now_contents left
-ServesUntil rules WriteFault seen contents now_contents = UpToPoint rules seen ⊥ (λ last. CutInLines rules all_allowed last contents now_contents)
-ServesUntil rules Shut seen contents now_contents = NothingDone (NotOpened ∷ []) seen contents now_contents
-ServesUntil rules NextFault seen contents now_contents = UpToPoint rules seen ⊥ (λ last. CutBehindLines rules all_allowed last contents now_contents)
-ServesUntil rules (SwitchBroke d) seen contents now_contents = (NoneFloods seen → BringMessages seen.history → ⊥) × UpToPoint rules seen ⊥ (λ last. CutBehindLines rules all_allowed last contents now_contents)
-ServesUntil rules (Diverged d) seen contents now_contents = (BringMessages seen.history → ⊥) × UpToPoint rules seen ⊥ (λ last. CutBehindLines rules all_allowed last contents now_contents)
-ServesUntil rules NoMemory seen contents now_contents = UpToPoint rules seen (Unit {0}) (λ last. CutForMemory rules all_allowed seen last contents now_contents) ⊎ NothingDone [] seen contents now_contents
-ServesUntil rules other seen contents now_contents = Unit {0}
+abbrev pub ServesUntil : {Own : Type 0} → List AppValue → (rounds : ℕ) → Stop → Seen Own → Option (List ℕ) → Option (List ℕ) → Type 0
+ServesUntil rules rounds (EventsLeft left) seen contents now_contents = ServesPart rules rounds seen contents now_contents left
+ServesUntil rules rounds WriteFault seen contents now_contents = UpToPoint rules seen ⊥ (λ last. CutInLines rules all_allowed last contents now_contents)
+ServesUntil rules rounds Shut seen contents now_contents = NothingDone (NotOpened ∷ []) seen contents now_contents
+ServesUntil rules rounds NextFault seen contents now_contents = UpToPoint rules seen ⊥ (λ last. CutBehindLines rules all_allowed last contents now_contents)
+ServesUntil rules rounds (SwitchBroke d) seen contents now_contents = (NoneFloods seen → BringMessages seen.history → ⊥) × UpToPoint rules seen ⊥ (λ last. CutBehindLines rules all_allowed last contents now_contents)
+ServesUntil rules rounds (Diverged d) seen contents now_contents = (BringMessages seen.history → ⊥) × UpToPoint rules seen ⊥ (λ last. CutBehindLines rules all_allowed last contents now_contents)
+ServesUntil rules rounds NoMemory seen contents now_contents = UpToPoint rules seen (Unit {0}) (λ last. CutForMemory rules all_allowed seen last contents now_contents) ⊎ NothingDone [] seen contents now_contents
+ServesUntil rules rounds other seen contents now_contents = Unit {0}
 
-abbrev pub ServesAs : {Own T : Type 0} → List AppValue → Result T Stop → Seen Own → Option (List ℕ) → Option (List ℕ) → Type 0
-ServesAs rules (Ok x) seen contents now_contents = ServesWhole rules seen contents now_contents
-ServesAs rules (Err stop) seen contents now_contents = ServesUntil rules stop seen contents now_contents
+abbrev pub ServesAs : {Own T : Type 0} → List AppValue → (rounds : ℕ) → Result T Stop → Seen Own → Option (List ℕ) → Option (List ℕ) → Type 0
+ServesAs rules rounds (Ok x) seen contents now_contents = ServesWhole rules rounds seen contents now_contents
+ServesAs rules rounds (Err stop) seen contents now_contents = ServesUntil rules rounds stop seen contents now_contents
 
 -- How the run went up to a stop of this status, whose line stands behind what was written up to there.
-pub record ServesCut {Own : Type 0} (rules : List AppValue) (status : ℕ) (seen : Seen Own) (contents now_contents : Option (List ℕ)) (faults_old faults_new : ℕ) : Type 0 where
+pub record ServesCut {Own : Type 0} (rules : List AppValue) (rounds status : ℕ) (seen : Seen Own) (contents now_contents : Option (List ℕ)) (faults_old faults_new : ℕ) : Type 0 where
   pub stop : Stop
   pub status_is : status ≡ stop_status stop
   pub before : Option (List ℕ)
   pub faults : ℕ
   pub never_fell : NeverFell faults_old faults
-  pub run : ServesUntil rules stop seen contents before
+  pub run : ServesUntil rules rounds stop seen contents before
   pub written : Wrote before now_contents faults faults_new (stop_line stop)
 
 -- ---- Before `run` has its status: how it ends, which reads a policy to its end and then runs
@@ -99,13 +97,13 @@ TakenAs (Ok x) told left = IsTaken told left
 TakenAs (Err stop) told left = IsLate stop → IsTaken told left
 
 -- how the run went of the applications that were taken, if any were: they were, but where the stop comes before, or memory was wanting
-abbrev pub ServesTaken : {Own T : Type 0} → Result T Stop → Option (List ℕ) → Option (List ℕ) → Seen Own → Option (List ℕ) → Option (List ℕ) → Type 0
-ServesTaken result told left seen contents now_contents = ((apps : List AppValue) × Taken apps told left × ServesAs apps result seen contents now_contents) ⊎ StopsBefore result seen contents now_contents
+abbrev pub ServesTaken : {Own T : Type 0} → (rounds : ℕ) → Result T Stop → Option (List ℕ) → Option (List ℕ) → Seen Own → Option (List ℕ) → Option (List ℕ) → Type 0
+ServesTaken rounds result told left seen contents now_contents = ((apps : List AppValue) × Taken apps told left × ServesAs apps rounds result seen contents now_contents) ⊎ StopsBefore result seen contents now_contents
 
 pub record Serves {Own T : Type 0} (Tells : Type 0) (rounds : ℕ) (result : Result T Stop) (told left : Option (List ℕ)) (old new : Faults Own) (contents now_contents : Option (List ℕ)) (Stays : Type 0) : Type 0 where
   pub taken : TakenAs result told left
   pub no_other : IsTaken told left ⊎ Stays
-  pub runs : TellsInOrder Tells rounds old.world new.world → ServesTaken result told left new.world contents now_contents
-  pub strays : TellsInOrder Tells rounds old.world new.world → NoneStray new.world
+  pub runs : TellsInOrder Tells old.world new.world → ServesTaken rounds result told left new.world contents now_contents
+  pub strays : TellsInOrder Tells old.world new.world → NoneStray new.world
   pub why : IfErr result (IsCause Tells IsNoPolicy told old new)
   pub early : IfErr result (λ stop. IsEarly stop → Stays)

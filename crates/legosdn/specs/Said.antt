@@ -1,5 +1,5 @@
 -- The reference controller of a session: its switches, what its lines say of the applications, and its stimuli. All of this is our own.
-use Rattle.std.specs.Prelude.{◌≡◌, ℕ, ◌≤◌, ◌⊎◌, Bool, true, List, [], Option}
+use Rattle.std.specs.Prelude.{◌≡◌, ℕ, ◌≤◌, ◌⊎◌, Bool, true, false, List, [], Option}
 use Rattle.crash_policy.specs.Policies.{AppValue}
 use Rattle.outside.specs.Seen.{Given, Seen}
 use Rattle.sim_world.specs.Told.{without_links}
@@ -26,7 +26,7 @@ said_by more own i = record { starts = starts_said more (starts_of i own); repli
 
 -- over what a world was given, with these losses
 abbrev pub reference_over : List AppValue → ℕ → Losses → Given Scripts → Run
-reference_over rules more losses given = reference all_allowed given.declared (fresh_from 0 rules (said_by more given.own)) losses given.stimuli
+reference_over rules more losses given = reference all_allowed given.declared (fresh_from 0 rules (said_by more given.own)) losses false given.stimuli
 
 -- of a session
 abbrev pub reference_of_session : List AppValue → ℕ → Losses → SessionValue → Run

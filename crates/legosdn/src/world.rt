@@ -28,9 +28,9 @@ pub fn run_world<K: Sink, W: World>(
 ) -> Result<(), Stop>
     requires rounds { rounds ≤ 1000000000 }
     requires few { length apps.now ≤ 32 }
-    ensures runs { TellsInOrder W.Tells rounds (W.seen world.old) (W.seen world.new)
-        → ServesAs (map app_value apps.now) result (W.seen world.new) (K.contents sink.old) (K.contents sink.new) }
-    ensures strays { TellsInOrder W.Tells rounds (W.seen world.old) (W.seen world.new) → NoneStray (W.seen world.new) }
+    ensures runs { TellsInOrder W.Tells (W.seen world.old) (W.seen world.new)
+        → ServesAs (map app_value apps.now) rounds result (W.seen world.new) (K.contents sink.old) (K.contents sink.new) }
+    ensures strays { TellsInOrder W.Tells (W.seen world.old) (W.seen world.new) → NoneStray (W.seen world.new) }
     ensures why { IfErr result (IsRunCause W.Tells (K.faults sink.old) (K.faults sink.new) (W.seen world.old) (W.seen world.new)) }
     ensures continues { Continues W.Tells (W.seen world.old) (W.seen world.new) }
     ensures ended { W.Tells → (W.seen world.old).history ≡ [] → (state (W.seen world.new)).running ≡ [] }

@@ -1,5 +1,5 @@
 -- How a whole run ends: with the last part of the report, or with events left. All of this is our own.
-use Rattle.std.specs.Prelude.{◌≡◌, ℕ, ◌<◌, Bool, List, [], ◌++◌, length, Option}
+use Rattle.std.specs.Prelude.{◌≡◌, ℕ, ◌≤◌, Bool, List, [], ◌++◌, length, Option}
 use Rattle.std.specs.Io.KnownBytes.{append_known}
 use Rattle.of_types.specs.declared.journal.WorldStim.{WorldStim}
 use Rattle.flow_table.specs.View.{TableView}
@@ -25,13 +25,14 @@ pub record ShownStart {Own : Type 0} (Tells : Type 0) (text : List ℕ) (old new
 
 -- ---- From the start to the last batch
 
-pub record WholeMoves {Own : Type 0} (allows : List Place → Bool) (text : List ℕ) (old new : Seen Own) (e now_e : Engine) : Type 0 where
+pub record WholeMoves {Own : Type 0} (allows : List Place → Bool) (most : ℕ) (text : List ℕ) (old new : Seen Own) (e now_e : Engine) : Type 0 where
   pub stimuli : List WorldStim
-  pub moved : Moved stimuli (whole allows stimuli) text old new e now_e
+  pub at_most : length stimuli ≤ most
+  pub moved : Moved stimuli (whole allows most stimuli) text old new e now_e
 
--- the same in a world that keeps its word, where the stimuli are fewer than this number of rounds
+-- the same in a world that keeps its word, in at most so many rounds
 pub record ShownWhole {Own : Type 0} (Tells : Type 0) (accepts : List TableView → Bool) (most : ℕ) (text : List ℕ) (old new : Seen Own) (e now_e : Engine) : Type 0 where
-  pub whole_is : (allows : List Place → Bool) → Tells → Conforming new → JudgesAlike Own allows accepts → AtRest old e → length (stimuli_in new) < most → WholeMoves allows text old new e now_e
+  pub whole_is : (allows : List Place → Bool) → Tells → Conforming new → JudgesAlike Own allows accepts → AtRest old e → WholeMoves allows most text old new e now_e
 
 -- ---- The last part
 

@@ -1,11 +1,11 @@
 -- A part of a run, as a batch, an event or a start, does what the reference controller does, with what the journal tells of the applications
 -- in it. All of this is our own.
-use Rattle.std.specs.Prelude.{◌≡◌, ℕ, Bool, true, List, [], ◌∷◌, ◌++◌, length, ◌<◌}
+use Rattle.std.specs.Prelude.{◌≡◌, ◌==◌, ℕ, Bool, true, List, [], ◌∷◌, ◌++◌, length, ◌≤◌}
 use Rattle.of_types.specs.declared.journal.WorldStim.{WorldStim}
 use Rattle.flow_table.specs.View.{TableView}
 use Rattle.of_types.specs.declared.journal.Act.{Act}
 use Rattle.lego_model.specs.Places.{Place}
-use Rattle.lego_model.specs.Controller.{Run, settle, happen}
+use Rattle.lego_model.specs.Controller.{Run, settle_last, happen}
 use Rattle.lego_model.specs.Losses.{TurnLosses, Losses}
 use Rattle.outside.specs.Seen.{Seen, journal}
 use Rattle.outside.specs.Conforming.{Conforming}
@@ -81,10 +81,11 @@ pub record Rounds {Own : Type 0} (allows : List Place → Bool) (number : ℕ) (
   pub number_is : length stimuli ≡ number
   pub moved : Moved stimuli (rounds allows stimuli) text old new e now_e
 
--- all rounds, and the last batch, that has no stimulus
-pub record ToEnd {Own : Type 0} (allows : List Place → Bool) (text : List ℕ) (old new : Seen Own) (e now_e : Engine) : Type 0 where
+-- all rounds, at most so many, and where these are not spent the last batch, that has no stimulus
+pub record ToEnd {Own : Type 0} (allows : List Place → Bool) (most : ℕ) (text : List ℕ) (old new : Seen Own) (e now_e : Engine) : Type 0 where
   pub stimuli : List WorldStim
-  pub moved : Moved stimuli (λ r. settle allows (rounds allows stimuli r)) text old new e now_e
+  pub at_most : length stimuli ≤ most
+  pub moved : Moved stimuli (λ r. settle_last allows (length stimuli == most) (rounds allows stimuli r)) text old new e now_e
 
 -- the same in a world that keeps its word
 pub record ShownIdle {Own : Type 0} (Tells : Type 0) (text : List ℕ) (old new : Seen Own) (e now_e : Engine) : Type 0 where
@@ -96,6 +97,5 @@ pub record ShownOver {Own : Type 0} (Tells : Type 0) (text : List ℕ) (old new 
 pub record ShownRounds {Own : Type 0} (Tells : Type 0) (accepts : List TableView → Bool) (number : ℕ) (text : List ℕ) (old new : Seen Own) (e now_e : Engine) : Type 0 where
   pub rounds_is : (allows : List Place → Bool) → Tells → Conforming new → JudgesAlike Own allows accepts → AtRest old e → Rounds allows number text old new e now_e
 
--- where the stimuli are fewer than this number of rounds
 pub record ShownToEnd {Own : Type 0} (Tells : Type 0) (accepts : List TableView → Bool) (most : ℕ) (text : List ℕ) (old new : Seen Own) (e now_e : Engine) : Type 0 where
-  pub to_end : (allows : List Place → Bool) → Tells → Conforming new → JudgesAlike Own allows accepts → AtRest old e → length (stimuli_in new) < most → ToEnd allows text old new e now_e
+  pub to_end : (allows : List Place → Bool) → Tells → Conforming new → JudgesAlike Own allows accepts → AtRest old e → ToEnd allows most text old new e now_e

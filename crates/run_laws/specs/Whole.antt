@@ -1,18 +1,18 @@
 -- A run from its start to its last batch. All of this is our own.
-use Rattle.std.specs.Prelude.{◌≡◌, ℕ, Bool, List, []}
+use Rattle.std.specs.Prelude.{◌≡◌, ◌==◌, ℕ, Bool, List, [], length}
 use Rattle.of_types.specs.declared.journal.WorldStim.{WorldStim}
 use Rattle.crash_policy.specs.Policies.{AppValue}
 use Rattle.lego_model.specs.Places.{Place}
 use Rattle.lego_model.specs.Application.{names}
-use Rattle.lego_model.specs.Controller.{Run, settle}
+use Rattle.lego_model.specs.Controller.{Run, settle_last}
 use Rattle.lego_model.specs.Losses.{Losses}
 use Rattle.outside.specs.Seen.{Seen}
 use Rattle.run_laws.specs.Engine.{Engine, Stands, rules_of}
 use Rattle.lego_model.specs.ReferenceRun.{Said, text_of, rounds, all_started, reference_said, AreSaid}
 
--- the whole run of the reference controller
-abbrev pub whole : (List Place → Bool) → List WorldStim → Run → Run
-whole allows xs r = settle allows (rounds allows xs (all_started r))
+-- the whole run of the reference controller, in at most so many rounds
+abbrev pub whole : (List Place → Bool) → (most : ℕ) → List WorldStim → Run → Run
+whole allows most xs r = settle_last allows (length xs == most) (rounds allows xs (all_started r))
 
 -- these switches are to be lost at the end
 abbrev pub at_last : List ℕ → Losses
@@ -27,6 +27,6 @@ pub record RanAs {Own : Type 0} (rules : List AppValue) (later : Losses) (text :
   pub text_is : text_of (names rules) r ≡ text
 
 -- so it is over what is said of the applications, where switches are lost at some places, and some are to be lost at the end
-pub record Ran {Own : Type 0} (rules : List AppValue) (allows : List Place → Bool) (lost : List ℕ) (text : List ℕ) (last : Seen Own) (e : Engine) : Type 0 where
+pub record Ran {Own : Type 0} (rules : List AppValue) (allows : List Place → Bool) (spent : Bool) (lost : List ℕ) (text : List ℕ) (last : Seen Own) (e : Engine) : Type 0 where
   pub losses : Losses
-  pub as_said : (said : ℕ → Said) → AreSaid last said → RanAs rules (at_last lost) text last e (reference_said rules allows losses last said)
+  pub as_said : (said : ℕ → Said) → AreSaid last said → RanAs rules (at_last lost) text last e (reference_said rules allows spent losses last said)

@@ -20,7 +20,7 @@ ghost use Rattle.run_laws.specs.Readings.{JudgesAlike};
 ghost use Rattle.run_laws.specs.Moves.{AtRest, Moved, Shown, OneHappens};
 ghost use Rattle.lego_model.specs.ReferenceRun.{dispatch_next, all_started};
 ghost use Rattle.run_laws.specs.First.{IsOpened, engine_at_first};
-ghost use Rattle.lego_model.specs.WholeRun.{EndsAlike, LeavesAlike};
+ghost use Rattle.lego_model.specs.WholeRun.{is_spent, EndsAlike, LeavesAlike};
 ghost use Rattle.run_laws.specs.Endings.{Leaves, RanOut, RanFull};
 ghost use Rattle.run_laws.specs.LastReport.{last_text};
 ghost use Rattle.run_laws.specs.Cut.{GoneSoFar, GoneWithin};
@@ -56,16 +56,19 @@ pub fn ends_leave<W: World>()
 /// Of a world that was just opened and that keeps its word: a run whose parts are those of the reference controller is the run
 /// of the reference controller over what the world told, and over all that was said of the applications, of which the world
 /// told the fronts. At every quiescent point the tables agree, each application was given what
-/// it is given there, and what was written is its report, whole where all events were dispatched. The journal is a dialogue
+/// it is given there, and what was written is its report, whole where all events were dispatched. It takes at most as many
+/// stimuli as there are rounds, and where it takes so many nothing is dispatched behind the last. The journal is a dialogue
 /// with each application: each answer is to its next message, a change has reached its switch at once where it is answered, and
 /// no call for an application is a stray one.
 pub fn runs_are_the_references<W: World>()
     ensures out { (rules : List AppValue) (accepts : List TableView → Bool) (allows : List Place → Bool) (most : ℕ) (contents now_contents : Option (List ℕ)) (old new : Seen W.Own) (e : Engine)
-        → W.Tells → Conforming new → JudgesAlike W.Own allows accepts → IsOpened old → length (stimuli_in new) < most
-        → RanOut W.Tells accepts most contents now_contents old new (engine_at_first rules) e → EndsAlike rules allows new contents now_contents e.events }
+        → W.Tells → Conforming new → JudgesAlike W.Own allows accepts → IsOpened old
+        → RanOut W.Tells accepts most contents now_contents old new (engine_at_first rules) e
+        → EndsAlike rules allows (is_spent most new) new contents now_contents e.events × (length (stimuli_in new) ≤ most) }
     ensures full { (rules : List AppValue) (accepts : List TableView → Bool) (allows : List Place → Bool) (most left : ℕ) (contents now_contents : Option (List ℕ)) (old new : Seen W.Own)
-        → W.Tells → Conforming new → JudgesAlike W.Own allows accepts → IsOpened old → length (stimuli_in new) < most
-        → RanFull W.Tells accepts most left contents now_contents old new (engine_at_first rules) → LeavesAlike rules allows new contents now_contents left }
+        → W.Tells → Conforming new → JudgesAlike W.Own allows accepts → IsOpened old
+        → RanFull W.Tells accepts most left contents now_contents old new (engine_at_first rules)
+        → LeavesAlike rules allows (is_spent most new) new contents now_contents left × (length (stimuli_in new) ≤ most) }
 {}
 
 /// Of a world that was just opened and that keeps its word up to a point: where a fault ends a run whose parts are those of the
@@ -98,7 +101,7 @@ pub fn cut_runs_are_the_references<W: World>()
     ensures loss { (rules : List AppValue) (allows : List Place → Bool) (text more : List ℕ) (contents now_contents : Option (List ℕ)) (first mid last : Seen W.Own) (e now_e : Engine)
         → IsOpened first → (gone : GoneSoFar allows true 0 text first mid (engine_at_first rules) e) → gone.begun ≡ [] → OneHappens more mid last e now_e
         → Conforming last → TookPart (append_known contents text) now_contents more → CutInLines rules allows last contents now_contents }
-    ensures end { (rules : List AppValue) (allows : List Place → Bool) (lost : List ℕ) (text more : List ℕ) (contents now_contents : Option (List ℕ)) (first last stop : Seen W.Own) (e : Engine)
-        → IsOpened first → GoneSoFar allows true 1000 text first last (engine_at_first rules) e → e.queue ≡ [] → more ≡ last_text lost last e → Leaves (length e.apps) lost last stop
+    ensures end { (rules : List AppValue) (allows : List Place → Bool) (number : ℕ) (lost : List ℕ) (text more : List ℕ) (contents now_contents : Option (List ℕ)) (first last stop : Seen W.Own) (e : Engine)
+        → IsOpened first → GoneSoFar allows true number text first last (engine_at_first rules) e → number ≤ 1000 → e.queue ≡ [] → more ≡ last_text lost last e → Leaves (length e.apps) lost last stop
         → Conforming stop → TookPart (append_known contents text) now_contents more → CutInLines rules allows stop contents now_contents }
 {}

@@ -13,4 +13,4 @@ pub record Keeps (w : WorldData) : Type 0 where
   pub standing : AreStanding w.state.moment (length w.history) w.state.links
   pub within : w.state.moment ≤ 4294967295
   pub due : All IsDue w.state.due
-  pub places : AreExpected w.history (at_first (given_of w)) → w.tally.shorts ≡ 0 → w.tally.strays ≡ 0
+  pub places : AreExpected w.history (at_first (given_of w)) → w.tally.strays ≤ w.tally.shorts

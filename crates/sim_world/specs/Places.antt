@@ -1,7 +1,7 @@
 -- Whether calls are in place: an application is started only where it does not run, and given to and taken from only while it runs;
 -- messages go only to switches that are joined, and are taken only where one waits; the world is opened once. A call out of place never
 -- succeeds, so that only the steps of calls that failed, or found an end closed, have to be looked at. All of this is our own choice.
-use Rattle.std.specs.Prelude.{◌≡◌, ℕ, Bool, true, false, List, [], ◌∷◌}
+use Rattle.std.specs.Prelude.{◌≡◌, ◌≤◌, ℕ, Bool, true, false, List, [], ◌∷◌}
 use Rattle.of_types.specs.declared.journal.Act.{Act}
 use Rattle.of_types.specs.declared.journal.Act.TheVariants.{Started, Gone}
 use Rattle.of_types.specs.declared.journal.TookWhat.{TookWhat}
@@ -9,7 +9,7 @@ use Rattle.of_types.specs.declared.journal.TookWhat.TheVariants as took
 use Rattle.outside.specs.declared.step.WorldStep.{WorldStep}
 use Rattle.outside.specs.declared.step.WorldStep.TheVariants.{Acted, TookInto, NotOpened, RecvLost, SendFailed, RecvFailed}
 use Rattle.outside.specs.State.{State, after_step, is_running, has_waiting}
-use Rattle.sim_world.specs.Tally.{TallyState}
+use Rattle.sim_world.specs.Tally.{TallyState, last_count}
 
 -- a start that failed is in place where the application did not run
 abbrev pub IsStartExpected : ℕ → Bool → State → Type 0
@@ -42,6 +42,6 @@ abbrev pub AreExpected : List WorldStep → State → Type 0
 AreExpected [] s = Unit {0}
 AreExpected (step ∷ steps) s = IsExpected step s × AreExpected steps (after_step step s)
 
--- where no call is counted that wanted memory, none was counted before, and no more calls are counted as out of place than were before
-abbrev pub NoneStrays : TallyState → TallyState → Type 0
-NoneStrays before after = after.shorts ≡ 0 → (before.shorts ≡ 0) × (after.strays ≡ before.strays)
+-- no more calls are counted as out of place than wanted memory, if it was so before
+abbrev pub FewStrays : TallyState → TallyState → Type 0
+FewStrays before after = before.strays ≤ before.shorts → before.strays ≤ last_count → after.strays ≤ after.shorts

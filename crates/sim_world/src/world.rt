@@ -40,14 +40,14 @@ impl Model for SimWorld {
 impl SimWorld {
     /// Finds that the world keeps its word: what its switches send is told in order, none of it missing until a switch is
     /// lost, so that with messages it conforms to what a world of switches may do; applications do what their scripts say;
-    /// calls fail where they are told to or out of place, and nowhere else; and where each call was in place and none
-    /// wanted memory, none was counted as out of place.
+    /// calls fail where they are told to or out of place, and nowhere else; and where each call was in place, no more
+    /// were counted as out of place than wanted memory.
     #[tactic(auto, using(crate::specs::laws::StandingLaws::in_order, crate::specs::laws::StandingLaws::scripts_kept, crate::specs::laws::StandingLaws::told_kept, crate::specs::laws::StandingLaws::strays_kept))]
     pub fn keeps_word(&self)
         ensures word { InOrder (seen_of self.now) }
         ensures scripts { KeepsScripts self.now.scripts (without_links self.now.fails) self.now.history }
         ensures told { AreAsTold (without_links self.now.fails) 0 self.now.history (at_first (given_of self.now)) }
-        ensures strays { AreExpected self.now.history (at_first (given_of self.now)) → (seen_of self.now).counts.shorts ≡ 0 → (seen_of self.now).counts.strays ≡ 0 }
+        ensures strays { AreExpected self.now.history (at_first (given_of self.now)) → (seen_of self.now).counts.strays ≤ (seen_of self.now).counts.shorts }
     {
         let _parts = &self.parts;
     }

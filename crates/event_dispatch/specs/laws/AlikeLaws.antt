@@ -1,6 +1,6 @@
 -- Laws of whole runs that a fault ended: they are the reference controller's as far as they go, if the world kept its word as far as there,
 -- and no quiescent point lies behind.
-use Rattle.std.proofs.Common.{◌≡◌, ℕ, ◌<◌, Bool, true, List, [], ◌∷◌, ◌++◌, length, Option, refl, sym, ap, ◌∙◌, subst, arith, append_assoc, inl, inr}
+use Rattle.std.proofs.Common.{◌≡◌, ◌==◌, ℕ, ◌<◌, ◌≤◌, Bool, true, List, [], ◌∷◌, ◌++◌, length, Option, refl, sym, ap, ◌∙◌, subst, arith, append_assoc, inl, inr}
 use Rattle.std.specs.Io.KnownBytes.{append_known}
 use Rattle.std.specs.List.{AllByRecursion, list_any}
 use Rattle.std.proofs.lemmas.List.{append-nil, append_cancel_left}
@@ -10,7 +10,7 @@ use Rattle.lego_io.specs.laws.ToldLaws.{append_known-append}
 use Rattle.flow_table.specs.View.{TableView}
 use Rattle.crash_policy.specs.Policies.{AppValue}
 use Rattle.lego_model.specs.Places.{Place}
-use Rattle.outside.specs.Seen.{Seen, Longer, Continues, journal}
+use Rattle.outside.specs.Seen.{Seen, Continues, journal}
 use Rattle.lego_model.specs.AtOnce.{AtOnce}
 use Rattle.outside.specs.declared.step.WorldStep.{WorldStep}
 use Rattle.app_frames.specs.declared.frame.Event.{Event}
@@ -23,7 +23,6 @@ use Rattle.outside.specs.Quiescence.{NoneQuiescentSince, IsLastQuiescent}
 use Rattle.outside.specs.laws.QuiescenceLaws.{none_since-then, last_quiescent-of, last_quiescent-then}
 use Rattle.run_laws.specs.Engine.{Engine, rules_of}
 use Rattle.run_laws.specs.Facts.{is_taking, takes_next}
-use Rattle.lego_model.specs.History.{stimuli_in}
 use Rattle.run_laws.specs.Readings.{JudgesAlike}
 use Rattle.run_laws.specs.Moves.{AtRest, Moved, Rounds}
 use Rattle.run_laws.specs.laws.MoveLaws.{moved-none}
@@ -37,7 +36,7 @@ use Rattle.lego_model.specs.ReferenceRun.{all_started}
 use Rattle.run_laws.specs.Promise.{PremiseSoFar}
 use Rattle.lego_model.specs.AllLines.{CutBehindLines, CutInLines, CutForMemory}
 use Rattle.run_laws.specs.Cut.{IsCallAmong, CallsAmong, CutAt, CutAlike, CutWithLines, CutWriting, GoneSoFar, GoneWithin}
-use Rattle.run_laws.specs.laws.CutLaws.{gone-rounds, gone-happens, gone-still, gone-more, gone-whole, lines-so, rounds-so, some-so, none-so, start-so, loss-so, event-so, end-so}
+use Rattle.run_laws.specs.laws.CutLaws.{gone-rounds, gone-happens, gone-still, gone-more, gone-whole, last_events, last-few, lines-so, rounds-so, some-so, none-so, start-so, loss-so, event-so, end-so}
 use Rattle.event_dispatch.specs.declared.batch.Rest.{Rest}
 use Rattle.event_dispatch.specs.declared.batch.Rest.TheVariants as rests
 use Rattle.event_dispatch.specs.declared.fault.Fault.{Fault}
@@ -165,11 +164,10 @@ next_takes Tells accepts fault old new e out next = ap (λ (q : List Event). tak
 
 -- ---- What is supposed of a world that was opened, whose run stopped somewhere
 
-record Supposed {Own : Type 0} (rules : List AppValue) (Tells : Type 0) (accepts : List TableView → Bool) (allows : List Place → Bool) (most : ℕ) (first stop seen : Seen Own) : Type 0 where
+record Supposed {Own : Type 0} (rules : List AppValue) (Tells : Type 0) (accepts : List TableView → Bool) (allows : List Place → Bool) (first stop seen : Seen Own) : Type 0 where
   told : Tells
   judges : JudgesAlike Own allows accepts
   opened : IsOpened first
-  few : (front : Seen Own) → Conforming front → seen.given ≡ front.given → Longer front.history seen.history → length (stimuli_in front) < most
   whole : Continues Tells first seen
   before : Continues Tells first stop
   later : Continues Tells stop seen
@@ -200,7 +198,7 @@ calls_behind {number = number} first last seen told before later calls =
     record { steps = more.0; history = more.1; all = later_among number front.0 more.0 (subst (λ (steps : List WorldStep). AllByRecursion (IsCallAmong number) steps) same calls.all) }
 
 -- up to such a point
-cut_at : {Own : Type 0} {Tells Short : Type 0} {accepts : List TableView → Bool} {allows : List Place → Bool} {most : ℕ} (rules : List AppValue) (Alike : Seen Own → Type 0) (first stop seen : Seen Own) (p : Supposed rules Tells accepts allows most first stop seen) (last : Seen Own) → IsStop rules Tells Short first last stop
+cut_at : {Own : Type 0} {Tells Short : Type 0} {accepts : List TableView → Bool} {allows : List Place → Bool} (rules : List AppValue) (Alike : Seen Own → Type 0) (first stop seen : Seen Own) (p : Supposed rules Tells accepts allows first stop seen) (last : Seen Own) → IsStop rules Tells Short first last stop
     → (Conforming last → (i : ℕ) → i < length rules → AtOnce i (journal stop.history)) → (Conforming last → Alike last) → CutAt rules Short Alike seen
 cut_at {Tells = Tells} rules Alike first stop seen p last is said so =
     let later = Continues-trans Tells last stop seen is.on p.later in
@@ -218,7 +216,7 @@ cut_at {Tells = Tells} rules Alike first stop seen p last is said so =
     }
 
 -- up to where it stopped
-writing_at : {Own : Type 0} {Tells : Type 0} {accepts : List TableView → Bool} {allows : List Place → Bool} {most : ℕ} (rules : List AppValue) (a b : Option (List ℕ)) (first stop seen : Seen Own) (p : Supposed rules Tells accepts allows most first stop seen) → (InOrder stop → Conforming stop) → (Conforming stop → CutInLines rules allows stop a b)
+writing_at : {Own : Type 0} {Tells : Type 0} {accepts : List TableView → Bool} {allows : List Place → Bool} (rules : List AppValue) (a b : Option (List ℕ)) (first stop seen : Seen Own) (p : Supposed rules Tells accepts allows first stop seen) → (InOrder stop → Conforming stop) → (Conforming stop → CutInLines rules allows stop a b)
     → CutWriting rules allows seen a b
 writing_at rules a b first stop seen p keeps so = record {
   last = stop;
@@ -250,34 +248,34 @@ within_none {last = last} {now_e = now_e} gone = record { here = last; here_engi
 
 -- ---- The start
 
-start_alike : {Own : Type 0} {Tells : Type 0} {accepts : List TableView → Bool} {allows : List Place → Bool} {most number : ℕ} {a b : Option (List ℕ)} {first stop seen : Seen Own} (rules : List AppValue) (p : Supposed rules Tells accepts allows most first stop seen) → b ≡ a → KeepsTalking Tells first stop → NoPoint Tells number first stop → CutAlike rules allows seen a b
+start_alike : {Own : Type 0} {Tells : Type 0} {accepts : List TableView → Bool} {allows : List Place → Bool} {number : ℕ} {a b : Option (List ℕ)} {first stop seen : Seen Own} (rules : List AppValue) (p : Supposed rules Tells accepts allows first stop seen) → b ≡ a → KeepsTalking Tells first stop → NoPoint Tells number first stop → CutAlike rules allows seen a b
 start_alike {Tells = Tells} {allows = allows} {a = a} {b = b} {first = first} {stop = stop} {seen = seen} rules p same talks no_point =
     let is : IsStop rules Tells (Unit {0}) first first stop = record { before = Continues-refl Tells first; on = p.before; keeps = keeps_first first p.opened; quiet = λ keeps order. last_quiescent-of (no_point.none_quiescent p.told); left = λ keeps order. inl (talks.no_event p.told) } in
     cut_at rules (λ (last : Seen _). CutForMemory rules allows seen last a b) first stop seen p first is (λ keeps. speaks_on rules first stop (engine_at_first rules) p.told talks (settled-first rules first p.opened) (rules-first rules)) (λ keeps.
     none-so rules allows a b first seen p.opened (settled-first rules first p.opened) keeps (none-happened first seen (none_since-then (no_point.none_quiescent p.told) p.quiet) ∙ no-stimuli first p.opened) same)
 
-start_writing : {Own : Type 0} {rules : List AppValue} {Tells : Type 0} {accepts : List TableView → Bool} {allows : List Place → Bool} {most : ℕ} {a b : Option (List ℕ)} {first stop seen : Seen Own} (p : Supposed rules Tells accepts allows most first stop seen) → StartPart Tells a b first stop (engine_at_first rules) → CutWriting rules allows seen a b
+start_writing : {Own : Type 0} {rules : List AppValue} {Tells : Type 0} {accepts : List TableView → Bool} {allows : List Place → Bool} {a b : Option (List ℕ)} {first stop seen : Seen Own} (p : Supposed rules Tells accepts allows first stop seen) → StartPart Tells a b first stop (engine_at_first rules) → CutWriting rules allows seen a b
 start_writing {rules = rules} {allows = allows} {a = a} {b = b} {first = first} {stop = stop} {seen = seen} p cut =
     writing_at rules a b first stop seen p (keeps_to first stop p.told p.opened p.before cut.reads) (λ keeps.
     start-so rules allows cut.more a b first stop cut.now_engine p.opened (cut.shown.moved p.told keeps (settled-first rules first p.opened)) keeps cut.part)
 
 -- ---- Rounds
 
-begun_moved : {Own : Type 0} {rules : List AppValue} {Tells : Type 0} {accepts : List TableView → Bool} {allows : List Place → Bool} {most : ℕ} {fault : Fault} {a b : Option (List ℕ)} {first stop seen : Seen Own} (p : Supposed rules Tells accepts allows most first stop seen) (g : CutGoing Tells accepts fault a b first stop (engine_at_first rules)) → Conforming g.rounds.mid → Moved [] all_started g.text first g.begun (engine_at_first rules) (engine_of g.begun_run)
+begun_moved : {Own : Type 0} {rules : List AppValue} {Tells : Type 0} {accepts : List TableView → Bool} {allows : List Place → Bool} {fault : Fault} {a b : Option (List ℕ)} {first stop seen : Seen Own} (p : Supposed rules Tells accepts allows first stop seen) (g : CutGoing Tells accepts fault a b first stop (engine_at_first rules)) → Conforming g.rounds.mid → Moved [] all_started g.text first g.begun (engine_at_first rules) (engine_of g.begun_run)
 begun_moved {rules = rules} {first = first} p g keeps = g.starts.moved p.told (Conforming-before p.told g.rounds.on keeps) (settled-first rules first p.opened)
 
-rounds_moved : {Own : Type 0} {rules : List AppValue} {Tells : Type 0} {accepts : List TableView → Bool} {allows : List Place → Bool} {most : ℕ} {fault : Fault} {a b : Option (List ℕ)} {first stop seen : Seen Own} (p : Supposed rules Tells accepts allows most first stop seen) (g : CutGoing Tells accepts fault a b first stop (engine_at_first rules)) → Conforming g.rounds.mid → Rounds allows g.rounds.number g.rounds.rounds.text g.begun g.rounds.mid (engine_of g.begun_run) (engine_of g.rounds.mid_run)
+rounds_moved : {Own : Type 0} {rules : List AppValue} {Tells : Type 0} {accepts : List TableView → Bool} {allows : List Place → Bool} {fault : Fault} {a b : Option (List ℕ)} {first stop seen : Seen Own} (p : Supposed rules Tells accepts allows first stop seen) (g : CutGoing Tells accepts fault a b first stop (engine_at_first rules)) → Conforming g.rounds.mid → Rounds allows g.rounds.number g.rounds.rounds.text g.begun g.rounds.mid (engine_of g.begun_run) (engine_of g.rounds.mid_run)
 rounds_moved {allows = allows} p g keeps = g.rounds.rounds.shown.rounds_is allows p.told keeps p.judges (begun_moved p g keeps).settled
 
-rounds_held : {Own : Type 0} {rules : List AppValue} {Tells : Type 0} {accepts : List TableView → Bool} {allows : List Place → Bool} {most : ℕ} {fault : Fault} {a b : Option (List ℕ)} {first stop seen : Seen Own} (p : Supposed rules Tells accepts allows most first stop seen) (g : CutGoing Tells accepts fault a b first stop (engine_at_first rules)) → g.rounds.held ≡ append_known a (g.text ++ g.rounds.rounds.text)
+rounds_held : {Own : Type 0} {rules : List AppValue} {Tells : Type 0} {accepts : List TableView → Bool} {allows : List Place → Bool} {fault : Fault} {a b : Option (List ℕ)} {first stop seen : Seen Own} (p : Supposed rules Tells accepts allows first stop seen) (g : CutGoing Tells accepts fault a b first stop (engine_at_first rules)) → g.rounds.held ≡ append_known a (g.text ++ g.rounds.rounds.text)
 rounds_held {a = a} p g = (writes_then g.text g.rounds.rounds.text a g.held g.rounds.held g.begun_run.core g.rounds.mid_run.core g.writes g.rounds.rounds.writes).written
 
-rounds_gone : {Own : Type 0} {rules : List AppValue} {Tells : Type 0} {accepts : List TableView → Bool} {allows : List Place → Bool} {most : ℕ} {fault : Fault} {a b : Option (List ℕ)} {first stop seen : Seen Own} (p : Supposed rules Tells accepts allows most first stop seen) (g : CutGoing Tells accepts fault a b first stop (engine_at_first rules)) → Conforming g.rounds.mid → GoneSoFar allows true 0 (g.text ++ g.rounds.rounds.text) first g.rounds.mid (engine_at_first rules) (engine_of g.rounds.mid_run)
+rounds_gone : {Own : Type 0} {rules : List AppValue} {Tells : Type 0} {accepts : List TableView → Bool} {allows : List Place → Bool} {fault : Fault} {a b : Option (List ℕ)} {first stop seen : Seen Own} (p : Supposed rules Tells accepts allows first stop seen) (g : CutGoing Tells accepts fault a b first stop (engine_at_first rules)) → Conforming g.rounds.mid → GoneSoFar allows true 0 (g.text ++ g.rounds.rounds.text) first g.rounds.mid (engine_at_first rules) (engine_of g.rounds.mid_run)
 rounds_gone {rules = rules} {allows = allows} {first = first} p g keeps =
     gone-rounds allows g.rounds.number g.text g.rounds.rounds.text first g.begun g.rounds.mid (engine_at_first rules) (engine_of g.begun_run) (engine_of g.rounds.mid_run) (begun_moved p g keeps) (rounds_moved p g keeps)
 
 -- a batch more
-batch_gone : {Own : Type 0} {rules : List AppValue} {Tells : Type 0} {accepts : List TableView → Bool} {allows : List Place → Bool} {most : ℕ} {fault : Fault} {a b : Option (List ℕ)} {first stop seen : Seen Own} (p : Supposed rules Tells accepts allows most first stop seen) (g : CutGoing Tells accepts fault a b first stop (engine_at_first rules)) (rest : Rest) (noted : List ℕ) (behind : Seen Own) (e : Engine) → Conforming g.rounds.mid → Conforming behind → IsBatch Tells rest noted g.rounds.mid behind (engine_of g.rounds.mid_run) e → GoneSoFar allows true 0 ((g.text ++ g.rounds.rounds.text) ++ noted) first behind (engine_at_first rules) e
+batch_gone : {Own : Type 0} {rules : List AppValue} {Tells : Type 0} {accepts : List TableView → Bool} {allows : List Place → Bool} {fault : Fault} {a b : Option (List ℕ)} {first stop seen : Seen Own} (p : Supposed rules Tells accepts allows first stop seen) (g : CutGoing Tells accepts fault a b first stop (engine_at_first rules)) (rest : Rest) (noted : List ℕ) (behind : Seen Own) (e : Engine) → Conforming g.rounds.mid → Conforming behind → IsBatch Tells rest noted g.rounds.mid behind (engine_of g.rounds.mid_run) e → GoneSoFar allows true 0 ((g.text ++ g.rounds.rounds.text) ++ noted) first behind (engine_at_first rules) e
 batch_gone {rules = rules} {allows = allows} {first = first} p g rests.Idle noted behind e keeps_mid keeps batch =
     gone-happens allows g.rounds.number g.text g.rounds.rounds.text noted first g.begun g.rounds.mid behind (engine_at_first rules) (engine_of g.begun_run) (engine_of g.rounds.mid_run) e (begun_moved p g keeps_mid) (rounds_moved p g keeps_mid)
     (batch.happens p.told keeps (rounds_moved p g keeps_mid).moved.settled)
@@ -289,39 +287,39 @@ batch_gone {rules = rules} {allows = allows} {first = first} p g rests.End noted
     (subst (λ (text : List ℕ). Moved [] (λ (r : ModelRun). r) text g.rounds.mid behind (engine_of g.rounds.mid_run) e) none (batch.over.moved p.told keeps settled)))
 
 -- and events behind it
-behind_gone : {Own : Type 0} {rules : List AppValue} {Tells : Type 0} {accepts : List TableView → Bool} {allows : List Place → Bool} {most : ℕ} {fault : Fault} {a b : Option (List ℕ)} {first stop seen : Seen Own} (p : Supposed rules Tells accepts allows most first stop seen) (g : CutGoing Tells accepts fault a b first stop (engine_at_first rules)) (h : CutBehind Tells accepts fault g.rounds.held b g.rounds.mid stop g.rounds.mid_run) → Conforming h.mid → GoneSoFar allows true 0 ((g.text ++ g.rounds.rounds.text) ++ h.noted) first h.mid (engine_at_first rules) (engine_of h.mid_run)
+behind_gone : {Own : Type 0} {rules : List AppValue} {Tells : Type 0} {accepts : List TableView → Bool} {allows : List Place → Bool} {fault : Fault} {a b : Option (List ℕ)} {first stop seen : Seen Own} (p : Supposed rules Tells accepts allows first stop seen) (g : CutGoing Tells accepts fault a b first stop (engine_at_first rules)) (h : CutBehind Tells accepts fault g.rounds.held b g.rounds.mid stop g.rounds.mid_run) → Conforming h.mid → GoneSoFar allows true 0 ((g.text ++ g.rounds.rounds.text) ++ h.noted) first h.mid (engine_at_first rules) (engine_of h.mid_run)
 behind_gone p g h keeps = batch_gone p g h.rest h.noted h.mid (engine_of h.mid_run) (Conforming-before p.told h.first keeps) keeps h.batch
 
-some_gone : {Own : Type 0} {rules : List AppValue} {Tells : Type 0} {accepts : List TableView → Bool} {allows : List Place → Bool} {most : ℕ} {fault : Fault} {a b : Option (List ℕ)} {first stop seen : Seen Own} (p : Supposed rules Tells accepts allows most first stop seen) (g : CutGoing Tells accepts fault a b first stop (engine_at_first rules)) (h : CutBehind Tells accepts fault g.rounds.held b g.rounds.mid stop g.rounds.mid_run) → Conforming h.some.mid → GoneSoFar allows true h.some.number (((g.text ++ g.rounds.rounds.text) ++ h.noted) ++ h.some.some.text) first h.some.mid (engine_at_first rules) (engine_of h.some.mid_run)
+some_gone : {Own : Type 0} {rules : List AppValue} {Tells : Type 0} {accepts : List TableView → Bool} {allows : List Place → Bool} {fault : Fault} {a b : Option (List ℕ)} {first stop seen : Seen Own} (p : Supposed rules Tells accepts allows first stop seen) (g : CutGoing Tells accepts fault a b first stop (engine_at_first rules)) (h : CutBehind Tells accepts fault g.rounds.held b g.rounds.mid stop g.rounds.mid_run) → Conforming h.some.mid → GoneSoFar allows true h.some.number (((g.text ++ g.rounds.rounds.text) ++ h.noted) ++ h.some.some.text) first h.some.mid (engine_at_first rules) (engine_of h.some.mid_run)
 some_gone {rules = rules} {allows = allows} {first = first} p g h keeps =
     let before = behind_gone p g h (Conforming-before p.told h.some.on keeps) in
     gone-more allows true h.some.number ((g.text ++ g.rounds.rounds.text) ++ h.noted) h.some.some.text first h.mid h.some.mid (engine_at_first rules) (engine_of h.mid_run) (engine_of h.some.mid_run) before
     (h.some.some.shown.moved allows p.told keeps p.judges before.moved.settled)
 
-noted_held : {Own : Type 0} {rules : List AppValue} {Tells : Type 0} {accepts : List TableView → Bool} {allows : List Place → Bool} {most : ℕ} {fault : Fault} {a b : Option (List ℕ)} {first stop seen : Seen Own} (p : Supposed rules Tells accepts allows most first stop seen) (g : CutGoing Tells accepts fault a b first stop (engine_at_first rules)) (h : CutBehind Tells accepts fault g.rounds.held b g.rounds.mid stop g.rounds.mid_run) → h.held ≡ append_known a ((g.text ++ g.rounds.rounds.text) ++ h.noted)
+noted_held : {Own : Type 0} {rules : List AppValue} {Tells : Type 0} {accepts : List TableView → Bool} {allows : List Place → Bool} {fault : Fault} {a b : Option (List ℕ)} {first stop seen : Seen Own} (p : Supposed rules Tells accepts allows first stop seen) (g : CutGoing Tells accepts fault a b first stop (engine_at_first rules)) (h : CutBehind Tells accepts fault g.rounds.held b g.rounds.mid stop g.rounds.mid_run) → h.held ≡ append_known a ((g.text ++ g.rounds.rounds.text) ++ h.noted)
 noted_held {a = a} p g h = h.written ∙ ap (λ (o : Option (List ℕ)). append_known o h.noted) (rounds_held p g) ∙ sym (append_known-append a (g.text ++ g.rounds.rounds.text) h.noted)
 
-some_held : {Own : Type 0} {rules : List AppValue} {Tells : Type 0} {accepts : List TableView → Bool} {allows : List Place → Bool} {most : ℕ} {fault : Fault} {a b : Option (List ℕ)} {first stop seen : Seen Own} (p : Supposed rules Tells accepts allows most first stop seen) (g : CutGoing Tells accepts fault a b first stop (engine_at_first rules)) (h : CutBehind Tells accepts fault g.rounds.held b g.rounds.mid stop g.rounds.mid_run) → h.some.held ≡ append_known a (((g.text ++ g.rounds.rounds.text) ++ h.noted) ++ h.some.some.text)
+some_held : {Own : Type 0} {rules : List AppValue} {Tells : Type 0} {accepts : List TableView → Bool} {allows : List Place → Bool} {fault : Fault} {a b : Option (List ℕ)} {first stop seen : Seen Own} (p : Supposed rules Tells accepts allows first stop seen) (g : CutGoing Tells accepts fault a b first stop (engine_at_first rules)) (h : CutBehind Tells accepts fault g.rounds.held b g.rounds.mid stop g.rounds.mid_run) → h.some.held ≡ append_known a (((g.text ++ g.rounds.rounds.text) ++ h.noted) ++ h.some.some.text)
 some_held {a = a} p g h =
     h.some.some.writes.written ∙ ap (λ (o : Option (List ℕ)). append_known o h.some.some.text) (noted_held p g h) ∙ sym (append_known-append a ((g.text ++ g.rounds.rounds.text) ++ h.noted) h.some.some.text)
 
 -- what came up to there was read
-rounds_on : {Own : Type 0} {rules : List AppValue} {Tells : Type 0} {accepts : List TableView → Bool} {allows : List Place → Bool} {most : ℕ} {fault : Fault} {a b : Option (List ℕ)} {first stop seen : Seen Own} (p : Supposed rules Tells accepts allows most first stop seen) (g : CutGoing Tells accepts fault a b first stop (engine_at_first rules)) → Continues Tells first g.rounds.mid
+rounds_on : {Own : Type 0} {rules : List AppValue} {Tells : Type 0} {accepts : List TableView → Bool} {allows : List Place → Bool} {fault : Fault} {a b : Option (List ℕ)} {first stop seen : Seen Own} (p : Supposed rules Tells accepts allows first stop seen) (g : CutGoing Tells accepts fault a b first stop (engine_at_first rules)) → Continues Tells first g.rounds.mid
 rounds_on {Tells = Tells} {first = first} p g = Continues-trans Tells first g.begun g.rounds.mid g.first g.rounds.on
 
-rounds_read : {Own : Type 0} {rules : List AppValue} {Tells : Type 0} {accepts : List TableView → Bool} {allows : List Place → Bool} {most : ℕ} {fault : Fault} {a b : Option (List ℕ)} {first stop seen : Seen Own} (p : Supposed rules Tells accepts allows most first stop seen) (g : CutGoing Tells accepts fault a b first stop (engine_at_first rules)) → Reads Tells first g.rounds.mid net_at_first g.rounds.mid_run.core.net
+rounds_read : {Own : Type 0} {rules : List AppValue} {Tells : Type 0} {accepts : List TableView → Bool} {allows : List Place → Bool} {fault : Fault} {a b : Option (List ℕ)} {first stop seen : Seen Own} (p : Supposed rules Tells accepts allows first stop seen) (g : CutGoing Tells accepts fault a b first stop (engine_at_first rules)) → Reads Tells first g.rounds.mid net_at_first g.rounds.mid_run.core.net
 rounds_read {first = first} p g = reads_then first g.begun g.rounds.mid net_at_first g.begun_run.core.net g.rounds.mid_run.core.net g.first g.rounds.on g.starts_read g.rounds.reads
 
-some_on : {Own : Type 0} {rules : List AppValue} {Tells : Type 0} {accepts : List TableView → Bool} {allows : List Place → Bool} {most : ℕ} {fault : Fault} {a b : Option (List ℕ)} {first stop seen : Seen Own} (p : Supposed rules Tells accepts allows most first stop seen) (g : CutGoing Tells accepts fault a b first stop (engine_at_first rules)) (h : CutBehind Tells accepts fault g.rounds.held b g.rounds.mid stop g.rounds.mid_run) → Continues Tells first h.some.mid
+some_on : {Own : Type 0} {rules : List AppValue} {Tells : Type 0} {accepts : List TableView → Bool} {allows : List Place → Bool} {fault : Fault} {a b : Option (List ℕ)} {first stop seen : Seen Own} (p : Supposed rules Tells accepts allows first stop seen) (g : CutGoing Tells accepts fault a b first stop (engine_at_first rules)) (h : CutBehind Tells accepts fault g.rounds.held b g.rounds.mid stop g.rounds.mid_run) → Continues Tells first h.some.mid
 some_on {Tells = Tells} {first = first} p g h = Continues-trans Tells first h.mid h.some.mid (Continues-trans Tells first g.rounds.mid h.mid (rounds_on p g) h.first) h.some.on
 
-some_read : {Own : Type 0} {rules : List AppValue} {Tells : Type 0} {accepts : List TableView → Bool} {allows : List Place → Bool} {most : ℕ} {fault : Fault} {a b : Option (List ℕ)} {first stop seen : Seen Own} (p : Supposed rules Tells accepts allows most first stop seen) (g : CutGoing Tells accepts fault a b first stop (engine_at_first rules)) (h : CutBehind Tells accepts fault g.rounds.held b g.rounds.mid stop g.rounds.mid_run) → Reads Tells first h.some.mid net_at_first h.some.mid_run.core.net
+some_read : {Own : Type 0} {rules : List AppValue} {Tells : Type 0} {accepts : List TableView → Bool} {allows : List Place → Bool} {fault : Fault} {a b : Option (List ℕ)} {first stop seen : Seen Own} (p : Supposed rules Tells accepts allows first stop seen) (g : CutGoing Tells accepts fault a b first stop (engine_at_first rules)) (h : CutBehind Tells accepts fault g.rounds.held b g.rounds.mid stop g.rounds.mid_run) → Reads Tells first h.some.mid net_at_first h.some.mid_run.core.net
 some_read {Tells = Tells} {first = first} p g h =
     let behind = reads_then first g.rounds.mid h.mid net_at_first g.rounds.mid_run.core.net h.mid_run.core.net (rounds_on p g) h.first (rounds_read p g) h.reads in
     reads_then first h.mid h.some.mid net_at_first h.mid_run.core.net h.some.mid_run.core.net (Continues-trans Tells first g.rounds.mid h.mid (rounds_on p g) h.first) h.some.on behind h.some.reads
 
 -- a fault ended what comes next, which leaves no quiescent point behind
-round_stop : {Own : Type 0} {rules : List AppValue} {Tells Short : Type 0} {accepts : List TableView → Bool} {allows : List Place → Bool} {most number : ℕ} {fault : Fault} {a b : Option (List ℕ)} {first stop seen : Seen Own} (p : Supposed rules Tells accepts allows most first stop seen) (g : CutGoing Tells accepts fault a b first stop (engine_at_first rules)) → KeepsTalking Tells g.rounds.mid stop → StopsBatch Tells number g.rounds.mid stop g.rounds.mid_run.core.net → IsStop rules Tells Short first g.rounds.mid stop
+round_stop : {Own : Type 0} {rules : List AppValue} {Tells Short : Type 0} {accepts : List TableView → Bool} {allows : List Place → Bool} {number : ℕ} {fault : Fault} {a b : Option (List ℕ)} {first stop seen : Seen Own} (p : Supposed rules Tells accepts allows first stop seen) (g : CutGoing Tells accepts fault a b first stop (engine_at_first rules)) → KeepsTalking Tells g.rounds.mid stop → StopsBatch Tells number g.rounds.mid stop g.rounds.mid_run.core.net → IsStop rules Tells Short first g.rounds.mid stop
 round_stop {first = first} {stop = stop} {seen = seen} p g talks stops = record {
   before = rounds_on p g;
   on = g.rounds.later;
@@ -333,29 +331,29 @@ round_stop {first = first} {stop = stop} {seen = seen} p g talks stops = record 
 }
 
 -- A fault ended an event: the point is the one before the turn in which it did so, behind those before it.
-some_to : {Own : Type 0} {rules : List AppValue} {Tells : Type 0} {accepts : List TableView → Bool} {allows : List Place → Bool} {most : ℕ} {fault : Fault} {a b : Option (List ℕ)} {first stop seen : Seen Own} (p : Supposed rules Tells accepts allows most first stop seen) (g : CutGoing Tells accepts fault a b first stop (engine_at_first rules)) (h : CutBehind Tells accepts fault g.rounds.held b g.rounds.mid stop g.rounds.mid_run) (next : FailsNext Tells accepts fault h.some.mid stop (engine_of h.some.mid_run)) → Conforming next.fails.mid
+some_to : {Own : Type 0} {rules : List AppValue} {Tells : Type 0} {accepts : List TableView → Bool} {allows : List Place → Bool} {fault : Fault} {a b : Option (List ℕ)} {first stop seen : Seen Own} (p : Supposed rules Tells accepts allows first stop seen) (g : CutGoing Tells accepts fault a b first stop (engine_at_first rules)) (h : CutBehind Tells accepts fault g.rounds.held b g.rounds.mid stop g.rounds.mid_run) (next : FailsNext Tells accepts fault h.some.mid stop (engine_of h.some.mid_run)) → Conforming next.fails.mid
     → GoneSoFar allows true h.some.number (((g.text ++ g.rounds.rounds.text) ++ h.noted) ++ h.some.some.text) first h.some.mid (engine_at_first rules) (engine_of h.some.mid_run)
 some_to p g h next keeps = some_gone p g h (Conforming-before p.told next.fails.on keeps)
 
-some_partly : {Own : Type 0} {rules : List AppValue} {Tells : Type 0} {accepts : List TableView → Bool} {allows : List Place → Bool} {most : ℕ} {fault : Fault} {a b : Option (List ℕ)} {first stop seen : Seen Own} (p : Supposed rules Tells accepts allows most first stop seen) (g : CutGoing Tells accepts fault a b first stop (engine_at_first rules)) (h : CutBehind Tells accepts fault g.rounds.held b g.rounds.mid stop g.rounds.mid_run) (next : FailsNext Tells accepts fault h.some.mid stop (engine_of h.some.mid_run)) → Conforming next.fails.mid
+some_partly : {Own : Type 0} {rules : List AppValue} {Tells : Type 0} {accepts : List TableView → Bool} {allows : List Place → Bool} {fault : Fault} {a b : Option (List ℕ)} {first stop seen : Seen Own} (p : Supposed rules Tells accepts allows first stop seen) (g : CutGoing Tells accepts fault a b first stop (engine_at_first rules)) (h : CutBehind Tells accepts fault g.rounds.held b g.rounds.mid stop g.rounds.mid_run) (next : FailsNext Tells accepts fault h.some.mid stop (engine_of h.some.mid_run)) → Conforming next.fails.mid
     → PartlyGone allows h.some.mid next.fails.mid (engine_of h.some.mid_run) next.fails.mid_engine
 some_partly {Tells = Tells} {accepts = accepts} {allows = allows} {fault = fault} {stop = stop} p g h next keeps =
     partly_gone Tells accepts allows fault h.some.mid stop (engine_of h.some.mid_run) next p.told keeps p.judges (some_to p g h next keeps).moved.settled
 
-abbrev some_within : {Own : Type 0} {rules : List AppValue} {Tells : Type 0} {accepts : List TableView → Bool} {allows : List Place → Bool} {most : ℕ} {fault : Fault} {a b : Option (List ℕ)} {first stop seen : Seen Own} (p : Supposed rules Tells accepts allows most first stop seen) (g : CutGoing Tells accepts fault a b first stop (engine_at_first rules)) (h : CutBehind Tells accepts fault g.rounds.held b g.rounds.mid stop g.rounds.mid_run) (next : FailsNext Tells accepts fault h.some.mid stop (engine_of h.some.mid_run)) (keeps : Conforming next.fails.mid)
+abbrev some_within : {Own : Type 0} {rules : List AppValue} {Tells : Type 0} {accepts : List TableView → Bool} {allows : List Place → Bool} {fault : Fault} {a b : Option (List ℕ)} {first stop seen : Seen Own} (p : Supposed rules Tells accepts allows first stop seen) (g : CutGoing Tells accepts fault a b first stop (engine_at_first rules)) (h : CutBehind Tells accepts fault g.rounds.held b g.rounds.mid stop g.rounds.mid_run) (next : FailsNext Tells accepts fault h.some.mid stop (engine_of h.some.mid_run)) (keeps : Conforming next.fails.mid)
     → GoneWithin allows h.some.number (some_partly p g h next keeps).given (((g.text ++ g.rounds.rounds.text) ++ h.noted) ++ h.some.some.text) first next.fails.mid (engine_at_first rules) (some_partly p g h next keeps).now_engine
 some_within p g h next keeps =
     let partly = some_partly p g h next keeps in
     record { here = h.some.mid; here_engine = engine_of h.some.mid_run; gone = some_to p g h next keeps; more = partly.more; partly = partly.partly }
 
-fails_rules : {Own : Type 0} {rules : List AppValue} {Tells : Type 0} {accepts : List TableView → Bool} {allows : List Place → Bool} {most : ℕ} {fault : Fault} {a b : Option (List ℕ)} {first stop seen : Seen Own} (p : Supposed rules Tells accepts allows most first stop seen) (g : CutGoing Tells accepts fault a b first stop (engine_at_first rules)) (h : CutBehind Tells accepts fault g.rounds.held b g.rounds.mid stop g.rounds.mid_run) (next : FailsNext Tells accepts fault h.some.mid stop (engine_of h.some.mid_run)) → Conforming next.fails.mid
+fails_rules : {Own : Type 0} {rules : List AppValue} {Tells : Type 0} {accepts : List TableView → Bool} {allows : List Place → Bool} {fault : Fault} {a b : Option (List ℕ)} {first stop seen : Seen Own} (p : Supposed rules Tells accepts allows first stop seen) (g : CutGoing Tells accepts fault a b first stop (engine_at_first rules)) (h : CutBehind Tells accepts fault g.rounds.held b g.rounds.mid stop g.rounds.mid_run) (next : FailsNext Tells accepts fault h.some.mid stop (engine_of h.some.mid_run)) → Conforming next.fails.mid
     → rules_of next.fails.mid_engine ≡ rules
 fails_rules p g h next keeps = (some_partly p g h next keeps).rules ∙ gone_rules (some_to p g h next keeps)
 
-fails_on : {Own : Type 0} {rules : List AppValue} {Tells : Type 0} {accepts : List TableView → Bool} {allows : List Place → Bool} {most : ℕ} {fault : Fault} {a b : Option (List ℕ)} {first stop seen : Seen Own} (p : Supposed rules Tells accepts allows most first stop seen) (g : CutGoing Tells accepts fault a b first stop (engine_at_first rules)) (h : CutBehind Tells accepts fault g.rounds.held b g.rounds.mid stop g.rounds.mid_run) (next : FailsNext Tells accepts fault h.some.mid stop (engine_of h.some.mid_run)) → Continues Tells first next.fails.mid
+fails_on : {Own : Type 0} {rules : List AppValue} {Tells : Type 0} {accepts : List TableView → Bool} {allows : List Place → Bool} {fault : Fault} {a b : Option (List ℕ)} {first stop seen : Seen Own} (p : Supposed rules Tells accepts allows first stop seen) (g : CutGoing Tells accepts fault a b first stop (engine_at_first rules)) (h : CutBehind Tells accepts fault g.rounds.held b g.rounds.mid stop g.rounds.mid_run) (next : FailsNext Tells accepts fault h.some.mid stop (engine_of h.some.mid_run)) → Continues Tells first next.fails.mid
 fails_on {Tells = Tells} {first = first} p g h next = Continues-trans Tells first h.some.mid next.fails.mid (some_on p g h) next.fails.on
 
-some_stop : {Own : Type 0} {rules : List AppValue} {Tells Other : Type 0} {accepts : List TableView → Bool} {allows : List Place → Bool} {most : ℕ} {fault : Fault} {a b : Option (List ℕ)} {first stop seen : Seen Own} (p : Supposed rules Tells accepts allows most first stop seen) (g : CutGoing Tells accepts fault a b first stop (engine_at_first rules)) (h : CutBehind Tells accepts fault g.rounds.held b g.rounds.mid stop g.rounds.mid_run) (next : FailsNext Tells accepts fault h.some.mid stop (engine_of h.some.mid_run)) → (IsShort fault → Other) → IsStop rules Tells Other first next.fails.mid stop
+some_stop : {Own : Type 0} {rules : List AppValue} {Tells Other : Type 0} {accepts : List TableView → Bool} {allows : List Place → Bool} {fault : Fault} {a b : Option (List ℕ)} {first stop seen : Seen Own} (p : Supposed rules Tells accepts allows first stop seen) (g : CutGoing Tells accepts fault a b first stop (engine_at_first rules)) (h : CutBehind Tells accepts fault g.rounds.held b g.rounds.mid stop g.rounds.mid_run) (next : FailsNext Tells accepts fault h.some.mid stop (engine_of h.some.mid_run)) → (IsShort fault → Other) → IsStop rules Tells Other first next.fails.mid stop
 some_stop {rules = rules} {fault = fault} {first = first} {stop = stop} {seen = seen} p g h next short =
     let f = next.fails in
     record {
@@ -368,7 +366,7 @@ some_stop {rules = rules} {fault = fault} {first = first} {stop = stop} {seen = 
           behind_for short (subst (λ (rs : List AppValue). TablesBehind rs (IsShort fault) f.mid stop) (fails_rules p g h next keeps) (f.within.left.left p.told keeps order rest.calm.ready rest.each));
     }
 
-some_speaks : {Own : Type 0} {rules : List AppValue} {Tells : Type 0} {accepts : List TableView → Bool} {allows : List Place → Bool} {most : ℕ} {fault : Fault} {a b : Option (List ℕ)} {first stop seen : Seen Own} (p : Supposed rules Tells accepts allows most first stop seen) (g : CutGoing Tells accepts fault a b first stop (engine_at_first rules)) (h : CutBehind Tells accepts fault g.rounds.held b g.rounds.mid stop g.rounds.mid_run) (next : FailsNext Tells accepts fault h.some.mid stop (engine_of h.some.mid_run)) → Conforming next.fails.mid
+some_speaks : {Own : Type 0} {rules : List AppValue} {Tells : Type 0} {accepts : List TableView → Bool} {allows : List Place → Bool} {fault : Fault} {a b : Option (List ℕ)} {first stop seen : Seen Own} (p : Supposed rules Tells accepts allows first stop seen) (g : CutGoing Tells accepts fault a b first stop (engine_at_first rules)) (h : CutBehind Tells accepts fault g.rounds.held b g.rounds.mid stop g.rounds.mid_run) (next : FailsNext Tells accepts fault h.some.mid stop (engine_of h.some.mid_run)) → Conforming next.fails.mid
     → (i : ℕ) → i < length rules → AtOnce i (journal stop.history)
 some_speaks {rules = rules} p g h next keeps i few =
     let f = next.fails in
@@ -381,7 +379,7 @@ noted_none Tells faults.Next a b old new r other cut = cut
 noted_none Tells (faults.Txn fault) a b old new r other cut = cut
 noted_none Tells faults.NoMemory a b old new r other cut = cut
 
-round_alike : {Own : Type 0} {rules : List AppValue} {Tells : Type 0} {accepts : List TableView → Bool} {allows : List Place → Bool} {most : ℕ} {fault : Fault} {a b : Option (List ℕ)} {first stop seen : Seen Own} (p : Supposed rules Tells accepts allows most first stop seen) (g : CutGoing Tells accepts fault a b first stop (engine_at_first rules)) → NotWrite fault → CutRound Tells accepts fault g.rounds.held b g.rounds.mid stop g.rounds.mid_run → CutAlike rules allows seen a b
+round_alike : {Own : Type 0} {rules : List AppValue} {Tells : Type 0} {accepts : List TableView → Bool} {allows : List Place → Bool} {fault : Fault} {a b : Option (List ℕ)} {first stop seen : Seen Own} (p : Supposed rules Tells accepts allows first stop seen) (g : CutGoing Tells accepts fault a b first stop (engine_at_first rules)) → NotWrite fault → CutRound Tells accepts fault g.rounds.held b g.rounds.mid stop g.rounds.mid_run → CutAlike rules allows seen a b
 round_alike {rules = rules} {allows = allows} {fault = fault} {a = a} {b = b} {first = first} {stop = stop} {seen = seen} p g other (inl still) =
     cut_at rules (λ (last : Seen _). CutForMemory rules allows seen last a b) first stop seen p g.rounds.mid (round_stop p g still.1 still.2)
     (λ keeps. speaks_on rules g.rounds.mid stop (engine_of g.rounds.mid_run) p.told still.1 (rounds_gone p g keeps).moved.settled (gone_rules (rounds_gone p g keeps))) (λ keeps.
@@ -394,7 +392,7 @@ round_alike {rules = rules} {Tells = Tells} {accepts = accepts} {allows = allows
     (one_held Tells accepts fault h.some.held b h.some.mid stop (engine_of h.some.mid_run) other h.some.one ∙ some_held p g h))
 round_alike {Tells = Tells} {fault = fault} {b = b} {stop = stop} p g other (inr (inr noted)) = absurd (noted_none Tells fault g.rounds.held b g.rounds.mid stop g.rounds.mid_run other noted)
 
-round_lines : {Own : Type 0} {rules : List AppValue} {Tells : Type 0} {accepts : List TableView → Bool} {allows : List Place → Bool} {most : ℕ} {fault : Fault} {a b : Option (List ℕ)} {first stop seen : Seen Own} (p : Supposed rules Tells accepts allows most first stop seen) (g : CutGoing Tells accepts fault a b first stop (engine_at_first rules)) → IsOutside fault → CutRound Tells accepts fault g.rounds.held b g.rounds.mid stop g.rounds.mid_run → CutWithLines rules allows seen a b
+round_lines : {Own : Type 0} {rules : List AppValue} {Tells : Type 0} {accepts : List TableView → Bool} {allows : List Place → Bool} {fault : Fault} {a b : Option (List ℕ)} {first stop seen : Seen Own} (p : Supposed rules Tells accepts allows first stop seen) (g : CutGoing Tells accepts fault a b first stop (engine_at_first rules)) → IsOutside fault → CutRound Tells accepts fault g.rounds.held b g.rounds.mid stop g.rounds.mid_run → CutWithLines rules allows seen a b
 round_lines {rules = rules} {allows = allows} {fault = fault} {a = a} {b = b} {first = first} {stop = stop} {seen = seen} p g out (inl still) =
     cut_at rules (λ (last : Seen _). CutBehindLines rules allows last a b) first stop seen p g.rounds.mid (round_stop p g still.1 still.2)
     (λ keeps. speaks_on rules g.rounds.mid stop (engine_of g.rounds.mid_run) p.told still.1 (rounds_gone p g keeps).moved.settled (gone_rules (rounds_gone p g keeps))) (λ keeps.
@@ -410,7 +408,7 @@ round_lines {rules = rules} {Tells = Tells} {accepts = accepts} {allows = allows
 round_lines {Tells = Tells} {fault = fault} {b = b} {stop = stop} p g out (inr (inr noted)) = absurd (noted_none Tells fault g.rounds.held b g.rounds.mid stop g.rounds.mid_run (not_write fault out) noted)
 
 -- the sink failed at what a batch noted: it had a stimulus, since the last one notes nothing
-noted_lines : {Own : Type 0} {rules : List AppValue} {Tells : Type 0} {accepts : List TableView → Bool} {allows : List Place → Bool} {most : ℕ} {a b : Option (List ℕ)} {first stop seen : Seen Own} (p : Supposed rules Tells accepts allows most first stop seen) (g : CutGoing Tells accepts faults.Write a b first stop (engine_at_first rules)) (rest : Rest) (noted : List ℕ) (e : Engine) → IsBatch Tells rest noted g.rounds.mid stop (engine_of g.rounds.mid_run) e
+noted_lines : {Own : Type 0} {rules : List AppValue} {Tells : Type 0} {accepts : List TableView → Bool} {allows : List Place → Bool} {a b : Option (List ℕ)} {first stop seen : Seen Own} (p : Supposed rules Tells accepts allows first stop seen) (g : CutGoing Tells accepts faults.Write a b first stop (engine_at_first rules)) (rest : Rest) (noted : List ℕ) (e : Engine) → IsBatch Tells rest noted g.rounds.mid stop (engine_of g.rounds.mid_run) e
     → (noted ≡ [] → ⊥) → TookPart g.rounds.held b noted → Conforming stop → CutInLines rules allows stop a b
 noted_lines {rules = rules} {allows = allows} {a = a} {b = b} {first = first} {stop = stop} p g rests.Idle noted e batch some part keeps =
     let keeps_mid = Conforming-before p.told g.rounds.later keeps in
@@ -419,7 +417,7 @@ noted_lines {rules = rules} {allows = allows} {a = a} {b = b} {first = first} {s
     (subst (λ (held : Option (List ℕ)). TookPart held b noted) (rounds_held p g) part)
 noted_lines p g rests.End noted e batch some part keeps = absurd (some (batch.none_noted p.told keeps (rounds_moved p g (Conforming-before p.told g.rounds.later keeps)).moved.settled))
 
-round_writing : {Own : Type 0} {rules : List AppValue} {Tells : Type 0} {accepts : List TableView → Bool} {allows : List Place → Bool} {most : ℕ} {a b : Option (List ℕ)} {first stop seen : Seen Own} (p : Supposed rules Tells accepts allows most first stop seen) (g : CutGoing Tells accepts faults.Write a b first stop (engine_at_first rules)) → CutRound Tells accepts faults.Write g.rounds.held b g.rounds.mid stop g.rounds.mid_run → CutWriting rules allows seen a b
+round_writing : {Own : Type 0} {rules : List AppValue} {Tells : Type 0} {accepts : List TableView → Bool} {allows : List Place → Bool} {a b : Option (List ℕ)} {first stop seen : Seen Own} (p : Supposed rules Tells accepts allows first stop seen) (g : CutGoing Tells accepts faults.Write a b first stop (engine_at_first rules)) → CutRound Tells accepts faults.Write g.rounds.held b g.rounds.mid stop g.rounds.mid_run → CutWriting rules allows seen a b
 round_writing p g (inl still) = absurd still.0
 round_writing {rules = rules} {allows = allows} {a = a} {b = b} {first = first} {stop = stop} {seen = seen} p g (inr (inl h)) =
     let one = h.some.one in
@@ -435,23 +433,23 @@ round_writing {rules = rules} {allows = allows} {a = a} {b = b} {first = first} 
 
 -- ---- The end
 
-last_gone : {Own : Type 0} {rules : List AppValue} {Tells : Type 0} {accepts : List TableView → Bool} {allows : List Place → Bool} {most : ℕ} {fault : Fault} {a b : Option (List ℕ)} {first stop seen : Seen Own} (p : Supposed rules Tells accepts allows most first stop seen) (n : CutEnding Tells accepts most fault a b first stop (engine_at_first rules)) → Conforming n.last → GoneSoFar allows true 1000 (n.text ++ n.rounds.text) first n.last (engine_at_first rules) (engine_of n.last_run)
-last_gone {rules = rules} {Tells = Tells} {accepts = accepts} {allows = allows} {most = most} {first = first} {stop = stop} {seen = seen} p n keeps =
-    let later = Continues-trans Tells n.last stop seen n.later p.later in
-    gone-whole allows (n.text ++ n.rounds.text) first n.last (engine_at_first rules) (engine_of n.last_run)
-    ((whole-of Tells accepts most n.text n.rounds.text first n.begun n.last (engine_at_first rules) (engine_of n.begun_run) (engine_of n.last_run) n.on n.starts n.rounds.shown).whole_is allows p.told keeps p.judges (settled-first rules first p.opened)
-    (p.few n.last keeps later.given (later.told p.told)))
+-- so many events were dispatched behind the last stimulus
+last_gone : {Own : Type 0} {rules : List AppValue} {Tells : Type 0} {accepts : List TableView → Bool} {allows : List Place → Bool} {most : ℕ} {fault : Fault} {a b : Option (List ℕ)} {first stop seen : Seen Own} (p : Supposed rules Tells accepts allows first stop seen) (n : CutEnding Tells accepts most fault a b first stop (engine_at_first rules)) → Conforming n.last → (number : ℕ) × (number ≤ 1000) × GoneSoFar allows true number (n.text ++ n.rounds.text) first n.last (engine_at_first rules) (engine_of n.last_run)
+last_gone {rules = rules} {Tells = Tells} {accepts = accepts} {allows = allows} {most = most} {first = first} p n keeps =
+    let whole = (whole-of Tells accepts most n.text n.rounds.text first n.begun n.last (engine_at_first rules) (engine_of n.begun_run) (engine_of n.last_run) n.on n.starts n.rounds.shown).whole_is allows p.told keeps p.judges (settled-first rules first p.opened) in
+    let spent = length whole.stimuli == most in
+    (last_events spent, last-few spent, gone-whole allows most (n.text ++ n.rounds.text) first n.last (engine_at_first rules) (engine_of n.last_run) whole)
 
-last_held : {Own : Type 0} {rules : List AppValue} {Tells : Type 0} {accepts : List TableView → Bool} {allows : List Place → Bool} {most : ℕ} {fault : Fault} {a b : Option (List ℕ)} {first stop seen : Seen Own} (p : Supposed rules Tells accepts allows most first stop seen) (n : CutEnding Tells accepts most fault a b first stop (engine_at_first rules)) → n.last_held ≡ append_known a (n.text ++ n.rounds.text)
+last_held : {Own : Type 0} {rules : List AppValue} {Tells : Type 0} {accepts : List TableView → Bool} {allows : List Place → Bool} {most : ℕ} {fault : Fault} {a b : Option (List ℕ)} {first stop seen : Seen Own} (p : Supposed rules Tells accepts allows first stop seen) (n : CutEnding Tells accepts most fault a b first stop (engine_at_first rules)) → n.last_held ≡ append_known a (n.text ++ n.rounds.text)
 last_held {a = a} p n = (writes_then n.text n.rounds.text a n.held n.last_held n.begun_run.core n.last_run.core n.writes n.rounds.writes).written
 
-last_on : {Own : Type 0} {rules : List AppValue} {Tells : Type 0} {accepts : List TableView → Bool} {allows : List Place → Bool} {most : ℕ} {fault : Fault} {a b : Option (List ℕ)} {first stop seen : Seen Own} (p : Supposed rules Tells accepts allows most first stop seen) (n : CutEnding Tells accepts most fault a b first stop (engine_at_first rules)) → Continues Tells first n.last
+last_on : {Own : Type 0} {rules : List AppValue} {Tells : Type 0} {accepts : List TableView → Bool} {allows : List Place → Bool} {most : ℕ} {fault : Fault} {a b : Option (List ℕ)} {first stop seen : Seen Own} (p : Supposed rules Tells accepts allows first stop seen) (n : CutEnding Tells accepts most fault a b first stop (engine_at_first rules)) → Continues Tells first n.last
 last_on {Tells = Tells} {first = first} p n = Continues-trans Tells first n.begun n.last n.first n.on
 
-last_read : {Own : Type 0} {rules : List AppValue} {Tells : Type 0} {accepts : List TableView → Bool} {allows : List Place → Bool} {most : ℕ} {fault : Fault} {a b : Option (List ℕ)} {first stop seen : Seen Own} (p : Supposed rules Tells accepts allows most first stop seen) (n : CutEnding Tells accepts most fault a b first stop (engine_at_first rules)) → Reads Tells first n.last net_at_first n.last_run.core.net
+last_read : {Own : Type 0} {rules : List AppValue} {Tells : Type 0} {accepts : List TableView → Bool} {allows : List Place → Bool} {most : ℕ} {fault : Fault} {a b : Option (List ℕ)} {first stop seen : Seen Own} (p : Supposed rules Tells accepts allows first stop seen) (n : CutEnding Tells accepts most fault a b first stop (engine_at_first rules)) → Reads Tells first n.last net_at_first n.last_run.core.net
 last_read {first = first} p n = reads_then first n.begun n.last net_at_first n.begun_run.core.net n.last_run.core.net n.first n.on n.starts_read n.rounds_read
 
-last_stop : {Own : Type 0} {rules : List AppValue} {Tells Short : Type 0} {accepts : List TableView → Bool} {allows : List Place → Bool} {most number : ℕ} {fault : Fault} {a b : Option (List ℕ)} {first stop seen : Seen Own} (p : Supposed rules Tells accepts allows most first stop seen) (n : CutEnding Tells accepts most fault a b first stop (engine_at_first rules)) → KeepsTalking Tells n.last stop → NoPoint Tells number n.last stop → IsStop rules Tells Short first n.last stop
+last_stop : {Own : Type 0} {rules : List AppValue} {Tells Short : Type 0} {accepts : List TableView → Bool} {allows : List Place → Bool} {most number : ℕ} {fault : Fault} {a b : Option (List ℕ)} {first stop seen : Seen Own} (p : Supposed rules Tells accepts allows first stop seen) (n : CutEnding Tells accepts most fault a b first stop (engine_at_first rules)) → KeepsTalking Tells n.last stop → NoPoint Tells number n.last stop → IsStop rules Tells Short first n.last stop
 last_stop {first = first} {stop = stop} {seen = seen} p n talks no_point = record {
   before = last_on p n;
   on = n.later;
@@ -460,51 +458,51 @@ last_stop {first = first} {stop = stop} {seen = seen} p n talks no_point = recor
   left = λ keeps order. inl (talks.no_event p.told);
 }
 
-end_alike : {Own : Type 0} {rules : List AppValue} {Tells : Type 0} {accepts : List TableView → Bool} {allows : List Place → Bool} {most : ℕ} {fault : Fault} {a b : Option (List ℕ)} {first stop seen : Seen Own} (p : Supposed rules Tells accepts allows most first stop seen) (n : CutEnding Tells accepts most fault a b first stop (engine_at_first rules)) → NotWrite fault → CutAlike rules allows seen a b
+end_alike : {Own : Type 0} {rules : List AppValue} {Tells : Type 0} {accepts : List TableView → Bool} {allows : List Place → Bool} {most : ℕ} {fault : Fault} {a b : Option (List ℕ)} {first stop seen : Seen Own} (p : Supposed rules Tells accepts allows first stop seen) (n : CutEnding Tells accepts most fault a b first stop (engine_at_first rules)) → NotWrite fault → CutAlike rules allows seen a b
 end_alike {rules = rules} {Tells = Tells} {allows = allows} {fault = fault} {a = a} {b = b} {first = first} {stop = stop} {seen = seen} p n other =
     let talks = end_talks Tells fault n.last_held b n.last stop (engine_of n.last_run) other n.ends in
     cut_at rules (λ (last : Seen _). CutForMemory rules allows seen last a b) first stop seen p n.last (last_stop p n talks (end_quietly Tells fault n.last_held b n.last stop (engine_of n.last_run) other n.ends))
-    (λ keeps. speaks_on rules n.last stop (engine_of n.last_run) p.told talks (last_gone p n keeps).moved.settled (gone_rules (last_gone p n keeps))) (λ keeps.
-    some-so rules allows 1000 0 (n.text ++ n.rounds.text) a b first n.last seen (engine_of n.last_run) p.opened (within_none (last_gone p n keeps)) (omega arith) keeps
+    (λ keeps. speaks_on rules n.last stop (engine_of n.last_run) p.told talks (last_gone p n keeps).2.moved.settled (gone_rules (last_gone p n keeps).2)) (λ keeps.
+    some-so rules allows (last_gone p n keeps).0 0 (n.text ++ n.rounds.text) a b first n.last seen (engine_of n.last_run) p.opened (within_none (last_gone p n keeps).2) (last_gone p n keeps).1 keeps
     (end_held Tells fault n.last_held b n.last stop (engine_of n.last_run) other n.ends ∙ last_held p n))
 
-end_lines : {Own : Type 0} {rules : List AppValue} {Tells : Type 0} {accepts : List TableView → Bool} {allows : List Place → Bool} {most : ℕ} {fault : Fault} {a b : Option (List ℕ)} {first stop seen : Seen Own} (p : Supposed rules Tells accepts allows most first stop seen) (n : CutEnding Tells accepts most fault a b first stop (engine_at_first rules)) → IsOutside fault → CutWithLines rules allows seen a b
+end_lines : {Own : Type 0} {rules : List AppValue} {Tells : Type 0} {accepts : List TableView → Bool} {allows : List Place → Bool} {most : ℕ} {fault : Fault} {a b : Option (List ℕ)} {first stop seen : Seen Own} (p : Supposed rules Tells accepts allows first stop seen) (n : CutEnding Tells accepts most fault a b first stop (engine_at_first rules)) → IsOutside fault → CutWithLines rules allows seen a b
 end_lines {rules = rules} {Tells = Tells} {allows = allows} {fault = fault} {a = a} {b = b} {first = first} {stop = stop} {seen = seen} p n out =
     let other = not_write fault out in
     let talks = end_talks Tells fault n.last_held b n.last stop (engine_of n.last_run) other n.ends in
     cut_at rules (λ (last : Seen _). CutBehindLines rules allows last a b) first stop seen p n.last (last_stop p n talks (end_quietly Tells fault n.last_held b n.last stop (engine_of n.last_run) other n.ends))
-    (λ keeps. speaks_on rules n.last stop (engine_of n.last_run) p.told talks (last_gone p n keeps).moved.settled (gone_rules (last_gone p n keeps))) (λ keeps.
-    lines-so rules allows 1000 0 (n.text ++ n.rounds.text) a b first n.last (engine_of n.last_run) p.opened (within_none (last_gone p n keeps)) (omega arith) (inr (inl n.none_left)) keeps
+    (λ keeps. speaks_on rules n.last stop (engine_of n.last_run) p.told talks (last_gone p n keeps).2.moved.settled (gone_rules (last_gone p n keeps).2)) (λ keeps.
+    lines-so rules allows (last_gone p n keeps).0 0 (n.text ++ n.rounds.text) a b first n.last (engine_of n.last_run) p.opened (within_none (last_gone p n keeps).2) (last_gone p n keeps).1 (inr (inl n.none_left)) keeps
     (end_held Tells fault n.last_held b n.last stop (engine_of n.last_run) other n.ends ∙ last_held p n))
 
-end_writing : {Own : Type 0} {rules : List AppValue} {Tells : Type 0} {accepts : List TableView → Bool} {allows : List Place → Bool} {most : ℕ} {a b : Option (List ℕ)} {first stop seen : Seen Own} (p : Supposed rules Tells accepts allows most first stop seen) (n : CutEnding Tells accepts most faults.Write a b first stop (engine_at_first rules)) → CutWriting rules allows seen a b
+end_writing : {Own : Type 0} {rules : List AppValue} {Tells : Type 0} {accepts : List TableView → Bool} {allows : List Place → Bool} {most : ℕ} {a b : Option (List ℕ)} {first stop seen : Seen Own} (p : Supposed rules Tells accepts allows first stop seen) (n : CutEnding Tells accepts most faults.Write a b first stop (engine_at_first rules)) → CutWriting rules allows seen a b
 end_writing {rules = rules} {allows = allows} {a = a} {b = b} {first = first} {stop = stop} {seen = seen} p n =
     let cut = n.ends in
     let reads = reads_then first n.last stop net_at_first n.last_run.core.net cut.now_net (last_on p n) n.later (last_read p n) cut.reads in
     writing_at rules a b first stop seen p (keeps_to first stop p.told p.opened p.before reads) (λ keeps.
     let gone = last_gone p n (Conforming-before p.told n.later keeps) in
-    let shown = cut.shown p.told keeps gone.moved.settled.calm in
-    end-so rules allows shown.lost (n.text ++ n.rounds.text) cut.more a b first n.last stop (engine_of n.last_run) p.opened gone n.none_left shown.text_is shown.leaves keeps
+    let shown = cut.shown p.told keeps gone.2.moved.settled.calm in
+    end-so rules allows gone.0 shown.lost (n.text ++ n.rounds.text) cut.more a b first n.last stop (engine_of n.last_run) p.opened gone.2 gone.1 n.none_left shown.text_is shown.leaves keeps
     (subst (λ (held : Option (List ℕ)). TookPart held b cut.more) (last_held p n) cut.part))
 
 -- ---- All of it
 
-goes_alike : {Own : Type 0} {rules : List AppValue} {Tells : Type 0} {accepts : List TableView → Bool} {allows : List Place → Bool} {most : ℕ} {fault : Fault} {a b : Option (List ℕ)} {first stop seen : Seen Own} (p : Supposed rules Tells accepts allows most first stop seen) → NotWrite fault → CutGoes Tells accepts most fault a b first stop (engine_at_first rules) → CutAlike rules allows seen a b
+goes_alike : {Own : Type 0} {rules : List AppValue} {Tells : Type 0} {accepts : List TableView → Bool} {allows : List Place → Bool} {most : ℕ} {fault : Fault} {a b : Option (List ℕ)} {first stop seen : Seen Own} (p : Supposed rules Tells accepts allows first stop seen) → NotWrite fault → CutGoes Tells accepts most fault a b first stop (engine_at_first rules) → CutAlike rules allows seen a b
 goes_alike {rules = rules} {Tells = Tells} {fault = fault} {a = a} {b = b} {first = first} {stop = stop} p other (inl cut) = start_alike rules p (start_held Tells fault a b first stop (engine_at_first rules) other cut) (start_talks Tells fault a b first stop (engine_at_first rules) other cut) (start_quietly Tells fault a b first stop (engine_at_first rules) other cut)
 goes_alike p other (inr (inl g)) = round_alike p g other g.rounds.round
 goes_alike p other (inr (inr n)) = end_alike p n other
 
-goes_lines : {Own : Type 0} {rules : List AppValue} {Tells : Type 0} {accepts : List TableView → Bool} {allows : List Place → Bool} {most : ℕ} {fault : Fault} {a b : Option (List ℕ)} {first stop seen : Seen Own} (p : Supposed rules Tells accepts allows most first stop seen) → IsOutside fault → CutGoes Tells accepts most fault a b first stop (engine_at_first rules) → CutWithLines rules allows seen a b
+goes_lines : {Own : Type 0} {rules : List AppValue} {Tells : Type 0} {accepts : List TableView → Bool} {allows : List Place → Bool} {most : ℕ} {fault : Fault} {a b : Option (List ℕ)} {first stop seen : Seen Own} (p : Supposed rules Tells accepts allows first stop seen) → IsOutside fault → CutGoes Tells accepts most fault a b first stop (engine_at_first rules) → CutWithLines rules allows seen a b
 goes_lines {rules = rules} {Tells = Tells} {fault = fault} {a = a} {b = b} {first = first} {stop = stop} p out (inl cut) = absurd (start_none Tells fault a b first stop (engine_at_first rules) out cut)
 goes_lines p out (inr (inl g)) = round_lines p g out g.rounds.round
 goes_lines p out (inr (inr n)) = end_lines p n out
 
-goes_writing : {Own : Type 0} {rules : List AppValue} {Tells : Type 0} {accepts : List TableView → Bool} {allows : List Place → Bool} {most : ℕ} {a b : Option (List ℕ)} {first stop seen : Seen Own} (p : Supposed rules Tells accepts allows most first stop seen) → CutGoes Tells accepts most faults.Write a b first stop (engine_at_first rules) → CutWriting rules allows seen a b
+goes_writing : {Own : Type 0} {rules : List AppValue} {Tells : Type 0} {accepts : List TableView → Bool} {allows : List Place → Bool} {most : ℕ} {a b : Option (List ℕ)} {first stop seen : Seen Own} (p : Supposed rules Tells accepts allows first stop seen) → CutGoes Tells accepts most faults.Write a b first stop (engine_at_first rules) → CutWriting rules allows seen a b
 goes_writing p (inl cut) = start_writing p cut
 goes_writing p (inr (inl g)) = round_writing p g g.rounds.round
 goes_writing p (inr (inr n)) = end_writing p n
 
-by_fault : {Own : Type 0} {Tells : Type 0} {accepts : List TableView → Bool} {allows : List Place → Bool} {most : ℕ} {a b : Option (List ℕ)} {first stop seen : Seen Own} (rules : List AppValue) (fault : Fault) (p : Supposed rules Tells accepts allows most first stop seen) → CutGoes Tells accepts most fault a b first stop (engine_at_first rules)
+by_fault : {Own : Type 0} {Tells : Type 0} {accepts : List TableView → Bool} {allows : List Place → Bool} {most : ℕ} {a b : Option (List ℕ)} {first stop seen : Seen Own} (rules : List AppValue) (fault : Fault) (p : Supposed rules Tells accepts allows first stop seen) → CutGoes Tells accepts most fault a b first stop (engine_at_first rules)
     → IsCut rules allows seen a b (served_by fault)
 by_fault rules faults.Write p goes = goes_writing p goes
 by_fault rules faults.Next p goes = goes_lines p tt goes
@@ -512,8 +510,8 @@ by_fault rules (faults.Txn fault) p goes = goes_lines p tt goes
 by_fault rules faults.NoMemory p goes = inl (goes_alike p tt goes)
 
 -- Of a world that was opened, however far it keeps its word.
-pub so_cut : {Own : Type 0} (rules : List AppValue) (Tells : Type 0) (accepts : List TableView → Bool) (allows : List Place → Bool) (most : ℕ) (end : Served) (a b : Option (List ℕ)) (old first seen : Seen Own) → PremiseSoFar Tells accepts allows most old seen → IsOpened first
+pub so_cut : {Own : Type 0} (rules : List AppValue) (Tells : Type 0) (accepts : List TableView → Bool) (allows : List Place → Bool) (most : ℕ) (end : Served) (a b : Option (List ℕ)) (old first seen : Seen Own) → PremiseSoFar Tells accepts allows old → IsOpened first
     → Continues Tells first seen → CallsAmong (length rules) first seen → CutRun Tells accepts most end a b first seen (engine_at_first rules) → IsCut rules allows seen a b end
 so_cut rules Tells accepts allows most end a b old first seen premise opened whole own cut =
-    let p : Supposed rules Tells accepts allows most first cut.stop seen = record { told = premise.told; judges = premise.judges; opened = opened; few = premise.few; whole = whole; before = cut.before; later = cut.later; talks = cut.talks; quiet = cut.no_point.none_quiescent premise.told; none_moves = cut.none_moves; own = own } in
+    let p : Supposed rules Tells accepts allows first cut.stop seen = record { told = premise.told; judges = premise.judges; opened = opened; whole = whole; before = cut.before; later = cut.later; talks = cut.talks; quiet = cut.no_point.none_quiescent premise.told; none_moves = cut.none_moves; own = own } in
     subst (IsCut rules allows seen a b) (sym cut.end_is) (by_fault rules cut.fault p cut.goes)

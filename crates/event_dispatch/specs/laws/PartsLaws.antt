@@ -199,7 +199,7 @@ then_fails accepts most a b k l old mid new e (Ok x) first later fell talks no_p
 then_fails {Tells = Tells} accepts most a b k l old mid new e (Err end) first later fell talks no_point none_moves fails = record {
   cut = goes_on_cut Tells accepts most (Err end) a b old mid new e later talks no_point none_moves fails.cut;
   why = why_still old mid new k l end first later fell fails.why;
-  plain = whole_then accepts most old mid new e (Err end) later fails.plain;
+  plain = whole_then accepts old mid new e (Err end) later fails.plain;
 }
 
 -- ---- From an engine before anything happened

@@ -40,7 +40,6 @@ use Rattle.run_laws.specs.Engine.{Engine}
 use Rattle.run_laws.specs.laws.CalmLaws.{stands_ready}
 use Rattle.run_laws.specs.laws.FirstLaws.{settled-first}
 use Rattle.run_laws.specs.First.{engine_at_first}
-use Rattle.run_laws.specs.laws.StimuliLaws.{fewer-before}
 use Rattle.run_laws.specs.Promise.{Premise}
 use Rattle.run_laws.specs.laws.LastReportLaws.{joined-with}
 use Rattle.run_laws.specs.Moves.{AtRest}
@@ -64,7 +63,7 @@ use Rattle.event_dispatch.specs.laws.RoundLaws.{stays_engine, batch_is}
 use Rattle.event_dispatch.specs.laws.CutLaws.{partly_gone}
 use Rattle.event_dispatch.specs.Cut.{FailsNext}
 use Rattle.event_dispatch.specs.laws.WholeLaws.{opened_is}
-use Rattle.event_dispatch.specs.Plain.{IsPlainServed, IsPlainEnd, PlainRead, PlainJoin, PlainItem, PlainNext, PlainKept, PlainCalm, PlainTurn, PlainTable, PlainRun, PlainWhole, EndsPlain}
+use Rattle.event_dispatch.specs.Plain.{IsPlainServed, IsPlainEnd, PlainRead, PlainJoin, PlainItem, PlainNext, PlainKept, PlainCalm, PlainTurn, PlainTable, PlainRun, EndsPlain}
 
 -- ---- Want of memory, and faults of the network
 
@@ -286,35 +285,35 @@ run_rounds old mid new r then_r end first rounds later rest = record {
 
 -- ---- A whole run
 
-pub whole_anyway : {Own : Type 0} {Tells : Type 0} {accepts : List TableView → Bool} {most : ℕ} (old new : Seen Own) (e : Engine) (end : Served) → IsPlainServed end → PlainWhole Tells accepts most old new e end
-whole_anyway old new e end plain = record { plain = λ allows told keeps judges settled few. inl plain }
+pub whole_anyway : {Own : Type 0} {Tells : Type 0} {accepts : List TableView → Bool} (old new : Seen Own) (e : Engine) (end : Served) → IsPlainServed end → PlainRun Tells accepts old new e end
+whole_anyway old new e end plain = record { plain = λ allows told keeps judges settled. inl plain }
 
 begun_settled : {Own : Type 0} {Tells : Type 0} {a b : Option (List ℕ)} {old mid : Seen Own} {r then_r : Run} → Begins Tells a b old mid r then_r → Tells → Conforming mid → AtRest old (engine_of r) → AtRest mid (engine_of then_r)
 begun_settled begins told keeps settled = (begins.shown.moved told keeps settled).settled
 
-pub whole_rounds : {Own : Type 0} {Tells : Type 0} {accepts : List TableView → Bool} {most : ℕ} {a b : Option (List ℕ)} (old mid new : Seen Own) (r then_r : Run) (end : Served) → Continues Tells old mid → Begins Tells a b old mid r then_r → Continues Tells mid new
-    → PlainRun Tells accepts mid new (engine_of then_r) end → PlainWhole Tells accepts most old new (engine_of r) end
+pub whole_rounds : {Own : Type 0} {Tells : Type 0} {accepts : List TableView → Bool} {a b : Option (List ℕ)} (old mid new : Seen Own) (r then_r : Run) (end : Served) → Continues Tells old mid → Begins Tells a b old mid r then_r → Continues Tells mid new
+    → PlainRun Tells accepts mid new (engine_of then_r) end → PlainRun Tells accepts old new (engine_of r) end
 whole_rounds old mid new r then_r end first begins later rest = record {
-  plain = λ allows told keeps judges settled few.
+  plain = λ allows told keeps judges settled.
       ends_behind old mid new end (first.told told) (rest.plain allows told keeps judges (begun_settled begins told (Conforming-before told later keeps) settled));
 }
 
 pub whole_finish : {Own : Type 0} {Tells : Type 0} {accepts : List TableView → Bool} {most : ℕ} {a b c : Option (List ℕ)} (old mid last new : Seen Own) (r then_r last_r : Run) (result : Result (Unit {0}) Served) → Begins Tells a b old mid r then_r → Continues Tells mid last
-    → GoesToEnd Tells accepts most b c mid last then_r last_r → Continues Tells last new → IfErr result (PlainCalm Tells last new last_r.core.net) → IfErr result (PlainWhole Tells accepts most old new (engine_of r))
+    → GoesToEnd Tells accepts most b c mid last then_r last_r → Continues Tells last new → IfErr result (PlainCalm Tells last new last_r.core.net) → IfErr result (PlainRun Tells accepts old new (engine_of r))
 whole_finish old mid last new r then_r last_r (Ok x) begins on rounds later ends = tt
 whole_finish {Tells = Tells} old mid last new r then_r last_r (Err end) begins on rounds later ends = record {
-  plain = λ allows told keeps judges settled few.
+  plain = λ allows told keeps judges settled.
       let keeps_last = Conforming-before told later keeps in
       let then_settled = begun_settled begins told (Conforming-before told on keeps_last) settled in
-      let all = rounds.shown.to_end allows told keeps_last judges then_settled (fewer-before Tells last new told later few) in
+      let all = rounds.shown.to_end allows told keeps_last judges then_settled in
       inl (ends.plain told keeps all.moved.settled.calm);
 }
 
-pub whole_then : {Own : Type 0} {Tells : Type 0} (accepts : List TableView → Bool) (most : ℕ) (old mid new : Seen Own) (e : Engine) (result : Result (Unit {0}) Served) → Continues Tells mid new → IfErr result (PlainWhole Tells accepts most old mid e) → IfErr result (PlainWhole Tells accepts most old new e)
-whole_then accepts most old mid new e (Ok x) later whole = tt
-whole_then {Tells = Tells} accepts most old mid new e (Err end) later whole = record {
-  plain = λ allows told keeps judges settled few.
-      ends_before old mid new end told later (whole.plain allows told (Conforming-before told later keeps) judges settled (fewer-before Tells mid new told later few));
+pub whole_then : {Own : Type 0} {Tells : Type 0} (accepts : List TableView → Bool) (old mid new : Seen Own) (e : Engine) (result : Result (Unit {0}) Served) → Continues Tells mid new → IfErr result (PlainRun Tells accepts old mid e) → IfErr result (PlainRun Tells accepts old new e)
+whole_then accepts old mid new e (Ok x) later whole = tt
+whole_then {Tells = Tells} accepts old mid new e (Err end) later whole = record {
+  plain = λ allows told keeps judges settled.
+      ends_before old mid new end told later (whole.plain allows told (Conforming-before told later keeps) judges settled);
 }
 
 -- a run that was opened
@@ -327,7 +326,7 @@ unopened_plain Tells old new (ends.Txn fault) is = absurd is
 unopened_plain Tells old new (ends.EventsLeft left) is = tt
 unopened_plain Tells old new ends.NoMemory is = tt
 
-pub served_plain : {Own : Type 0} (rules : List AppValue) (Tells : Type 0) (accepts : List TableView → Bool) (most : ℕ) (end : Served) (old mid new : Seen Own) → (Tells → mid.history ≡ old.history ++ Opened ∷ []) → PlainWhole Tells accepts most mid new (engine_at_first rules) end
-    → (allows : List Place → Bool) → Premise Tells accepts allows most old new → EndsPlain old new end
-served_plain rules Tells accepts most end old mid new opened whole allows p =
-    ends_behind old mid new end (Opened ∷ [], opened p.told) (whole.plain allows p.told p.keeps p.judges (settled-first rules mid (opened_is old mid p.untouched (opened p.told))) p.few)
+pub served_plain : {Own : Type 0} (rules : List AppValue) (Tells : Type 0) (accepts : List TableView → Bool) (end : Served) (old mid new : Seen Own) → (Tells → mid.history ≡ old.history ++ Opened ∷ []) → PlainRun Tells accepts mid new (engine_at_first rules) end
+    → (allows : List Place → Bool) → Premise Tells accepts allows old new → EndsPlain old new end
+served_plain rules Tells accepts end old mid new opened whole allows p =
+    ends_behind old mid new end (Opened ∷ [], opened p.told) (whole.plain allows p.told p.keeps p.judges (settled-first rules mid (opened_is old mid p.untouched (opened p.told))))

@@ -25,7 +25,7 @@ use Rattle.run_laws.specs.Readings.{JudgesAlike}
 use Rattle.run_laws.specs.laws.StimuliLaws.{none-later}
 use Rattle.run_laws.specs.laws.MoveLaws.{shown-none, shown-then, shown-as}
 use Rattle.run_laws.specs.laws.DispatchWaitingLaws.{settle-times, times-more, times-stop}
-use Rattle.run_laws.specs.laws.RoundLaws.{rounds-none, rounds-more, rounds-end}
+use Rattle.run_laws.specs.laws.RoundLaws.{rounds-none, rounds-more, rounds-end, rounds-spent}
 use Rattle.run_laws.specs.laws.StartShownLaws.{start-shown}
 use Rattle.run_laws.specs.laws.EventLaws.{next-shown, rest-shown}
 use Rattle.event_dispatch.specs.declared.batch.Rest.{Rest}
@@ -238,13 +238,13 @@ rounds_next Tells accepts n a b c old mid new r then_r now_r rounds one = record
   writes = round_written rounds.text one.noted one.dispatches.text a b one.held c then_r.core now_r.core rounds.writes one.written one.dispatches.writes;
 }
 
-pub rounds_last : {Own : Type 0} (Tells : Type 0) (accepts : List TableView → Bool) (most n : ℕ) (a b c : Option (List ℕ)) (old mid new : Seen Own) (r then_r now_r : Run) → GoesRounds Tells accepts n a b old mid r then_r → GoesRound Tells accepts rests.End b c mid new then_r now_r
+pub rounds_last : {Own : Type 0} (Tells : Type 0) (accepts : List TableView → Bool) (most n : ℕ) (a b c : Option (List ℕ)) (old mid new : Seen Own) (r then_r now_r : Run) → n < most → GoesRounds Tells accepts n a b old mid r then_r → GoesRound Tells accepts rests.End b c mid new then_r now_r
     → GoesToEnd Tells accepts most a c old new r now_r
-rounds_last Tells accepts most n a b c old mid new r then_r now_r rounds one = record {
+rounds_last Tells accepts most n a b c old mid new r then_r now_r few rounds one = record {
   text = (rounds.text ++ one.noted) ++ one.dispatches.text;
-  shown = rounds-end Tells accepts n most rounds.text one.noted one.dispatches.text old mid one.mid new (engine_of r) (engine_of then_r) (engine_of one.mid_run) (engine_of now_r) one.first one.later rounds.shown one.batch.over one.dispatches.shown;
+  shown = rounds-end Tells accepts n most rounds.text one.noted one.dispatches.text old mid one.mid new (engine_of r) (engine_of then_r) (engine_of one.mid_run) (engine_of now_r) few one.first one.later rounds.shown one.batch.over one.dispatches.shown;
   none_to_come = record {
-    none = λ allows told keeps judges settled few.
+    none = λ allows told keeps judges settled fewer.
         let keeps_mid = Conforming-before told one.later keeps in
         let then_settled = (rounds.shown.rounds_is allows told (Conforming-before told one.first keeps_mid) judges settled).moved.settled in
         none-later Tells mid new told (Continues-trans Tells mid one.mid new one.first one.later) keeps (one.batch.none_to_come told keeps_mid then_settled);
@@ -252,11 +252,11 @@ rounds_last Tells accepts most n a b c old mid new r then_r now_r rounds one = r
   writes = round_written rounds.text one.noted one.dispatches.text a b one.held c then_r.core now_r.core rounds.writes one.written one.dispatches.writes;
 }
 
--- so many rounds that there are not so many stimuli
-pub rounds_out : {Own : Type 0} (Tells : Type 0) (accepts : List TableView → Bool) (most n : ℕ) (a b : Option (List ℕ)) (old new : Seen Own) (r now_r : Run) → most ≤ n → GoesRounds Tells accepts n a b old new r now_r → GoesToEnd Tells accepts most a b old new r now_r
+-- all of them, each with a stimulus
+pub rounds_out : {Own : Type 0} (Tells : Type 0) (accepts : List TableView → Bool) (most n : ℕ) (a b : Option (List ℕ)) (old new : Seen Own) (r now_r : Run) → n ≡ most → GoesRounds Tells accepts n a b old new r now_r → GoesToEnd Tells accepts most a b old new r now_r
 rounds_out {Own} Tells accepts most n a b old new r now_r many rounds = record {
   text = rounds.text;
-  shown = record { to_end = λ allows told keeps judges settled few. absurd (never allows told keeps judges settled few) };
+  shown = rounds-spent Tells accepts n most rounds.text old new (engine_of r) (engine_of now_r) many rounds.shown;
   none_to_come = record { none = λ allows told keeps judges settled few. absurd (never allows told keeps judges settled few) };
   writes = rounds.writes;
 }

@@ -21,7 +21,7 @@ use Rattle.switch_laws.specs.laws.OrderlyLaws.{orderly-none}
 use Rattle.run_laws.specs.Engine.{Engine}
 use Rattle.run_laws.specs.laws.FirstLaws.{settled-first}
 use Rattle.run_laws.specs.First.{IsOpened, app_at_first, engine_at_first}
-use Rattle.run_laws.specs.laws.StimuliLaws.{none-later, fewer-front, fewer-before}
+use Rattle.run_laws.specs.laws.StimuliLaws.{none-later, fewer-before, took-first}
 use Rattle.run_laws.specs.LastReport.{last_text}
 use Rattle.run_laws.specs.Endings.{Leaves, ShownStart, ShownFinish, ShownLeaves}
 use Rattle.run_laws.specs.Cut.{CallsAmong}
@@ -285,7 +285,7 @@ cut_unopened rules Tells contents old new served.WriteFault left allows told non
 cut_unopened rules Tells contents old new served.NextFault left allows told none = absurd left
 cut_unopened rules Tells contents old new (served.Txn fault) left allows told none = absurd left
 
-pub alike_unopened : {Own : Type 0} (rules : List AppValue) (Tells : Type 0) (accepts : List TableView → Bool) (most : ℕ) (contents : Option (List ℕ)) (old new : Seen Own) (end : Served) → IsUnopened Tells old new end → (allows : List Place → Bool) → Premise Tells accepts allows most old new → IsAlike rules allows new contents contents end
+pub alike_unopened : {Own : Type 0} (rules : List AppValue) (Tells : Type 0) (accepts : List TableView → Bool) (most : ℕ) (contents : Option (List ℕ)) (old new : Seen Own) (end : Served) → IsUnopened Tells old new end → (allows : List Place → Bool) → Premise Tells accepts allows old new → IsAlike rules allows most new contents contents end
 alike_unopened rules Tells accepts most contents old new served.Shut left allows p = cut_unopened rules Tells contents old new served.Shut left allows p.told p.untouched
 alike_unopened rules Tells accepts most contents old new served.NoMemory left allows p = cut_unopened rules Tells contents old new served.NoMemory left allows p.told p.untouched
 alike_unopened rules Tells accepts most contents old new (served.EventsLeft n) left allows p = absurd left
@@ -295,12 +295,13 @@ alike_unopened rules Tells accepts most contents old new served.NextFault left a
 alike_unopened rules Tells accepts most contents old new (served.Txn fault) left allows p = absurd left
 
 pub alike_done : {Own : Type 0} (rules : List AppValue) (Tells : Type 0) (accepts : List TableView → Bool) (most events : ℕ) (a b : Option (List ℕ)) (old mid new : Seen Own) → (Tells → mid.history ≡ old.history ++ Opened ∷ []) → RunsAs rules Tells accepts most (Ok events) a b mid new
-    → (allows : List Place → Bool) → Premise Tells accepts allows most old new → IsAlike rules allows new a b (served.Ended events)
+    → (allows : List Place → Bool) → Premise Tells accepts allows old new → IsAlike rules allows most new a b (served.Ended events)
 alike_done rules Tells accepts most events a b old mid new opened runs allows p =
     let is = opened_is old mid p.untouched (opened p.told) in
-    subst (λ (n : ℕ). IsAlike rules allows new a b (served.Ended n)) (sym runs.events_is) (record {
-      alike = ran-out rules Tells accepts allows most a b mid new runs.last p.told p.keeps p.judges is p.few runs.out;
-      none_to_come = runs.none_to_come.none allows p.told p.keeps p.judges (settled-first rules mid is) p.few;
+    let ran = ran-out rules Tells accepts allows most a b mid new runs.last p.told p.keeps p.judges is runs.out in
+    subst (λ (n : ℕ). IsAlike rules allows most new a b (served.Ended n)) (sym runs.events_is) (record {
+      alike = ran.0;
+      took_first = took-first most new p.keeps ran.1 (λ few. runs.none_to_come.none allows p.told p.keeps p.judges (settled-first rules mid is) few);
     })
 
 -- no other application was called than those of the policy
@@ -309,7 +310,7 @@ rules_own {old = old} {new = new} rules own told = subst (λ (n : ℕ). CallsAmo
 
 -- a fault ended it
 pub cut_failed : {Own : Type 0} (rules : List AppValue) (Tells : Type 0) (accepts : List TableView → Bool) (most : ℕ) (end : Served) (a b : Option (List ℕ)) (old mid new : Seen Own) → (Tells → mid.history ≡ old.history ++ Opened ∷ []) → Continues Tells mid new → (Tells → CallsAmong (length rules) mid new) → RunsAs rules Tells accepts most (Err end) a b mid new
-    → CutAs Tells accepts most end a b mid new (engine_at_first rules) → (allows : List Place → Bool) → PremiseSoFar Tells accepts allows most old new → IsCut rules allows new a b end
+    → CutAs Tells accepts most end a b mid new (engine_at_first rules) → (allows : List Place → Bool) → PremiseSoFar Tells accepts allows old → IsCut rules allows new a b end
 cut_failed rules Tells accepts most (served.EventsLeft left) a b old mid new opened on own runs cut allows p = tt
 cut_failed rules Tells accepts most (served.Ended events) a b old mid new opened on own runs cut allows p = absurd runs
 cut_failed rules Tells accepts most served.WriteFault a b old mid new opened on own runs cut allows p = so_cut rules Tells accepts allows most served.WriteFault a b old mid new p (opened_is old mid p.untouched (opened p.told)) on (own p.told) cut
@@ -319,23 +320,24 @@ cut_failed rules Tells accepts most (served.Txn fault) a b old mid new opened on
 cut_failed rules Tells accepts most served.NoMemory a b old mid new opened on own runs cut allows p = so_cut rules Tells accepts allows most served.NoMemory a b old mid new p (opened_is old mid p.untouched (opened p.told)) on (own p.told) cut
 
 -- one that keeps its word to the end does so up to every point
-premise_so_far : {Own : Type 0} (Tells : Type 0) (accepts : List TableView → Bool) (allows : List Place → Bool) (most : ℕ) (old new : Seen Own) → Premise Tells accepts allows most old new → PremiseSoFar Tells accepts allows most old new
-premise_so_far Tells accepts allows most old new p = record { told = p.told; judges = p.judges; untouched = p.untouched; few = λ front keeps given later. fewer-front front new later p.few }
+premise_so_far : {Own : Type 0} (Tells : Type 0) (accepts : List TableView → Bool) (allows : List Place → Bool) (old new : Seen Own) → Premise Tells accepts allows old new → PremiseSoFar Tells accepts allows old
+premise_so_far Tells accepts allows old new p = record { told = p.told; judges = p.judges; untouched = p.untouched }
 
 pub alike_failed : {Own : Type 0} (rules : List AppValue) (Tells : Type 0) (accepts : List TableView → Bool) (most : ℕ) (end : Served) (a b : Option (List ℕ)) (old mid new : Seen Own) → (Tells → mid.history ≡ old.history ++ Opened ∷ []) → Continues Tells mid new → (Tells → CallsAmong (length rules) mid new) → RunsAs rules Tells accepts most (Err end) a b mid new
-    → CutAs Tells accepts most end a b mid new (engine_at_first rules) → (allows : List Place → Bool) → Premise Tells accepts allows most old new → IsAlike rules allows new a b end
+    → CutAs Tells accepts most end a b mid new (engine_at_first rules) → (allows : List Place → Bool) → Premise Tells accepts allows old new → IsAlike rules allows most new a b end
 alike_failed rules Tells accepts most (served.EventsLeft left) a b old mid new opened on own runs cut allows p =
     let is = opened_is old mid p.untouched (opened p.told) in
+    let ran = ran-full rules Tells accepts allows most left a b mid new p.told p.keeps p.judges is runs.full in
     record {
-      alike = ran-full rules Tells accepts allows most left a b mid new p.told p.keeps p.judges is p.few runs.full;
-      none_to_come = runs.none_to_come.none allows p.told p.keeps p.judges (settled-first rules mid is) p.few;
+      alike = ran.0;
+      took_first = took-first most new p.keeps ran.1 (λ few. runs.none_to_come.none allows p.told p.keeps p.judges (settled-first rules mid is) few);
     }
 alike_failed rules Tells accepts most (served.Ended events) a b old mid new opened on own runs cut allows p = absurd runs
-alike_failed rules Tells accepts most served.WriteFault a b old mid new opened on own runs cut allows p = cut_failed rules Tells accepts most served.WriteFault a b old mid new opened on own runs cut allows (premise_so_far Tells accepts allows most old new p)
-alike_failed rules Tells accepts most served.Shut a b old mid new opened on own runs cut allows p = cut_failed rules Tells accepts most served.Shut a b old mid new opened on own runs cut allows (premise_so_far Tells accepts allows most old new p)
-alike_failed rules Tells accepts most served.NextFault a b old mid new opened on own runs cut allows p = cut_failed rules Tells accepts most served.NextFault a b old mid new opened on own runs cut allows (premise_so_far Tells accepts allows most old new p)
-alike_failed rules Tells accepts most (served.Txn fault) a b old mid new opened on own runs cut allows p = cut_failed rules Tells accepts most (served.Txn fault) a b old mid new opened on own runs cut allows (premise_so_far Tells accepts allows most old new p)
-alike_failed rules Tells accepts most served.NoMemory a b old mid new opened on own runs cut allows p = cut_failed rules Tells accepts most served.NoMemory a b old mid new opened on own runs cut allows (premise_so_far Tells accepts allows most old new p)
+alike_failed rules Tells accepts most served.WriteFault a b old mid new opened on own runs cut allows p = cut_failed rules Tells accepts most served.WriteFault a b old mid new opened on own runs cut allows (premise_so_far Tells accepts allows old new p)
+alike_failed rules Tells accepts most served.Shut a b old mid new opened on own runs cut allows p = cut_failed rules Tells accepts most served.Shut a b old mid new opened on own runs cut allows (premise_so_far Tells accepts allows old new p)
+alike_failed rules Tells accepts most served.NextFault a b old mid new opened on own runs cut allows p = cut_failed rules Tells accepts most served.NextFault a b old mid new opened on own runs cut allows (premise_so_far Tells accepts allows old new p)
+alike_failed rules Tells accepts most (served.Txn fault) a b old mid new opened on own runs cut allows p = cut_failed rules Tells accepts most (served.Txn fault) a b old mid new opened on own runs cut allows (premise_so_far Tells accepts allows old new p)
+alike_failed rules Tells accepts most served.NoMemory a b old mid new opened on own runs cut allows p = cut_failed rules Tells accepts most served.NoMemory a b old mid new opened on own runs cut allows (premise_so_far Tells accepts allows old new p)
 
 -- what ends a run before its end promises nothing of it
 fault_finishes : {Own : Type 0} (Tells : Type 0) (fault : Fault) (a b : Option (List ℕ)) (old new : Seen Own) (r now_r : Run) → Finishes Tells (Err (served_by fault)) a b old new r now_r

@@ -1,6 +1,6 @@
 -- Laws of runs that a fault ends: their parts are the run of the reference controller so far.
 use Rattle.std.specs.List.{AllByRecursion, list_any}
-use Rattle.std.proofs.Common.{◌≡◌, ◌⊎◌, ℕ, ◌+◌, ◌<◌, ◌≤◌, ◌||◌, Bool, true, false, List, [], ◌∷◌, ◌++◌, length, drop, Option, refl, sym, ap, ap₂, ◌∙◌, subst, arith, inl, inr}
+use Rattle.std.proofs.Common.{◌≡◌, ◌==◌, ◌⊎◌, ℕ, ◌+◌, ◌<◌, ◌≤◌, ◌||◌, Bool, true, false, List, [], ◌∷◌, ◌++◌, length, drop, Option, refl, sym, ap, ap₂, ◌∙◌, subst, arith, inl, inr}
 use Rattle.std.specs.Io.KnownBytes.{append_known}
 use Rattle.std.proofs.lemmas.List.{append-nil}
 use Rattle.std.proofs.Math.Seq.{drop-length}
@@ -12,7 +12,7 @@ use Rattle.lego_io.specs.laws.ToldLaws.{append_known-nil}
 use Rattle.lego_model.specs.Journal.{Reply, Start}
 use Rattle.lego_model.specs.Places.{Place}
 use Rattle.lego_model.specs.Losses.{Losses}
-use Rattle.lego_model.specs.Controller.{App, Run, happen}
+use Rattle.lego_model.specs.Controller.{App, Run, happen, settle_last}
 use Rattle.outside.specs.Seen.{Given, Seen, journal}
 use Rattle.outside.specs.Conforming.{Conforming}
 use Rattle.lego_model.specs.History.{starts_in, replies_in, own_acts, stimuli_in, lost_of}
@@ -112,15 +112,31 @@ gone-next-losses allows n first second a b c e1 e2 e3 g more later =
     ∙ moved-so-losses (xs ++ []) xs (λ r. dispatch_next allows (f r)) (first ++ second) a c e1 e3 (append-nil xs) then later
     ∙ moved-then-losses xs [] f (dispatch_next allows) first second a b c e1 e2 e3 g.moved more later
 
+-- how many events are dispatched behind the last stimulus, at most
+abbrev pub last_events : (spent : Bool) → ℕ
+last_events true = 0
+last_events false = 1000
+
+pub last-few : (spent : Bool) → last_events spent ≤ 1000
+last-few true = omega arith
+last-few false = omega arith
+
+settled-times : (allows : List Place → Bool) (spent : Bool) (r : Run) → settle_last allows spent r ≡ times (last_events spent) (dispatch_next allows) r
+settled-times allows true r = refl
+settled-times allows false r = sym (settle-times allows r)
+
 -- up to the last batch, with the events behind it
-pub gone-whole : {Own : Type 0} (allows : List Place → Bool) (text : List ℕ) (a b : Seen Own) (e1 e2 : Engine) → WholeMoves allows text a b e1 e2 → GoneSoFar allows true 1000 text a b e1 e2
-gone-whole allows text a b e1 e2 w = record {
-  stimuli = w.stimuli;
-  begun = [];
-  begun_one = omega arith;
-  moved = subst (λ (xs : List WorldStim). Moved xs (reference_so_far allows true w.stimuli [] 1000) text a b e1 e2) (sym (append-nil w.stimuli))
-      (moved-as w.stimuli (whole allows w.stimuli) (reference_so_far allows true w.stimuli [] 1000) text a b e1 e2 (λ said l r s. sym (settle-times allows (rounds allows w.stimuli (all_started r)))) w.moved);
-}
+pub gone-whole : {Own : Type 0} (allows : List Place → Bool) (most : ℕ) (text : List ℕ) (a b : Seen Own) (e1 e2 : Engine) (w : WholeMoves allows most text a b e1 e2) → GoneSoFar allows true (last_events (length w.stimuli == most)) text a b e1 e2
+gone-whole allows most text a b e1 e2 w =
+    let spent = length w.stimuli == most in
+    let far = reference_so_far allows true w.stimuli [] (last_events spent) in
+    record {
+      stimuli = w.stimuli;
+      begun = [];
+      begun_one = omega arith;
+      moved = subst (λ (xs : List WorldStim). Moved xs far text a b e1 e2) (sym (append-nil w.stimuli))
+          (moved-as w.stimuli (whole allows most w.stimuli) far text a b e1 e2 (λ said l r s. settled-times allows spent (rounds allows w.stimuli (all_started r))) w.moved);
+    }
 
 -- the next event is given to so many of the first applications
 pub within-moved : {Own : Type 0} (allows : List Place → Bool) (started : Bool) (n given : ℕ) (text more : List ℕ) (a b c : Seen Own) (e1 e2 e3 : Engine) (g : GoneSoFar allows started n text a b e1 e2) → Moved [] (dispatch_partly allows given) more b c e2 e3
@@ -502,10 +518,10 @@ start-left {Own} rules losses lost last stop leaves =
     (fresh-ext 0 rules (told_of last) (told_of stop) (λ j. ap₂ (λ (starts : List Start) (replies : List Reply). record { starts = starts; replies = replies }) (sym (leaves.told j).starts) (sym (leaves.told j).replies)))
 
 -- at those of the end, before which switches were asked
-pub end-so : {Own : Type 0} (rules : List AppValue) (allows : List Place → Bool) (lost : List ℕ) (text more : List ℕ) (contents now_contents : Option (List ℕ)) (first last stop : Seen Own) (e : Engine) → IsOpened first → GoneSoFar allows true 1000 text first last (engine_at_first rules) e → e.queue ≡ []
+pub end-so : {Own : Type 0} (rules : List AppValue) (allows : List Place → Bool) (number : ℕ) (lost : List ℕ) (text more : List ℕ) (contents now_contents : Option (List ℕ)) (first last stop : Seen Own) (e : Engine) → IsOpened first → GoneSoFar allows true number text first last (engine_at_first rules) e → number ≤ 1000 → e.queue ≡ []
     → more ≡ last_text lost last e → Leaves (length e.apps) lost last stop → Conforming stop → TookPart (append_known contents text) now_contents more → CutInLines rules allows stop contents now_contents
-end-so {Own} rules allows lost text more contents now_contents first last stop e is g none ends leaves keeps part =
-    let f = reference_so_far allows true g.stimuli g.begun 1000 in
+end-so {Own} rules allows number lost text more contents now_contents first last stop e is g few none ends leaves keeps part =
+    let f = reference_so_far allows true g.stimuli g.begun number in
     let m = g.moved.moves in
     let losses = ahead m.batches m.turns (at_last lost) in
     let ran = ran-to rules f (at_last lost) (g.stimuli ++ g.begun) text first last e is m in
@@ -513,10 +529,10 @@ end-so {Own} rules allows lost text more contents now_contents first last stop e
       started = true;
       stimuli = g.stimuli;
       begun = g.begun;
-      number = 1000;
+      number = number;
       given = 0;
       begun_one = g.begun_one;
-      at_most = omega arith;
+      at_most = few;
       stimuli_is = leaves.stimuli ∙ stimuli-so first last (g.stimuli ++ g.begun) is m.read_stimuli;
       losses = losses;
     } in

@@ -42,10 +42,10 @@ use Rattle.run_laws.specs.Endings.{Leaves}
 use Rattle.lego_model.specs.WholeRun.{EndsAs, LeavesAs, EndsAlike, LeavesAlike}
 
 -- the reference controller's run is the same
-reference-same : {Own : Type 0} {number : ℕ} (rules : List AppValue) (allows : List Place → Bool) (losses : Losses) (lost : List ℕ) (last new : Seen Own) (said : ℕ → Said) → Leaves number lost last new → reference_said rules allows losses new said ≡ reference_said rules allows losses last said
-reference-same {Own} rules allows losses lost last new said l =
-    ap (λ (g : Given Own). reference allows g.declared (fresh_from 0 rules said) losses (stimuli_in new)) l.given
-    ∙ ap (λ (xs : List WorldStim). reference allows last.given.declared (fresh_from 0 rules said) losses xs) l.stimuli
+reference-same : {Own : Type 0} {number : ℕ} (rules : List AppValue) (allows : List Place → Bool) (spent : Bool) (losses : Losses) (lost : List ℕ) (last new : Seen Own) (said : ℕ → Said) → Leaves number lost last new → reference_said rules allows spent losses new said ≡ reference_said rules allows spent losses last said
+reference-same {Own} rules allows spent losses lost last new said l =
+    ap (λ (g : Given Own). reference allows g.declared (fresh_from 0 rules said) losses spent (stimuli_in new)) l.given
+    ∙ ap (λ (xs : List WorldStim). reference allows last.given.declared (fresh_from 0 rules said) losses spent xs) l.stimuli
 
 -- and the same was said of the applications
 pub said-before : {Own : Type 0} {number : ℕ} (lost : List ℕ) (last new : Seen Own) (said : ℕ → Said) → Leaves number lost last new → AreSaid new said → AreSaid last said
@@ -142,60 +142,60 @@ each-at-once last e number settled count i less = (each-at (IsAtRest last) 0 e.a
 pub count-of : (rules : List AppValue) (e : Engine) → rules_of e ≡ rules → length e.apps ≡ length rules
 count-of rules e is = sym (length-map e.apps (λ a. a.rule)) ∙ ap (λ (l : List AppValue). length l) is
 
-ran-count : {Own : Type 0} (rules : List AppValue) (allows : List Place → Bool) (lost : List ℕ) (text : List ℕ) (last : Seen Own) (e : Engine) → Ran rules allows lost text last e → length e.apps ≡ length rules
-ran-count rules allows lost text last e ran = count-of rules e (ran.as_said (told_of last) (told-said last)).rules_is
+ran-count : {Own : Type 0} (rules : List AppValue) (allows : List Place → Bool) (spent : Bool) (lost : List ℕ) (text : List ℕ) (last : Seen Own) (e : Engine) → Ran rules allows spent lost text last e → length e.apps ≡ length rules
+ran-count rules allows spent lost text last e ran = count-of rules e (ran.as_said (told_of last) (told-said last)).rules_is
 
 -- ---- All was dispatched
 
-ends-as : {Own : Type 0} {number : ℕ} (rules : List AppValue) (allows : List Place → Bool) (lost : List ℕ) (text : List ℕ) (last new : Seen Own) (e : Engine) (contents now_contents : Option (List ℕ)) (said : ℕ → Said) → Conforming new → Leaves number lost last new → (ran : Ran rules allows lost text last e)
-    → e.queue ≡ [] → now_contents ≡ append_known contents (text ++ last_text lost last e) → AreSaid new said → EndsAs rules new contents now_contents e.events (reference_said rules allows ran.losses new said)
-ends-as rules allows lost text last new e contents now_contents said keeps l ran none written are =
-    let r = reference_said rules allows ran.losses last said in
+ends-as : {Own : Type 0} {number : ℕ} (rules : List AppValue) (allows : List Place → Bool) (spent : Bool) (lost : List ℕ) (text : List ℕ) (last new : Seen Own) (e : Engine) (contents now_contents : Option (List ℕ)) (said : ℕ → Said) → Conforming new → Leaves number lost last new → (ran : Ran rules allows spent lost text last e)
+    → e.queue ≡ [] → now_contents ≡ append_known contents (text ++ last_text lost last e) → AreSaid new said → EndsAs rules new contents now_contents e.events (reference_said rules allows spent ran.losses new said)
+ends-as rules allows spent lost text last new e contents now_contents said keeps l ran none written are =
+    let r = reference_said rules allows spent ran.losses last said in
     let so = ran.as_said said (said-before lost last new said l are) in
     let last_is : last_lines (names rules) r ≡ last_text lost last e =
     subst (λ (of : List AppValue). last_lines (names of) r ≡ last_text lost last e) so.rules_is (last-shown lost last e so.said r so.stands) in
     let report : run_report (names rules) r ≡ text ++ last_text lost last e =
     report-ends (names rules) r ∙ ap₂ (λ (a b : List ℕ). a ++ b) so.text_is last_is in
-    subst (EndsAs rules new contents now_contents e.events) (sym (reference-same rules allows ran.losses lost last new said l)) (record {
+    subst (EndsAs rules new contents now_contents e.events) (sym (reference-same rules allows spent ran.losses lost last new said l)) (record {
       alike = ends-so lost last new e so.said r keeps l so.stands;
       none_left = so.stands.queue ∙ none;
       events_is = sym so.stands.events;
       report = written ∙ ap (append_known contents) (sym report);
     })
 
-pub ends-alike : {Own : Type 0} (rules : List AppValue) (allows : List Place → Bool) (lost : List ℕ) (text : List ℕ) (last new : Seen Own) (e : Engine) (contents now_contents : Option (List ℕ)) → Conforming new → Leaves (length e.apps) lost last new → AtRest last e → Ran rules allows lost text last e
-    → e.queue ≡ [] → now_contents ≡ append_known contents (text ++ last_text lost last e) → EndsAlike rules allows new contents now_contents e.events
-ends-alike rules allows lost text last new e contents now_contents keeps l settled ran none written =
-    let count = ran-count rules allows lost text last e ran in
+pub ends-alike : {Own : Type 0} (rules : List AppValue) (allows : List Place → Bool) (spent : Bool) (lost : List ℕ) (text : List ℕ) (last new : Seen Own) (e : Engine) (contents now_contents : Option (List ℕ)) → Conforming new → Leaves (length e.apps) lost last new → AtRest last e → Ran rules allows spent lost text last e
+    → e.queue ≡ [] → now_contents ≡ append_known contents (text ++ last_text lost last e) → EndsAlike rules allows spent new contents now_contents e.events
+ends-alike rules allows spent lost text last new e contents now_contents keeps l settled ran none written =
+    let count = ran-count rules allows spent lost text last e ran in
     record {
       losses = ran.losses;
-      as_told = ends-as rules allows lost text last new e contents now_contents (told_of new) keeps l ran none written (told-said new);
-      as_said = λ said are. ends-as rules allows lost text last new e contents now_contents said keeps l ran none written are;
+      as_told = ends-as rules allows spent lost text last new e contents now_contents (told_of new) keeps l ran none written (told-said new);
+      as_said = λ said are. ends-as rules allows spent lost text last new e contents now_contents said keeps l ran none written are;
       at_once = λ i less. l.at_once i (each-at-once last e (length rules) settled count i less);
       in_order = subst (λ (n : ℕ). AllByRecursion (IsOrderly n) new.history) count (all-in-order lost last new settled l);
     }
 
 -- ---- Some events were left
 
-leaves-as : {Own : Type 0} {number : ℕ} (rules : List AppValue) (allows : List Place → Bool) (text : List ℕ) (last new : Seen Own) (e : Engine) (contents now_contents : Option (List ℕ)) (said : ℕ → Said) → Conforming new → Leaves number [] last new → (ran : Ran rules allows [] text last e)
-    → now_contents ≡ append_known contents text → AreSaid new said → LeavesAs rules new contents now_contents (length e.queue) (reference_said rules allows ran.losses new said)
-leaves-as rules allows text last new e contents now_contents said keeps l ran written are =
-    let r = reference_said rules allows ran.losses last said in
+leaves-as : {Own : Type 0} {number : ℕ} (rules : List AppValue) (allows : List Place → Bool) (spent : Bool) (text : List ℕ) (last new : Seen Own) (e : Engine) (contents now_contents : Option (List ℕ)) (said : ℕ → Said) → Conforming new → Leaves number [] last new → (ran : Ran rules allows spent [] text last e)
+    → now_contents ≡ append_known contents text → AreSaid new said → LeavesAs rules new contents now_contents (length e.queue) (reference_said rules allows spent ran.losses new said)
+leaves-as rules allows spent text last new e contents now_contents said keeps l ran written are =
+    let r = reference_said rules allows spent ran.losses last said in
     let so = ran.as_said said (said-before [] last new said l are) in
-    subst (LeavesAs rules new contents now_contents (length e.queue)) (sym (reference-same rules allows ran.losses [] last new said l)) (record {
+    subst (LeavesAs rules new contents now_contents (length e.queue)) (sym (reference-same rules allows spent ran.losses [] last new said l)) (record {
       alike = runs-alike last new e so.said (at_last []) r keeps l so.stands;
       left_is = ap (λ (q : List Event). length q) (sym so.stands.queue);
       report = written ∙ ap (append_known contents) (sym so.text_is);
     })
 
-pub leaves-alike : {Own : Type 0} (rules : List AppValue) (allows : List Place → Bool) (text : List ℕ) (last new : Seen Own) (e : Engine) (contents now_contents : Option (List ℕ)) → Conforming new → Leaves (length e.apps) [] last new → AtRest last e → Ran rules allows [] text last e
-    → now_contents ≡ append_known contents text → LeavesAlike rules allows new contents now_contents (length e.queue)
-leaves-alike rules allows text last new e contents now_contents keeps l settled ran written =
-    let count = ran-count rules allows [] text last e ran in
+pub leaves-alike : {Own : Type 0} (rules : List AppValue) (allows : List Place → Bool) (spent : Bool) (text : List ℕ) (last new : Seen Own) (e : Engine) (contents now_contents : Option (List ℕ)) → Conforming new → Leaves (length e.apps) [] last new → AtRest last e → Ran rules allows spent [] text last e
+    → now_contents ≡ append_known contents text → LeavesAlike rules allows spent new contents now_contents (length e.queue)
+leaves-alike rules allows spent text last new e contents now_contents keeps l settled ran written =
+    let count = ran-count rules allows spent [] text last e ran in
     record {
       losses = ran.losses;
-      as_told = leaves-as rules allows text last new e contents now_contents (told_of new) keeps l ran written (told-said new);
-      as_said = λ said are. leaves-as rules allows text last new e contents now_contents said keeps l ran written are;
+      as_told = leaves-as rules allows spent text last new e contents now_contents (told_of new) keeps l ran written (told-said new);
+      as_said = λ said are. leaves-as rules allows spent text last new e contents now_contents said keeps l ran written are;
       at_once = λ i less. l.at_once i (each-at-once last e (length rules) settled count i less);
       in_order = subst (λ (n : ℕ). AllByRecursion (IsOrderly n) new.history) count (all-in-order [] last new settled l);
     }

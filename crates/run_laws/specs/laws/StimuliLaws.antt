@@ -1,6 +1,7 @@
 -- The stimuli that a world told are the first of those that it was given, and the others are still to come.
-use Rattle.std.proofs.Common.{◌≡◌, ℕ, ◌<◌, false, List, [], ◌∷◌, ◌++◌, length, drop, Some, refl, append_assoc, sym, ap, ◌∙◌, arith}
-use Rattle.std.proofs.lemmas.List.{append-nil, length-append}
+use Rattle.std.proofs.Common.{◌≡◌, ℕ, ◌<◌, ◌≤◌, false, List, [], ◌∷◌, ◌++◌, length, take, drop, Some, refl, append_assoc, sym, ap, ◌∙◌, arith, inl, inr}
+use Rattle.std.proofs.lemmas.Bool.{cases_eq}
+use Rattle.std.proofs.lemmas.List.{append-nil, length-append, take_at, take_all}
 use Rattle.std.specs.Prelude.{slice_get}
 use Rattle.of_types.specs.declared.journal.Act.TheVariants.{Stim, Started, Gave, Gone, Took, Ended, Sent, Got, Lost}
 use Rattle.of_types.specs.declared.journal.WorldStim.{WorldStim}
@@ -16,6 +17,7 @@ use Rattle.outside.specs.laws.StateLaws.{Conforming-before}
 use Rattle.outside.specs.Quiescence.{is_quiescent, NoneQuiescent, NoneQuiescentSince}
 use Rattle.outside.specs.Conforming.{MayAct, MayStep, MaySteps, Conforming}
 use Rattle.lego_model.specs.History.{stimuli_in}
+use Rattle.lego_model.specs.WholeRun.{TookFirst}
 
 -- the stimuli of steps
 abbrev pub told_in : List WorldStep → List WorldStim
@@ -121,6 +123,14 @@ told-and-to_come seen keeps = steps_next seen.given.declared seen.history (at_fi
 pub told-all : {Own : Type 0} (seen : Seen Own) → Conforming seen → (state seen).to_come ≡ [] → stimuli_in seen ≡ seen.given.stimuli
 told-all seen keeps none =
     sym (append-nil (stimuli_in seen)) ∙ ap (λ (xs : List WorldStim). stimuli_in seen ++ xs) (sym none) ∙ told-and-to_come seen keeps
+
+-- where those told took all rounds, or none is to come, they are the first
+pub took-first : {Own : Type 0} (most : ℕ) (seen : Seen Own) → Conforming seen → length (stimuli_in seen) ≤ most → (length (stimuli_in seen) < most → (state seen).to_come ≡ []) → TookFirst most seen
+took-first most seen keeps few none =
+    elim (cases_eq (length (stimuli_in seen)) most) [
+      | inl all ↦ sym (take_at (stimuli_in seen) (state seen).to_come most all) ∙ ap (take most) (told-and-to_come seen keeps)
+      | inr other ↦ sym (take_all most (stimuli_in seen) few) ∙ ap (take most) (told-all seen keeps (none (omega (arith, few, other))))
+    ]
 
 -- earlier they were no more
 pub fewer-front : {Own : Type 0} {most : ℕ} (old new : Seen Own) → Longer old.history new.history → length (stimuli_in new) < most → length (stimuli_in old) < most

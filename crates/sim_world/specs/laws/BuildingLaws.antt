@@ -674,7 +674,7 @@ Keeps-new w is may = record {
   standing = AreStanding-new w is w.state.moment (length w.history);
   within = omega (arith, ap (λ (s : State). s.moment) is.state, first_moment (given_of w));
   due = subst (All IsDue) (sym (ap (λ (s : State). s.due) is.state ∙ first_due (given_of w))) (All-nil IsDue);
-  places = λ are none. none_strayed w is;
+  places = λ are. omega (arith, none_strayed w is);
 }
 
 -- ---- Both ends of a call that gives one thing more

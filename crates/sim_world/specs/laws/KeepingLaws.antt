@@ -33,7 +33,7 @@ use Rattle.outside.specs.Calls.{open_steps, next_steps, stim_steps, item_step, s
 use Rattle.outside.specs.Conforming.{IsWorldStim, MayStep, MayAct}
 use Rattle.outside.specs.InOrder.{MayCome, MayComeAll}
 use Rattle.sim_world.specs.Tally.{TallyState, CountsFor}
-use Rattle.sim_world.specs.Places.{AreExpected, NoneStrays}
+use Rattle.sim_world.specs.Places.{AreExpected, FewStrays}
 use Rattle.sim_world.specs.laws.PlaceLaws.{places_move, open_places, next_places, start_places, give_places, take_places, send_places, receive_places}
 use Rattle.sim_world.specs.Scripts.{Scripts, Life, IsScripted, AreScripted}
 use Rattle.sim_world.specs.Lives.{life_in}
@@ -132,7 +132,7 @@ length_more : (xs ys : List WorldStep) → length (xs ++ ys) ≡ length xs + len
 length_more xs ys = length-append xs ys
 
 pub keeps_quiet : (old new : WorldData) (steps : List WorldStep) (counted : TallyState) → Keeps old → Moves old new steps counted → AllByRecursion IsQuiet steps
-    → AreScripted old.scripts old.told steps (λ app. life_in app old.lives) → AreAsTold old.told old.nexts steps old.state → CountsFor (all_declared old.state) counted → (AreExpected steps old.state → NoneStrays old.tally counted) → Keeps new
+    → AreScripted old.scripts old.told steps (λ app. life_in app old.lives) → AreAsTold old.told old.nexts steps old.state → CountsFor (all_declared old.state) counted → (AreExpected steps old.state → FewStrays old.tally counted) → Keeps new
 keeps_quiet old new steps counted keeps moves quiet scripts told counts places =
     let around = quiet_steps steps old.state quiet in
     let links : new.state.links ≡ old.state.links = ap (λ (s : State). s.links) moves.state ∙ around.links in
@@ -238,7 +238,7 @@ pub keeps_end : (app : ℕ) (old new : WorldData) → Keeps old → Moves old ne
     → AreScripted old.scripts old.told (end_steps app (is_running app old.state)) (λ a. life_in a old.lives) → Keeps new
 keeps_end app old new keeps moves scripted =
     keeps_quiet old new (end_steps app (is_running app old.state)) old.tally keeps moves (end_quiet app (is_running app old.state)) scripted
-    (end_told old.told old.nexts app (is_running app old.state) old.state) keeps.stands.tally (λ are none. (none, refl))
+    (end_told old.told old.nexts app (is_running app old.state) old.state) keeps.stands.tally (λ are few most. few)
 
 -- ---- Calls of links
 
@@ -250,7 +250,7 @@ record LinkedBy (most : ℕ) (s t : State) : Type 0 where
   to_come : t.to_come ≡ s.to_come
 
 keeps_linked : (old new : WorldData) (steps : List WorldStep) (counted : TallyState) → Keeps old → Moves old new steps counted → LinkedBy (length (old.history ++ steps)) old.state (after_steps steps old.state)
-    → MayComeAll (all_declared old.state) steps old.state → AreScripted old.scripts old.told steps (λ app. life_in app old.lives) → AreAsTold old.told old.nexts steps old.state → CountsFor (all_declared old.state) counted → (AreExpected steps old.state → NoneStrays old.tally counted) → Keeps new
+    → MayComeAll (all_declared old.state) steps old.state → AreScripted old.scripts old.told steps (λ app. life_in app old.lives) → AreAsTold old.told old.nexts steps old.state → CountsFor (all_declared old.state) counted → (AreExpected steps old.state → FewStrays old.tally counted) → Keeps new
 keeps_linked old new steps counted keeps moves linked word scripts told counts places =
     let links : new.state.links ≡ (after_steps steps old.state).links = ap (λ (s : State). s.links) moves.state in
     let due : new.state.due ≡ old.state.due = ap (λ (s : State). s.due) moves.state ∙ linked.due in
@@ -465,7 +465,7 @@ keeps_item old new None item buf keeps to_come moves word told due =
       standing = rw (ap (λ (s : State). s.links) moves.state, moment, moves.history) by.standing;
       within = rw moment keeps.within;
       due = subst (All IsDue) (sym (ap (λ (s : State). s.due) moves.state)) by.due;
-      places = places_move old new (item_step item buf ∷ []) old.tally keeps.stands moves keeps.places (λ are none. (none, refl));
+      places = places_move old new (item_step item buf ∷ []) old.tally keeps.stands moves keeps.places (λ are few most. few);
     }
 keeps_item old new (Some x) item buf keeps to_come moves word told due =
     let steps = Acted (Stim x) ∷ item_step item buf ∷ [] in
@@ -487,7 +487,7 @@ keeps_item old new (Some x) item buf keeps to_come moves word told due =
       standing = rw (ap (λ (s : State). s.links) moves.state, moment, moves.history) by.standing;
       within = rw moment begun.within;
       due = subst (All IsDue) (sym (ap (λ (s : State). s.due) moves.state)) by.due;
-      places = places_move old new steps old.tally keeps.stands moves keeps.places (λ are none. (none, refl));
+      places = places_move old new steps old.tally keeps.stands moves keeps.places (λ are few most. few);
     }
 
 pub keeps_next : (old new : WorldData) (result : Result Item NextFault) (buf : List ℕ) → Keeps old → DoesNext old new result buf → Keeps new

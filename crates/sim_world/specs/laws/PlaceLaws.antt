@@ -1,6 +1,6 @@
 -- Laws of calls in place: what holds of a history holds of its ends, marks do not matter, and a call in place that does not want memory
 -- is not counted as one out of place.
-use Rattle.std.specs.Prelude.{◌≡◌, ℕ, Bool, true, false, not, List, [], ◌∷◌, ◌++◌, Result, Ok, Err, IsErr, IfOk, IsTrue, refl}
+use Rattle.std.specs.Prelude.{◌≡◌, ◌≤◌, ℕ, Bool, true, false, not, List, [], ◌∷◌, ◌++◌, Result, Ok, Err, IsErr, IfOk, IsTrue, refl}
 use Rattle.std.proofs.Common.{sym, ap, ◌∙◌, subst, arith}
 use Rattle.std.proofs.lemmas.Bool.{false≢true}
 use Rattle.lego_io.specs.Count.{raised}
@@ -29,7 +29,7 @@ use Rattle.outside.specs.Seen.{Given}
 use Rattle.outside.specs.State.{State, at_first, after_step, after_steps, state, but_marks, switch_of, waits_of, is_running, is_joined}
 use Rattle.sim_world.specs.Scripts.{Scripts}
 use Rattle.sim_world.specs.Tally.{TallyState, tally_stray, tally_short, tally_short_of, tally_fault_of}
-use Rattle.sim_world.specs.Places.{IsStartExpected, IsTakeExpected, IsActExpected, IsExpected, AreExpected, NoneStrays}
+use Rattle.sim_world.specs.Places.{IsStartExpected, IsTakeExpected, IsActExpected, IsExpected, AreExpected, FewStrays}
 use Rattle.sim_world.specs.World.{WorldData, given_of, seen_of, Stands, Moves}
 use Rattle.sim_world.specs.laws.WorldLaws.{after_same}
 use Rattle.sim_world.specs.Doing.{open_tally, next_tally, start_tally, give_tally, take_tally, link_tally}
@@ -96,15 +96,15 @@ AreExpected-rest (x ∷ xs) ys s are = AreExpected-rest xs ys (after_step x s) a
 -- ---- Counts
 
 -- a call that is not out of place, and does not want memory
-unstrayed : (stray : Bool) (t u : TallyState) → stray ≡ false → u.shorts ≡ t.shorts → u.strays ≡ t.strays → NoneStrays t (tally_stray stray u)
-unstrayed stray t u is shorts strays = λ none. (sym shorts ∙ none, rw is strays)
+unstrayed : (stray : Bool) (t u : TallyState) → stray ≡ false → u.shorts ≡ t.shorts → u.strays ≡ t.strays → FewStrays t (tally_stray stray u)
+unstrayed stray t u is shorts strays = λ few most.
+    let still : u.strays ≤ u.shorts = omega (arith, few, shorts, strays) in
+    rw is still
 
-never_none : (n : ℕ) → ¬ (raised n ≡ 0)
-never_none n none = omega (arith, none)
-
--- a call that wants memory is counted
-wanting : (stray : Bool) (t u : TallyState) → u.shorts ≡ raised t.shorts → NoneStrays t (tally_stray stray u)
-wanting stray t u short = λ none. absurd (never_none t.shorts (sym short ∙ none))
+-- a call that wants memory is counted, and is out of place or not
+wanting : (stray : Bool) (t u : TallyState) → u.shorts ≡ raised t.shorts → u.strays ≡ t.strays → FewStrays t (tally_stray stray u)
+wanting true t u short strays = λ few most. rw (short, strays) (omega (arith, few))
+wanting false t u short strays = λ few most. rw (short, strays) (omega (arith, few, most))
 
 not_out : (b : Bool) → ¬ (b ≡ true) → b ≡ false
 not_out true out = absurd (out refl)
@@ -120,42 +120,42 @@ stays_in b is = rw is refl
 -- ---- Each call
 
 pub open_places : {T : Type 0} (result : Result T OpenFault) (s : State) (t : TallyState) → (IsTrue s.opened → IsErr result) → AreExpected (open_steps result) s
-    → NoneStrays t (tally_stray s.opened (open_tally result t))
+    → FewStrays t (tally_stray s.opened (open_tally result t))
 unfolding open_steps
 open_places (Ok x) s t out are = unstrayed s.opened t t (not_out s.opened (λ is. false≢true (out is))) refl refl
 open_places (Err opening.Shut) s t out are = unstrayed s.opened t (record t { shuts = raised t.shuts }) are.0 refl refl
-open_places (Err opening.Short) s t out are = wanting s.opened t (tally_short t) refl
+open_places (Err opening.Short) s t out are = wanting s.opened t (tally_short t) refl refl
 
-pub next_places : (result : Result Item NextFault) (t : TallyState) → NoneStrays t (next_tally result t)
+pub next_places : (result : Result Item NextFault) (t : TallyState) → FewStrays t (next_tally result t)
 next_places (Ok item) t = unstrayed false t t refl refl refl
 next_places (Err coming.Failed) t = unstrayed false t (record t { next_faults = raised t.next_faults }) refl refl refl
-next_places (Err coming.Short) t = wanting false t (tally_short t) refl
+next_places (Err coming.Short) t = wanting false t (tally_short t) refl refl
 
 pub start_places : {T : Type 0} (app : ℕ) (result : Result T StartFault) (s : State) (t : TallyState) → (IsTrue (is_running app s) → IsErr result) → AreExpected (start_steps app result) s
-    → NoneStrays t (tally_stray (is_running app s) (start_tally result t))
+    → FewStrays t (tally_stray (is_running app s) (start_tally result t))
 unfolding start_steps
 start_places app (Ok x) s t out are = unstrayed (is_running app s) t t (not_out (is_running app s) (λ is. false≢true (out is))) refl refl
 start_places app (Err starting.NotStarted) s t out are = unstrayed (is_running app s) t (record t { starts_failed = raised t.starts_failed }) are.0 refl refl
-start_places app (Err starting.Short) s t out are = wanting (is_running app s) t (tally_short t) refl
+start_places app (Err starting.Short) s t out are = wanting (is_running app s) t (tally_short t) refl refl
 
 pub give_places : {T : Type 0} (app : ℕ) (bytes : List ℕ) (result : Result T GiveFault) (s : State) (t : TallyState) → (is_running app s ≡ false → IsErr result) → AreExpected (give_steps app bytes result) s
-    → NoneStrays t (tally_stray (not (is_running app s)) (give_tally result t))
+    → FewStrays t (tally_stray (not (is_running app s)) (give_tally result t))
 unfolding give_steps
 give_places app bytes (Ok x) s t out are = unstrayed (not (is_running app s)) t t (not_in (is_running app s) (λ is. false≢true (out is))) refl refl
 give_places app bytes (Err giving.Gone) s t out are = unstrayed (not (is_running app s)) t (record t { closings = raised t.closings }) (stays_in (is_running app s) are.0) refl refl
-give_places app bytes (Err giving.Short) s t out are = wanting (not (is_running app s)) t (tally_short t) refl
+give_places app bytes (Err giving.Short) s t out are = wanting (not (is_running app s)) t (tally_short t) refl refl
 
 is_shut : Taken → Bool
 is_shut gave.Closed = true
 is_shut other = false
 
 pub take_places : (app : ℕ) (result : Result Taken Short) (buf : List ℕ) (s : State) (t : TallyState) → (is_running app s ≡ false → IfOk result (λ what. what ≡ gave.Closed)) → AreExpected (take_steps app result buf) s
-    → NoneStrays t (tally_stray (not (is_running app s)) (take_tally result t))
+    → FewStrays t (tally_stray (not (is_running app s)) (take_tally result t))
 unfolding take_steps is_shut
 take_places app (Ok (gave.Some n)) buf s t out are = unstrayed (not (is_running app s)) t t (not_in (is_running app s) (λ is. false≢true (ap is_shut (out is)))) refl refl
 take_places app (Ok gave.Closed) buf s t out are = unstrayed (not (is_running app s)) t (record t { closings = raised t.closings }) (stays_in (is_running app s) are.0) refl refl
 take_places app (Ok gave.Silent) buf s t out are = unstrayed (not (is_running app s)) t (record t { silences = raised t.silences }) (not_in (is_running app s) (λ is. false≢true (ap is_shut (out is)))) refl refl
-take_places app (Err short) buf s t out are = wanting (not (is_running app s)) t (tally_short t) refl
+take_places app (Err short) buf s t out are = wanting (not (is_running app s)) t (tally_short t) refl refl
 
 -- a call of a link that fails is in place where the switch is joined
 unsent_places : (d : ℕ) (joined : Bool) (s : State) → IsExpected (unsent d joined) s → not joined ≡ false
@@ -163,11 +163,11 @@ unsent_places d true s is = refl
 unsent_places d false s is = absurd is
 
 pub send_places : {T : Type 0} (d : ℕ) (frame : List ℕ) (result : Result T LinkFault) (s : State) (t : TallyState) → (is_joined d s ≡ false → IsErr result) → AreExpected (send_steps d frame (is_joined d s) result) s
-    → NoneStrays t (tally_stray (not (is_joined d s)) (link_tally d result t))
+    → FewStrays t (tally_stray (not (is_joined d s)) (link_tally d result t))
 unfolding send_steps
 send_places d frame (Ok x) s t out are = unstrayed (not (is_joined d s)) t t (not_in (is_joined d s) (λ is. false≢true (out is))) refl refl
 send_places d frame (Err linking.Failed) s t out are = unstrayed (not (is_joined d s)) t (tally_fault_of d t) (unsent_places d (is_joined d s) s are.0) refl refl
-send_places d frame (Err linking.Short) s t out are = wanting (not (is_joined d s)) t (tally_short_of d t) refl
+send_places d frame (Err linking.Short) s t out are = wanting (not (is_joined d s)) t (tally_short_of d t) refl refl
 
 -- and where a message of it waits
 unreceived_places : (d : ℕ) (joined : Bool) (s : State) → IsExpected (unreceived d joined) s → not (can_receive d s) ≡ false
@@ -175,26 +175,25 @@ unreceived_places d true s is = stays_in (can_receive d s) is
 unreceived_places d false s is = absurd is
 
 pub receive_places : (d : ℕ) (result : Result ℕ LinkFault) (buf : List ℕ) (s : State) (t : TallyState) → (can_receive d s ≡ false → IsErr result) → AreExpected (receive_steps d (is_joined d s) result buf) s
-    → NoneStrays t (tally_stray (not (can_receive d s)) (link_tally d result t))
+    → FewStrays t (tally_stray (not (can_receive d s)) (link_tally d result t))
 unfolding receive_steps
 receive_places d (Ok n) buf s t out are = unstrayed (not (can_receive d s)) t t (not_in (can_receive d s) (λ is. false≢true (out is))) refl refl
 receive_places d (Err linking.Failed) buf s t out are = unstrayed (not (can_receive d s)) t (tally_fault_of d t) (unreceived_places d (is_joined d s) s are.0) refl refl
-receive_places d (Err linking.Short) buf s t out are = wanting (not (can_receive d s)) t (tally_short_of d t) refl
+receive_places d (Err linking.Short) buf s t out are = wanting (not (can_receive d s)) t (tally_short_of d t) refl refl
 
 -- ---- A call that does what steps say
 
--- Where all calls were in place and none wanted memory, none was counted as out of place before the steps nor with them.
+-- Where all calls were in place, no more were counted as out of place than wanted memory, before the steps and with them.
 pub places_move : (old new : WorldData) (steps : List WorldStep) (counted : TallyState) → Stands old → Moves old new steps counted
-    → (AreExpected old.history (at_first (given_of old)) → old.tally.shorts ≡ 0 → old.tally.strays ≡ 0)
-    → (AreExpected steps old.state → NoneStrays old.tally counted)
-    → AreExpected new.history (at_first (given_of new)) → new.tally.shorts ≡ 0 → new.tally.strays ≡ 0
+    → (AreExpected old.history (at_first (given_of old)) → old.tally.strays ≤ old.tally.shorts)
+    → (AreExpected steps old.state → FewStrays old.tally counted)
+    → AreExpected new.history (at_first (given_of new)) → new.tally.strays ≤ new.tally.shorts
 unfolding seen_of state
-places_move old new steps counted stands moves before places are none =
+places_move old new steps counted stands moves before places are =
     let first = at_first (given_of old) in
     let given : given_of new ≡ given_of old = given-stays old new steps counted moves in
     let longer : AreExpected (old.history ++ steps) first =
     subst (λ (h : List WorldStep). AreExpected h first) moves.history (subst (λ (g : Given Scripts). AreExpected new.history (at_first g)) given are) in
     let now : but_marks (after_steps old.history first) ≡ but_marks old.state = ap but_marks stands.state in
     let here : AreExpected steps old.state = AreExpected-same steps (after_steps old.history first) old.state now (AreExpected-rest old.history steps first longer) in
-    let kept = places here (ap (λ (t : TallyState). t.shorts) (sym moves.tally) ∙ none) in
-    ap (λ (t : TallyState). t.strays) moves.tally ∙ kept.1 ∙ before (AreExpected-front old.history steps first longer) kept.0
+    subst (λ (t : TallyState). t.strays ≤ t.shorts) (sym moves.tally) (places here (before (AreExpected-front old.history steps first longer)) stands.tally.within.strays)

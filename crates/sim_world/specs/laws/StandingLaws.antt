@@ -90,9 +90,9 @@ pub told_kept : (w : WorldData) → Keeps w → AreAsTold (without_links w.fails
 unfolding given_of
 told_kept w keeps = keeps.stands.history.told
 
-pub strays_kept : (w : WorldData) → Keeps w → AreExpected w.history (at_first (given_of w)) → (seen_of w).counts.shorts ≡ 0 → (seen_of w).counts.strays ≡ 0
+pub strays_kept : (w : WorldData) → Keeps w → AreExpected w.history (at_first (given_of w)) → (seen_of w).counts.strays ≤ (seen_of w).counts.shorts
 unfolding seen_of counts_of
-strays_kept w keeps are none = keeps.places are none
+strays_kept w keeps are = keeps.places are
 
 -- ---- Want of memory that is told
 

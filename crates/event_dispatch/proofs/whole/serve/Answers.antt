@@ -82,7 +82,7 @@ returns-in-Ok-clause-no_switch_at_fault g c =
 
 pub returns-in-Err-run-clause-no_switch_at_fault : goal.returns-in-Err-run-clause-no_switch_at_fault
 returns-in-Err-run-clause-no_switch_at_fault g c =
-    served_plain (map app_value c.args.rules.now) g.W.World.Tells (g.J.Judge.accepts c.args.judge.now) c.args.rounds c.in-Err-run.served
+    served_plain (map app_value c.args.rules.now) g.W.World.Tells (g.J.Judge.accepts c.args.judge.now) c.in-Err-run.served
     (g.W.World.seen c.args.world.now) (g.W.World.seen c.open.new.world) (g.W.World.seen c.run.new.world) c.in_default.ensures.opened
     c.in-Err-run.ensures.done.fails.plain
 

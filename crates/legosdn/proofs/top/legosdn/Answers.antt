@@ -133,8 +133,8 @@ returns-in-Err-clause-live_complete_without_fault g c = λ port rounds is tells 
     subst (λ (status : ℕ). Contains (0 ∷ 10 ∷ 12 ∷ []) status) (sym c.halt.ensures.status)
     (completes g.W.World.Tells IsNoPolicy (g.S.Source.remaining c.args.source.now) (faults_of (g.S.Source.faults c.args.source.now) (g.K.Sink.faults c.args.sink.now) (g.W.World.seen c.args.live.now)) (faults_of (g.S.Source.faults c.run.new.source) (g.K.Sink.faults c.halt.new.sink) (g.W.World.seen c.run.new.live))
     c.in-Err.stop cause (good_policy (g.S.Source.remaining c.args.source.now) input apps whole spelled)
-    (broke_live (g.S.Source.remaining c.args.source.now) (g.S.Source.remaining c.run.new.source) (g.W.World.seen c.run.new.live) (g.K.Sink.contents c.args.sink.now) (g.K.Sink.contents c.run.new.sink) c.in-Err.stop ((c.in-Err.ensures.serves port rounds is).runs tells) quiet readable)
-    (diverged_live (g.S.Source.remaining c.args.source.now) (g.S.Source.remaining c.run.new.source) (g.W.World.seen c.run.new.live) (g.K.Sink.contents c.args.sink.now) (g.K.Sink.contents c.run.new.sink) c.in-Err.stop ((c.in-Err.ensures.serves port rounds is).runs tells) readable) none)
+    (broke_live rounds (g.S.Source.remaining c.args.source.now) (g.S.Source.remaining c.run.new.source) (g.W.World.seen c.run.new.live) (g.K.Sink.contents c.args.sink.now) (g.K.Sink.contents c.run.new.sink) c.in-Err.stop ((c.in-Err.ensures.serves port rounds is).runs tells) quiet readable)
+    (diverged_live rounds (g.S.Source.remaining c.args.source.now) (g.S.Source.remaining c.run.new.source) (g.W.World.seen c.run.new.live) (g.K.Sink.contents c.args.sink.now) (g.K.Sink.contents c.run.new.sink) c.in-Err.stop ((c.in-Err.ensures.serves port rounds is).runs tells) readable) none)
 
 pub returns-in-Ok-clause-live_status_has_cause : goal.returns-in-Ok-clause-live_status_has_cause
 returns-in-Ok-clause-live_status_has_cause g c = λ port rounds is. inl refl

@@ -32,10 +32,10 @@ returns-clause-runs g c = inl (
 )
 
 pub returns-in_err-apps-clause-strays : goal.returns-in_err-apps-clause-strays
-returns-in_err-apps-clause-strays g c = λ shorts. new_strays c.load.new.sim c.load.ensures.new
+returns-in_err-apps-clause-strays g c = new_strays c.load.new.sim c.load.ensures.new
 
 pub returns-clause-strays : goal.returns-clause-strays
-returns-clause-strays g c = c.simulate.ensures.strays (untouched c.load.new.sim c.in_ok-apps.ensures.new) c.in_ok-apps.ensures.few
+returns-clause-strays g c = c.simulate.ensures.strays (untouched c.load.new.sim c.in_ok-apps.ensures.new)
 
 pub returns-in_err-apps-clause-loaded : goal.returns-in_err-apps-clause-loaded
 returns-in_err-apps-clause-loaded g c =
@@ -57,4 +57,4 @@ pub returns-in_err-apps-clause-lost : goal.returns-in_err-apps-clause-lost
 returns-in_err-apps-clause-lost g c = λ none. nothing_lost (seen_of c.load.new.sim) (untouched c.load.new.sim c.load.ensures.new)
 
 pub returns-clause-lost : goal.returns-clause-lost
-returns-clause-lost g c = c.simulate.ensures.lost (untouched c.load.new.sim c.in_ok-apps.ensures.new) c.in_ok-apps.ensures.few
+returns-clause-lost g c = c.simulate.ensures.lost (untouched c.load.new.sim c.in_ok-apps.ensures.new)

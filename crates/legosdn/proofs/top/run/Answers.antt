@@ -1,4 +1,4 @@
-use Rattle.std.proofs.Common.{refl, inl}
+use Rattle.std.proofs.Common.{◌≡◌, rules, refl, sym, inl}
 use Rattle.legosdn.specs.declared.stop.Stop.TheVariants.{NoMemory}
 use Rattle.legosdn.proofs.Serving.{replays_unread}
 use Rattle.sim_world.specs.World.{seen_of}
@@ -15,7 +15,7 @@ pub returns-in_err-read_words-clause-ended : goal.returns-in_err-read_words-clau
 returns-in_err-read_words-clause-ended g c = none_runs c.args.sim.now c.requires.new
 
 pub returns-in_err-read_words-clause-strays : goal.returns-in_err-read_words-clause-strays
-returns-in_err-read_words-clause-strays g c = λ shorts. new_strays c.args.sim.now c.requires.new
+returns-in_err-read_words-clause-strays g c = new_strays c.args.sim.now c.requires.new
 
 pub returns-in_err-read_words-clause-no_other_session : goal.returns-in_err-read_words-clause-no_other_session
 returns-in_err-read_words-clause-no_other_session g c = inl (untouched c.args.sim.now c.requires.new)
@@ -30,7 +30,7 @@ pub returns-in-Some-Run-clause-ended : goal.returns-in-Some-Run-clause-ended
 returns-in-Some-Run-clause-ended g c = none_runs c.args.sim.now c.requires.new
 
 pub returns-in-Some-Run-clause-strays : goal.returns-in-Some-Run-clause-strays
-returns-in-Some-Run-clause-strays g c = λ shorts. new_strays c.args.sim.now c.requires.new
+returns-in-Some-Run-clause-strays g c = new_strays c.args.sim.now c.requires.new
 
 pub returns-in-Some-Run-clause-no_other_session : goal.returns-in-Some-Run-clause-no_other_session
 returns-in-Some-Run-clause-no_other_session g c = inl (untouched c.args.sim.now c.requires.new)
@@ -39,7 +39,7 @@ pub returns-in-None-clause-ended : goal.returns-in-None-clause-ended
 returns-in-None-clause-ended g c = none_runs c.args.sim.now c.requires.new
 
 pub returns-in-None-clause-strays : goal.returns-in-None-clause-strays
-returns-in-None-clause-strays g c = λ shorts. new_strays c.args.sim.now c.requires.new
+returns-in-None-clause-strays g c = new_strays c.args.sim.now c.requires.new
 
 pub returns-in-None-clause-no_other_session : goal.returns-in-None-clause-no_other_session
 returns-in-None-clause-no_other_session g c = inl (untouched c.args.sim.now c.requires.new)
@@ -55,3 +55,8 @@ returns-in-Some-Run-clause-lost g c = λ none. nothing_lost (seen_of c.args.sim.
 
 pub returns-in-None-clause-lost : goal.returns-in-None-clause-lost
 returns-in-None-clause-lost g c = λ none. nothing_lost (seen_of c.args.sim.now) (untouched c.args.sim.now c.requires.new)
+
+pub returns-in-Some-Run-clause-serves : goal.returns-in-Some-Run-clause-serves
+returns-in-Some-Run-clause-serves g c = λ port rounds is.
+    let same : c.in-Some-Run.rounds ≡ rounds = search rules in
+    rw (sym same) c.run_live.ensures.serves

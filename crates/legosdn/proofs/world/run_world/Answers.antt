@@ -17,21 +17,21 @@ returns-in-EventsLeft-clause-runs g c =
 pub returns-in-WriteFault-clause-runs : goal.returns-in-WriteFault-clause-runs
 returns-in-WriteFault-clause-runs g c = λ tells.
     writing_place (map app_value c.args.apps.now) (g.W.World.seen c.serve.new.world) (g.K.Sink.contents c.args.sink.now) (g.K.Sink.contents c.serve.new.sink) tells.order
-    (cut_as (map app_value c.args.apps.now) g.W.World.Tells c.args.rounds (g.W.World.seen c.args.world.now) (g.W.World.seen c.serve.new.world) (g.K.Sink.contents c.args.sink.now) (g.K.Sink.contents c.serve.new.sink) c.serve.result served.WriteFault c.in-WriteFault.is c.serve.ensures.reference_run_until_fault tells)
+    (cut_as (map app_value c.args.apps.now) g.W.World.Tells (g.W.World.seen c.args.world.now) (g.W.World.seen c.serve.new.world) (g.K.Sink.contents c.args.sink.now) (g.K.Sink.contents c.serve.new.sink) c.serve.result served.WriteFault c.in-WriteFault.is c.serve.ensures.reference_run_until_fault tells)
 
 pub returns-in-Shut-clause-runs : goal.returns-in-Shut-clause-runs
 returns-in-Shut-clause-runs g c =
-    cut_as (map app_value c.args.apps.now) g.W.World.Tells c.args.rounds (g.W.World.seen c.args.world.now) (g.W.World.seen c.serve.new.world) (g.K.Sink.contents c.args.sink.now) (g.K.Sink.contents c.serve.new.sink) c.serve.result served.Shut c.in-Shut.is c.serve.ensures.reference_run_until_fault
+    cut_as (map app_value c.args.apps.now) g.W.World.Tells (g.W.World.seen c.args.world.now) (g.W.World.seen c.serve.new.world) (g.K.Sink.contents c.args.sink.now) (g.K.Sink.contents c.serve.new.sink) c.serve.result served.Shut c.in-Shut.is c.serve.ensures.reference_run_until_fault
 
 pub returns-in-NextFault-clause-runs : goal.returns-in-NextFault-clause-runs
 returns-in-NextFault-clause-runs g c = λ tells.
     lines_place (map app_value c.args.apps.now) (g.W.World.seen c.serve.new.world) (g.K.Sink.contents c.args.sink.now) (g.K.Sink.contents c.serve.new.sink) tells.order
-    (cut_as (map app_value c.args.apps.now) g.W.World.Tells c.args.rounds (g.W.World.seen c.args.world.now) (g.W.World.seen c.serve.new.world) (g.K.Sink.contents c.args.sink.now) (g.K.Sink.contents c.serve.new.sink) c.serve.result served.NextFault c.in-NextFault.is c.serve.ensures.reference_run_until_fault tells)
+    (cut_as (map app_value c.args.apps.now) g.W.World.Tells (g.W.World.seen c.args.world.now) (g.W.World.seen c.serve.new.world) (g.K.Sink.contents c.args.sink.now) (g.K.Sink.contents c.serve.new.sink) c.serve.result served.NextFault c.in-NextFault.is c.serve.ensures.reference_run_until_fault tells)
 
 pub returns-in-NoMemory-clause-runs : goal.returns-in-NoMemory-clause-runs
 returns-in-NoMemory-clause-runs g c = λ tells.
     memory_place (map app_value c.args.apps.now) (g.W.World.seen c.serve.new.world) (g.K.Sink.contents c.args.sink.now) (g.K.Sink.contents c.serve.new.sink) tells.order
-    (cut_as (map app_value c.args.apps.now) g.W.World.Tells c.args.rounds (g.W.World.seen c.args.world.now) (g.W.World.seen c.serve.new.world) (g.K.Sink.contents c.args.sink.now) (g.K.Sink.contents c.serve.new.sink) c.serve.result served.NoMemory c.in-NoMemory.is c.serve.ensures.reference_run_until_fault tells)
+    (cut_as (map app_value c.args.apps.now) g.W.World.Tells (g.W.World.seen c.args.world.now) (g.W.World.seen c.serve.new.world) (g.K.Sink.contents c.args.sink.now) (g.K.Sink.contents c.serve.new.sink) c.serve.result served.NoMemory c.in-NoMemory.is c.serve.ensures.reference_run_until_fault tells)
 
 pub returns-in-Txn-clause-runs : goal.returns-in-Txn-clause-runs
 returns-in-Txn-clause-runs g c =

@@ -13,6 +13,7 @@ pub loop-round-init : goal.loop-round-init
 loop-round-init g c = record {
   buffer = (search rules);
   going = c.requires.going;
+  at_most = omega arith;
   events = (search rules);
   number = refl;
   passes = on_none g.W.World.Tells (g.W.World.seen c.args.world.now) c.args.self.now.core.net (g.K.Sink.faults c.args.sink.now) _;
@@ -27,6 +28,7 @@ pub loop-round-preserved : goal.loop-round-preserved
 loop-round-preserved g c = record {
   buffer = c.in_ok-run_round.ensures.passes.buffer ∙ c.loop-round.invariant.buffer;
   going = c.in_ok-run_round.ensures.done.going;
+  at_most = omega (arith, c.loop-round-test.true);
   events = omega (arith, c.loop-round.invariant.events, c.in_ok-run_round.ensures.done.events);
   number = c.in_ok-run_round.ensures.done.number ∙ c.loop-round.invariant.number;
   passes = on_done tt (on_then c.loop-round.invariant.passes (on_number (length c.args.self.now.core.store) (length c.loop-round.self.core.store)
@@ -46,7 +48,7 @@ returns-in-End g c = record {
   done = record {
     to_end = rounds_last g.W.World.Tells (g.J.Judge.accepts c.args.judge.now) c.args.rounds c.loop-round._round (g.K.Sink.contents c.args.sink.now)
         (g.K.Sink.contents c.loop-round.sink) (g.K.Sink.contents c.run_round.new.sink) (g.W.World.seen c.args.world.now) (g.W.World.seen c.loop-round.world)
-        (g.W.World.seen c.run_round.new.world) c.args.self.now c.loop-round.self c.run_round.new.self c.loop-round.invariant.rounds
+        (g.W.World.seen c.run_round.new.world) c.args.self.now c.loop-round.self c.run_round.new.self c.loop-round-test.true c.loop-round.invariant.rounds
         (subst (λ (rest : Rest). GoesRound g.W.World.Tells (g.J.Judge.accepts c.args.judge.now) rest (g.K.Sink.contents c.loop-round.sink)
         (g.K.Sink.contents c.run_round.new.sink) (g.W.World.seen c.loop-round.world) (g.W.World.seen c.run_round.new.world) c.loop-round.self
         c.run_round.new.self) c.in-End.is c.in_ok-run_round.ensures.done.round);
@@ -61,7 +63,7 @@ returns g c = record {
   done = record {
     to_end = rounds_out g.W.World.Tells (g.J.Judge.accepts c.args.judge.now) c.args.rounds c.loop-round._round (g.K.Sink.contents c.args.sink.now)
         (g.K.Sink.contents c.loop-round.sink) (g.W.World.seen c.args.world.now) (g.W.World.seen c.loop-round.world) c.args.self.now c.loop-round.self
-        c.loop-round-test.false c.loop-round.invariant.rounds;
+        (omega (arith, c.loop-round-test.false, c.loop-round.invariant.at_most)) c.loop-round.invariant.rounds;
     going = c.loop-round.invariant.going;
     number = c.loop-round.invariant.number;
   };

@@ -9,6 +9,7 @@ abbrev pub invariant-loop-round : goal.invariant-loop-round
 invariant-loop-round g l = record {
   buffer : length l.buf ≡ length l.fn.buf;
   going : Going l.self;
+  at_most : l._round ≤ l.fn.rounds;
   events : l.self.core.events ≤ 1000 * l._round;
   number : length l.self.core.store ≡ length l.fn.self.core.store;
   passes : PassesOn {T = Unit {0}} {E = Fault} g.W.World.Tells (length l.fn.self.core.store) (g.W.World.seen l.fn.world) (g.W.World.seen l.world) l.fn.self.core.net l.self.core.net (g.K.Sink.faults l.fn.sink) (g.K.Sink.faults l.sink) (Ok tt);
