@@ -1,12 +1,16 @@
--- How logged additions are undone: newest first over all switches each key is removed again (OpenFlow 1.0.0, 5.3.3 Modify State
--- Messages: DELETE_STRICT), with barriers behind (5.3.7 Barrier Message). A switch that fails is left alone from then on. What is
--- done is a list of parts, newest first, as the log is read from its end. All of this is our own choice.
+-- How logged additions are undone: switch by switch, ascending, each key is removed again in key order (OpenFlow 1.0.0, 5.3.3 Modify
+-- State Messages: DELETE_STRICT), with barriers behind (5.3.7 Barrier Message). A switch that fails is left alone from then on. The log
+-- is put in order first, and then read from its end. What is done is a list of parts, the last one first. All of this is our own choice.
 use Rattle.std.specs.Prelude.{◌≡◌, ◌≢◌, ◌==◌, ℕ, ◌+◌, ◌^◌, ◌<◌, ◌≤◌, Bool, true, false, List, [], ◌∷◌, ◌++◌, length, take, drop, map, reverse, ◌⊎◌, Option, Some, None, Result, Ok, Err, IsOk, IsErr, IfErr, OnOk, if◌then◌else◌, not, ◌&&◌, filter}
 use Rattle.std.specs.List.{AllByRecursion, list_any}
+use Rattle.std.specs.List.Sorted.{IsPermutation, IsSorted}
+use Rattle.std.specs.Ordering.{nat_cmp, on, flip_args, then_cmp}
+use Rattle.std.specs.declared.cmp.Ordering.{Ordering}
 use Rattle.std.proofs.Common.{zero, suc}
 use Rattle.lego_io.specs.Count.{Rose}
 use Rattle.of_types.specs.declared.journal.Act.TheVariants.{Sent}
 use Rattle.of_match.specs.declared.key.Key.{Key}
+use Rattle.of_match.specs.Key.{key_cmp}
 use Rattle.of_wire.specs.Reading.{reading_of}
 use Rattle.flow_table.specs.View.{TableView}
 use Rattle.flow_table.specs.Table.{TableState, IsTable}
@@ -47,6 +51,17 @@ use Rattle.net_txn.specs.Losing.{is_among, lose_all}
 use Rattle.net_txn.specs.Ports.{PortLists, lost_ports, ports_lost}
 use Rattle.lego_model.specs.History.{released_of, lost_of}
 use Rattle.lego_model.specs.Journal.{released, losses}
+
+-- ---- The order of an undo
+
+-- switch by switch, ascending, and the keys of one switch as a flow table lists its entries
+abbrev pub undo_cmp : ℕ × Key → ℕ × Key → Ordering
+undo_cmp = then_cmp (on (λ (p : ℕ × Key). p.0) nat_cmp) (on (λ (p : ℕ × Key). p.1) key_cmp)
+
+-- the keys of a log in the order in which they are undone, the last one first
+pub record IsUndoOrder (logged keys : List (ℕ × Key)) : Type 0 where
+  pub same : IsPermutation logged keys
+  pub descends : IsSorted (flip_args undo_cmp) keys
 
 -- ---- Steps of one switch
 
@@ -114,7 +129,7 @@ pub record PassesBarrier {Own : Type 0} (Tells : Type 0) (d xid : ℕ) (sent : L
   pub failed : IfErr result (λ t. Fails Tells d sent old new (halt_by d t buf))
   pub kept_more : KeptMore d kept now_kept
 
--- ---- The parts of an undo, each with its switch, newest first
+-- ---- The parts of an undo, each with its switch, the last one first
 
 pub data Part : Type 0 where
   -- the inverse for a key was sent, with this transaction id
@@ -422,7 +437,7 @@ abbrev pub is_served : List TableView → List (ℕ × Part) → ℕ → Bool
 is_served views parts d = is_viewed d views && not (is_stuck (parts_of d parts))
 
 -- Nothing is done with a switch that is not joined. With one that is and does not fail: the inverses of exactly its keys are sent,
--- newest first, and a barrier behind them.
+-- the last one first here, and a barrier behind them.
 pub record IsRevertedOn (known : Bool) (d : ℕ) (old new : Counts) (keys : List Key) (parts : List Part) : Type 0 where
   pub unknown : known ≡ false → parts ≡ []
   pub run : IsRun old new d parts
@@ -464,8 +479,8 @@ abbrev pub is_lost_in : ℕ → List (ℕ × Part) → Bool
 is_lost_in d parts = is_among d (lost_parts parts)
 
 -- What was logged from a place on is undone and forgotten, the views lose its keys, and nothing is held any more; a switch whose link fails is
--- lost. The log is undone from its end on, so that the inverses, the newest part first, stand as in the log, of each joined switch that did not
--- fail and was not lost all of them. It goes on past a fault or a loss with the other switches, and the first fault is answered; after Ok none
+-- lost. Its keys are undone switch by switch, ascending, and those of one switch in key order: in this order stand the inverses that were sent,
+-- those of each joined switch that did not fail and was not lost all of them. It goes on past a fault or a loss with the other switches, and the first fault is answered; after Ok none
 -- failed, and all bytes that came were messages. In a world that tells, no switch moves that is not joined; those that were lost are out, the
 -- history has their losses in order, and no packet is released. Where it keeps its word, each joined switch that did not fail and was not lost, of which nothing waited,
 -- and whose table had but the logged keys added since an earlier one, has that table again; and where its view agreed with its table, it does so
@@ -480,9 +495,12 @@ pub record Undoes {Own : Type 0} (Tells : Type 0) (start : ℕ) (old new : Seen 
   pub no_strays : Tells → InOrder new → AreJoined net.views (state old) → MakesNoStrayCall old new
   pub told : Tells → new.history ≡ old.history ++ steps_of parts
   pub numbered : AreNumbered net.xid parts
-  pub each : (d : ℕ) → IsRevertedOn (is_viewed d net.views) d old.counts new.counts (keys_of d (map key_logged (drop start net.log))) (parts_of d parts)
-  pub order : IsThinned (sent_in parts) (map key_logged (drop start net.log))
-  pub whole_order : filter (λ p. is_served net.views parts p.0) (sent_in parts) ≡ filter (λ p. is_served net.views parts p.0) (map key_logged (drop start net.log))
+  -- what was logged, in the order in which it is undone, the last one first
+  pub keys : List (ℕ × Key)
+  pub ordered : IsUndoOrder (map key_logged (drop start net.log)) keys
+  pub each : (d : ℕ) → IsRevertedOn (is_viewed d net.views) d old.counts new.counts (keys_of d keys) (parts_of d parts)
+  pub order : IsThinned (sent_in parts) keys
+  pub whole_order : filter (λ p. is_served net.views parts p.0) (sent_in parts) ≡ filter (λ p. is_served net.views parts p.0) keys
   pub last : EndsByBarriers (switches_of net.views) parts
   pub result_is : result ≡ ended_by (first_fault parts)
   pub read : IsOk result → Tells → MessagesSince old new

@@ -31,6 +31,7 @@ pub mod UndoLaws
 pub mod FurtherLaws
 pub mod NetUndoLaws
 pub mod RevertLaws
+pub mod UndoOrderLaws
 pub mod WholeLaws
 pub mod PartLaws
 pub mod NoticeLaws

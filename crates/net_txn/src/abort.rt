@@ -6,6 +6,7 @@ ghost use Rattle.net_txn.specs.Undos.{Undoes};
 use crate::logged::Logged;
 use crate::net::Net;
 use crate::undo::undo_log;
+use crate::undo_order::order_from;
 use lego_model::TxnFault;
 use outside::World;
 
@@ -19,8 +20,9 @@ fn within_log(log: &[Logged], start: usize) -> usize
 }
 
 impl Net {
-    /// Undoes what was logged from a position on, newest first, and forgets it; what is held is dropped. It goes on past
-    /// the fault or the loss of a switch with the others, and answers the first fault. It takes no memory of its own.
+    /// Undoes what was logged from a position on, switch by switch, ascending, and in key order, and forgets it; what is
+    /// held is dropped. It goes on past the fault or the loss of a switch with the others, and answers the first fault.
+    /// It takes no memory of its own.
     pub(crate) fn undo_from<W: World>(
         &mut self,
         world: &mut W,
@@ -32,6 +34,7 @@ impl Net {
         self.held.clear();
         self.notices.clear();
         let from = within_log(&self.log, start);
+        order_from(&mut self.log, from);
         undo_log(world, self, from)
     }
 }

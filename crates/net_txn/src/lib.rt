@@ -38,6 +38,7 @@ mod rows;
 mod trouble;
 mod txn;
 mod undo;
+mod undo_order;
 mod undo_progress;
 mod undo_wait;
 mod views;

@@ -1,4 +1,4 @@
-//! The inverses of a log, sent newest first.
+//! The inverses of a log, sent from its end on.
 
 ghost use Rattle.std.specs.Prelude.{◌≡◌, ◌+◌, ◌^◌, ◌<◌, ◌≤◌, ℕ, true, false, List, [], ◌∷◌, length, drop, map, Option, is_err, slice_index_or, slice_set};
 ghost use Rattle.outside.specs.Seen.{Seen};

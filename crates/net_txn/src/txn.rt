@@ -94,8 +94,9 @@ impl<'a> Txn<'a> {
         net.release_from(world, queue, start)
     }
 
-    /// Closes the transaction: its changes are undone, newest first, and leave the log and the views. It goes on past the
-    /// fault or the loss of a switch with the others, and answers the first fault. It takes no memory of its own.
+    /// Closes the transaction: its changes are undone, switch by switch, ascending, and in key order, and leave the log
+    /// and the views. It goes on past the fault or the loss of a switch with the others, and answers the first fault. It
+    /// takes no memory of its own.
     pub fn abort<W: World>(self, world: &mut W) -> Result<(), TxnFault>
         requires { 1 ≤ self.net.now.room }
         ensures { Undoes W.Tells self.entry.start (W.seen world.old) (W.seen world.new) self.entry.net.now self.exit.0.now result }

@@ -1,4 +1,4 @@
-//! The undo of what was logged from a position on.
+//! The undo of what was logged from a position on, once it was put in order.
 
 ghost use Rattle.std.specs.Prelude.{◌≡◌, ◌+◌, ◌<◌, ◌≤◌, ℕ, true, not, List, [], ◌∷◌, length, take, drop, map, filter, Option, None, IsOk};
 ghost use Rattle.lego_model.specs.declared.fault.TxnFault.{TxnFault};
@@ -57,7 +57,7 @@ fn revert_noted<W: World>(world: &mut W, net: &mut Net, at: usize, fault: &mut O
     }
 }
 
-/// Sends the inverses of what was logged from a position on, newest first.
+/// Sends the inverses of what was logged from a position on, from the end of the log on.
 fn revert_all<W: World>(world: &mut W, net: &mut Net, from: usize, fault: &mut Option<TxnFault>)
     requires place { from ≤ length net.old.log }
     requires fault { fault.old ≡ None }
@@ -137,8 +137,8 @@ fn take_keys(alloc: Global, views: &mut Vec<TableView>, log: &[Logged])
     }
 }
 
-/// Sends the inverses of what was logged from a position on, newest first, and then sends a barrier to each joined switch
-/// for which some was reverted and which has not failed, ascending, and waits for its reply.
+/// Sends the inverses of what was logged from a position on, from the end of the log on, and then sends a barrier to each
+/// joined switch for which some was reverted and which has not failed, ascending, and waits for its reply.
 fn undo<W: World>(world: &mut W, net: &mut Net, from: usize) -> Result<(), TxnFault>
     requires place { from ≤ length net.old.log }
     requires room { 1 ≤ net.old.room }
@@ -170,8 +170,8 @@ fn forget_lost(views: &mut Vec<TableView>, kept: &mut MessageQueue, reverted: &[
     }
 }
 
-/// Undoes what was logged from a position on, and forgets it; its keys leave the views, and so do the switches that are
-/// lost.
+/// Undoes what was logged from a position on, from the end of the log on, and forgets it; its keys leave the views, and so
+/// do the switches that are lost.
 pub(crate) fn undo_log<W: World>(world: &mut W, net: &mut Net, from: usize) -> Result<(), TxnFault>
     requires place { from ≤ length net.old.log }
     requires room { 1 ≤ net.old.room }

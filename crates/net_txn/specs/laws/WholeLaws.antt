@@ -26,7 +26,8 @@ use Rattle.net_txn.specs.laws.SentOrderLaws.{served_all}
 use Rattle.net_txn.specs.laws.LinkStepLaws.{OnLinks-by}
 use Rattle.net_txn.specs.laws.UndoLinkLaws.{steps_links, parts_bring, undo_releases_none}
 use Rattle.net_txn.specs.laws.UndoStrayLaws.{undo_place}
-use Rattle.net_txn.specs.Undos.{Undoes, UndoesLog, undone_net, next_free, was_lost, lost_parts, is_stuck, Further, steps_of, first_fault, ended_by, without_keys, parts_of, Part, inverses_in, keys_of, key_logged, HasPassedBarrier, Stands, IsRevertedOn}
+use Rattle.net_txn.specs.laws.UndoOrderLaws.{added_in_any_order, without_in_any_order}
+use Rattle.net_txn.specs.Undos.{IsUndoOrder, Undoes, UndoesLog, undone_net, next_free, was_lost, lost_parts, is_stuck, Further, steps_of, first_fault, ended_by, without_keys, parts_of, Part, inverses_in, keys_of, key_logged, HasPassedBarrier, Stands, IsRevertedOn}
 use Rattle.net_txn.specs.NetUndos.{ports_in}
 use Rattle.net_txn.specs.Views.{rows_at, is_viewed}
 
@@ -56,25 +57,26 @@ now_alike : (net now : NetState) (views : List TableView) (log : List Logged) (k
 now_alike net now views log kept ports xid same_views same_log none_held same_kept same_ports same_xid same_moment =
     rw (sym same_views, sym same_log, sym same_kept, sym same_ports, sym same_xid, sym same_moment, sym none_held) refl
 
-pub undoes : {Own : Type 0} {Tells : Type 0} (start from : ℕ) (old new : Seen Own) (net now : NetState) (result : Result (Unit {0}) TxnFault) → take from net.log ≡ take start net.log → drop from net.log ≡ drop start net.log
-    → UndoesLog Tells net.views now.views old new net.kept now.kept (ports_in net) (ports_in now) net.xid now.xid (map key_logged (drop from net.log)) result
-    → now.log ≡ take from net.log → now.held ≡ nothing_held → now.moment ≡ net.moment → (net.room ≤ now.room + 1) × (IsOk result → now.room ≡ net.room) → Undoes Tells start old new net now result
-undoes {Tells = Tells} start from old new net now result front rest u log_is none_held same_moment fits =
+-- the log was put in order first
+pub undoes : {Own : Type 0} {Tells : Type 0} (start from : ℕ) (old new : Seen Own) (net now : NetState) (log : List Logged) (result : Result (Unit {0}) TxnFault) → take from log ≡ take start net.log → IsUndoOrder (map key_logged (drop start net.log)) (map key_logged (drop from log))
+    → UndoesLog Tells net.views now.views old new net.kept now.kept (ports_in net) (ports_in now) net.xid now.xid (map key_logged (drop from log)) result
+    → now.log ≡ take from log → now.held ≡ nothing_held → now.moment ≡ net.moment → (net.room ≤ now.room + 1) × (IsOk result → now.room ≡ net.room) → Undoes Tells start old new net now result
+undoes {Tells = Tells} start from old new net now log result front ordered u log_is none_held same_moment fits =
     let f = u.further in
     let parts = f.parts in
     let lost = lost_parts parts in
-    let keys = map key_logged (drop start net.log) in
-    let same_keys : map key_logged (drop from net.log) ≡ keys = ap (λ (es : List Logged). map key_logged es) rest in
-    let all : map key_logged u.reverted ≡ keys = u.same ∙ same_keys in
+    let logged = map key_logged (drop start net.log) in
+    let keys = map key_logged (drop from log) in
     let is : result ≡ ended_by (first_fault parts) = u.result_is ∙ ap ended_by f.fault_is in
     let given = f.undoing.continues.given in
     let each : (d : ℕ) → IsRevertedOn (is_viewed d net.views) d old.counts new.counts (keys_of d keys) (parts_of d parts) = λ d.
-    reverted_on (is_viewed d net.views) d old.counts new.counts (parts_of d parts) u.reverted keys all (f.undoing.stands d) (u.barred d) in
+    reverted_on (is_viewed d net.views) d old.counts new.counts (parts_of d parts) u.reverted keys u.same (f.undoing.stands d) (u.barred d) in
     let run : AllRun old.counts new.counts parts = λ c. (each c).run in
     let left = without_keys keys net.views in
     let now_views : now.views ≡ filter (λ v. not (is_among v.dpid lost)) left =
-    u.views_is ∙ filter_agree (λ v. not (was_lost u.reverted v.dpid)) (λ v. not (is_among v.dpid lost)) (λ v. lost_alike f v.dpid) (without_keys (map key_logged (drop from net.log)) net.views)
-    ∙ ap (λ (ks : List (ℕ × Key)). filter (λ v. not (is_among v.dpid lost)) (without_keys ks net.views)) same_keys in
+    u.views_is ∙ filter_agree (λ v. not (was_lost u.reverted v.dpid)) (λ v. not (is_among v.dpid lost)) (λ v. lost_alike f v.dpid) left in
+    let any_order : filter (λ v. not (is_among v.dpid lost)) left ≡ filter (λ v. not (is_among v.dpid lost)) (without_keys logged net.views) =
+    ap (λ (vs : List TableView). filter (λ v. not (is_among v.dpid lost)) vs) (sym (without_in_any_order logged keys net.views ordered.same)) in
     let now_kept : now.kept ≡ filter (λ m. not (is_among m.0 lost)) u.all_kept =
     u.kept_is ∙ filter_agree (λ m. not (was_lost u.reverted m.0)) (λ m. not (is_among m.0 lost)) (λ m. lost_alike f m.0) u.all_kept in
     let base : NetState = record (undone_net start net) { xid = next_free net.xid parts; kept = u.all_kept; room = now.room } in
@@ -87,9 +89,11 @@ undoes {Tells = Tells} start from old new net now result front rest u log_is non
       no_strays = λ told order joined. undo_place old new net.views parts given (f.undoing.told told) run (λ c. (each c).unknown) order joined;
       told = f.undoing.told;
       numbered = f.undoing.numbered;
+      keys = keys;
+      ordered = ordered;
       each = each;
-      order = rw all at f.undoing.order;
-      whole_order = served_all net.views parts keys (rw all at f.undoing.order) (λ d. (each d).keys_is);
+      order = rw u.same at f.undoing.order;
+      whole_order = served_all net.views parts keys (rw u.same at f.undoing.order) (λ d. (each d).keys_is);
       last = f.undoing.ends;
       result_is = is;
       read = λ ok told.
@@ -97,7 +101,7 @@ undoes {Tells = Tells} start from old new net now result front rest u log_is non
       none_failed = λ ok d. none_failed old.counts new.counts result parts d run is ok;
       kept = u.all_kept;
       keeps = f.undoing.keeps;
-      net_is = now_alike net now (filter (λ v. not (is_among v.dpid lost)) left) (take start net.log) (filter (λ m. not (is_among m.0 lost)) u.all_kept) (ports_lost lost (ports_in net)) (next_free net.xid parts) now_views (log_is ∙ front) none_held now_kept f.ports_is f.undoing.next same_moment
+      net_is = now_alike net now (filter (λ v. not (is_among v.dpid lost)) (without_keys logged net.views)) (take start net.log) (filter (λ m. not (is_among m.0 lost)) u.all_kept) (ports_lost lost (ports_in net)) (next_free net.xid parts) (now_views ∙ any_order) (log_is ∙ front) none_held now_kept f.ports_is f.undoing.next same_moment
           ∙ sym (lose_all-so lost base);
       room = fits;
       others = λ d told unknown. others_stay old new d parts given (f.undoing.told told) run ((each d).unknown unknown);
@@ -106,9 +110,9 @@ undoes {Tells = Tells} start from old new net now result front rest u log_is non
       none_released = λ told. undo_releases_none old new parts (f.undoing.told told) run;
       accepted = λ d s inverse bytes told conforming here waits err. accepted old new d s inverse bytes parts result given (f.undoing.told told) run conforming is here waits err;
       restored = λ d s before told conforming known free here waits was serialed only.
-          restored old new d s before (keys_of d keys) parts given (f.undoing.told told) run conforming free ((each d).keys_is known free) ((each d).barred known free) here waits was serialed only;
+          restored old new d s before (keys_of d keys) parts given (f.undoing.told told) run conforming free ((each d).keys_is known free) ((each d).barred known free) here waits was serialed (added_in_any_order d logged keys before.entries s.table.entries ordered.same only);
       tables_restored = λ d s before told known free here was serialed only.
-          table_back old new d s before (keys_of d keys) parts given (f.undoing.told told) run free ((each d).keys_is known free) here was serialed only;
+          table_back old new d s before (keys_of d keys) parts given (f.undoing.told told) run free ((each d).keys_is known free) here was serialed (added_in_any_order d logged keys before.entries s.table.entries ordered.same only);
       none_kept = λ told conforming ok ready. now_kept ∙ none_kept old new net.views parts result net.kept u.all_kept given (f.undoing.told told) run (λ c. (each c).unknown) is ok conforming ready f.undoing.keeps;
       plain = λ told conforming ready.
           plain old new net.views parts result given (f.undoing.told told) run (λ c. (each c).unknown) is (Conforming-before told f.undoing.continues conforming) conforming ready;
