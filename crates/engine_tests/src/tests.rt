@@ -1,7 +1,8 @@
 //! How a run ends, what it wrote, and which acts its world wrote down: worked out by hand. Nothing happens in the world, and one call of it or one
 //! write is to fail; or three moments come, and a run has two rounds or more.
 
-ghost use Rattle.std.specs.Prelude.{◌≤◌};
+ghost use Rattle.std.specs.Prelude.{◌≡◌, ◌≤◌, []};
+ghost use Rattle.sim_world.specs.World.{given_of};
 ghost use Rattle.sim_world.specs.Building.{IsNew};
 
 use crash_policy::{AppRule, DEFAULT_BUDGET, Policy};
@@ -81,13 +82,21 @@ fn quiet_world(alloc: Global, fails: Option<(CallKind, u64)>) -> Result<SimWorld
     Ok(sim)
 }
 
-/// A world in which three moments come.
+/// Three moments come.
 #[tactic(auto, unfolding(outside::specs::Conforming::IsWorldStim))]
+fn let_moments_come(world: &mut SimWorld) -> Result<(), AllocError>
+    requires new { IsNew world.old }
+    requires none { (given_of world.old).stimuli ≡ [] }
+{
+    world.add_stimulus(WorldStim::At(1))?;
+    world.add_stimulus(WorldStim::At(2))?;
+    world.add_stimulus(WorldStim::At(3))
+}
+
+/// A world in which three moments come.
 fn world_of_moments(alloc: Global) -> Result<SimWorld, AllocError> {
     let mut sim = SimWorld::new(alloc)?;
-    sim.add_stimulus(WorldStim::At(1))?;
-    sim.add_stimulus(WorldStim::At(2))?;
-    sim.add_stimulus(WorldStim::At(3))?;
+    let_moments_come(&mut sim)?;
     Ok(sim)
 }
 
@@ -107,28 +116,19 @@ fn run_traced<W: World + Drop>(
     Ok((ending, acts))
 }
 
-/// How a run ended, its report, and the acts of its world; of these two some writes are to fail.
+/// How a run in a world ended, its report, and the acts of the world; of these two some writes are to fail.
 fn outcome(
     alloc: Global,
-    fails: Option<(CallKind, u64)>,
+    world: SimWorld,
+    rounds: u64,
     writes: &[u64],
     lines: &[u64],
-) -> Result<(Ending, MemSink, MemSink), AllocError> {
-    let acts = MemSink::new(alloc, 4096, lines)?;
-    let mut report = MemSink::new(alloc, 4096, writes)?;
-    let sim = quiet_world(alloc, fails)?;
-    let (ending, acts) = run_traced(alloc, sim, acts, &mut report, MOST_ROUNDS)?;
-    Ok((ending, report, acts))
-}
-
-/// How a run of two, three or four rounds ended where three moments come, its report, and the acts of its world.
-fn outcome_in(alloc: Global, rounds: u64) -> Result<(Ending, MemSink, MemSink), AllocError>
+) -> Result<(Ending, MemSink, MemSink), AllocError>
     requires { rounds ≤ 1000000000 }
 {
-    let acts = MemSink::new(alloc, 4096, &[])?;
-    let mut report = MemSink::new(alloc, 4096, &[])?;
-    let sim = world_of_moments(alloc)?;
-    let (ending, acts) = run_traced(alloc, sim, acts, &mut report, rounds)?;
+    let acts = MemSink::new(alloc, 4096, lines)?;
+    let mut report = MemSink::new(alloc, 4096, writes)?;
+    let (ending, acts) = run_traced(alloc, world, acts, &mut report, rounds)?;
     Ok((ending, report, acts))
 }
 
@@ -209,10 +209,11 @@ fn worlds_and_sinks_fail(rt: HostRuntime) -> Result<(), Fail> {
         (None, none, &[3], Ending::Whole, REPORT, ACTS_BUT_ONE),
     ];
     for (fails, writes, lines, ending, report, acts) in cases {
-        let (ended, written, told) = outcome(rt.alloc(), fails, writes, lines)?;
+        let world = quiet_world(rt.alloc(), fails)?;
+        let (ended, written, told) = outcome(rt.alloc(), world, MOST_ROUNDS, writes, lines)?;
         assert_eq!(rt; ended, ending, "{fails:?}");
-        assert!(rt; written.bytes() == report.as_bytes(), "{fails:?}");
-        assert!(rt; told.bytes() == acts.as_bytes(), "{fails:?}");
+        let is_told = written.bytes() == report.as_bytes() && told.bytes() == acts.as_bytes();
+        assert!(rt; is_told, "{fails:?}");
     }
     Ok(())
 }
@@ -265,10 +266,11 @@ fn each_stimulus_takes_a_round(rt: HostRuntime) -> Result<(), Fail> {
         (4, REPORT_AT_THREE, ACTS_OF_FOUR),
     ];
     for (rounds, report, acts) in cases {
-        let (ended, written, told) = outcome_in(rt.alloc(), rounds)?;
+        let world = world_of_moments(rt.alloc())?;
+        let (ended, written, told) = outcome(rt.alloc(), world, rounds, &[], &[])?;
         assert_eq!(rt; ended, Ending::Whole, "{rounds}");
-        assert!(rt; written.bytes() == report.as_bytes(), "{rounds}");
-        assert!(rt; told.bytes() == acts.as_bytes(), "{rounds}");
+        let is_told = written.bytes() == report.as_bytes() && told.bytes() == acts.as_bytes();
+        assert!(rt; is_told, "{rounds}");
     }
     Ok(())
 }
