@@ -2,8 +2,7 @@
 
 use of_stream::cut_pieces;
 use of_types::ByteList;
-use std::alloc::Global;
-use std::process::Abort;
+use std::alloc::{AllocError, Global};
 use std::test::Fail;
 
 /// A dozen messages of both sides, written by the tables of OpenFlow 1.0.0, 5.
@@ -68,30 +67,46 @@ const MESSAGES: [&[u8]; 12] = [
     &BARRIER_REPLY,
 ];
 
-fn stream(alloc: Global) -> Result<Vec<u8>, Fail> {
+/// Lists of these bytes.
+fn lists(alloc: Global, parts: &[&[u8]]) -> Result<Vec<ByteList>, AllocError> {
+    let mut lists = Vec::new(alloc);
+    for part in parts {
+        lists.push(ByteList::from_slice(alloc, part)?)?;
+    }
+    Ok(lists)
+}
+
+/// The messages, one after the other.
+fn stream(alloc: Global) -> Result<Vec<u8>, AllocError> {
     let mut bytes = Vec::new(alloc);
-    for message in MESSAGES {
+    for message in &MESSAGES {
         bytes.extend_from_slice(message)?;
     }
     Ok(bytes)
 }
 
-fn expect_messages(rt: &impl Abort, frames: &[ByteList]) {
-    assert_eq!(rt; frames.len(), MESSAGES.len());
-    for (frame, message) in frames.iter().zip(MESSAGES) {
-        assert_eq!(rt; frame.as_slice(), message);
-    }
+/// Tells whether a stream that comes in these two pieces is cut into these messages, and nothing is left.
+fn is_cut(
+    alloc: Global,
+    front: &[u8],
+    back: &[u8],
+    messages: &[ByteList],
+) -> Result<bool, AllocError> {
+    let pieces = lists(alloc, &[front, back])?;
+    let cut = cut_pieces(alloc, &pieces)?;
+    Ok(cut.frames.as_slice() == messages && cut.rest.is_empty())
 }
 
 #[test]
 fn one_stream_cut_at_every_place(rt: HostRuntime) -> Result<(), Fail> {
-    let bytes = stream(rt.alloc())?;
+    let alloc = rt.alloc();
+    let messages = lists(alloc, &MESSAGES)?;
+    let bytes = stream(alloc)?;
     for place in 0..bytes.len() {
-        let front = ByteList::from_slice(rt.alloc(), &bytes[..place])?;
-        let back = ByteList::from_slice(rt.alloc(), &bytes[place..])?;
-        let cut = cut_pieces(rt.alloc(), &[front, back])?;
-        expect_messages(&rt, cut.frames.as_slice());
-        assert!(rt; cut.rest.is_empty());
+        assert!(rt;
+            is_cut(alloc, &bytes[..place], &bytes[place..], &messages)?,
+            "{place}"
+        );
     }
     Ok(())
 }
