@@ -3,23 +3,17 @@
 ghost use Rattle.std.specs.Prelude.{◌≤◌, length, IfOk};
 ghost use Rattle.netlog_inverse.specs.Plans.{AreShowable};
 
+use super::key;
 use counter_cache::Cache;
 use flow_table::{TableView, ViewList, ViewRow};
-use netlog_inverse::{Inverse, Log, Mark, PlanFault, plan};
+use netlog_inverse::{Image, Inverse, Log, Logged, Mark, PlanFault, plan};
 use of_action::ActionList;
-use of_match::{Key, Match};
+use of_match::Match;
 use of_stats::{FlowRow, RowList};
 use of_types::{flows, ports};
 use of_wire::FlowMod;
 use std::alloc::{AllocError, Global};
 use std::test::Fail;
-
-fn key() -> Key {
-    Key {
-        priority: 7,
-        matching: Match::any(),
-    }
-}
 
 /// A FLOW_MOD of all packets, without actions.
 fn change(alloc: Global, command: u16) -> FlowMod {
@@ -37,27 +31,39 @@ fn change(alloc: Global, command: u16) -> FlowMod {
     }
 }
 
+/// A view without entries.
+fn empty(alloc: Global) -> TableView
+    ensures { AreShowable result.rows.rows }
+{
+    TableView {
+        dpid: 1,
+        rows: ViewList::new(alloc),
+    }
+}
+
 /// A view of one entry, without actions, that goes after a minute.
 fn view(alloc: Global) -> Result<TableView, AllocError>
     ensures { IfOk result (λ v. AreShowable v.rows.rows) }
 {
-    let row = ViewRow {
+    let mut rows = Vec::new(alloc);
+    rows.push(ViewRow {
         key: key(),
         actions: ActionList::new(alloc),
         cookie: 9,
         idle: 0,
         hard: 60,
         flags: 0,
-    };
+    })?;
     Ok(TableView {
         dpid: 1,
-        rows: ViewList::from_vec(vec![in alloc; row]?),
+        rows: ViewList::from_vec(rows),
     })
 }
 
 /// What the switch reports of it after 20 seconds.
 fn reported(alloc: Global) -> Result<RowList, AllocError> {
-    let row = FlowRow {
+    let mut rows = Vec::new(alloc);
+    rows.push(FlowRow {
         key: key(),
         duration_sec: 20,
         idle: 0,
@@ -66,32 +72,47 @@ fn reported(alloc: Global) -> Result<RowList, AllocError> {
         packets: 3,
         bytes: 180,
         actions: ActionList::new(alloc),
-    };
-    Ok(RowList::from_vec(vec![in alloc; row]?))
+    })?;
+    Ok(RowList::from_vec(rows))
 }
 
-/// An ADD at a new key is undone by a DELETE_STRICT, of 72 bytes with the command 4.
+/// What is planned for such a FLOW_MOD where nothing was lost before.
+fn planned(
+    alloc: Global,
+    command: u16,
+    view: &TableView,
+    rows: &RowList,
+) -> Result<Inverse, PlanFault>
+    requires { AreShowable view.now.rows.rows }
+{
+    let cache = Cache::new(alloc)?;
+    plan(alloc, &change(alloc, command), view, &cache, rows)
+}
+
+/// Whether it is a DELETE_STRICT alone, of 72 bytes with the command 4.
+fn is_delete_alone(image: &Image) -> bool {
+    let delete = image.delete.as_slice();
+    delete.len() == 72 && delete[57] == 4 && image.add.is_empty()
+}
+
+/// Whether an ADD at a new key is undone by a DELETE_STRICT.
+fn plans_delete(alloc: Global) -> Result<bool, PlanFault> {
+    let inverse = planned(alloc, flows::ADD, &empty(alloc), &RowList::new(alloc))?;
+    match inverse.images.as_slice() {
+        [image] => Ok(is_delete_alone(image)),
+        _ => Ok(false),
+    }
+}
+
 #[test]
 fn plans_an_add(rt: HostRuntime) -> Result<(), Fail> {
-    let alloc = rt.alloc();
-    let empty = TableView {
-        dpid: 1,
-        rows: ViewList::new(alloc),
-    };
-    let cache = Cache::new(alloc)?;
-    let inverse = plan(
-        alloc,
-        &change(alloc, flows::ADD),
-        &empty,
-        &cache,
-        &RowList::new(alloc),
-    )?;
-    assert_eq!(rt; inverse.images.len(), 1);
-    let image = &inverse.images[0];
-    assert_eq!(rt; image.delete.len(), 72);
-    assert_eq!(rt; image.delete.as_slice().get(57).copied(), Some(4));
-    assert!(rt; image.add.is_empty());
+    assert!(rt; plans_delete(rt.alloc())?);
     Ok(())
+}
+
+/// What is planned for a DELETE of the entry.
+fn gone(alloc: Global) -> Result<Inverse, PlanFault> {
+    planned(alloc, flows::DELETE, &view(alloc)?, &reported(alloc)?)
 }
 
 /// Logs an inverse since a mark, with room made first.
@@ -104,39 +125,49 @@ fn log_more(log: &mut Log, mark: Mark, inverse: Inverse) -> Result<(), AllocErro
     Ok(())
 }
 
-/// An entry that goes after 20 of 60 seconds comes back by an ADD with 40. Its image is logged once, and is taken out again.
-#[test]
-fn logs_a_delete(rt: HostRuntime) -> Result<(), Fail> {
-    let alloc = rt.alloc();
-    let cache = Cache::new(alloc)?;
-    let all = change(alloc, flows::DELETE);
-    let inverse = plan(alloc, &all, &view(alloc)?, &cache, &reported(alloc)?)?;
-    let again = plan(alloc, &all, &view(alloc)?, &cache, &reported(alloc)?)?;
+/// Whether it has an ADD with a hard timeout of 40 seconds.
+fn adds_for_40_seconds(logged: &Logged) -> bool {
+    let add = logged.image.add.as_slice();
+    add.len() == 72 && add[61] == 40
+}
+
+/// Whether the image of an entry that goes after 20 of 60 seconds is logged once, and is taken out again.
+fn logs_once(alloc: Global) -> Result<bool, PlanFault> {
     let mut log = Log::new(alloc)?;
     let mark = log.mark();
-    log_more(&mut log, mark, inverse)?;
-    log_more(&mut log, mark, again)?;
-    assert_eq!(rt; log.since(mark).len(), 1);
-    let logged = log.pop(mark);
-    assert!(rt; logged.is_some_and(|one| one.image.add.as_slice().get(61).copied() == Some(40)));
-    assert!(rt; log.since(mark).is_empty());
+    log_more(&mut log, mark, gone(alloc)?)?;
+    log_more(&mut log, mark, gone(alloc)?)?;
+    if log.since(mark).len() != 1 {
+        return Ok(false);
+    }
+    let is_add = match log.pop(mark) {
+        Some(logged) => adds_for_40_seconds(&logged),
+        None => false,
+    };
+    Ok(is_add && log.since(mark).is_empty())
+}
+
+#[test]
+fn logs_a_delete(rt: HostRuntime) -> Result<(), Fail> {
+    assert!(rt; logs_once(rt.alloc())?);
     Ok(())
 }
 
-/// An entry that goes without a row is NoRow, a row without an entry NoShadow.
+/// Whether an entry that goes without a row is NoRow.
+fn wants_row(alloc: Global) -> Result<bool, AllocError> {
+    let answer = planned(alloc, flows::DELETE, &view(alloc)?, &RowList::new(alloc));
+    Ok(matches!(answer, Err(PlanFault::NoRow(_))))
+}
+
+/// Whether a row without an entry is NoShadow.
+fn wants_entry(alloc: Global) -> Result<bool, AllocError> {
+    let answer = planned(alloc, flows::DELETE, &empty(alloc), &reported(alloc)?);
+    Ok(matches!(answer, Err(PlanFault::NoShadow(_))))
+}
+
 #[test]
 fn refuses_what_differs(rt: HostRuntime) -> Result<(), Fail> {
-    let alloc = rt.alloc();
-    let cache = Cache::new(alloc)?;
-    let all = change(alloc, flows::DELETE);
-    let none = RowList::new(alloc);
-    let planned = plan(alloc, &all, &view(alloc)?, &cache, &none);
-    assert!(rt; matches!(planned, Err(PlanFault::NoRow(_))));
-    let empty = TableView {
-        dpid: 1,
-        rows: ViewList::new(alloc),
-    };
-    let planned = plan(alloc, &all, &empty, &cache, &reported(alloc)?);
-    assert!(rt; matches!(planned, Err(PlanFault::NoShadow(_))));
+    assert!(rt; wants_row(rt.alloc())?);
+    assert!(rt; wants_entry(rt.alloc())?);
     Ok(())
 }

@@ -1,45 +1,38 @@
 //! Policy texts and replacements.
 
 use app_frames::{Event, EventKind};
-use crash_policy::{Policy, PolicyFault, PolicyFile, listens, read_policy, replacements, rule};
+use crash_policy::{AppRule, Policy, PolicyFile, listens, read_policy, replacements, rule};
 use of_types::ByteList;
 use std::alloc::{AllocError, Global};
 use std::test::Fail;
 
-/// What the answer shows.
-fn shown(alloc: Global, text: &str) -> Result<String, AllocError> {
+/// Texts that are no policy, and what their faults show (docs/POLICY.md).
+const REFUSED: [(&str, &str); 5] = [
+    ("app =", "text"),
+    ("x = 1", "unknown x"),
+    ("[[app]]", "missing name"),
+    ("[[app]]\nname = 'a'\nbudget = 0", "range budget"),
+    ("[[app]]\nname = 'a'\n[[app]]\nname = 'a'", "double a"),
+];
+
+/// Whether a text is no policy, and its fault is shown so.
+fn is_refused(alloc: Global, text: &str, shown: &str) -> Result<bool, AllocError> {
     match read_policy(alloc, text.as_bytes()) {
-        Ok(_) => String::from_str(alloc, "ok"),
-        Err(fault) => fault.to_string(alloc),
+        Ok(_) => Ok(false),
+        Err(fault) => Ok(fault.to_string(alloc)?.as_str() == shown),
     }
 }
 
 #[test]
 fn faults_are_shown(rt: HostRuntime) -> Result<(), Fail> {
-    let alloc = rt.alloc();
-    assert_eq!(rt; shown(alloc, "app =")?.as_str(), "text");
-    assert_eq!(rt; shown(alloc, "x = 1")?.as_str(), "unknown x");
-    assert_eq!(rt; shown(alloc, "[[app]]")?.as_str(), "missing name");
-    Ok(())
-}
-
-#[test]
-fn later_faults_are_shown(rt: HostRuntime) -> Result<(), Fail> {
-    let alloc = rt.alloc();
-    assert_eq!(rt;
-        shown(alloc, "[[app]]\nname = 'a'\nbudget = 0")?.as_str(),
-        "range budget"
-    );
-    assert_eq!(rt;
-        shown(alloc, "[[app]]\nname = 'a'\n[[app]]\nname = 'a'")?.as_str(),
-        "double a"
-    );
+    for (text, shown) in &REFUSED {
+        assert!(rt; is_refused(rt.alloc(), text, shown)?, "{text}");
+    }
     Ok(())
 }
 
 /// A text with each key.
-fn whole(alloc: Global) -> Result<PolicyFile, PolicyFault> {
-    let text = "judge = 'quota'
+const WHOLE: &str = "judge = 'quota'
 quota = 7
 [[app]]
 name = 'learn'
@@ -51,54 +44,53 @@ name = 'clean'
 policy = 'none'
 rules = { leave = 'equivalence' }
 ";
-    read_policy(alloc, text.as_bytes())
+
+/// Whether it is the first application of [`WHOLE`].
+fn is_learn(app: &AppRule) -> bool {
+    app.name.as_str() == "learn"
+        && app.command.len() == 2
+        && app.budget == 3
+        && listens(app, EventKind::PacketIn)
+        && !listens(app, EventKind::Join)
+        && rule(app, EventKind::Leave) == Policy::Absolute
+}
+
+/// Whether it is the second application of [`WHOLE`].
+fn is_clean(app: &AppRule) -> bool {
+    app.budget == 1000
+        && listens(app, EventKind::Join)
+        && rule(app, EventKind::Join) == Policy::None
+        && rule(app, EventKind::Leave) == Policy::Equivalence
+}
+
+/// Whether it is what [`WHOLE`] says.
+fn is_whole(file: &PolicyFile) -> bool {
+    match file.apps.as_slice() {
+        [learn, clean] => file.quota == Some(7) && is_learn(learn) && is_clean(clean),
+        _ => false,
+    }
 }
 
 #[test]
 fn whole_policy(rt: HostRuntime) -> Result<(), Fail> {
-    let file = whole(rt.alloc())?;
-    assert_eq!(rt; file.quota, Some(7));
-    assert_eq!(rt; file.apps.len(), 2);
-    let learn = &file.apps[0];
-    assert_eq!(rt; learn.name.as_str(), "learn");
-    assert_eq!(rt; learn.command.len(), 2);
-    assert_eq!(rt; learn.budget, 3);
-    assert!(rt; listens(learn, EventKind::PacketIn));
-    assert!(rt; !listens(learn, EventKind::Join));
-    assert_eq!(rt; rule(learn, EventKind::Leave), Policy::Absolute);
+    let file = read_policy(rt.alloc(), WHOLE.as_bytes())?;
+    assert!(rt; is_whole(&file));
     Ok(())
 }
 
-#[test]
-fn policies_of_single_kinds(rt: HostRuntime) -> Result<(), Fail> {
-    let file = whole(rt.alloc())?;
-    assert_eq!(rt; file.apps.len(), 2);
-    let clean = &file.apps[1];
-    assert_eq!(rt; clean.budget, 1000);
-    assert!(rt; listens(clean, EventKind::Join));
-    assert_eq!(rt; rule(clean, EventKind::Join), Policy::None);
-    assert_eq!(rt; rule(clean, EventKind::Leave), Policy::Equivalence);
-    Ok(())
-}
+/// The ports 2 and 1, of 48 bytes each, all 0 but the numbers.
+const TWO_PORTS: [u8; 96] = [
+    0, 2, 0, 0, 0, 0, 0, 0, 0, 0, 0, 0, 0, 0, 0, 0, 0, 0, 0, 0, 0, 0, 0, 0, 0, 0, 0, 0, 0, 0, 0, 0,
+    0, 0, 0, 0, 0, 0, 0, 0, 0, 0, 0, 0, 0, 0, 0, 0, //
+    0, 1, 0, 0, 0, 0, 0, 0, 0, 0, 0, 0, 0, 0, 0, 0, 0, 0, 0, 0, 0, 0, 0, 0, 0, 0, 0, 0, 0, 0, 0, 0,
+    0, 0, 0, 0, 0, 0, 0, 0, 0, 0, 0, 0, 0, 0, 0, 0,
+];
 
-/// The 48 bytes of a port, all 0 but its number.
-fn push_port(bytes: &mut Vec<u8>, number: u8) -> Result<(), AllocError> {
-    for place in 0..48u8 {
-        bytes.push(if place == 1 { number } else { 0 })?;
-    }
-    Ok(())
-}
-
-fn event(alloc: Global, kind: EventKind) -> Result<Event, AllocError> {
-    let mut body = Vec::new(alloc);
-    if kind == EventKind::Leave {
-        push_port(&mut body, 2)?;
-        push_port(&mut body, 1)?;
-    }
+fn event(alloc: Global, kind: EventKind, body: &[u8]) -> Result<Event, AllocError> {
     Ok(Event {
         kind,
         dpid: 5,
-        body: ByteList::from_vec(body),
+        body: ByteList::from_slice(alloc, body)?,
     })
 }
 
@@ -107,19 +99,30 @@ fn is_link_lost(event: &Event, number: u8) -> bool {
     let body = event.body.as_slice();
     event.kind == EventKind::PortStatus
         && body.len() == 64
-        && body.get(8).copied() == Some(2)
-        && body.get(17).copied() == Some(number)
-        && body.get(47).copied() == Some(1)
+        && body[8] == 2
+        && body[17] == number
+        && body[47] == 1
 }
 
-/// A Leave of the ports 2 and 1 is replaced by one PORT_STATUS for each port, ascending; a Join by nothing.
+/// Whether a Leave of the ports 2 and 1 is replaced by one PORT_STATUS for each port, ascending.
+fn replaces_leave(alloc: Global) -> Result<bool, AllocError> {
+    let leave = event(alloc, EventKind::Leave, &TWO_PORTS)?;
+    let events = replacements(alloc, &leave)?;
+    match events.as_slice() {
+        [first, second] => Ok(is_link_lost(first, 1) && is_link_lost(second, 2)),
+        _ => Ok(false),
+    }
+}
+
+/// Whether a Join is replaced by nothing.
+fn replaces_no_join(alloc: Global) -> Result<bool, AllocError> {
+    let join = event(alloc, EventKind::Join, &[])?;
+    Ok(replacements(alloc, &join)?.is_empty())
+}
+
 #[test]
 fn leave_is_replaced(rt: HostRuntime) -> Result<(), Fail> {
-    let alloc = rt.alloc();
-    let events = replacements(alloc, &event(alloc, EventKind::Leave)?)?;
-    assert_eq!(rt; events.len(), 2);
-    assert!(rt; is_link_lost(&events[0], 1));
-    assert!(rt; is_link_lost(&events[1], 2));
-    assert!(rt; replacements(alloc, &event(alloc, EventKind::Join)?)?.is_empty());
+    assert!(rt; replaces_leave(rt.alloc())?);
+    assert!(rt; replaces_no_join(rt.alloc())?);
     Ok(())
 }
