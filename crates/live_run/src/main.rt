@@ -1,15 +1,20 @@
-//! A trial of the engine over the live world: a switch that connects over TCP and applications that are child programs, some
-//! of which fail in the middle of a turn.
+//! Trials over the live world. Of the engine: a switch that connects over TCP and applications that are child programs, some
+//! of which fail in the middle of a turn. And of the world by itself: an application that is restored at a checkpoint.
 //!
 //! The program is its own children: with the words of `demo_parts`, and two more (`both PORT`, `tear`), it plays a part.
 //! Without words it runs the engine once for each of four applications, with a new switch each time, and writes the reports;
-//! of the last line of each the moment is left out.
+//! of the last line of each the moment is left out. Then it starts a child `learn`, restores it, gives it one event, and
+//! writes what it gives, in hex, on a line.
 #![tactic(auto)]
 
+mod restored;
 mod scene;
 mod steady;
+mod talk;
+mod talk_trouble;
 mod trouble;
 
+use crate::restored::show_restored;
 use crate::scene::{SCENES, show};
 use demo_parts::{Arrival, Part, perform, play_part, play_switch};
 use std::process::ExitCode;
@@ -33,7 +38,7 @@ fn play(rt: &HostRuntime, words: &[String]) -> u8 {
     }
 }
 
-/// Runs all trials, and answers the status.
+/// Runs the trials of the engine, and answers the status.
 fn run_scenes(rt: &HostRuntime) -> io::Result<u8> {
     let mut status = 0;
     for scene in SCENES {
@@ -50,11 +55,26 @@ fn run_scenes(rt: &HostRuntime) -> io::Result<u8> {
     Ok(status)
 }
 
+/// Restores an application, and answers the status.
+fn run_restored(rt: &HostRuntime) -> io::Result<u8> {
+    println!(rt; "learn, restored")?;
+    match show_restored(rt) {
+        Ok(text) => {
+            println!(rt; "{text}")?;
+            Ok(0)
+        }
+        Err(trouble) => {
+            println!(rt; "{trouble}")?;
+            Ok(FAILED)
+        }
+    }
+}
+
 /// Plays the part of the words; without words runs all trials. Answers the status.
 fn run(rt: &HostRuntime) -> io::Result<u8> {
     let words: Vec<String> = env::args(rt)?.skip(1).collect(rt.alloc())?;
     if words.is_empty() {
-        run_scenes(rt)
+        Ok(run_scenes(rt)?.max(run_restored(rt)?))
     } else {
         Ok(play(rt, &words))
     }

@@ -2,7 +2,7 @@
 
 ghost use Rattle.std.specs.Prelude.{◌≤◌, length, IfOk, IfSome};
 
-use crate::trouble::Trouble;
+use crate::talk_trouble::TalkTrouble;
 use app_frames::{AppFrame, AppFrameError, HostFrame, decode_app, encode_host};
 use live_world::Clock;
 use outside::{Taken, World};
@@ -48,7 +48,7 @@ impl Display for Awaited {
 }
 
 /// Where the awaited frame ends, if it has come.
-fn end_of(alloc: Global, bytes: &[u8], awaited: Awaited) -> Result<Option<usize>, Trouble>
+fn end_of(alloc: Global, bytes: &[u8], awaited: Awaited) -> Result<Option<usize>, TalkTrouble>
     ensures { IfOk result (λ end. IfSome end (λ end. end ≤ length bytes.now)) }
 {
     let mut at = 0;
@@ -62,8 +62,8 @@ fn end_of(alloc: Global, bytes: &[u8], awaited: Awaited) -> Result<Option<usize>
                 }
             }
             Ok(None) => return Ok(None),
-            Err(AppFrameError::Refused(_)) => return Err(Trouble::Garbled(awaited)),
-            Err(AppFrameError::NoMemory) => return Err(Trouble::NoMemory),
+            Err(AppFrameError::Refused(_)) => return Err(TalkTrouble::Garbled(awaited)),
+            Err(AppFrameError::NoMemory) => return Err(TalkTrouble::NoMemory),
         }
     }
     Ok(None)
@@ -74,12 +74,14 @@ pub(crate) fn give<W: World>(
     alloc: Global,
     world: &mut W,
     frame: &HostFrame,
-) -> Result<(), Trouble> {
+) -> Result<(), TalkTrouble> {
     if !frame.fits() {
-        return Err(Trouble::Gone);
+        return Err(TalkTrouble::Gone);
     }
     let bytes = encode_host(alloc, frame)?;
-    world.give(APP, bytes.as_slice()).map_err(|_| Trouble::Gone)
+    world
+        .give(APP, bytes.as_slice())
+        .map_err(|_| TalkTrouble::Gone)
 }
 
 /// Takes what the application gives, up to the awaited frame and with it. What it gave behind that is dropped.
@@ -88,7 +90,7 @@ pub(crate) fn take_until<W: World, C: Clock>(
     world: &mut W,
     clock: &mut C,
     awaited: Awaited,
-) -> Result<Vec<u8>, Trouble> {
+) -> Result<Vec<u8>, TalkTrouble> {
     let begin = clock.seconds();
     let mut taken = Vec::new(alloc);
     let mut piece = [0u8; PIECE_BYTES];
@@ -102,10 +104,10 @@ pub(crate) fn take_until<W: World, C: Clock>(
         }
         match world.take(APP, &mut piece) {
             Ok(Taken::Some(count)) => taken.extend_from_slice(&piece[..count])?,
-            Ok(Taken::Closed) => return Err(Trouble::Closed(awaited)),
-            Ok(Taken::Silent) => return Err(Trouble::Silent(awaited)),
-            Err(_) => return Err(Trouble::NoMemory),
+            Ok(Taken::Closed) => return Err(TalkTrouble::Closed(awaited)),
+            Ok(Taken::Silent) => return Err(TalkTrouble::Silent(awaited)),
+            Err(_) => return Err(TalkTrouble::NoMemory),
         }
     }
-    Err(Trouble::Silent(awaited))
+    Err(TalkTrouble::Silent(awaited))
 }

@@ -1,12 +1,12 @@
-//! What went wrong.
+//! What went wrong with an application that is restored.
 
 use crate::talk::Awaited;
 use std::alloc::AllocError;
 use thiserror::Error;
 
-/// What went wrong in the trial.
+/// What went wrong with an application that is restored.
 #[derive(Drop, Debug, Error)]
-pub enum Trouble {
+pub enum TalkTrouble {
     /// Memory ran out.
     #[error("memory ran out")]
     NoMemory,
@@ -30,8 +30,8 @@ pub enum Trouble {
     Garbled(Awaited),
 }
 
-impl From<AllocError> for Trouble {
-    fn from(_error: AllocError) -> Trouble {
-        Trouble::NoMemory
+impl From<AllocError> for TalkTrouble {
+    fn from(_error: AllocError) -> TalkTrouble {
+        TalkTrouble::NoMemory
     }
 }

@@ -1,7 +1,8 @@
-//! The trial.
+//! A trial of the live world by itself: an application that is a child program, restored at a checkpoint, answers an event byte for
+//! byte.
 
 use crate::talk::{APP, Awaited, give, take_until};
-use crate::trouble::Trouble;
+use crate::talk_trouble::TalkTrouble;
 use app_frames::{Event, EventKind, HostFrame};
 use hex::ToHex;
 use live_stage::{SteadyClock, own_words};
@@ -47,19 +48,19 @@ fn arrival(alloc: Global) -> Result<HostFrame, AllocError> {
 }
 
 /// Starts the child `learn`, restores it, gives it the event, ends it, and answers in hex what it gave.
-pub(crate) fn try_restored<
+pub(crate) fn show_restored<
     R: Net + Processes<Started = SystemProcess> + Env + Clock + AllocGlobal + Clone + Drop,
->(rt: &R) -> Result<String, Trouble> {
+>(rt: &R) -> Result<String, TalkTrouble> {
     let alloc = rt.alloc();
-    let mut clock = SteadyClock::new(rt.clone()?).map_err(|_| Trouble::NoClock)?;
+    let mut clock = SteadyClock::new(rt.clone()?).map_err(|_| TalkTrouble::NoClock)?;
     let mut world = LiveWorld::new(
         rt.clone()?,
         alloc,
-        SteadyClock::new(rt.clone()?).map_err(|_| Trouble::NoClock)?,
+        SteadyClock::new(rt.clone()?).map_err(|_| TalkTrouble::NoClock)?,
     )?;
     world
         .start(APP, &own_words(alloc, "learn")?)
-        .map_err(|_| Trouble::NotStarted)?;
+        .map_err(|_| TalkTrouble::NotStarted)?;
     give(alloc, &mut world, &restore(alloc)?)?;
     take_until(alloc, &mut world, &mut clock, Awaited::Ready)?;
     give(alloc, &mut world, &arrival(alloc)?)?;

@@ -1,5 +1,5 @@
 use Rattle.std.proofs.Common.{◌≤◌, length}
-use Rattle.live_restore.proofs.talk.end_of.Given as goal
+use Rattle.live_run.proofs.talk.end_of.Given as goal
 
 abbrev pub invariant-loop : goal.invariant-loop
 invariant-loop l = l.at ≤ length l.bytes
