@@ -1,5 +1,5 @@
 //! How a run ends, what it wrote, and which acts its world wrote down: worked out by hand. Nothing happens in the world, and one call of it or one
-//! write is to fail; or three moments come, and a run has two rounds or more.
+//! write is to fail; or two moments come, and a run has one round or more.
 
 ghost use Rattle.std.specs.Prelude.{◌≡◌, ◌≤◌, []};
 ghost use Rattle.sim_world.specs.World.{given_of};
@@ -16,14 +16,20 @@ use std::alloc::{AllocError, Global};
 use std::test::Fail;
 use trace_world::Traced;
 
+/// The rules for the kinds of events where a policy says nothing of them.
+const SAME_RULES: [Policy; 6] = [Policy::Absolute; 6];
+
+/// It is given events of each kind.
+const ALL_EVENTS: [bool; 6] = [true; 6];
+
 /// An application `app` of which a policy says nothing else, and that no command starts.
 fn usual_app(alloc: Global) -> Result<AppRule, AllocError> {
     Ok(AppRule {
         name: String::from_str(alloc, "app")?,
         command: Vec::new(alloc),
         policy: Policy::Absolute,
-        rules: [Policy::Absolute; 6],
-        events: [true; 6],
+        rules: SAME_RULES,
+        events: ALL_EVENTS,
         budget: DEFAULT_BUDGET,
     })
 }
@@ -82,44 +88,27 @@ fn quiet_world(alloc: Global, fails: Option<(CallKind, u64)>) -> Result<SimWorld
     Ok(sim)
 }
 
-/// Three moments come.
+/// Two moments come.
 #[tactic(auto, unfolding(outside::specs::Conforming::IsWorldStim))]
 fn let_moments_come(world: &mut SimWorld) -> Result<(), AllocError>
     requires new { IsNew world.old }
     requires none { (given_of world.old).stimuli ≡ [] }
 {
     world.add_stimulus(WorldStim::At(1))?;
-    world.add_stimulus(WorldStim::At(2))?;
-    world.add_stimulus(WorldStim::At(3))
+    world.add_stimulus(WorldStim::At(2))
 }
 
-/// A world in which three moments come.
+/// A world in which two moments come.
 fn world_of_moments(alloc: Global) -> Result<SimWorld, AllocError> {
     let mut sim = SimWorld::new(alloc)?;
     let_moments_come(&mut sim)?;
     Ok(sim)
 }
 
-/// Runs any world, in at most so many rounds, and writes its acts down in words.
-fn run_traced<W: World + Drop>(
+/// How a run in any world ended, its report, and the acts of the world in words; of these two some writes are to fail.
+fn outcome<W: World + Drop>(
     alloc: Global,
     world: W,
-    acts: MemSink,
-    report: &mut MemSink,
-    rounds: u64,
-) -> Result<(Ending, MemSink), AllocError>
-    requires { rounds ≤ 1000000000 }
-{
-    let mut traced = Traced::new(alloc, world, acts);
-    let ending = run(alloc, &mut traced, report, rounds)?;
-    let (_world, acts) = traced.into_parts();
-    Ok((ending, acts))
-}
-
-/// How a run in a world ended, its report, and the acts of the world; of these two some writes are to fail.
-fn outcome(
-    alloc: Global,
-    world: SimWorld,
     rounds: u64,
     writes: &[u64],
     lines: &[u64],
@@ -128,7 +117,9 @@ fn outcome(
 {
     let acts = MemSink::new(alloc, 4096, lines)?;
     let mut report = MemSink::new(alloc, 4096, writes)?;
-    let (ending, acts) = run_traced(alloc, world, acts, &mut report, rounds)?;
+    let mut traced = Traced::new(alloc, world, acts);
+    let ending = run(alloc, &mut traced, &mut report, rounds)?;
+    let (_world, acts) = traced.into_parts();
     Ok((ending, report, acts))
 }
 
@@ -174,56 +165,68 @@ world ended
 app 0 ended
 ";
 
+/// How a run came out: its end, its report, and the acts of its world.
+type Outcome<'a> = (Ending, &'a str, &'a str);
+
+/// Tells whether a run came out so.
+fn is_outcome(found: &(Ending, MemSink, MemSink), wanted: &Outcome<'_>) -> bool {
+    found.0 == wanted.0
+        && found.1.bytes() == wanted.1.as_bytes()
+        && found.2.bytes() == wanted.2.as_bytes()
+}
+
+/// Which call of the world is to fail, which writes of the report, and which of the acts; and what comes of it.
+const FAILURES: [(Option<(CallKind, u64)>, &[u64], &[u64], Outcome<'static>); 7] = [
+    (None, &[], &[], (Ending::Whole, REPORT, ACTS)),
+    (
+        Some((CallKind::Open, 1)),
+        &[],
+        &[],
+        (Ending::Shut, "", "world stays shut, port 0\n"),
+    ),
+    (
+        Some((CallKind::Next, 1)),
+        &[],
+        &[],
+        (Ending::NextFault, STARTED, FAILED_ACTS),
+    ),
+    (
+        Some((CallKind::Short, 1)),
+        &[],
+        &[],
+        (Ending::NoMemory, "", "world out of memory\n"),
+    ),
+    (None, &[1], &[], (Ending::WriteFault, "", STARTED_ACTS)),
+    (None, &[2], &[], (Ending::WriteFault, STARTED, ACTS)),
+    (None, &[], &[3], (Ending::Whole, REPORT, ACTS_BUT_ONE)),
+];
+
 #[test]
 fn worlds_and_sinks_fail(rt: HostRuntime) -> Result<(), Fail> {
-    let (open, next, short) = (CallKind::Open, CallKind::Next, CallKind::Short);
-    let none: &[u64] = &[];
-    let cases = [
-        (None, none, none, Ending::Whole, REPORT, ACTS),
-        (
-            Some((open, 1)),
-            none,
-            none,
-            Ending::Shut,
-            "",
-            "world stays shut, port 0\n",
-        ),
-        (
-            Some((next, 1)),
-            none,
-            none,
-            Ending::NextFault,
-            STARTED,
-            FAILED_ACTS,
-        ),
-        (
-            Some((short, 1)),
-            none,
-            none,
-            Ending::NoMemory,
-            "",
-            "world out of memory\n",
-        ),
-        (None, &[1], none, Ending::WriteFault, "", STARTED_ACTS),
-        (None, &[2], none, Ending::WriteFault, STARTED, ACTS),
-        (None, none, &[3], Ending::Whole, REPORT, ACTS_BUT_ONE),
-    ];
-    for (fails, writes, lines, ending, report, acts) in cases {
-        let world = quiet_world(rt.alloc(), fails)?;
-        let (ended, written, told) = outcome(rt.alloc(), world, MOST_ROUNDS, writes, lines)?;
-        assert_eq!(rt; ended, ending, "{fails:?}");
-        let is_told = written.bytes() == report.as_bytes() && told.bytes() == acts.as_bytes();
-        assert!(rt; is_told, "{fails:?}");
+    for (fails, writes, lines, wanted) in &FAILURES {
+        let world = quiet_world(rt.alloc(), *fails)?;
+        let found = outcome(rt.alloc(), world, MOST_ROUNDS, writes, lines)?;
+        assert!(rt; is_outcome(&found, wanted), "{fails:?}");
     }
     Ok(())
 }
 
 /// The report where the last moment was this one.
+const REPORT_AT_ONE: &str = "start app ready\napp app alive done 0 failed 0\nend 1 events 0\n";
+
 const REPORT_AT_TWO: &str = "start app ready\napp app alive done 0 failed 0\nend 2 events 0\n";
 
-const REPORT_AT_THREE: &str = "start app ready\napp app alive done 0 failed 0\nend 3 events 0\n";
+/// The acts in one round: the second moment does not come.
+const ACTS_OF_ONE: &str = "\
+world opened, port 0
+app 0 started
+app 0 <- RESTORE bytes=0
+app 0 -> READY
+moment 1
+app 0 ended
+";
 
-/// The acts in two rounds: the third moment does not come.
+/// The acts in two rounds: it is not found that no more comes.
 const ACTS_OF_TWO: &str = "\
 world opened, port 0
 app 0 started
@@ -234,7 +237,6 @@ moment 2
 app 0 ended
 ";
 
-/// The acts in three rounds: it is not found that no more comes.
 const ACTS_OF_THREE: &str = "\
 world opened, port 0
 app 0 started
@@ -242,35 +244,23 @@ app 0 <- RESTORE bytes=0
 app 0 -> READY
 moment 1
 moment 2
-moment 3
-app 0 ended
-";
-
-const ACTS_OF_FOUR: &str = "\
-world opened, port 0
-app 0 started
-app 0 <- RESTORE bytes=0
-app 0 -> READY
-moment 1
-moment 2
-moment 3
 world ended
 app 0 ended
 ";
 
+/// How many rounds a run has over two moments, and what comes of it.
+const ROUNDS: [(u64, Outcome<'static>); 3] = [
+    (1, (Ending::Whole, REPORT_AT_ONE, ACTS_OF_ONE)),
+    (2, (Ending::Whole, REPORT_AT_TWO, ACTS_OF_TWO)),
+    (3, (Ending::Whole, REPORT_AT_TWO, ACTS_OF_THREE)),
+];
+
 #[test]
 fn each_stimulus_takes_a_round(rt: HostRuntime) -> Result<(), Fail> {
-    let cases = [
-        (2, REPORT_AT_TWO, ACTS_OF_TWO),
-        (3, REPORT_AT_THREE, ACTS_OF_THREE),
-        (4, REPORT_AT_THREE, ACTS_OF_FOUR),
-    ];
-    for (rounds, report, acts) in cases {
+    for (rounds, wanted) in &ROUNDS {
         let world = world_of_moments(rt.alloc())?;
-        let (ended, written, told) = outcome(rt.alloc(), world, rounds, &[], &[])?;
-        assert_eq!(rt; ended, Ending::Whole, "{rounds}");
-        let is_told = written.bytes() == report.as_bytes() && told.bytes() == acts.as_bytes();
-        assert!(rt; is_told, "{rounds}");
+        let found = outcome(rt.alloc(), world, (*rounds).min(MOST_ROUNDS), &[], &[])?;
+        assert!(rt; is_outcome(&found, wanted), "{rounds}");
     }
     Ok(())
 }
