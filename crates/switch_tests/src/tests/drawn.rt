@@ -3,13 +3,12 @@
 ghost use Rattle.std.specs.Prelude.{◌≤◌, All, IsTrue};
 ghost use Rattle.flow_table.specs.Table.{IsMoment};
 
-use super::entries::{ANY, PORT_1, PORT_2, flow_mod, matching};
-use super::hits::{exact, packet};
+use super::entries::{ANY, Change, EXACT_1, EXACT_2, PORT_1, PORT_2};
+use super::hits::{Call, table_call};
 use flow_table::{
     ChangeFault, Entry, NoticeList, Table, TableAnswer, TableCall, is_plan, plain, run,
 };
 use flow_timeouts::LAST_MOMENT;
-use of_match::Match;
 use of_types::ports;
 use std::alloc::{AllocError, Global};
 use std::test::Fail;
@@ -31,40 +30,39 @@ impl Draw {
     }
 }
 
-fn some_match(draw: u16) -> Match {
-    match draw % 5 {
-        0 => exact(1),
-        1 => exact(2),
-        2 => matching(PORT_1),
-        3 => matching(PORT_2),
-        _ => matching(ANY),
-    }
-}
-
-fn some_change(alloc: Global, draw: &mut Draw, now: u64) -> Result<TableCall, AllocError> {
+fn some_change(draw: &mut Draw) -> Change {
     let command = draw.next() % 6;
-    let key = (draw.next() % 4, ANY);
+    let priority = draw.next() % 4;
     let flags = draw.next() % 4;
-    let mut flow = flow_mod(alloc, command, key, flags, draw.next() % 3)?;
-    flow.matching = some_match(draw.next());
-    flow.idle = draw.next() % 9;
-    flow.hard = draw.next() % 13;
-    flow.out_port = match draw.next() % 4 {
+    let cookie = draw.next() % 3;
+    let packets = match draw.next() % 5 {
+        0 => EXACT_1,
+        1 => EXACT_2,
+        2 => PORT_1,
+        3 => PORT_2,
+        _ => ANY,
+    };
+    let idle = draw.next() % 9;
+    let hard = draw.next() % 13;
+    let out_port = match draw.next() % 4 {
         0 => 1,
         _ => ports::NONE,
     };
-    Ok(TableCall::Change { flow, now, cap: 7 })
+    Change(
+        command,
+        (priority, packets),
+        flags,
+        cookie,
+        (idle, hard),
+        out_port,
+    )
 }
 
-fn some_call(alloc: Global, draw: &mut Draw, now: u64) -> Result<TableCall, AllocError> {
+fn some_call(draw: &mut Draw, now: u64) -> Call {
     match draw.next() % 8 {
-        0 => Ok(TableCall::Expire { now }),
-        1 | 2 => Ok(TableCall::Hit {
-            key: packet(draw.next() % 3),
-            len: 60,
-            now,
-        }),
-        _ => some_change(alloc, draw, now),
+        0 => Call::Expire(now),
+        1 | 2 => Call::Hit(draw.next() % 3, 60, now),
+        _ => Call::Make(some_change(draw), now, 7),
     }
 }
 
@@ -75,7 +73,7 @@ fn some_calls(alloc: Global, count: u16) -> Result<Vec<TableCall>, AllocError> {
     let mut calls = Vec::new(alloc);
     for _ in 0..count {
         now = now.wrapping_add(u64::from(draw.next() % 3));
-        calls.push(some_call(alloc, &mut draw, now)?)?;
+        calls.push(table_call(alloc, some_call(&mut draw, now))?)?;
     }
     Ok(calls)
 }
@@ -106,12 +104,13 @@ fn is_moment(entries: &[Entry], now: u64) -> bool
     now <= LAST_MOMENT && latest(entries) <= now
 }
 
-/// What the plain body makes of a call; `None` where it may not be made.
-fn play(
+/// Makes a call of the plain body, and says whether it may be made and is answered so; where a packet hit is not looked at.
+fn agrees(
     alloc: Global,
     state: &mut Plain,
     call: &TableCall,
-) -> Result<Option<TableAnswer>, AllocError> {
+    answer: &TableAnswer,
+) -> Result<bool, AllocError> {
     match call {
         TableCall::Change { flow, now, cap } if state.next < 1_000_000 => {
             match plain::change(alloc, &state.entries, state.next, flow, *now, *cap) {
@@ -119,61 +118,65 @@ fn play(
                     state.entries = changed.entries;
                     state.next = changed.next;
                     let notices = NoticeList::from_vec(changed.notices);
-                    Ok(Some(TableAnswer::Changed(notices)))
+                    Ok(*answer == TableAnswer::Changed(notices))
                 }
-                Err(ChangeFault::Refused(error)) => Ok(Some(TableAnswer::Refused(error))),
+                Err(ChangeFault::Refused(error)) => Ok(*answer == TableAnswer::Refused(error)),
                 Err(ChangeFault::NoMemory) => Err(AllocError),
             }
         }
         TableCall::Hit { key, len, now } => {
             state.entries = plain::hit(alloc, &state.entries, key, *len, *now)?;
-            Ok(Some(TableAnswer::Hit(None)))
+            Ok(matches!(answer, TableAnswer::Hit(_)))
         }
         TableCall::Expire { now } => {
             let entries = state.entries.as_slice();
             if !is_moment(entries, *now) {
-                return Ok(None);
+                return Ok(false);
             }
             let (left, notices) = plain::expire(alloc, entries, *now)?;
             state.entries = left;
-            Ok(Some(TableAnswer::Expired(NoticeList::from_vec(notices))))
+            Ok(*answer == TableAnswer::Expired(NoticeList::from_vec(notices)))
         }
-        _ => Ok(None),
+        _ => Ok(false),
     }
 }
 
 /// Whether the plain body answers to calls as a table did, and is left with the same entries.
-fn agrees(
+fn all_agree(
     alloc: Global,
     calls: &[TableCall],
     answers: &[TableAnswer],
-    table: &Table,
+    entries: &[Entry],
 ) -> Result<bool, AllocError> {
     let mut state = Plain {
         entries: Vec::new(alloc),
         next: 0,
     };
-    for (call, answer) in calls.iter().zip(answers) {
-        let same = match (play(alloc, &mut state, call)?, answer) {
-            (Some(TableAnswer::Hit(_)), TableAnswer::Hit(_)) => true,
-            (Some(given), wanted) => given == *wanted,
-            (None, _) => false,
-        };
-        if !same {
+    if calls.len() != answers.len() {
+        return Ok(false);
+    }
+    for k in 0..calls.len() {
+        if !agrees(alloc, &mut state, &calls[k], &answers[k])? {
             return Ok(false);
         }
     }
-    Ok(calls.len() == answers.len() && state.entries.as_slice() == table.entries())
+    Ok(state.entries.as_slice() == entries)
+}
+
+/// Whether so many calls may be made of a new table, and the plain body agrees.
+fn is_agreed(alloc: Global, count: u16) -> Result<bool, AllocError> {
+    let calls = some_calls(alloc, count)?;
+    let calls = calls.as_slice();
+    let mut table = Table::new(alloc)?;
+    if !is_plan(&table, calls) {
+        return Ok(false);
+    }
+    let answers = run(alloc, &mut table, calls)?;
+    all_agree(alloc, calls, &answers, table.entries())
 }
 
 #[test]
 fn a_slow_body_agrees(rt: HostRuntime) -> Result<(), Fail> {
-    let alloc = rt.alloc();
-    let calls = some_calls(alloc, 600)?;
-    let calls = calls.as_slice();
-    let mut table = Table::new(alloc)?;
-    assert!(rt; is_plan(&table, calls));
-    let answers = run(alloc, &mut table, calls)?;
-    assert!(rt; agrees(alloc, calls, &answers, &table)?);
+    assert!(rt; is_agreed(rt.alloc(), 600)?);
     Ok(())
 }

@@ -3,52 +3,53 @@
 //! The frames are written by hand from the formats of IEEE 802.1Q, RFC 791, RFC 793, RFC 768, RFC 792 and RFC 826. Their checksums
 //! were added up outside this program, word by word with end-around carry. The actions are those of OpenFlow 1.0.0, 5.2.4.
 
-ghost use Rattle.std.specs.Prelude.{IfOk};
-
 use super::switch::send;
+use of_wire::WireFault;
 use std::alloc::{AllocError, Global};
-use std::process::Abort;
 use std::test::Fail;
 use switch_sim::SimSwitch;
 
 /// An action, a frame, and the frame that the action makes of it.
-type Edit<'a> = (&'a [u8], &'a [u8], &'a [u8]);
+type Edit = (&'static [u8], &'static [u8], &'static [u8]);
 
 /// A PACKET_OUT (5.3.6) of a frame that came in by port 1, with an action and then an OUTPUT to CONTROLLER.
 fn packet_out(alloc: Global, action: &[u8], frame: &[u8]) -> Result<Vec<u8>, AllocError> {
-    let mut bytes = Vec::from_slice(alloc, &[1, 13, 0, 0, 0, 0, 0, 9])?;
-    let [_, size] = ((action.len() % 256) as u16).to_be_bytes();
-    bytes.extend_from_slice(&[0xff, 0xff, 0xff, 0xff, 0, 1, 0, size.wrapping_add(8)])?;
+    let size = action.len().wrapping_add(frame.len()).wrapping_add(24);
+    let [high, low] = ((size % 65_536) as u16).to_be_bytes();
+    let [_, actions] = ((action.len().wrapping_add(8) % 65_536) as u16).to_be_bytes();
+    let front = [
+        1, 13, high, low, 0, 0, 0, 9, 0xff, 0xff, 0xff, 0xff, 0, 1, 0, actions,
+    ];
+    let mut bytes = Vec::from_slice(alloc, &front)?;
     bytes.extend_from_slice(action)?;
     bytes.extend_from_slice(&[0, 0, 0, 8, 0xff, 0xfd, 0xff, 0xff])?;
     bytes.extend_from_slice(frame)?;
-    let [high, low] = ((bytes.len() % 65_536) as u16).to_be_bytes();
-    if bytes.len() > 3 {
-        bytes[2] = high;
-        bytes[3] = low;
-    }
     Ok(bytes)
 }
 
-/// Each action makes this frame of that one.
-fn edits(rt: &impl Abort, alloc: Global, rows: &[Edit<'_>]) -> Result<(), Fail> {
-    for (action, frame, want) in rows {
-        let mut switch = SimSwitch::new(alloc, 1, 1, &[1])?;
-        let message = packet_out(alloc, action, frame)?;
-        let sent = send(rt, alloc, &mut switch, &message)?;
-        match sent.as_slice() {
-            [packet_in] => assert!(rt;
-                packet_in.as_slice().ends_with(want)
-                    && packet_in.len() == want.len().wrapping_add(18),
-                "{action:?} {frame:?}"
-            ),
-            _ => assert!(rt; false, "{action:?} {frame:?}"),
-        }
+/// Whether the action makes this frame of that one: the PACKET_IN (5.4.1) has 18 bytes before it.
+fn is_made(alloc: Global, (action, frame, want): Edit) -> Result<bool, WireFault> {
+    let mut switch = SimSwitch::new(alloc, 1, 1, &[1])?;
+    let sent = send(alloc, &mut switch, &packet_out(alloc, action, frame)?)?;
+    match sent.as_slice() {
+        [packet_in] => Ok(
+            packet_in.as_slice().ends_with(want) && packet_in.len() == want.len().wrapping_add(18),
+        ),
+        _ => Ok(false),
     }
-    Ok(())
 }
 
-const TAGS: [Edit<'static>; 8] = [
+/// The first edit that goes otherwise, counted from 0.
+fn first_wrong(alloc: Global, edits: &[Edit]) -> Result<Option<usize>, WireFault> {
+    for k in 0..edits.len() {
+        if !is_made(alloc, edits[k])? {
+            return Ok(Some(k));
+        }
+    }
+    Ok(None)
+}
+
+const EDITS: [Edit; 37] = [
     // A new tag.
     (
         &[0, 1, 0, 8, 0, 5, 0, 0],
@@ -139,10 +140,7 @@ const TAGS: [Edit<'static>; 8] = [
             0xff, 0xff, 0xff, 0xff, 0xff, 0xff, 0x02, 0x00, 0x00, 0x00, 0x00, 0x01, 0x88,
         ],
     ),
-];
-
-const ADDRESSES: [Edit<'static>; 3] = [
-    // The source.
+    // A source address.
     (
         &[0, 4, 0, 16, 1, 2, 3, 4, 5, 6, 0, 0, 0, 0, 0, 0],
         &[
@@ -152,7 +150,7 @@ const ADDRESSES: [Edit<'static>; 3] = [
             0xff, 0xff, 0xff, 0xff, 0xff, 0xff, 0x01, 0x02, 0x03, 0x04, 0x05, 0x06, 0x88, 0xb5,
         ],
     ),
-    // The destination.
+    // A destination address.
     (
         &[0, 5, 0, 16, 1, 2, 3, 4, 5, 6, 0, 0, 0, 0, 0, 0],
         &[
@@ -172,10 +170,7 @@ const ADDRESSES: [Edit<'static>; 3] = [
             0xff, 0xff, 0xff, 0xff, 0xff, 0xff, 0x02, 0x00, 0x00, 0x00, 0x00, 0x01, 0x88,
         ],
     ),
-];
-
-const HEADERS: [Edit<'static>; 9] = [
-    // The address counts in the checksum.
+    // An address of IPv4 counts in the checksum of the header.
     (
         &[0, 7, 0, 8, 10, 0, 0, 3],
         &[
@@ -303,10 +298,7 @@ const HEADERS: [Edit<'static>; 9] = [
             0x00, 0x01, 0x0a, 0x00, 0x00, 0x02,
         ],
     ),
-];
-
-const UDP: [Edit<'static>; 10] = [
-    // An odd payload, by its destination port.
+    // UDP with an odd payload, by its destination port.
     (
         &[0, 10, 0, 8, 20, 233, 0, 0],
         &[
@@ -466,10 +458,7 @@ const UDP: [Edit<'static>; 10] = [
             0x6f, 0x64, 0x64,
         ],
     ),
-];
-
-const TCP: [Edit<'static>; 5] = [
-    // An odd payload, by its source port.
+    // TCP with an odd payload, by its source port.
     (
         &[0, 9, 0, 8, 0, 1, 0, 0],
         &[
@@ -523,7 +512,7 @@ const TCP: [Edit<'static>; 5] = [
             0x63,
         ],
     ),
-    // Behind options.
+    // TCP behind options.
     (
         &[0, 10, 0, 8, 1, 187, 0, 0],
         &[
@@ -555,9 +544,6 @@ const TCP: [Edit<'static>; 5] = [
             0x00, 0x01, 0x0a, 0x00, 0x00, 0x02, 0x00, 0x01, 0x00, 0x50,
         ],
     ),
-];
-
-const ICMP: [Edit<'static>; 2] = [
     // ICMP has no ports.
     (
         &[0, 9, 0, 8, 0, 1, 0, 0],
@@ -590,11 +576,7 @@ const ICMP: [Edit<'static>; 2] = [
 
 #[test]
 fn frames_are_edited(rt: HostRuntime) -> Result<(), Fail> {
-    edits(&rt, rt.alloc(), &TAGS)?;
-    edits(&rt, rt.alloc(), &ADDRESSES)?;
-    edits(&rt, rt.alloc(), &HEADERS)?;
-    edits(&rt, rt.alloc(), &UDP)?;
-    edits(&rt, rt.alloc(), &TCP)?;
-    edits(&rt, rt.alloc(), &ICMP)?;
+    let wrong = first_wrong(rt.alloc(), &EDITS)?;
+    assert!(rt; wrong.is_none(), "edit {wrong:?}");
     Ok(())
 }

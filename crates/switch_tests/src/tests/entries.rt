@@ -1,53 +1,67 @@
 //! Changes of a table.
 
-ghost use Rattle.std.specs.Prelude.{◌<◌, ◌≤◌, ◌+◌, ◌-◌, ◌^◌};
+ghost use Rattle.std.specs.Prelude.{◌≡◌, ◌<◌, ◌≤◌, ◌+◌, ◌-◌, ◌^◌};
 
-use flow_table::{ChangeFault, NoticeList, Table};
+use flow_table::{ChangeFault, Entry, Notice, Table};
 use of_action::{Action, ActionList};
 use of_match::Match;
-use of_types::{flows, ports};
+use of_types::{OfError, flows, ports};
 use of_wire::FlowMod;
 use std::alloc::{AllocError, Global};
 use std::test::Fail;
 
-/// Matches by their last wildcard byte and `in_port`: of any packet, and of packets of port 1 or 2.
-pub(super) const ANY: (u8, u8) = (0xff, 0);
+/// The packets of a match (5.2.3): its wildcards, and its in_port.
+pub(super) type Packets = (u32, u8);
 
-pub(super) const PORT_1: (u8, u8) = (0xfe, 1);
+pub(super) const ANY: Packets = (0x0038_20ff, 0);
 
-pub(super) const PORT_2: (u8, u8) = (0xfe, 2);
+pub(super) const PORT_1: Packets = (0x0038_20fe, 1);
 
-pub(super) fn matching((wildcards, in_port): (u8, u8)) -> Match {
+pub(super) const PORT_2: Packets = (0x0038_20fe, 2);
+
+/// The packets of that port with 0 in every other field.
+pub(super) const EXACT_1: Packets = (0, 1);
+
+pub(super) const EXACT_2: Packets = (0, 2);
+
+pub(super) fn matching((wildcards, in_port): Packets) -> Match {
+    let [_, high, middle, low] = wildcards.to_be_bytes();
     let mut bytes = [0; 40];
-    bytes[1] = 0x38;
-    bytes[2] = 0x20;
-    bytes[3] = wildcards;
+    bytes[1] = high;
+    bytes[2] = middle;
+    bytes[3] = low;
     bytes[5] = in_port;
     Match::decode(&bytes)
 }
 
-/// A FLOW_MOD: its command, priority, match, flags and cookie, with an OUTPUT to the port of that number.
-pub(super) fn flow_mod(
-    alloc: Global,
-    command: u16,
-    key: (u16, (u8, u8)),
-    flags: u16,
-    cookie: u16,
-) -> Result<FlowMod, AllocError> {
+/// A FLOW_MOD (5.3.3): its command, its priority and packets, flags, cookie, timeouts (idle and hard), and out_port. Its action
+/// is an OUTPUT to the port whose number is the cookie.
+#[derive(Clone, Copy)]
+pub(super) struct Change(
+    pub u16,
+    pub (u16, Packets),
+    pub u16,
+    pub u16,
+    pub (u16, u16),
+    pub u16,
+);
+
+pub(super) fn flow_mod(alloc: Global, change: Change) -> Result<FlowMod, AllocError> {
+    let Change(command, (priority, packets), flags, cookie, (idle, hard), out_port) = change;
     let mut actions = Vec::new(alloc);
     actions.push(Action::Output {
         port: cookie,
         max_len: 0,
     })?;
     Ok(FlowMod {
-        matching: matching(key.1),
+        matching: matching(packets),
         cookie: u64::from(cookie),
         command,
-        idle: 0,
-        hard: 0,
-        priority: key.0,
+        idle,
+        hard,
+        priority,
         buffer_id: flows::NO_BUFFER,
-        out_port: ports::NONE,
+        out_port,
         flags,
         actions: ActionList::from_vec(actions),
     })
@@ -61,11 +75,17 @@ fn output(actions: &ActionList) -> u64 {
     }
 }
 
-/// Of each entry: priority, cookie, output, flags, moment, packets and serial.
-pub(super) fn rows(alloc: Global, table: &Table) -> Result<Vec<[u64; 7]>, AllocError> {
-    let mut rows = Vec::new(alloc);
-    for e in table.entries() {
-        rows.push([
+/// Of an entry: priority, cookie, output, flags, moment, packets, serial, bytes, and the moment of its last use.
+pub(super) type Row = [u64; 9];
+
+/// Whether these are the entries.
+pub(super) fn are_entries(entries: &[Entry], wants: &[Row]) -> bool {
+    if entries.len() != wants.len() {
+        return false;
+    }
+    for k in 0..entries.len() {
+        let e = &entries[k];
+        let row = [
             u64::from(e.key.priority),
             e.cookie,
             output(&e.actions),
@@ -73,146 +93,180 @@ pub(super) fn rows(alloc: Global, table: &Table) -> Result<Vec<[u64; 7]>, AllocE
             e.installed,
             e.packets,
             e.serial,
-        ])?;
+            e.bytes,
+            e.used,
+        ];
+        if row != wants[k] {
+            return false;
+        }
     }
-    Ok(rows)
+    true
 }
 
-/// Of each notice: cookie, reason and duration.
-pub(super) fn told(alloc: Global, notices: &NoticeList) -> Result<Vec<[u64; 3]>, AllocError> {
-    let mut all = Vec::new(alloc);
-    for n in notices.as_slice() {
-        all.push([n.removed.cookie, u64::from(n.reason), n.duration])?;
+/// Whether these are the notices: of each its cookie, reason and duration.
+pub(super) fn are_told(notices: &[Notice], wants: &[[u64; 3]]) -> bool {
+    if notices.len() != wants.len() {
+        return false;
     }
-    Ok(all)
+    for k in 0..notices.len() {
+        let n = &notices[k];
+        if [n.removed.cookie, u64::from(n.reason), n.duration] != wants[k] {
+            return false;
+        }
+    }
+    true
 }
 
-/// The kind and code of a refusal.
-fn code(alloc: Global, fault: ChangeFault) -> Result<Vec<[u64; 3]>, AllocError> {
-    let mut all = Vec::new(alloc);
-    if let ChangeFault::Refused(error) = fault {
-        all.push([u64::from(error.kind), u64::from(error.code), 0])?;
-    }
-    Ok(all)
+/// Whether the error has this kind and code, in place of one notice.
+pub(super) fn is_refused(error: &OfError, wants: &[[u64; 3]]) -> bool {
+    wants == [[u64::from(error.kind), u64::from(error.code), 0]].as_slice()
 }
 
-/// What a table of `cap` entries answers to a change at a moment: the notices, or the error in place of one.
-fn answer(
-    alloc: Global,
+/// A change, its moment, and how many entries the table takes; then the answer, by notices or an error, and the entries.
+type Step = (Change, u64, u32, &'static [[u64; 3]], &'static [Row]);
+
+const IN_A_FULL_TABLE: [Step; 5] = [
+    (
+        Change(flows::ADD, (5, PORT_1), 0, 1, (0, 0), ports::NONE),
+        0,
+        1,
+        &[],
+        &[[5, 1, 1, 0, 0, 0, 0, 0, 0]],
+    ),
+    (
+        Change(flows::ADD, (5, PORT_2), 2, 2, (0, 0), ports::NONE),
+        1,
+        1,
+        &[[3, 0, 0]],
+        &[[5, 1, 1, 0, 0, 0, 0, 0, 0]],
+    ),
+    (
+        Change(flows::ADD, (5, ANY), 2, 2, (0, 0), ports::NONE),
+        2,
+        1,
+        &[[3, 1, 0]],
+        &[[5, 1, 1, 0, 0, 0, 0, 0, 0]],
+    ),
+    (
+        Change(5, (5, PORT_1), 0, 2, (0, 0), ports::NONE),
+        3,
+        1,
+        &[[3, 4, 0]],
+        &[[5, 1, 1, 0, 0, 0, 0, 0, 0]],
+    ),
+    (
+        Change(flows::ADD, (5, PORT_1), 1, 3, (0, 0), ports::NONE),
+        4,
+        1,
+        &[],
+        &[[5, 3, 3, 1, 4, 0, 1, 0, 4]],
+    ),
+];
+
+const MODIFY_AND_DELETE: [Step; 5] = [
+    (
+        Change(flows::ADD, (10, PORT_1), 3, 1, (0, 0), ports::NONE),
+        0,
+        9,
+        &[],
+        &[[10, 1, 1, 1, 0, 0, 0, 0, 0]],
+    ),
+    (
+        Change(flows::MODIFY, (0, ANY), 0, 2, (0, 0), ports::NONE),
+        1,
+        9,
+        &[],
+        &[[10, 1, 2, 1, 0, 7, 0, 70, 0]],
+    ),
+    (
+        Change(
+            flows::MODIFY_STRICT,
+            (11, PORT_1),
+            1,
+            3,
+            (0, 0),
+            ports::NONE,
+        ),
+        2,
+        9,
+        &[],
+        &[
+            [11, 3, 3, 1, 2, 0, 1, 0, 2],
+            [10, 1, 2, 1, 0, 14, 0, 140, 0],
+        ],
+    ),
+    (
+        Change(flows::DELETE_STRICT, (11, PORT_1), 0, 0, (0, 0), 2),
+        3,
+        9,
+        &[],
+        &[
+            [11, 3, 3, 1, 2, 0, 1, 0, 2],
+            [10, 1, 2, 1, 0, 21, 0, 210, 0],
+        ],
+    ),
+    (
+        Change(flows::DELETE, (0, ANY), 0, 0, (0, 0), ports::NONE),
+        9,
+        9,
+        &[[3, 2, 7], [1, 2, 9]],
+        &[],
+    ),
+];
+
+/// Whether a table answers so to a change.
+fn answers(
     table: &mut Table,
-    m: &FlowMod,
+    flow: &FlowMod,
     now: u64,
     cap: u32,
-) -> Result<Vec<[u64; 3]>, AllocError>
-    requires { table.old.next < 2 ^ 64 - 1 }
-    ensures { table.new.next ≤ table.old.next + 1 }
-{
-    match table.change(m, now, cap) {
-        Ok(notices) => told(alloc, &notices),
-        Err(fault) => code(alloc, fault),
-    }
-}
-
-/// Counts 7 packets at each entry of priority 10, makes the change, and says whether the answer and then the
-/// rows are these.
-fn gives(
-    alloc: Global,
-    table: &mut Table,
-    m: FlowMod,
-    now: u64,
-    cap: u32,
-    answers: &[[u64; 3]],
-    entries: &[[u64; 7]],
+    wants: &[[u64; 3]],
 ) -> Result<bool, AllocError>
     requires { table.old.next < 2 ^ 64 - 1 }
     ensures { table.new.next ≤ table.old.next + 1 }
 {
+    match table.change(flow, now, cap) {
+        Ok(notices) => Ok(are_told(notices.as_slice(), wants)),
+        Err(ChangeFault::Refused(error)) => Ok(is_refused(&error, wants)),
+        Err(ChangeFault::NoMemory) => Err(AllocError),
+    }
+}
+
+/// Counts 7 packets of 10 bytes at each entry of priority 10, makes the change, and says whether the answer and then the
+/// entries are these.
+fn goes(alloc: Global, table: &mut Table, step: Step) -> Result<bool, AllocError>
+    requires { table.old.next < 2 ^ 64 - 1 }
+    ensures { table.new.next ≤ table.old.next + 1 }
+{
+    let (change, now, cap, notices, entries) = step;
+    let flow = flow_mod(alloc, change)?;
     table.add_counts(10, 7, 70);
-    let first = answer(alloc, table, &m, now, cap)?;
-    Ok(first.as_slice() == answers && rows(alloc, table)?.as_slice() == entries)
+    let told = answers(table, &flow, now, cap, notices)?;
+    Ok(told && are_entries(table.entries(), entries))
+}
+
+/// The first of changes that goes otherwise, counted from 0.
+fn first_wrong(
+    alloc: Global,
+    table: &mut Table,
+    steps: &[Step],
+) -> Result<Option<usize>, AllocError>
+    requires { table.old.next ≡ 0 }
+{
+    for k in 0..steps.len().min(1_000) {
+        if !goes(alloc, table, steps[k])? {
+            return Ok(Some(k));
+        }
+    }
+    Ok(None)
 }
 
 #[test]
-fn refusals_of_a_full_table(rt: HostRuntime) -> Result<(), Fail> {
-    let alloc = rt.alloc();
-    let mut table = Table::new(alloc)?;
-    let m = flow_mod(alloc, flows::ADD, (5, PORT_1), 0, 1)?;
-    assert!(rt; gives(alloc, &mut table, m, 0, 1, &[], &[[5, 1, 1, 0, 0, 0, 0]])?);
-    let m = flow_mod(alloc, flows::ADD, (5, PORT_2), 2, 2)?;
-    assert!(rt;
-        gives(
-            alloc,
-            &mut table,
-            m,
-            1,
-            1,
-            &[[3, 0, 0]],
-            &[[5, 1, 1, 0, 0, 0, 0]]
-        )?
-    );
-    let m = flow_mod(alloc, flows::ADD, (5, ANY), 2, 2)?;
-    assert!(rt;
-        gives(
-            alloc,
-            &mut table,
-            m,
-            2,
-            1,
-            &[[3, 1, 0]],
-            &[[5, 1, 1, 0, 0, 0, 0]]
-        )?
-    );
-    let m = flow_mod(alloc, 5, (5, PORT_1), 0, 2)?;
-    assert!(rt;
-        gives(
-            alloc,
-            &mut table,
-            m,
-            3,
-            1,
-            &[[3, 4, 0]],
-            &[[5, 1, 1, 0, 0, 0, 0]]
-        )?
-    );
-    let m = flow_mod(alloc, flows::ADD, (5, PORT_1), 1, 3)?;
-    assert!(rt; gives(alloc, &mut table, m, 4, 1, &[], &[[5, 3, 3, 1, 4, 0, 1]])?);
-    Ok(())
-}
-
-#[test]
-fn modify_and_delete(rt: HostRuntime) -> Result<(), Fail> {
-    let alloc = rt.alloc();
-    let mut table = Table::new(alloc)?;
-    let m = flow_mod(alloc, flows::ADD, (10, PORT_1), 3, 1)?;
-    assert!(rt; gives(alloc, &mut table, m, 0, 9, &[], &[[10, 1, 1, 1, 0, 0, 0]])?);
-    let m = flow_mod(alloc, flows::MODIFY, (0, ANY), 0, 2)?;
-    assert!(rt; gives(alloc, &mut table, m, 1, 9, &[], &[[10, 1, 2, 1, 0, 7, 0]])?);
-    let m = flow_mod(alloc, flows::MODIFY_STRICT, (11, PORT_1), 1, 3)?;
-    assert!(rt;
-        gives(
-            alloc,
-            &mut table,
-            m,
-            2,
-            9,
-            &[],
-            &[[11, 3, 3, 1, 2, 0, 1], [10, 1, 2, 1, 0, 14, 0]]
-        )?
-    );
-    let mut m = flow_mod(alloc, flows::DELETE_STRICT, (11, PORT_1), 0, 0)?;
-    m.out_port = 2;
-    assert!(rt;
-        gives(
-            alloc,
-            &mut table,
-            m,
-            3,
-            9,
-            &[],
-            &[[11, 3, 3, 1, 2, 0, 1], [10, 1, 2, 1, 0, 21, 0]]
-        )?
-    );
-    let m = flow_mod(alloc, flows::DELETE, (0, ANY), 0, 0)?;
-    assert!(rt; gives(alloc, &mut table, m, 9, 9, &[[3, 2, 7], [1, 2, 9]], &[])?);
+fn changes_of_a_table(rt: HostRuntime) -> Result<(), Fail> {
+    let mut table = Table::new(rt.alloc())?;
+    let full = first_wrong(rt.alloc(), &mut table, &IN_A_FULL_TABLE)?;
+    let mut table = Table::new(rt.alloc())?;
+    let other = first_wrong(rt.alloc(), &mut table, &MODIFY_AND_DELETE)?;
+    assert!(rt; full.is_none() && other.is_none(), "{full:?} {other:?}");
     Ok(())
 }

@@ -1,14 +1,32 @@
 //! Packets that hit entries, entries that go, and lists of calls.
 
-use super::entries::{ANY, PORT_1, PORT_2, flow_mod, matching, rows, told};
+use super::entries::{
+    ANY, Change, EXACT_1, PORT_1, PORT_2, Packets, Row, are_entries, are_told, flow_mod,
+    is_refused, matching,
+};
 use flow_table::{Table, TableAnswer, TableCall, is_plan, run};
-use of_match::{Match, PacketKey};
-use of_types::{errors, flows, ports};
+use of_match::PacketKey;
+use of_types::{flows, ports};
 use std::alloc::{AllocError, Global};
 use std::test::Fail;
 
+/// A call of a table.
+#[derive(Clone, Copy)]
+pub(super) enum Call {
+    /// An ADD at moment 0, in a table of 9 entries: its priority and packets, flags, cookie and timeouts.
+    Add((u16, Packets), u16, u16, (u16, u16)),
+    /// A change at a moment, in a table of so many entries.
+    Make(Change, u64, u32),
+    /// A packet of a port, with 0 in every other field, of so many bytes, at a moment.
+    Hit(u16, u32, u64),
+    /// A moment comes.
+    Expire(u64),
+    /// To each entry of a priority come so many packets and bytes.
+    Count(u16, u64, u64),
+}
+
 /// A packet of that port, with 0 in every other field.
-pub(super) fn packet(in_port: u16) -> PacketKey {
+fn packet(in_port: u16) -> PacketKey {
     PacketKey {
         in_port,
         dl_src: [0; 6],
@@ -25,159 +43,209 @@ pub(super) fn packet(in_port: u16) -> PacketKey {
     }
 }
 
-/// The match of the packets of that port with 0 in every other field.
-pub(super) fn exact(in_port: u8) -> Match {
-    let mut bytes = [0; 40];
-    bytes[5] = in_port;
-    Match::decode(&bytes)
-}
-
-/// An ADD at a moment, of an entry with this match in place of that of its key, and these timeouts.
-fn add(
+/// A change at a moment, in a table of so many entries.
+fn table_change(
     alloc: Global,
-    key: (u16, (u8, u8)),
-    matching: Option<Match>,
-    flags: u16,
-    cookie: u16,
-    timeouts: (u16, u16),
+    change: Change,
+    now: u64,
+    cap: u32,
 ) -> Result<TableCall, AllocError> {
-    let mut flow = flow_mod(alloc, flows::ADD, key, flags, cookie)?;
-    if let Some(matching) = matching {
-        flow.matching = matching;
-    }
-    (flow.idle, flow.hard) = timeouts;
-    Ok(TableCall::Change {
-        flow,
-        now: 0,
-        cap: 9,
-    })
+    let flow = flow_mod(alloc, change)?;
+    Ok(TableCall::Change { flow, now, cap })
 }
 
-fn hit(in_port: u16, len: u32, now: u64) -> TableCall {
-    TableCall::Hit {
-        key: packet(in_port),
-        len,
-        now,
-    }
-}
-
-/// Where the packets of calls hit, counted from 1; 0 for none.
-fn places(alloc: Global, answers: &[TableAnswer]) -> Result<Vec<usize>, AllocError> {
-    let mut places = Vec::new(alloc);
-    for answer in answers {
-        if let TableAnswer::Hit(place) = answer {
-            places.push(place.map_or(0, |i| i.wrapping_add(1)))?;
+/// The call, as the table takes it.
+pub(super) fn table_call(alloc: Global, call: Call) -> Result<TableCall, AllocError> {
+    match call {
+        Call::Add(key, flags, cookie, timeouts) => {
+            let change = Change(flows::ADD, key, flags, cookie, timeouts, ports::NONE);
+            table_change(alloc, change, 0, 9)
         }
+        Call::Make(change, now, cap) => table_change(alloc, change, now, cap),
+        Call::Hit(in_port, len, now) => Ok(TableCall::Hit {
+            key: packet(in_port),
+            len,
+            now,
+        }),
+        Call::Expire(now) => Ok(TableCall::Expire { now }),
+        Call::Count(priority, packets, bytes) => Ok(TableCall::AddCounts {
+            priority,
+            packets,
+            bytes,
+        }),
     }
-    Ok(places)
 }
 
-/// What the last call told of entries that went, as cookie, reason and duration.
-fn last_told(alloc: Global, answers: &[TableAnswer]) -> Result<Vec<[u64; 3]>, AllocError> {
-    match answers.last() {
-        Some(TableAnswer::Expired(notices)) => told(alloc, notices),
-        _ => Ok(Vec::new(alloc)),
-    }
-}
-
-/// Of each entry: cookie, packets, bytes and the moment of its last hit.
-fn counters(alloc: Global, table: &Table) -> Result<Vec<[u64; 4]>, AllocError> {
+fn table_calls(alloc: Global, calls: &[Call]) -> Result<Vec<TableCall>, AllocError> {
     let mut all = Vec::new(alloc);
-    for e in table.entries() {
-        all.push([e.cookie, e.packets, e.bytes, e.used])?;
+    for call in calls {
+        all.push(table_call(alloc, *call)?)?;
     }
     Ok(all)
 }
 
-#[test]
-fn greatest_rank_then_least_key(rt: HostRuntime) -> Result<(), Fail> {
-    let alloc = rt.alloc();
-    let mut table = Table::new(alloc)?;
-    // Port 1 hits the exact match of priority 1, port 2 the lesser key of two of priority 9.
-    let calls = vec![in alloc;
-        add(alloc, (1, ANY), Some(exact(1)), 0, 1, (0, 0))?,
-        add(alloc, (9, ANY), None, 0, 2, (0, 0))?,
-        add(alloc, (9, PORT_2), None, 0, 3, (0, 0))?,
-        add(alloc, (7, PORT_1), None, 0, 4, (0, 0))?,
-        hit(1, 60, 5),
-        hit(2, 70, 6),
-        hit(3, 80, 7),
-        TableCall::AddCounts {
-            priority: 9,
-            packets: 10,
-            bytes: 100
-        },
-    ]?;
-    let calls = calls.as_slice();
-    assert!(rt; is_plan(&table, calls));
-    let answers = run(alloc, &mut table, calls)?;
-    assert!(rt; places(alloc, &answers)?.as_slice() == [4, 1, 2].as_slice());
-    let wants = [
-        [3, 11, 170, 6],
-        [2, 11, 180, 7],
-        [4, 0, 0, 0],
-        [1, 1, 60, 5],
-    ];
-    assert!(rt; counters(alloc, &table)?.as_slice() == wants.as_slice());
-    Ok(())
+/// Calls of a new table, and what comes of them.
+#[derive(Clone, Copy)]
+struct Case {
+    calls: &'static [Call],
+    /// Of each call: the notices, by cookie, reason and duration; or the kind and code of an error; or where the entry stands that
+    /// the packet hit, counted from 1. If there are none, the calls are no plan.
+    answers: &'static [&'static [[u64; 3]]],
+    /// The entries in the end.
+    entries: &'static [Row],
+    /// Packets and an out_port, and where the entries stand that they select.
+    selected: &'static [(Packets, u16, &'static [usize])],
 }
 
-#[test]
-fn notices_by_deadline_then_key(rt: HostRuntime) -> Result<(), Fail> {
-    let alloc = rt.alloc();
-    let mut table = Table::new(alloc)?;
-    let calls = vec![in alloc;
-        add(alloc, (9, ANY), None, 1, 1, (15, 0))?,
-        add(alloc, (8, ANY), None, 1, 2, (10, 10))?,
-        add(alloc, (7, PORT_1), None, 0, 3, (9, 0))?,
-        add(alloc, (7, PORT_2), None, 1, 4, (10, 12))?,
-        add(alloc, (6, ANY), None, 1, 5, (0, 16))?,
-        add(alloc, (5, ANY), None, 1, 6, (0, 0))?,
-        TableCall::Expire { now: 8 },
-        TableCall::Expire { now: 15 },
-    ]?;
-    let calls = calls.as_slice();
-    assert!(rt; is_plan(&table, calls));
-    let answers = run(alloc, &mut table, calls)?;
-    assert!(rt; last_told(alloc, &answers[..7])?.is_empty());
-    let wants = [[2, 1, 10], [4, 0, 10], [1, 0, 15]];
-    assert!(rt; last_told(alloc, &answers)?.as_slice() == wants.as_slice());
-    let left = [[6, 5, 5, 1, 0, 0, 4], [5, 6, 6, 1, 0, 0, 5]];
-    assert!(rt; rows(alloc, &table)?.as_slice() == left.as_slice());
-    Ok(())
-}
+const CASES: [Case; 4] = [
+    // Port 1 hits the exact match of priority 1, port 2 the lesser key of two of priority 9: the greatest rank, then the least key.
+    Case {
+        calls: &[
+            Call::Add((1, EXACT_1), 0, 1, (0, 0)),
+            Call::Add((9, ANY), 0, 2, (0, 0)),
+            Call::Add((9, PORT_2), 0, 3, (0, 0)),
+            Call::Add((7, PORT_1), 0, 4, (0, 0)),
+            Call::Hit(1, 60, 5),
+            Call::Hit(2, 70, 6),
+            Call::Hit(3, 80, 7),
+            Call::Count(9, 10, 100),
+        ],
+        answers: &[
+            &[],
+            &[],
+            &[],
+            &[],
+            &[[4, 0, 0]],
+            &[[1, 0, 0]],
+            &[[2, 0, 0]],
+            &[],
+        ],
+        entries: &[
+            [9, 3, 3, 0, 0, 11, 2, 170, 6],
+            [9, 2, 2, 0, 0, 11, 1, 180, 7],
+            [7, 4, 4, 0, 0, 0, 3, 0, 0],
+            [1, 1, 1, 0, 0, 1, 0, 60, 5],
+        ],
+        selected: &[],
+    },
+    // Notices come by deadlines, then by keys.
+    Case {
+        calls: &[
+            Call::Add((9, ANY), 1, 1, (15, 0)),
+            Call::Add((8, ANY), 1, 2, (10, 10)),
+            Call::Add((7, PORT_1), 0, 3, (9, 0)),
+            Call::Add((7, PORT_2), 1, 4, (10, 12)),
+            Call::Add((6, ANY), 1, 5, (0, 16)),
+            Call::Add((5, ANY), 1, 6, (0, 0)),
+            Call::Expire(8),
+            Call::Expire(15),
+        ],
+        answers: &[
+            &[],
+            &[],
+            &[],
+            &[],
+            &[],
+            &[],
+            &[],
+            &[[2, 1, 10], [4, 0, 10], [1, 0, 15]],
+        ],
+        entries: &[[6, 5, 5, 1, 0, 0, 4, 0, 0], [5, 6, 6, 1, 0, 0, 5, 0, 0]],
+        selected: &[],
+    },
+    // A refusal; entries are selected by their match, and by an OUTPUT.
+    Case {
+        calls: &[
+            Call::Add((9, PORT_1), 0, 7, (0, 0)),
+            Call::Add((6, PORT_2), 0, 7, (0, 0)),
+            Call::Make(Change(9, (6, ANY), 1, 8, (0, 0), ports::NONE), 1, 2),
+        ],
+        answers: &[&[], &[], &[[3, 4, 0]]],
+        entries: &[[9, 7, 7, 0, 0, 0, 0, 0, 0], [6, 7, 7, 0, 0, 0, 1, 0, 0]],
+        selected: &[
+            (ANY, 7, &[0, 1]),
+            (PORT_2, ports::NONE, &[1]),
+            (ANY, 8, &[]),
+        ],
+    },
+    // A moment may not go back.
+    Case {
+        calls: &[
+            Call::Add((9, PORT_1), 0, 7, (0, 0)),
+            Call::Add((6, PORT_2), 0, 7, (0, 0)),
+            Call::Hit(1, 60, 5),
+            Call::Expire(4),
+        ],
+        answers: &[],
+        entries: &[],
+        selected: &[],
+    },
+];
 
-#[test]
-fn selection_and_refusal(rt: HostRuntime) -> Result<(), Fail> {
-    let alloc = rt.alloc();
-    let mut table = Table::new(alloc)?;
-    let calls = vec![in alloc;
-        add(alloc, (9, PORT_1), None, 0, 7, (0, 0))?,
-        add(alloc, (6, PORT_2), None, 0, 7, (0, 0))?,
-        TableCall::Change {
-            flow: flow_mod(alloc, 9, (6, ANY), 1, 8)?,
-            now: 1,
-            cap: 2
-        },
-    ]?;
-    let calls = calls.as_slice();
-    assert!(rt; is_plan(&table, calls));
-    let answers = run(alloc, &mut table, calls)?;
-    match answers.as_slice() {
-        [
-            TableAnswer::Changed(first),
-            TableAnswer::Changed(second),
-            TableAnswer::Refused(error),
-        ] => {
-            assert!(rt; first.is_empty() && second.is_empty());
-            assert!(rt; *error == errors::FLOW_BAD_COMMAND);
-        }
-        _ => assert!(rt; false),
+fn is_answer(answer: &TableAnswer, wants: &[[u64; 3]]) -> bool {
+    match answer {
+        TableAnswer::Changed(notices) | TableAnswer::Expired(notices) => are_told(
+            notices.as_slice(),
+            wants,
+        ),
+        TableAnswer::Refused(error) => is_refused(error, wants),
+        TableAnswer::Hit(Some(place)) => wants == [[place.wrapping_add(1) as u64, 0, 0]].as_slice(),
+        TableAnswer::Hit(None) | TableAnswer::Counted => wants.is_empty(),
     }
-    assert!(rt; table.select(&matching(ANY), 7)?.as_slice() == [0, 1].as_slice());
-    assert!(rt; table.select(&matching(PORT_2), ports::NONE)?.as_slice() == [1].as_slice());
-    assert!(rt; table.select(&matching(ANY), 8)?.is_empty());
-    let past = vec![in alloc; hit(1, 60, 5), TableCall::Expire { now: 4 }]?;
-    assert!(rt; !is_plan(&table, past.as_slice()));
+}
+
+fn are_answers(answers: &[TableAnswer], wants: &[&[[u64; 3]]]) -> bool {
+    if answers.len() != wants.len() {
+        return false;
+    }
+    for k in 0..answers.len() {
+        if !is_answer(&answers[k], wants[k]) {
+            return false;
+        }
+    }
+    true
+}
+
+/// Whether each of these selects those entries.
+fn are_selected(table: &Table, wants: &[(Packets, u16, &[usize])]) -> Result<bool, AllocError> {
+    for (packets, out_port, places) in wants {
+        let selected = table.select(&matching(*packets), *out_port)?;
+        if selected.as_slice() != *places {
+            return Ok(false);
+        }
+    }
+    Ok(true)
+}
+
+/// Whether the calls of a case are answered so, and leave this.
+fn is_right(alloc: Global, case: &Case) -> Result<bool, AllocError> {
+    let calls = table_calls(alloc, case.calls)?;
+    let calls = calls.as_slice();
+    let mut table = Table::new(alloc)?;
+    if !is_plan(&table, calls) {
+        return Ok(case.answers.is_empty());
+    }
+    let answers = run(alloc, &mut table, calls)?;
+    Ok(
+        are_answers(&answers, case.answers)
+            && are_entries(table.entries(), case.entries)
+            && are_selected(&table, case.selected)?,
+    )
+}
+
+/// The first case that goes otherwise, counted from 0.
+fn first_wrong(alloc: Global, cases: &[Case]) -> Result<Option<usize>, AllocError> {
+    for k in 0..cases.len() {
+        if !is_right(alloc, &cases[k])? {
+            return Ok(Some(k));
+        }
+    }
+    Ok(None)
+}
+
+#[test]
+fn calls_of_a_table(rt: HostRuntime) -> Result<(), Fail> {
+    let wrong = first_wrong(rt.alloc(), &CASES)?;
+    assert!(rt; wrong.is_none(), "case {wrong:?}");
     Ok(())
 }
