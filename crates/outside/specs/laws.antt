@@ -5,3 +5,4 @@ pub mod LinkKeptLaws
 pub mod CallLaws
 pub mod InOrderLaws
 pub mod QuiescenceLaws
+pub mod StimuliLaws

@@ -8,9 +8,11 @@ ghost use Rattle.outside.specs.declared.item.Item.{Item};
 ghost use Rattle.outside.specs.declared.step.WorldStep.{WorldStep};
 ghost use Rattle.outside.specs.declared.step.WorldStep.TheVariants.{Acted, SendLost, RecvLost, SendFailed, RecvFailed};
 ghost use Rattle.outside.specs.Seen.{Seen, Counts, NoneFell, Continues, LinkHeld, journal};
+ghost use Rattle.outside.specs.Stimuli.{stimuli};
 ghost use Rattle.outside.specs.State.{State, after_step, after_steps, state, switch_of, waits_of, is_joined, upcoming, switch_told, message_sends, but_marks};
 ghost use Rattle.outside.specs.Calls.{Sends, Receives, item_step};
 ghost use Rattle.outside.specs.Conforming.{MayStep, MaySteps, Conforming};
+ghost use Rattle.outside.specs.InOrder.{InOrder};
 
 use crate::faults::LinkFault;
 use crate::item::Item;
@@ -132,4 +134,10 @@ pub fn receives_the_next<W: World>()
 pub fn rests_until_a_stimulus()
     ensures { (declared : List Declared) (item : Item) (buf : List ℕ) (s : State) → s.begun ≡ false → upcoming s ≡ []
         → MayStep declared (item_step item buf) s → (item ≡ Item.End) × (s.to_come ≡ []) }
+{}
+
+/// In a world that tells in order, the stimuli that were begun are the first of those that it was given, and the
+/// others are still to come.
+pub fn stimuli_begin_in_order<W: World>()
+    ensures { (seen : Seen W.Own) → InOrder seen → stimuli (journal seen.history) ++ (state seen).to_come ≡ seen.given.stimuli }
 {}

@@ -6,8 +6,10 @@ ghost use Rattle.outside.specs.Seen.{Seen};
 
 use crate::faults::{GiveFault, LinkFault, NextFault, OpenFault, Short, StartFault};
 use crate::item::{Item, Taken};
+use crate::told::{Decl, Told};
 use crate::world::World;
-use of_types::Dpid;
+use of_types::{Dpid, WorldStim};
+use std::alloc::{AllocError, Global};
 
 impl<W: World> World for &mut W {
     ghost Tells = { W.Tells };
@@ -46,5 +48,15 @@ impl<W: World> World for &mut W {
 
     fn recv(&mut self, dpid: Dpid, buf: &mut [u8]) -> Result<usize, LinkFault> {
         (**self).recv(dpid, buf)
+    }
+}
+
+impl<W: Told> Told for &mut W {
+    fn stimulus(&self, alloc: Global, number: usize) -> Result<Option<WorldStim>, AllocError> {
+        (**self).stimulus(alloc, number)
+    }
+
+    fn declared(&self, alloc: Global) -> Result<Vec<Decl>, AllocError> {
+        (**self).declared(alloc)
     }
 }

@@ -3,7 +3,8 @@
 //!
 //! Each call of the trait `World` ensures one record of `specs/Calls.antt`: what is appended to the history, which count
 //! rose, and that each fault comes only with its own count. `Conforming` says when a world keeps its word, `InOrder` when
-//! it does but that bytes may be no messages. `Counting` and `Mute` are worlds that meet the trait. `Judge` comes along.
+//! it does but that bytes may be no messages. `Counting` and `Mute` are worlds that meet the trait. `Told` is for worlds that
+//! hand out what it takes to do a run again. `Judge` comes along.
 #![tactic(auto)]
 
 mod call;
@@ -14,6 +15,7 @@ mod laws;
 mod lent;
 mod mute;
 mod step;
+mod told;
 mod world;
 
 pub use call::{CallKind, FailCall};
@@ -24,8 +26,9 @@ pub use item::{Item, Taken};
 pub use laws::{
     conforming_before, failed_call_loses, failed_moves_none, later_calls, longer_history,
     loss_is_told, lost_goes_out, marks_steer_nothing, receives_the_next, rests_until_a_stimulus,
-    sent_moves_one, taken_moves_none,
+    sent_moves_one, stimuli_begin_in_order, taken_moves_none,
 };
 pub use mute::Mute;
 pub use step::WorldStep;
+pub use told::{Decl, Told};
 pub use world::World;
