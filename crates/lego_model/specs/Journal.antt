@@ -2,9 +2,8 @@
 -- change and its barrier stand between two frames to an application. All of this is our own.
 use Rattle.std.specs.Prelude.{◌≡◌, ◌==◌, ℕ, ◌<◌, Bool, true, false, List, [], ◌∷◌, length, filter, filter_map, Option, Some, None, Result, Ok, Err, if◌then◌else◌, slice_index, slice_get}
 use Rattle.of_types.specs.declared.journal.Act.{Act}
-use Rattle.of_types.specs.declared.journal.Act.TheVariants.{Stim, Started, Gave, Gone, Took, Ended, Sent, Got, Lost}
+use Rattle.of_types.specs.declared.journal.Act.TheVariants.{Started, Gave, Gone, Took, Ended, Sent, Got, Lost}
 use Rattle.of_types.specs.declared.journal.TookWhat.TheVariants.{Bytes, Closed, Silent}
-use Rattle.of_types.specs.declared.journal.WorldStim.{WorldStim}
 use Rattle.of_wire.specs.declared.message.Message.{Message}
 use Rattle.of_wire.specs.declared.message.Message.TheVariants.{PacketOut, FlowMod, PortMod, SetConfig, BarrierRequest, BarrierReply}
 use Rattle.of_wire.specs.declared.message.Envelope.{Envelope}
@@ -12,18 +11,10 @@ use Rattle.of_wire.specs.declared.bodies.PacketOut.{PacketOut as Packet}
 use Rattle.of_wire.specs.declared.fault.WireFault.{WireFault}
 use Rattle.of_wire.specs.Reading.{reading_of}
 use Rattle.of_wire.specs.Spelling.{message_bytes}
+unfoldable pub use Rattle.outside.specs.Stimuli.{stimuli}
 
 abbrev pub Journal : Type 0
 Journal = List Act
-
--- ---- What happened
-
-abbrev pub stimulus_in : Act → Option WorldStim
-stimulus_in (Stim stimulus) = Some stimulus
-stimulus_in other = None
-
-unfoldable pub stimuli : Journal → List WorldStim
-stimuli journal = filter_map stimulus_in journal
 
 -- ---- What an application was given
 

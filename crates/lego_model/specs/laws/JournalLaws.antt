@@ -3,11 +3,8 @@ use Rattle.std.proofs.Common.{◌≡◌, ℕ, Bool, List, [], ◌∷◌, ◌++�
 use Rattle.std.proofs.lemmas.List.Elements.{filter_map-append}
 use Rattle.of_types.specs.declared.journal.Act.{Act}
 use Rattle.of_types.specs.declared.journal.Act.TheVariants.{Stim, Started, Gave, Gone, Took, Ended, Sent, Got, Lost}
-use Rattle.lego_model.specs.Journal.{Journal, stimulus_in, stimuli, given_to, inputs, lost_in, losses, in_attempts}
-
-pub stimuli-append : (first next : Journal) → stimuli (first ++ next) ≡ stimuli first ++ stimuli next
-unfolding stimuli
-stimuli-append first next = filter_map-append stimulus_in first next
+pub use Rattle.outside.specs.laws.StimuliLaws.{stimuli-append}
+use Rattle.lego_model.specs.Journal.{Journal, given_to, inputs, lost_in, losses, in_attempts}
 
 pub inputs-append : (app : ℕ) (first next : Journal) → inputs app (first ++ next) ≡ inputs app first ++ inputs app next
 unfolding inputs
