@@ -1,5 +1,5 @@
 -- What a simulated world keeps over all calls.
-use Rattle.std.specs.Prelude.{◌≡◌, ◌≤◌, length, All}
+use Rattle.std.specs.Prelude.{◌≤◌, length, All}
 use Rattle.outside.specs.State.{at_first}
 use Rattle.sim_world.specs.Links.{IsDue}
 use Rattle.sim_world.specs.laws.LinkStepLaws.{AreStanding}

@@ -14,5 +14,6 @@ pub mod TellLaws
 pub mod NextCallLaws
 pub mod KeepingLaws
 pub mod StandingLaws
+pub mod BegunLaws
 pub mod BuildingLaws
 pub mod RoomLaws

@@ -17,6 +17,7 @@ use crate::fail_numbers::FailNumbers;
 use crate::waits::Waits;
 use of_types::{ByteList, Dpid, PortNo, Stimulus};
 use of_wire::{Envelope, decode};
+use outside::Decl;
 use std::alloc::{AllocError, Global};
 use std::marker::Model;
 use std::mem;
@@ -171,6 +172,13 @@ impl SimLink {
         ensures { result ≡ self.now.link.declared.dpid }
     {
         self.dpid
+    }
+
+    /// Copies what it is declared to be.
+    pub fn declared(&self, alloc: Global) -> Result<Decl, AllocError>
+        ensures { IfOk result (λ d. d ≡ self.now.link.declared) }
+    {
+        Decl::new(alloc, self.dpid, self.cap, &self.ports)
     }
 
     /// Tells whether the switch is joined.

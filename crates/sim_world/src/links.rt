@@ -14,7 +14,7 @@ ghost use Rattle.sim_world.specs.Links.{links_in, waiting_in, insert_link, fails
 
 use crate::link::SimLink;
 use of_types::{ByteList, Dpid, Stimulus, WorldStim};
-use outside::WorldStep;
+use outside::{Decl, WorldStep};
 use std::alloc::{AllocError, Global};
 use std::marker::Model;
 
@@ -71,6 +71,17 @@ fn waiting_switch(links: &[SimLink]) -> Option<Dpid>
 {
     let place = first_waiting(links)?;
     Some(links[place].dpid())
+}
+
+/// Copies what the switches are declared to be, in order.
+fn all_declared(alloc: Global, links: &[SimLink]) -> Result<Vec<Decl>, AllocError>
+    ensures { IfOk result (λ all. all.items ≡ declared_in (links_in links.now)) }
+{
+    let mut all = Vec::with_capacity(alloc, links.len())?;
+    for link in links {
+        all.push(link.declared(alloc)?)?;
+    }
+    Ok(all)
 }
 
 fn is_held(links: &[SimLink], dpid: Dpid) -> bool
@@ -306,6 +317,13 @@ impl Links {
         ensures err { OnErr result (self.new ≡ self.old) }
     {
         insert(&mut self.links, link)
+    }
+
+    /// Copies what the switches are declared to be, in order.
+    pub fn declared(&self, alloc: Global) -> Result<Vec<Decl>, AllocError>
+        ensures { IfOk result (λ all. all.items ≡ declared_in self.now) }
+    {
+        all_declared(alloc, &self.links)
     }
 
     /// Finds that the switches stand by number, as their type says.
