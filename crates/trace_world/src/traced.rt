@@ -7,9 +7,11 @@ ghost use Rattle.outside.specs.Seen.{Seen};
 
 use crate::scribe::Scribe;
 use lego_io::Sink;
-use of_types::Dpid;
-use outside::{GiveFault, Item, LinkFault, NextFault, OpenFault, Short, StartFault, Taken, World};
-use std::alloc::Global;
+use of_types::{Dpid, WorldStim};
+use outside::{
+    Decl, GiveFault, Item, LinkFault, NextFault, OpenFault, Short, StartFault, Taken, Told, World,
+};
+use std::alloc::{AllocError, Global};
 use std::marker::Model;
 
 /// A world that passes each call on to another one, and then writes what happened to a sink, as lines in plain words, or is
@@ -145,5 +147,15 @@ impl<W: World + Drop, K: Sink + Drop> World for Traced<W, K> {
             self.scribe.received(dpid, answer, buf);
         }
         answer
+    }
+}
+
+impl<W: Told + Drop, K: Sink + Drop> Told for Traced<W, K> {
+    fn stimulus(&self, alloc: Global, number: usize) -> Result<Option<WorldStim>, AllocError> {
+        self.world.stimulus(alloc, number)
+    }
+
+    fn declared(&self, alloc: Global) -> Result<Vec<Decl>, AllocError> {
+        self.world.declared(alloc)
     }
 }
