@@ -3,6 +3,7 @@ pub mod Faults
 pub mod Greetings
 pub mod Hearing
 pub mod Inbound
+pub mod Keeping
 pub mod Life
 pub mod Live
 pub mod Moments

@@ -3,7 +3,8 @@
 //! `LiveWorld` meets each clause of the trait `World` as a world that tells nothing: each fault comes only with its own
 //! count, `From` and `recv` give one whole message, `Joined` the FEATURES_REPLY of that switch. What a message is to it is
 //! said by `hear_greeting` (`exact`, `features`) and `hear_joined`, when a connection is asked or closed by `Life::due`.
-//! What switches and applications do is no part of any contract.
+//! What switches and applications do is no part of any contract. Where it is asked to, it keeps what happened to it, so that
+//! the run can be done again (`LiveWorld::keep_stimuli`).
 #![tactic(auto)]
 
 mod apps;
@@ -13,6 +14,7 @@ mod connection;
 mod counts;
 mod hearing;
 mod inbound;
+mod kept_stimuli;
 mod life;
 mod links;
 mod moments;

@@ -6,9 +6,12 @@ ghost use Rattle.live_world.specs.Live.{live_seen};
 use crate::apps::{App, Surroundings};
 use crate::clock::Clock;
 use crate::counts::FaultCounts;
+use crate::kept_stimuli::KeptStimuli;
 use crate::links::Links;
-use of_types::Dpid;
-use outside::{GiveFault, Item, LinkFault, NextFault, OpenFault, Short, StartFault, Taken, World};
+use of_types::{Dpid, WorldStim};
+use outside::{
+    Decl, GiveFault, Item, LinkFault, NextFault, OpenFault, Short, StartFault, Taken, Told, World,
+};
 use std::alloc::{AllocError, Global};
 use std::env;
 use std::env::{Env, VarError};
@@ -36,6 +39,7 @@ pub struct LiveWorld<R, C> {
     links: Option<Links>,
     apps: Vec<App>,
     counts: FaultCounts,
+    kept: KeptStimuli,
 }
 
 /// A variable of this process, where it is there and is text.
@@ -77,12 +81,24 @@ impl<
             links: None,
             apps: Vec::new(alloc),
             counts: FaultCounts::new(alloc),
+            kept: KeptStimuli::new(alloc),
         })
     }
 
     /// Has `open` listen at this address from now on.
     pub fn listen_at(&mut self, address: Ipv4Addr) {
         self.address = address;
+    }
+
+    /// Keeps from now on what happens, so that the run can be done again; to be called before `open`. Each switch that
+    /// joins is declared as it first joined, with room for 4,096 flow entries and the physical ports of its
+    /// FEATURES_REPLY. Stimuli are that it joins, that it leaves, the moments, a PORT_STATUS of a physical port, and the
+    /// bytes of a HELLO, ERROR, ECHO_REQUEST, VENDOR or PACKET_IN.
+    ///
+    /// A world that was not asked to keeps nothing, since else it would grow by each packet. Where memory is refused it
+    /// keeps no more, and `stimulus` and `declared` answer `AllocError` from then on; else it goes on as before.
+    pub fn keep_stimuli(&mut self) {
+        self.kept.ask();
     }
 
     fn try_open(&mut self, port: u16) -> Result<(), OpenFault>
@@ -133,6 +149,9 @@ impl<R: Net + Processes<Started = SystemProcess> + Env + AllocGlobal + Drop, C: 
             Some(links) => links.next(now, buf),
             None => Err(NextFault::Failed),
         };
+        if let Ok(item) = came {
+            self.kept.note(item, buf);
+        }
         match came {
             Ok(Item::Joined(dpid, _)) => self.counts.know(dpid),
             Ok(_) => {}
@@ -215,5 +234,16 @@ impl<R: Net + Processes<Started = SystemProcess> + Env + AllocGlobal + Drop, C: 
             Err(LinkFault::Short) => self.counts.raise_shorts_of(dpid),
         }
         received
+    }
+}
+
+impl<R: Net + Processes<Started = SystemProcess> + Env + AllocGlobal + Drop, C: Clock + Drop> Told
+    for LiveWorld<R, C> {
+    fn stimulus(&self, alloc: Global, number: usize) -> Result<Option<WorldStim>, AllocError> {
+        self.kept.stimulus(alloc, number)
+    }
+
+    fn declared(&self, alloc: Global) -> Result<Vec<Decl>, AllocError> {
+        self.kept.declared(alloc)
     }
 }
