@@ -92,8 +92,8 @@ impl<
 
     /// Keeps from now on what happens, so that the run can be done again; to be called before `open`. Each switch that
     /// joins is declared as it first joined, with room for 4,096 flow entries and the physical ports of its
-    /// FEATURES_REPLY. Stimuli are that it joins, that it leaves, the moments, a PORT_STATUS of a physical port, and the
-    /// bytes of a HELLO, ERROR, ECHO_REQUEST, VENDOR or PACKET_IN.
+    /// FEATURES_REPLY. Stimuli are what `next` tells: that a switch joins or leaves, the moments, a PORT_STATUS of a
+    /// physical port, and the bytes of a HELLO, ERROR, ECHO_REQUEST, VENDOR or PACKET_IN. What `recv` gives is none.
     ///
     /// A world that was not asked to keeps nothing, since else it would grow by each packet. Where memory is refused it
     /// keeps no more, and `stimulus` and `declared` answer `AllocError` from then on; else it goes on as before.
