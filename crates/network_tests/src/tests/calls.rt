@@ -7,7 +7,7 @@ use super::ended::{Ended, by_answer, by_event, by_fault, by_kept, by_rows};
 use app_frames::Answer;
 use net_txn::{EventQueue, Net, Txn, TxnFault};
 use of_types::Dpid;
-use of_wire::{Envelope, FeaturesReply, Message, WireFault, decode};
+use of_wire::{FeaturesReply, Message, WireFault, decode};
 use outside::{Item, NextFault, World};
 use std::alloc::{AllocError, Global};
 
@@ -18,20 +18,26 @@ pub fn buffer(alloc: Global) -> Result<Vec<u8>, AllocError>
     vec![in alloc; 0u8; 65_535]
 }
 
+/// The features that a message tells.
+fn by_features(message: Message) -> Result<FeaturesReply, Ended> {
+    match message {
+        Message::FeaturesReply(features) => Ok(features),
+        other => {
+            drop(other);
+            Err(Ended::Otherwise)
+        }
+    }
+}
+
 /// The features that stand in the front of a buffer.
 fn features_in(alloc: Global, buf: &[u8], len: usize) -> Result<FeaturesReply, Ended> {
     let Some(bytes) = buf.get(..len) else {
         return Err(Ended::Otherwise);
     };
     match decode(alloc, bytes) {
-        Ok(
-            Envelope {
-                message: Message::FeaturesReply(features),
-                ..
-            },
-        ) => Ok(features),
+        Ok(envelope) => by_features(envelope.message),
         Err(WireFault::NoMemory) => Err(Ended::NoMemory),
-        _ => Err(Ended::Otherwise),
+        Err(_) => Err(Ended::Otherwise),
     }
 }
 
@@ -97,8 +103,7 @@ pub fn new_net<W: World>(alloc: Global, world: &mut W) -> Result<Net, Ended>
     ensures { IfOk result (λ net. 1 ≤ net.room) }
 {
     let mut net = Net::new(alloc)?;
-    join(alloc, world, &mut net, 1)?;
-    Ok(net)
+    join(alloc, world, &mut net, 1).and(Ok(net))
 }
 
 pub fn by_change(changed: Result<Answer, TxnFault>) -> Ended {

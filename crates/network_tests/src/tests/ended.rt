@@ -7,7 +7,7 @@ use of_types::{ByteList, Dpid};
 use std::alloc::AllocError;
 
 /// How a call ended.
-#[derive(Clone, Copy, Debug, PartialEq, Eq)]
+#[derive(Clone, Copy, PartialEq, Eq)]
 pub enum Ended {
     /// It was not made, since an earlier one failed.
     NotMade,

@@ -7,12 +7,12 @@ use outside::{Item, Taken, World};
 use std::alloc::{AllocError, Global};
 
 /// A frame that tells event 1, at moment 0, that nothing more is said of.
-const EVENT: [u8; 22] = [
+static EVENT: [u8; 22] = [
     0, 0, 0, 18, 2, 0, 0, 0, 0, 0, 0, 0, 1, 0, 0, 0, 0, 0, 0, 0, 0, 2,
 ];
 
 /// BARRIER_REQUEST (OpenFlow 1.0.0, 5.3.7 Barrier Message).
-const BARRIER: [u8; 8] = [1, 18, 0, 8, 0, 0, 0, 7];
+static BARRIER: [u8; 8] = [1, 18, 0, 8, 0, 0, 0, 7];
 
 /// What comes next, if the call does not fail.
 fn next<W: World>(alloc: Global, world: &mut W) -> Result<Option<Item>, AllocError> {
@@ -51,7 +51,7 @@ fn runs<W: World>(alloc: Global, world: &mut W) -> Result<[bool; 4], AllocError>
 }
 
 /// Which of ten calls answered what they do where no call fails.
-pub fn answers<W: World>(alloc: Global, world: &mut W) -> Result<[bool; 10], AllocError> {
+fn answers<W: World>(alloc: Global, world: &mut W) -> Result<[bool; 10], AllocError> {
     let opened = world.open(6653).is_ok();
     let joined = matches!(next(alloc, world)?, Some(Item::Joined(1, _)));
     let [started, ready, given, done] = runs(alloc, world)?;
@@ -62,4 +62,9 @@ pub fn answers<W: World>(alloc: Global, world: &mut W) -> Result<[bool; 10], All
     Ok([
         opened, joined, started, ready, given, done, sent, replied, idle, over,
     ])
+}
+
+/// The same in a world that ends with them.
+pub fn answers_in<W: World + Drop>(alloc: Global, mut world: W) -> Result<[bool; 10], AllocError> {
+    answers(alloc, &mut world)
 }

@@ -2,7 +2,7 @@
 
 /// FLOW_MOD (5.3.3): ADD of any match with cookie 5 and priority 7, no timeouts, buffer and flags, and an OUTPUT to
 /// port 2. The low bytes of hard timeout and priority stand at 61 and 63.
-pub const ADD: [u8; 80] = [
+pub static ADD: [u8; 80] = [
     1, 14, 0, 80, 0, 0, 0, 9, 0, 0x38, 0x20, 0xff, 0, 0, 0, 0, 0, 0, 0, 0, 0, 0, 0, 0, 0, 0, 0, 0,
     0, 0, 0, 0, 0, 0, 0, 0, 0, 0, 0, 0, 0, 0, 0, 0, 0, 0, 0, 0, 0, 0, 0, 0, 0, 0, 0, 5, 0, 0, 0, 0,
     0, 0, 0, 7, 0xff, 0xff, 0xff, 0xff, 0xff, 0xff, 0, 0, 0, 0, 0, 8, 0, 2, 0, 0,
@@ -60,7 +60,7 @@ pub const PORT_DOWN: [u8; 64] = [
 ];
 
 /// The ports of switch 1 (5.2.1): the link of port 1 is down, that of port 2 is not.
-pub const PORTS: [u8; 96] = [
+pub static PORTS: [u8; 96] = [
     0, 1, 2, 0, 0, 1, 0, 1, b'p', b'1', 0, 0, 0, 0, 0, 0, 0, 0, 0, 0, 0, 0, 0, 0, 0, 0, 0, 0, 0, 0,
     0, 1, 0, 0, 0, 0, 0, 0, 0, 0, 0, 0, 0, 0, 0, 0, 0, 0, //
     0, 2, 2, 0, 0, 1, 0, 2, b'p', b'2', 0, 0, 0, 0, 0, 0, 0, 0, 0, 0, 0, 0, 0, 0, 0, 0, 0, 0, 0, 0,
@@ -68,7 +68,7 @@ pub const PORTS: [u8; 96] = [
 ];
 
 /// The ports of switch 1 as it joins (5.2.1): no link is down.
-pub const PORTS_AT_JOIN: [u8; 96] = [
+pub static PORTS_AT_JOIN: [u8; 96] = [
     0, 1, 2, 0, 0, 1, 0, 1, b'p', b'1', 0, 0, 0, 0, 0, 0, 0, 0, 0, 0, 0, 0, 0, 0, 0, 0, 0, 0, 0, 0,
     0, 0, 0, 0, 0, 0, 0, 0, 0, 0, 0, 0, 0, 0, 0, 0, 0, 0, //
     0, 2, 2, 0, 0, 1, 0, 2, b'p', b'2', 0, 0, 0, 0, 0, 0, 0, 0, 0, 0, 0, 0, 0, 0, 0, 0, 0, 0, 0, 0,

@@ -5,7 +5,7 @@ ghost use Rattle.std.specs.Prelude.{◌≡◌, ◌≤◌, OnOk};
 use super::calls::{arrive, ask, keep, leave, new_net, pass, sees, take_kept, take_lost, undo};
 use super::ended::Ended;
 use super::ended::Ended::NotMade;
-use super::messages::{ADD, PORT_DOWN, PORTS, PORTS_AT_JOIN, changed};
+use super::messages::{ADD, PORT_DOWN, PORTS, PORTS_AT_JOIN, body_of, changed};
 use super::releases::release_two;
 use net_txn::Net;
 use outside::{Item, World};
@@ -13,15 +13,15 @@ use std::alloc::Global;
 
 /// What is done behind the join of switch 1. How its calls end comes in their order; behind them stands `NotMade`.
 #[derive(Clone, Copy)]
-pub enum Play<'a> {
+pub enum Play {
     /// A change that is kept, and a request of rows.
     Keep,
     /// A change, its undo, and a request of rows.
     Undo,
     /// Two packets, the end of their transaction, and the two events that wait then.
     Release,
-    /// A message that comes of itself, whose event is expected with a body.
-    Arrive(&'a [u8], &'a [u8]),
+    /// A message that comes of itself.
+    Arrive(&'static [u8]),
     /// A switch leaves behind a PORT_STATUS; then a request of rows.
     Leave,
     /// A change, its undo, and twice the event of a switch that was lost.
@@ -50,7 +50,8 @@ fn undo_one<W: World>(world: &mut W, net: &mut Net) -> [Ended; 5]
 
 /// Lets a switch leave of which a port went down, and asks for its rows.
 fn depart<W: World>(alloc: Global, world: &mut W, net: &mut Net) -> [Ended; 5] {
-    arrive(world, net, &PORT_DOWN, &PORT_DOWN);
+    let frame = &PORT_DOWN;
+    arrive(world, net, frame, frame);
     match leave(alloc, net, &PORTS) {
         Ok(left) => [left, ask(world, net, 1), NotMade, NotMade, NotMade],
         Err(_) => [Ended::NoMemory, NotMade, NotMade, NotMade, NotMade],
@@ -112,15 +113,15 @@ fn wait<W: World>(alloc: Global, world: &mut W, net: &mut Net) -> [Ended; 5]
 }
 
 /// Does it in a network with switch 1.
-fn play_in<W: World>(alloc: Global, world: &mut W, net: &mut Net, what: Play<'_>) -> [Ended; 5]
+fn play_in<W: World>(alloc: Global, world: &mut W, net: &mut Net, what: Play) -> [Ended; 5]
     requires { 1 ≤ net.old.room }
 {
     match what {
         Play::Keep => keep_one(alloc, world, net),
         Play::Undo => undo_one(world, net),
         Play::Release => release_two(alloc, world, net),
-        Play::Arrive(frame, body) => {
-            let arrived = arrive(world, net, frame, body);
+        Play::Arrive(frame) => {
+            let arrived = arrive(world, net, frame, body_of(frame));
             [arrived, NotMade, NotMade, NotMade, NotMade]
         }
         Play::Leave => depart(alloc, world, net),
@@ -129,10 +130,14 @@ fn play_in<W: World>(alloc: Global, world: &mut W, net: &mut Net, what: Play<'_>
     }
 }
 
-/// Lets switch 1 join, and does it then.
-pub fn played<W: World>(alloc: Global, world: &mut W, what: Play<'_>) -> [Ended; 5] {
-    match new_net(alloc, world) {
-        Ok(mut net) => play_in(alloc, world, &mut net, what),
+/// Lets switch 1 join, and does it then; the world ends with it.
+pub fn played<W: World + Drop>(alloc: Global, mut world: W, what: Play) -> [Ended; 5] {
+    match new_net(alloc, &mut world) {
+        Ok(mut net) => {
+            let ends = play_in(alloc, &mut world, &mut net, what);
+            drop(net);
+            ends
+        }
         Err(ended) => [ended, NotMade, NotMade, NotMade, NotMade],
     }
 }

@@ -33,24 +33,29 @@ fn let_happen(world: &mut SimWorld) -> Result<(), AllocError>
     world.add_stimulus(WorldStim::At(5))
 }
 
-/// Lets a call fail, if one is named: the kind of call, of which switch or application it is, and its number.
-fn let_fail(world: &mut SimWorld, fails: Option<(CallKind, u64, u64)>) -> Result<(), AllocError>
+/// Lets a call fail, if one is named by its kind and its number: one of the link of switch 1, of application 0, or of the world.
+fn let_fail(world: &mut SimWorld, fails: Option<(CallKind, u64)>) -> Result<(), AllocError>
     requires { IsNew world.old }
 {
     match fails {
-        Some((kind, of, number)) => world.fail_call(kind, of, number),
+        Some((CallKind::Link, number)) => world.fail_call(CallKind::Link, 1, number),
+        Some((kind, number)) => world.fail_call(kind, 0, number),
         None => Ok(()),
     }
 }
 
+/// Declares switch 1, lets it join, and then it is moment 5; one call is to fail, if one is named.
+fn prepare(world: &mut SimWorld, fails: Option<(CallKind, u64)>) -> Result<(), AllocError>
+    requires new { IsNew world.old }
+    requires nothing { given_of world.old ≡ nothing_given }
+{
+    declare(world)?;
+    let_happen(world)?;
+    let_fail(world, fails)
+}
+
 /// A world in which switch 1 joins, and then it is moment 5; in it one call is to fail, if one is named.
-pub fn small_world(
-    alloc: Global,
-    fails: Option<(CallKind, u64, u64)>,
-) -> Result<SimWorld, AllocError> {
+pub fn small_world(alloc: Global, fails: Option<(CallKind, u64)>) -> Result<SimWorld, AllocError> {
     let mut world = SimWorld::new(alloc)?;
-    declare(&mut world)?;
-    let_happen(&mut world)?;
-    let_fail(&mut world, fails)?;
-    Ok(world)
+    prepare(&mut world, fails).and(Ok(world))
 }
