@@ -18,3 +18,4 @@ pub mod ReadTryLaws
 pub mod OwnLaws
 pub mod CalmLaws
 pub mod CallOrderLaws
+pub mod OwnIdLaws

@@ -9,6 +9,7 @@ pub mod Plain
 pub mod Cut
 pub mod Talking
 pub mod Steady
+pub mod Numbers
 pub mod Passes
 pub mod Parts
 pub mod Lines

@@ -22,6 +22,7 @@ use Rattle.event_dispatch.specs.Shows.{engine_of}
 use Rattle.event_dispatch.specs.Plain.{IsPlainEnd, PlainCalm, PlainRun}
 use Rattle.event_dispatch.specs.Talking.{KeepsTalking}
 use Rattle.event_dispatch.specs.Steady.{NoStray, IsEnded, NoneRuns}
+use Rattle.event_dispatch.specs.Numbers.{EndsAscending}
 use Rattle.event_dispatch.specs.Passes.{Passes}
 use Rattle.event_dispatch.specs.Lines.{WritesLines}
 use Rattle.event_dispatch.specs.Cut.{CutRound, CutRounds, CutStart, CutEnd, CutFinishAs, CutAs, ReadsAs}
@@ -47,6 +48,7 @@ pub record PassesServed {Own T : Type 0} (Tells : Type 0) (number : ℕ) (old ne
   pub continues : Continues Tells old new
   pub places : NoStray Tells number old new net
   pub reads : ReadsAs Tells result old new net
+  pub numbers : EndsAscending Tells old new net
   pub never_fell : NeverFell sink_old sink_new
 
 -- of a run whose applications were ended at last
@@ -55,6 +57,7 @@ pub record PassesEnded {Own T : Type 0} (Tells : Type 0) (number : ℕ) (old new
   pub continues : Continues Tells old new
   pub none_runs : NoneRuns Tells number old new net
   pub reads : ReadsAs Tells result old new net
+  pub numbers : EndsAscending Tells old new net
   pub never_fell : NeverFell sink_old sink_new
 
 -- ---- The lines that a batch noted

@@ -12,6 +12,7 @@ use Rattle.net_txn.specs.LinkSteps.{MakesNoStrayCall}
 use Rattle.net_txn.specs.Abreast.{Abreast}
 use Rattle.run_laws.specs.Cut.{CallsAmong}
 use Rattle.lego_model.specs.Journal.{released}
+use Rattle.lego_model.specs.OwnIds.{own_ids}
 use Rattle.lego_model.specs.AfterFault.{SwitchesStay}
 
 -- however it ended: no call of a link was a stray one, and none was for another application than the first so many
@@ -50,6 +51,12 @@ pub record NoneMoves {Own : Type 0} (Tells : Type 0) (old new : Seen Own) : Type
   pub stay : Tells → SwitchesStay old new
   pub releases : Tells → NoneReleased old new
 
+-- no message of its own was sent since then
+pub record NoOwnMessage {Own : Type 0} (old new : Seen Own) : Type 0 where
+  pub steps : List WorldStep
+  pub history : new.history ≡ old.history ++ steps
+  pub none : own_ids (journal steps) ≡ []
+
 -- ---- The applications are ended at last
 
 -- none of the first so many runs then: no call of a link was a stray one, no bytes came of a switch, no quiescent point lies behind, no switch moved, and
@@ -58,6 +65,7 @@ pub record IsEnded {Own : Type 0} (Tells : Type 0) (number : ℕ) (old new : See
   pub no_point : NoPoint Tells number old new
   pub places : Tells → MakesNoStrayCall old new
   pub messages : Tells → MessagesSince old new
+  pub none_sent : Tells → NoOwnMessage old new
   pub ended : Tells → (app : ℕ) → app < number → is_running app (state new) ≡ false
   pub none_moves : NoneMoves Tells old new
 

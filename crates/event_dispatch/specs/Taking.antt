@@ -24,6 +24,8 @@ use Rattle.event_dispatch.specs.Talking.{KeepsTalking}
 use Rattle.event_dispatch.specs.Steady.{AtMostThisPoint}
 use Rattle.event_dispatch.specs.Told.{OnlyMessages, NoStrayAtItem, NextPoint, GoesBegun}
 use Rattle.event_dispatch.specs.Plain.{PlainCalm}
+use Rattle.lego_model.specs.OwnIds.{IsShortRun, OwnIdsSoFar}
+use Rattle.event_dispatch.specs.Numbers.{IdsAscend, AscendsAtItem}
 use Rattle.event_dispatch.specs.Passes.{Passes}
 
 -- whether a switch is joined, by the views
@@ -44,7 +46,8 @@ abbrev pub OnLinksSoFar : {Own : Type 0} → Type 0 → ℕ → Seen Own → See
 OnLinksSoFar Tells number old new net now_net = PassesOnLinks {T = Unit {0}} {E = Unit {0}} Tells number old new net now_net (Ok tt)
 
 -- of an item that was told and is handled
-pub record UsesLinksAt {Own : Type 0} (Tells : Type 0) (number : ℕ) (step : WorldStep) (old new : Seen Own) (net : NetState) : Type 0 where
+pub record UsesLinksAt {Own T E : Type 0} (Tells : Type 0) (number : ℕ) (step : WorldStep) (old new : Seen Own) (net now_net : NetState) (result : Result T E) : Type 0 where
+  pub numbers : AscendsAtItem Tells step old new net now_net result
   pub continues : Continues Tells old new
   pub talks : KeepsTalking Tells old new
   pub links : OnLinks Tells old new
@@ -52,7 +55,8 @@ pub record UsesLinksAt {Own : Type 0} (Tells : Type 0) (number : ℕ) (step : Wo
   pub places : NoStrayAtItem Tells number step old new net
 
 -- of a switch that joins
-pub record UsesLinksOf {Own : Type 0} (Tells : Type 0) (d : ℕ) (old new : Seen Own) : Type 0 where
+pub record UsesLinksOf {Own T E : Type 0} (Tells : Type 0) (d : ℕ) (old new : Seen Own) (net now_net : NetState) (result : Result T E) : Type 0 where
+  pub numbers : Tells → IsShortRun new → OwnIdsSoFar 0 old net.xid → IdsAscend result new now_net.xid
   pub continues : Continues Tells old new
   pub talks : KeepsTalking Tells old new
   pub links : OnLinks Tells old new
@@ -64,6 +68,8 @@ pub record AsksNext {Own : Type 0} (Tells : Type 0) (old new : Seen Own) (buf no
   pub talks : KeepsTalking Tells old new
   pub no_point : (number : ℕ) → NextPoint Tells number old new
   pub places : Tells → MakesNoStrayCall old new
+  -- no message is sent
+  pub ids : (xid : ℕ) → Tells → OwnIdsSoFar 0 old xid → OwnIdsSoFar 0 new xid
   pub buffer : length now_buf ≡ length buf
   pub bytes : IsBytes now_buf
 
@@ -90,6 +96,7 @@ pub record ItemDone {Own : Type 0} (Tells : Type 0) (step : WorldStep) (old new 
 
 pub record TakeOutDone (d : ℕ) (run now_run : Core) : Type 0 where
   pub waits : Waits run now_run
+  pub xid : now_run.net.xid ≡ run.net.xid
   pub read : AreRead run.net.kept → AreRead now_run.net.kept
   pub departs : Departs d run.net now_run.net run.queue now_run.queue
 

@@ -14,6 +14,7 @@ pub mod FaultLaws
 pub mod KeptLaws
 pub mod ItemLaws
 pub mod SteadyLaws
+pub mod NumberLaws
 pub mod PassesLaws
 pub mod PartsLaws
 pub mod TakingLaws

@@ -126,7 +126,7 @@ impl Core {
     /// Takes a switch in that describes itself as it joins. One that is joined is not taken in again.
     fn take_in<W: World>(&mut self, world: &mut W, dpid: Dpid, frame: &[u8]) -> Result<(), Fault>
         requires none_left { self.old.net.left ≡ [] }
-        ensures uses { UsesLinksAt W.Tells (length self.old.store) (Joined dpid frame.now) (W.seen world.old) (W.seen world.new) self.old.net }
+        ensures uses { UsesLinksAt W.Tells (length self.old.store) (Joined dpid frame.now) (W.seen world.old) (W.seen world.new) self.old.net self.new.net result }
         ensures done { MatchResult result (λ _. ItemDone W.Tells (Joined dpid frame.now) (W.seen world.old) (W.seen world.new) self.old self.new)
             (λ fault. Fails (IsReason W.Tells (W.seen world.old) (W.seen world.new) 0 0 fault)
             (PlainJoin W.Tells dpid (W.seen world.old) (W.seen world.new) fault)) }
@@ -149,7 +149,7 @@ impl Core {
     fn join<W: World>(&mut self, world: &mut W, dpid: Dpid, message: &Message) -> Result<(), Fault>
         requires out { rows_at dpid self.old.net.views ≡ None }
         requires fits { message_size message.now ≤ 65535 }
-        ensures uses { UsesLinksOf W.Tells dpid (W.seen world.old) (W.seen world.new) }
+        ensures uses { UsesLinksOf W.Tells dpid (W.seen world.old) (W.seen world.new) self.old.net self.new.net result }
         ensures done { MatchResult result (λ _. JoinDone W.Tells dpid message.now (W.seen world.old) (W.seen world.new) self.old self.new)
             (λ fault. Fails (IsReason W.Tells (W.seen world.old) (W.seen world.new) 0 0 fault)
             (PlainJoin W.Tells dpid (W.seen world.old) (W.seen world.new) fault)) }
@@ -179,7 +179,7 @@ impl Core {
     fn take_item<W: World>(&mut self, world: &mut W, item: Item, buf: &[u8]) -> Result<(), Fault>
         requires item { IsItemIn W.Tells item buf.now }
         requires none_left { self.old.net.left ≡ [] }
-        ensures uses { UsesLinksAt W.Tells (length self.old.store) (item_step item buf.now) (W.seen world.old) (W.seen world.new) self.old.net }
+        ensures uses { UsesLinksAt W.Tells (length self.old.store) (item_step item buf.now) (W.seen world.old) (W.seen world.new) self.old.net self.new.net result }
         ensures done { MatchResult result (λ _. ItemDone W.Tells (item_step item buf.now) (W.seen world.old) (W.seen world.new) self.old self.new)
             (λ fault. Fails (WhyItem W.Tells (item_step item buf.now) (W.seen world.old) (W.seen world.new) fault)
             (PlainItem W.Tells (item_step item buf.now) (W.seen world.old) (W.seen world.new) fault)) }

@@ -11,6 +11,7 @@ ghost use Rattle.event_dispatch.specs.Runs.{AreGoing, Going, most_rounds};
 ghost use Rattle.event_dispatch.specs.Why.{IsWhy};
 ghost use Rattle.event_dispatch.specs.Plain.{EndsPlain};
 ghost use Rattle.crash_policy.specs.Policies.{app_value};
+ghost use Rattle.lego_model.specs.OwnIds.{IsShortRun, OwnIdsAscend};
 ghost use Rattle.lego_model.specs.Places.{Place};
 ghost use Rattle.run_laws.specs.First.{net_at_first, engine_at_first};
 ghost use Rattle.run_laws.specs.Promise.{PremiseSoFar, Premise};
@@ -308,6 +309,9 @@ pub fn serve<W: World, J: Judge, K: Sink>(
     // of a run that no fault ends all that came of switches is messages, so that the world kept its word.
     ensures no_stray_call { W.Tells → (W.seen world.old).history ≡ [] → InOrder (W.seen world.new) → MakesNoStrayCall (W.seen world.old) (W.seen world.new) }
     ensures all_bytes_are_messages { W.Tells → (W.seen world.old).history ≡ [] → InOrder (W.seen world.new) → IsReadServed (W.seen world.new) result }
+    // In such a world the transaction ids of its own messages ascend from 1 on, so that none is used twice, in a run of less than a thousand million
+    // steps and declared switches.
+    ensures own_ids_ascend { W.Tells → (W.seen world.old).history ≡ [] → InOrder (W.seen world.new) → IsShortRun (W.seen world.new) → OwnIdsAscend (W.seen world.new) }
     // However the run ends, each application that was started is ended: where no call was made before, none runs.
     ensures every_application_ended { W.Tells → (W.seen world.old).history ≡ [] → (state (W.seen world.new)).running ≡ [] }
 {

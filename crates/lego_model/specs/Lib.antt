@@ -25,6 +25,7 @@ pub mod AfterFault
 pub mod UndoFaults
 pub mod AllLines
 pub mod OrderlySteps
+pub mod OwnIds
 pub mod ReferenceRun
 pub mod SwitchFaults
 pub mod WholeRun

@@ -3,3 +3,4 @@ pub mod ScriptedLaws
 pub mod SessionWordLaws
 pub mod SessionTextLaws
 pub mod SwitchFaultLaws
+pub mod OwnIdLaws

@@ -1,5 +1,5 @@
 -- The run of a session is the reference controller's.
-use Rattle.std.proofs.Common.{◌≡◌, ◌⊎◌, ℕ, ◌≤◌, Bool, false, List, [], ◌∷◌, length, Contains, Option, Some, None, Result, Ok, Err, IfErr, IfSome, refl, sym, ap, ◌∙◌, subst, arith, inl, inr}
+use Rattle.std.proofs.Common.{◌≡◌, ◌⊎◌, ℕ, ◌^◌, ◌≤◌, Bool, false, List, [], ◌∷◌, length, Contains, Option, Some, None, Result, Ok, Err, IfErr, IfSome, refl, sym, ap, ◌∙◌, subst, arith, inl, inr}
 use Rattle.std.proofs.lemmas.Bool.{ne_eqb}
 use Rattle.std.proofs.lemmas.List.{take_all}
 use Rattle.std.specs.Result.{IsErrAnd}
@@ -11,10 +11,11 @@ use Rattle.lego_model.specs.SessionLines.{SessionValue}
 use Rattle.lego_model.specs.SessionText.{session_text}
 use Rattle.lego_model.specs.laws.SessionTextLaws.{session_read}
 use Rattle.lego_model.specs.CutRun.{NothingDone}
+use Rattle.lego_model.specs.OwnIds.{own_ids, AscendWithin, OwnIdsAscend}
 use Rattle.lego_model.specs.History.{stimuli_in}
 use Rattle.lego_model.specs.WholeRun.{TookFirst, is_spent, EndsAlike, LeavesAlike}
 use Rattle.outside.specs.declared.step.WorldStep.{WorldStep}
-use Rattle.outside.specs.Seen.{Seen, Continues}
+use Rattle.outside.specs.Seen.{Seen, Continues, journal}
 use Rattle.outside.specs.State.{at_first, after_steps, state}
 use Rattle.outside.specs.InOrder.{BringMessages, InOrder}
 use Rattle.sim_world.specs.Told.{without_links}
@@ -55,6 +56,14 @@ none_runs_yet seen is = ap (λ (steps : List WorldStep). (after_steps steps (at_
 
 pub none_runs : (w : WorldData) → IsNew w → (state (seen_of w)).running ≡ []
 none_runs w is = none_runs_yet (seen_of w) (untouched w is)
+
+-- no message was sent there
+pub no_ids_yet : {Own : Type 0} (seen : Seen Own) → seen.history ≡ [] → OwnIdsAscend seen
+unfolding own_ids journal
+no_ids_yet seen is = subst (λ (steps : List WorldStep). AscendWithin 1 (own_ids (journal steps)) (2 ^ 32)) (sym is) (omega arith)
+
+pub no_ids : (w : WorldData) → IsNew w → OwnIdsAscend (seen_of w)
+no_ids w is = no_ids_yet (seen_of w) (untouched w is)
 
 -- a simulated world tells in order
 pub tells : (old new : Seen Scripts) → old.history ≡ [] → InOrder new → TellsInOrder (Unit {0}) old new

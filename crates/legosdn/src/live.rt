@@ -3,6 +3,8 @@
 ghost use Rattle.std.specs.Prelude.{◌≡◌, ◌≤◌, [], IfErr};
 ghost use Rattle.lego_io.specs.Count.{NeverFell};
 ghost use Rattle.outside.specs.State.{state};
+ghost use Rattle.outside.specs.InOrder.{InOrder};
+ghost use Rattle.lego_model.specs.OwnIds.{IsShortRun, OwnIdsAscend};
 ghost use Rattle.legosdn.specs.Headline.{faults_of};
 ghost use Rattle.legosdn.specs.Live.{Serves};
 
@@ -28,6 +30,7 @@ pub fn run_live<S: Source, K: Sink, W: World>(
         (faults_of (S.faults source.new) (K.faults sink.new) (W.seen live.new))
         (K.contents sink.old) (K.contents sink.new) ((live.new ≡ live.old) × (sink.new ≡ sink.old)) }
     ensures ended { W.Tells → (W.seen live.old).history ≡ [] → (state (W.seen live.new)).running ≡ [] }
+    ensures ids { W.Tells → (W.seen live.old).history ≡ [] → InOrder (W.seen live.new) → IsShortRun (W.seen live.new) → OwnIdsAscend (W.seen live.new) }
     ensures never_fell { NeverFell (K.faults sink.old) (K.faults sink.new) }
 {
     let apps = read_program(alloc, source)?;

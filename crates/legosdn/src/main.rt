@@ -5,7 +5,7 @@
 //! `live_whole_run`. Runs that a fault ends: `run_until_fault`, `live_run_until_stop`. Causes: `status_has_cause`,
 //! `live_status_has_cause`, `usage`, `input_refused`, `policy_refused`, `source_failed`, `sink_failed`,
 //! `breaks_only_on_bad_bytes`, `diverges_only_on_bad_bytes`, `no_stray_call`, `live_no_stray_call`,
-//! `none_lost_without_fault`. Good inputs:
+//! `own_ids_ascend`, `live_own_ids_ascend`, `none_lost_without_fault`. Good inputs:
 //! `complete_without_fault`, `live_complete_without_fault`, `input_loaded`, `policy_taken`, `refused_input_never_runs`,
 //! `refused_policy_never_runs`, `application_keeps_script`. Before anything runs: `no_command`, `world_untouched`.
 //! docs/GUARANTEES.md says each in plain words, docs/SESSION.md describes input, report and statuses.

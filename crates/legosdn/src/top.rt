@@ -12,6 +12,7 @@ ghost use Rattle.sim_world.specs.Places.{AreExpected};
 ghost use Rattle.sim_world.specs.Building.{nothing_given, IsNew, Begins};
 ghost use Rattle.command_words.specs.Commands.{command_in};
 ghost use Rattle.lego_model.specs.History.{lost_of};
+ghost use Rattle.lego_model.specs.OwnIds.{IsShortRun, OwnIdsAscend};
 ghost use Rattle.lego_model.specs.SessionLines.{SessionValue};
 ghost use Rattle.legosdn.specs.declared.stop.Refusal.{Refusal};
 ghost use Rattle.legosdn.specs.Input.{session_of, run_policy};
@@ -94,6 +95,7 @@ fn simulate<K: Sink, E: Sink + Drop>(
     ensures why { IfErr result (IsRunCause (Unit {0}) (K.faults sink.old) (K.faults sink.new) (seen_of sim.old) (seen_of sim.new)) }
     ensures continues { Continues (Unit {0}) (seen_of sim.old) (seen_of sim.new) }
     ensures ended { (seen_of sim.old).history ≡ [] → (state (seen_of sim.new)).running ≡ [] }
+    ensures ids { (seen_of sim.old).history ≡ [] → IsShortRun (seen_of sim.new) → OwnIdsAscend (seen_of sim.new) }
     ensures never_fell { NeverFell (K.faults sink.old) (K.faults sink.new) }
 {
     let ended = run_world(alloc, apps, sink, sim, 0, MOST_ROUNDS);
@@ -112,6 +114,7 @@ fn replay<S: Source, K: Sink, E: Sink + Drop>(
     requires nothing { given_of sim.old ≡ nothing_given }
     ensures loaded { LoadedAs result (S.remaining source.old) (S.remaining source.new) (seen_of sim.new) }
     ensures ended { (state (seen_of sim.new)).running ≡ [] }
+    ensures ids { IsShortRun (seen_of sim.new) → OwnIdsAscend (seen_of sim.new) }
     ensures runs { RunsLoaded result (S.remaining source.old) (S.remaining source.new) sim.new (K.contents sink.old) (K.contents sink.new) }
     ensures lines { OnOk result (KeepsLines sim.new) }
     ensures late_lines { IfErr result (λ stop. IsLate stop → KeepsLines sim.new) }
@@ -144,6 +147,7 @@ fn run<S: Source, K: Sink, E: Sink + Drop, W: World>(
         sim.new (K.contents sink.old) (K.contents sink.new) ((sim.new ≡ sim.old) × (sink.new ≡ sink.old)) }
     ensures replay_leaves_live { IsReplay (map string_bytes words.now) → live.new ≡ live.old }
     ensures ended { (state (seen_of sim.new)).running ≡ [] }
+    ensures ids { IsShortRun (seen_of sim.new) → OwnIdsAscend (seen_of sim.new) }
     ensures strays { (seen_of sim.new).counts.strays ≤ (seen_of sim.new).counts.shorts }
     ensures lost { LosesByFaults (seen_of sim.new) }
     ensures no_other_session { RunsNoOther (S.remaining source.old) (S.remaining source.new) (seen_of sim.new) }
@@ -153,6 +157,7 @@ fn run<S: Source, K: Sink, E: Sink + Drop, W: World>(
         (K.contents sink.old) (K.contents sink.new) ((live.new ≡ live.old) × (sink.new ≡ sink.old)) }
     ensures run_leaves_sim { (port rounds : ℕ) → IsRun (map string_bytes words.now) port rounds → sim.new ≡ sim.old }
     ensures live_ended { W.Tells → (W.seen live.old).history ≡ [] → (state (W.seen live.new)).running ≡ [] }
+    ensures live_ids { W.Tells → (W.seen live.old).history ≡ [] → InOrder (W.seen live.new) → IsShortRun (W.seen live.new) → OwnIdsAscend (W.seen live.new) }
     ensures early { IfErr result (λ stop. IsEarly stop → (sim.new ≡ sim.old) × (live.new ≡ live.old) × (sink.new ≡ sink.old)) }
     ensures usage { IfErr result (λ stop. stop ≡ Stop.Usage → command_in (map string_bytes words.now) ≡ None) }
     ensures no_command { command_in (map string_bytes words.now) ≡ None
@@ -257,6 +262,9 @@ pub fn legosdn<S: Source, K: Sink, E: Sink + Drop, W: World>(
         → IfSome (S.remaining source.old) (λ input. session_of input ≡ Err line → NeverRuns result (seen_of sim.new)) }
     // At every status: each application that was started is ended.
     ensures every_application_ended { (state (seen_of sim.new)).running ≡ [] }
+    // At every status: the transaction ids of the controller's own messages ascend from 1 on, so that none is used twice, in a run of less than
+    // a thousand million steps and declared switches.
+    ensures own_ids_ascend { IsShortRun (seen_of sim.new) → OwnIdsAscend (seen_of sim.new) }
     // The other world stays as it is.
     ensures replay_leaves_live { IsReplay (map string_bytes words.now) → live.new ≡ live.old }
 
@@ -296,6 +304,8 @@ pub fn legosdn<S: Source, K: Sink, E: Sink + Drop, W: World>(
         → IfSome (S.remaining source.old) (λ input. run_policy input ≡ Err line → Contains (2 ∷ 3 ∷ 4 ∷ 12 ∷ []) result × (live.new ≡ live.old)) }
     // At every status, where it tells: each application that was started is ended.
     ensures live_every_application_ended { W.Tells → (W.seen live.old).history ≡ [] → (state (W.seen live.new)).running ≡ [] }
+    // And the transaction ids of the controller's own messages ascend, where it tells in order, in a run as short.
+    ensures live_own_ids_ascend { W.Tells → (W.seen live.old).history ≡ [] → InOrder (W.seen live.new) → IsShortRun (W.seen live.new) → OwnIdsAscend (W.seen live.new) }
     // The simulated world stays as it is.
     ensures run_leaves_sim { (port rounds : ℕ) → IsRun (map string_bytes words.now) port rounds → sim.new ≡ sim.old }
 

@@ -5,6 +5,8 @@ ghost use Rattle.crash_policy.specs.Policies.{app_value};
 ghost use Rattle.lego_io.specs.Count.{NeverFell};
 ghost use Rattle.outside.specs.Seen.{Continues};
 ghost use Rattle.outside.specs.State.{state};
+ghost use Rattle.outside.specs.InOrder.{InOrder};
+ghost use Rattle.lego_model.specs.OwnIds.{IsShortRun, OwnIdsAscend};
 ghost use Rattle.legosdn.specs.Headline.{IsRunCause};
 ghost use Rattle.legosdn.specs.Live.{TellsInOrder, ServesAs, NoneStray};
 
@@ -34,6 +36,7 @@ pub fn run_world<K: Sink, W: World>(
     ensures why { IfErr result (IsRunCause W.Tells (K.faults sink.old) (K.faults sink.new) (W.seen world.old) (W.seen world.new)) }
     ensures continues { Continues W.Tells (W.seen world.old) (W.seen world.new) }
     ensures ended { W.Tells → (W.seen world.old).history ≡ [] → (state (W.seen world.new)).running ≡ [] }
+    ensures ids { W.Tells → (W.seen world.old).history ≡ [] → InOrder (W.seen world.new) → IsShortRun (W.seen world.new) → OwnIdsAscend (W.seen world.new) }
     ensures never_fell { NeverFell (K.faults sink.old) (K.faults sink.new) }
 {
     match serve(alloc, apps, world, &AllowAll, sink, port, rounds) {

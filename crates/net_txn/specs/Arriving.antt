@@ -34,6 +34,7 @@ use Rattle.net_txn.specs.LinkSteps.{OnLinks, AsksWithoutStrays}
 use Rattle.net_txn.specs.Views.{rows_at, with_rows}
 use Rattle.net_txn.specs.Net.{NetState}
 use Rattle.net_txn.specs.Losing.{IsLost, lost_net, SaysHalt}
+use Rattle.net_txn.specs.OwnIds.{KeepsIds}
 use Rattle.net_txn.specs.Said.{Speaks}
 use Rattle.net_txn.specs.declared.halt.Halt.{Halt}
 use Rattle.net_txn.specs.declared.halt.Halt.TheVariants.{Lost}
@@ -147,7 +148,7 @@ pub record ArrivalHalts {Own : Type 0} (Tells : Type 0) (d : ℕ) (m : Message) 
 
 -- what a message that was read is taken in as
 pub record TakesIn {Own : Type 0} (Tells : Type 0) (d xid : ℕ) (m : Message) (old new : Seen Own) (net now_net : NetState) (result : Result (Option Event) TxnFault) : Type 0 where
-  pub speaks : Speaks Tells d old new
+  pub speaks : Speaks Tells d 0 0 old new
   pub fault : IfErr result (λ f. f ≡ NoMemory)
   pub err : OnErr result (now_net ≡ net)
   pub losses : OnErr result (Tells → lost_of new ≡ lost_of old)
@@ -158,6 +159,7 @@ pub record Arrives {Own : Type 0} (Tells : Type 0) (d : ℕ) (frame : List ℕ) 
   pub continues : Continues Tells old new
   pub links : OnLinks Tells old new
   pub no_strays : AsksWithoutStrays Tells d old new
+  pub ids : KeepsIds Tells 0 old new net.xid now_net.xid result
   pub cause : IfErr result (IsArrivalCause d frame old new)
   pub err : OnErr result (now_net ≡ net)
   pub losses : OnErr result (Tells → lost_of new ≡ lost_of old)

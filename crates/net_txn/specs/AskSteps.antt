@@ -32,7 +32,7 @@ AskHalts Tells d xid old new kept now_kept (Fault fault) =
     × IfFlooded Tells (asked_from d xid) (request_sent d xid ∷ barrier_sent (asked_from d xid) ∷ []) old new fault × (Tells → lost_of new ≡ lost_of old)
 
 pub record AsksFrom {Own : Type 0} (Tells : Type 0) (d xid : ℕ) (old new : Seen Own) (kept now_kept : List (ℕ × List ℕ)) (result : Result (List FlowRow) Halt) : Type 0 where
-  pub speaks : Speaks Tells d old new
+  pub speaks : Speaks Tells d xid 2 old new
   pub kept_more : KeptMore d kept now_kept
   pub answer : MatchResult result (GivesRows Tells d xid old new kept now_kept) (AskHalts Tells d xid old new kept now_kept)
 

@@ -13,6 +13,7 @@ use Rattle.outside.specs.InOrder.{MessagesSince}
 use Rattle.lego_model.specs.declared.fault.TxnFault.{TxnFault}
 use Rattle.lego_model.specs.declared.fault.TxnFault.TheVariants.{SwitchBroke, Diverged, Flooded, NoMemory}
 use Rattle.net_txn.specs.LinkSteps.{OnLinks, AsksWithoutStrays}
+use Rattle.net_txn.specs.OwnIds.{KeepsIds}
 use Rattle.net_txn.specs.Causes.{IsCause}
 use Rattle.net_txn.specs.Net.{NetState}
 use Rattle.lego_model.specs.History.{lost_of}
@@ -106,4 +107,5 @@ pub record Asks {Own : Type 0} (Tells : Type 0) (d : ℕ) (old new : Seen Own) (
   pub links : OnLinks Tells old new
   pub no_strays : AsksWithoutStrays Tells d old new
   pub read : IsOk result → Tells → MessagesSince old new
+  pub ids : KeepsIds Tells 2 old new net.xid now_net.xid result
   pub asks : AsksSo Tells d old new net now_net result

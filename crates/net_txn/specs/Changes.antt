@@ -13,6 +13,7 @@ use Rattle.outside.specs.InOrder.{InOrder, MessagesSince}
 use Rattle.lego_model.specs.declared.fault.TxnFault.{TxnFault}
 use Rattle.net_txn.specs.declared.halt.Halt.TheVariants.{Fault}
 use Rattle.net_txn.specs.LinkSteps.{OnLinks, MakesNoStrayCall}
+use Rattle.net_txn.specs.OwnIds.{KeepsIds}
 use Rattle.net_txn.specs.Causes.{IsCause}
 use Rattle.net_txn.specs.Losing.{IsLost, lost_net}
 use Rattle.lego_model.specs.History.{lost_of}
@@ -58,5 +59,6 @@ pub record Changes {Own : Type 0} (Tells : Type 0) (d : ℕ) (bytes : List ℕ) 
   pub cause : IfErr result (IsCause Tells d old new)
   pub moment : now_net.moment ≡ net.moment
   pub room : now_net.room ≡ net.room
+  pub ids : KeepsIds Tells 2 old new net.xid now_net.xid result
   pub answered : ChangesJoined Tells d bytes old new net now_net result
       ⊎ ((answer_of_host d bytes net ≡ None) × (result ≡ Ok Unknown) × ChangesLost Tells d old new net now_net)

@@ -18,6 +18,7 @@ pub mod ReleaseSteps
 pub mod ChangeSteps
 pub mod Undos
 pub mod NetUndos
+pub mod OwnIds
 pub mod Said
 pub mod Asks
 pub mod AskSteps

@@ -15,6 +15,7 @@ use Rattle.lego_model.specs.declared.wait.Awaited.{Awaited}
 use Rattle.outside.specs.InOrder.{MessagesSince}
 use Rattle.net_txn.specs.declared.halt.Halt.{Halt}
 use Rattle.net_txn.specs.declared.halt.Halt.TheVariants.{Lost, Fault}
+use Rattle.net_txn.specs.OwnIds.{LeavesStep}
 use Rattle.net_txn.specs.Causes.{IsCause}
 use Rattle.net_txn.specs.Waits.{IfFlooded}
 use Rattle.net_txn.specs.Net.{NetState}
@@ -53,9 +54,10 @@ pub record SaysNone {Own : Type 0} (old new : Seen Own) : Type 0 where
   pub history : new.history ≡ old.history ++ steps
   pub none_sent : SendsNone (journal steps)
 
--- The count of its link rose in these calls.
+-- The count of its link rose in these calls, the last of which left a step.
 pub record IsLost {Own : Type 0} (Tells : Type 0) (d : ℕ) (packets : List Held) (old new : Seen Own) : Type 0 where
   pub rose : Rose (old.counts.link_faults d) (new.counts.link_faults d)
+  pub some : LeavesStep Tells old new
   pub out : Tells → is_joined d (state old) ≡ true → GoesOut d packets old new
   pub was_out : Tells → is_joined d (state old) ≡ false → SaysNone old new
 

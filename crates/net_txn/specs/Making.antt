@@ -9,6 +9,7 @@ use Rattle.lego_model.specs.declared.fault.TxnFault.{TxnFault}
 use Rattle.net_txn.specs.declared.halt.Halt.{Halt}
 use Rattle.net_txn.specs.declared.halt.Halt.TheVariants.{Lost, Fault}
 use Rattle.net_txn.specs.declared.logged.Logged.{Logged}
+use Rattle.lego_model.specs.BarrierWaits.{next_xid}
 use Rattle.net_txn.specs.Causes.{IsCause}
 use Rattle.net_txn.specs.Said.{Speaks}
 use Rattle.net_txn.specs.Losing.{IsLost, lost_net}
@@ -18,7 +19,7 @@ use Rattle.net_txn.specs.Answering.{Asked, Unsent, InFlight, log_in_flight, IfGi
 
 -- all else stays
 abbrev pub StaysBut : NetState → NetState → Type 0
-StaysBut net now_net = now_net ≡ record net { views = now_net.views; log = now_net.log; held = record net.held { notices = now_net.held.notices }; xid = now_net.xid; kept = now_net.kept }
+StaysBut net now_net = now_net ≡ record net { views = now_net.views; log = now_net.log; held = record net.held { notices = now_net.held.notices }; xid = next_xid (next_xid net.xid); kept = now_net.kept }
 
 -- The switch was lost. All bytes that came before were messages, its view stands as it stood, and more of its messages may be kept.
 pub record LosesSo {Own : Type 0} (Tells : Type 0) (d : ℕ) (log : List Logged) (old new : Seen Own) (net now_net : NetState) : Type 0 where
@@ -59,9 +60,9 @@ pub record MakesJoined {Own : Type 0} (Tells : Type 0) (d : ℕ) (m : Change) (o
 pub record MakesLost {Own : Type 0} (Tells : Type 0) (d : ℕ) (old new : Seen Own) (net now_net : NetState) : Type 0 where
   pub is_lost : IsLost Tells d [] old new
   pub read : Tells → MessagesSince old new
-  pub net_is : now_net ≡ record (lost_net d net) { xid = now_net.xid }
+  pub net_is : now_net ≡ record (lost_net d net) { xid = next_xid (next_xid net.xid) }
 
 pub record Makes {Own : Type 0} (Tells : Type 0) (d : ℕ) (m : Change) (old new : Seen Own) (net now_net : NetState) (result : Result Answer TxnFault) : Type 0 where
-  pub speaks : Speaks Tells d old new
+  pub speaks : Speaks Tells d net.xid 2 old new
   pub cause : IfErr result (IsCause Tells d old new)
   pub made : MakesJoined Tells d m old new net now_net result ⊎ ((result ≡ Ok Unknown) × MakesLost Tells d old new net now_net)

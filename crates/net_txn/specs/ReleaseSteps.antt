@@ -15,6 +15,7 @@ use Rattle.lego_model.specs.History.{lost_of}
 use Rattle.lego_model.specs.Packets.{Held}
 use Rattle.net_txn.specs.declared.queue.Storage.TheVariants.{Growing}
 use Rattle.net_txn.specs.LinkSteps.{OnLinks, MakesNoStrayCall}
+use Rattle.net_txn.specs.OwnIds.{IdsGoOn, StopsIds}
 use Rattle.net_txn.specs.declared.halt.Halt.{Halt}
 use Rattle.net_txn.specs.declared.halt.Halt.TheVariants.{Lost, Fault}
 use Rattle.net_txn.specs.Losing.{lost_net, is_among}
@@ -129,6 +130,7 @@ pub record ReleasesPacket {Own : Type 0} (Tells : Type 0) (held : Held) (old new
   pub stays : StaysSo lost net now_net
   pub calls : CallsLinks Tells lost net.views old new
   pub read : IsOk result → Tells → MessagesSince old new
+  pub ids : MatchResult result (λ sent. IdsGoOn Tells 0 old new net.xid now_net.xid) (λ fault. StopsIds Tells old new net.xid)
   pub does : MatchResult result (λ sent. ReleasesOne Tells held (sent_by sent held) old new net now_net queue now_queue) (BreaksAt Tells held old new net)
 
 -- ---- All of them
@@ -143,6 +145,7 @@ pub record ReleasedFront {Own : Type 0} (Tells : Type 0) (front : List Held) (ol
   pub stays : StaysSo lost net now_net
   pub calls : CallsLinks Tells lost net.views old new
   pub read : Tells → MessagesSince old new
+  pub ids : IdsGoOn Tells 0 old new net.xid now_net.xid
   pub sent : List Held
   pub all : ReleasesAll Tells front sent old new net now_net queue now_queue
   pub sizes_is : sizes ≡ map size_of sent
@@ -158,6 +161,7 @@ pub record StopsBehind {Own : Type 0} (Tells : Type 0) (held : List Held) (old n
   pub lost : List ℕ
   pub stays : StaysSo lost net now_net
   pub calls : CallsLinks Tells lost net.views old new
+  pub ids : StopsIds Tells old new net.xid
   pub front : List Held
   pub broken : Held
   pub rest : List Held

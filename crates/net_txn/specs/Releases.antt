@@ -28,6 +28,7 @@ use Rattle.lego_model.specs.Journal.{released, losses}
 use Rattle.lego_model.specs.Packets.{Held, nothing_held}
 use Rattle.lego_model.specs.Controller.{events_of}
 use Rattle.lego_model.specs.AfterFault.{after_packets}
+use Rattle.lego_model.specs.OwnIds.{IsShortRun, OwnIdsAscend, OwnIdsSoFar}
 use Rattle.net_txn.specs.LinkSteps.{OnLinks, MakesNoStrayCall}
 use Rattle.net_txn.specs.Causes.{IsCause, IsPlain}
 use Rattle.net_txn.specs.Losing.{is_among, IsLost, lost_net}
@@ -189,6 +190,8 @@ pub record Commits {Own : Type 0} (Tells : Type 0) (start : ℕ) (old new : Seen
   pub links : OnLinks Tells old new
   pub no_strays : Tells → InOrder new → AreJoined net.views (state old) → MakesNoStrayCall old new
   pub read : IsOk result → Tells → MessagesSince old new
+  -- the ids of its own messages ascend still
+  pub ids : Tells → IsShortRun new → AreJoined net.views (state old) → OwnIdsSoFar 0 old net.xid → OwnIdsAscend new × (IsOk result → OwnIdsSoFar 0 new now_net.xid)
   -- the switches that were lost, in order
   pub lost : List ℕ
   pub losses : Tells → AreJoined net.views (state old) → lost_of new ≡ lost_of old ++ lost

@@ -1,7 +1,7 @@
 -- What is said on the link of a switch, as data: which calls were made, in order, and how the last one failed. One record, `Calls`, says
 -- on both exits of a function which of these it made; what else is known of them (no call for an application, no call out of place, the
 -- cause of a fault) are laws over that list. All of this is our own but for the messages of OpenFlow 1.0.0.
-use Rattle.std.specs.Prelude.{◌≡◌, ℕ, ◌^◌, ◌<◌, ◌≤◌, Bool, true, false, List, [], ◌∷◌, ◌++◌, length, take, map, ◌⊎◌, Option, Some, None, Result, IsErr, MatchResult}
+use Rattle.std.specs.Prelude.{◌≡◌, ℕ, ◌+◌, ◌^◌, ◌<◌, ◌≤◌, Bool, true, false, List, [], ◌∷◌, ◌++◌, length, take, map, filter_map, ◌⊎◌, Option, Some, None, Result, IsErr, MatchResult}
 use Rattle.std.specs.List.{AllByRecursion, flat_map}
 use Rattle.lego_io.specs.Count.{Rose}
 use Rattle.of_types.specs.Fields.{number_at}
@@ -26,6 +26,7 @@ use Rattle.net_txn.specs.declared.queue.Storage.{Storage}
 use Rattle.net_txn.specs.declared.queue.Storage.TheVariants.{Growing, Reserved}
 use Rattle.net_txn.specs.declared.trouble.Trouble.{Trouble}
 use Rattle.net_txn.specs.declared.trouble.Trouble.TheVariants as troubles
+use Rattle.lego_model.specs.OwnIds.{own_id_of, AscendWithin}
 use Rattle.lego_model.specs.UndoFaults.{GoesWithoutStrays, key_refused}
 use Rattle.net_txn.specs.MessageStore.{KeptWhereFit}
 use Rattle.net_txn.specs.Waits.{IsRead, Brought, with_heard, answer_of}
@@ -92,11 +93,21 @@ pub record Calls {Own : Type 0} (Tells : Type 0) (d : ℕ) (said : List Said) (o
   pub told : Tells → new.history ≡ old.history ++ said_steps (is_joined d (state old)) said
   pub joined : Tells → AreSaidTo (is_joined d (state old)) said
 
--- Calls of the link of one switch alone were made, each in place where the world tells in order and the switch is joined.
-pub record Speaks {Own : Type 0} (Tells : Type 0) (d : ℕ) (old new : Seen Own) : Type 0 where
+-- the transaction ids of what was sent, but for answers to ECHO_REQUESTs
+abbrev pub id_said : Said → Option ℕ
+id_said (Says d bytes) = own_id_of bytes
+id_said other = None
+
+abbrev pub ids_said : List Said → List ℕ
+ids_said said = filter_map id_said said
+
+-- Calls of the link of one switch alone were made, each in place where the world tells in order and the switch is joined. They use so many ids
+-- at most, from this one on, where these do not begin anew.
+pub record Speaks {Own : Type 0} (Tells : Type 0) (d xid most : ℕ) (old new : Seen Own) : Type 0 where
   pub said : List Said
   pub calls : Calls Tells d said old new
   pub goes : GoesWithoutStrays d (said_steps true said)
+  pub ids : xid + most < 2 ^ 32 → AscendWithin xid (ids_said said) (xid + most)
 
 -- ---- One call
 

@@ -35,6 +35,7 @@ use Rattle.net_txn.specs.declared.logged.UndoProgress.{UndoProgress}
 use Rattle.net_txn.specs.declared.logged.Logged.{Logged}
 use Rattle.net_txn.specs.declared.trouble.Trouble.{Trouble}
 use Rattle.net_txn.specs.declared.trouble.Trouble.TheVariants as troubles
+use Rattle.lego_model.specs.OwnIds.{own_ids, AscendWithin}
 use Rattle.net_txn.specs.Causes.{IsPlain}
 pub use Rattle.net_txn.specs.Causes.{halt_by}
 use Rattle.lego_model.specs.BarrierWaits.{flood, next_xid, kept_of, wait_steps, barrier_sent, reply_got}
@@ -105,10 +106,16 @@ abbrev pub LosesBy : ℕ → Halt → List WorldStep → Type 0
 LosesBy d Lost steps = GoesOutBy d steps
 LosesBy d (Fault fault) steps = losses (journal steps) ≡ []
 
+-- No message of its own was sent to it, or one with this id; and where the switch was lost some step tells so.
+pub record HasIdAtMost (xid : ℕ) (halt : Halt) (steps : List WorldStep) : Type 0 where
+  pub ids : xid + 1 < 2 ^ 32 → AscendWithin xid (own_ids (journal steps)) (xid + 1)
+  pub some : halt ≡ Lost → 1 ≤ length steps
+
 -- Calls of one switch, the last of which failed, all in place, by which no packet is released; in a world that tells it is lost by them where
 -- it was joined.
-pub record Fails {Own : Type 0} (Tells : Type 0) (d : ℕ) (sent : List (ℕ × Key)) (old new : Seen Own) (halt : Halt) : Type 0 where
+pub record Fails {Own : Type 0} (Tells : Type 0) (d xid : ℕ) (sent : List (ℕ × Key)) (old new : Seen Own) (halt : Halt) : Type 0 where
   pub steps : List WorldStep
+  pub ids : HasIdAtMost xid halt steps
   pub moves : Moves Tells d steps old new
   pub cause : IsHaltOf d sent old.counts new.counts steps halt
   pub places : GoesWithoutStrays d steps
@@ -126,7 +133,7 @@ pub record AwaitsReplies {Own : Type 0} (Tells : Type 0) (a : Awaited) (front : 
 -- a barrier, whose reply was got or not, and what was kept before it
 pub record PassesBarrier {Own : Type 0} (Tells : Type 0) (d xid : ℕ) (sent : List (ℕ × Key)) (old new : Seen Own) (kept now_kept : List (ℕ × List ℕ)) (buf : List ℕ) (result : Result (Unit {0}) Trouble) : Type 0 where
   pub replied : OnOk result (AwaitsReplies Tells (alone d xid) (barrier_sent (alone d xid) ∷ []) sent old new kept now_kept)
-  pub failed : IfErr result (λ t. Fails Tells d sent old new (halt_by d t buf))
+  pub failed : IfErr result (λ t. Fails Tells d xid sent old new (halt_by d t buf))
   pub kept_more : KeptMore d kept now_kept
 
 -- ---- The parts of an undo, each with its switch, the last one first
@@ -257,7 +264,8 @@ pub record CanBeSent (xid : ℕ) (k : Key) : Type 0 where
   pub is_xid : xid < 2 ^ 32
   pub priority : k.priority < 2 ^ 16
 
-pub record IsStuckBy (d : ℕ) (sent : List (ℕ × Key)) (old new : Counts) (halt : Halt) (steps : List WorldStep) : Type 0 where
+pub record IsStuckBy (d xid : ℕ) (sent : List (ℕ × Key)) (old new : Counts) (halt : Halt) (steps : List WorldStep) : Type 0 where
+  pub ids : HasIdAtMost xid halt steps
   pub each : AllByRecursion (IsStepOf d) steps
   pub cause : IsHaltOf d sent old new steps halt
   pub places : GoesWithoutStrays d steps
@@ -269,7 +277,7 @@ abbrev pub IsRun : Counts → Counts → ℕ → List Part → Type 0
 IsRun old new d [] = Unit {0}
 IsRun old new d (Inverse xid k ∷ older) = CanBeSent xid k × (since_of older < 4096) × (is_stuck older ≡ false) × IsRun old new d older
 IsRun old new d (BarrierPassed xid got ∷ older) = IsBarrierPassed d xid (inverses_of older) got × (is_stuck older ≡ false) × IsRun old new d older
-IsRun old new d (Stuck xid halt steps ∷ older) = IsStuckBy d (inverses_of older) old new halt steps × (is_stuck older ≡ false) × IsRun old new d older
+IsRun old new d (Stuck xid halt steps ∷ older) = IsStuckBy d xid (inverses_of older) old new halt steps × (is_stuck older ≡ false) × IsRun old new d older
 
 -- the joined switches, the last one first
 abbrev pub switches_of : List TableView → List ℕ

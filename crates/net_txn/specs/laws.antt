@@ -17,6 +17,7 @@ pub mod InStepLaws
 pub mod ChangeFaultLaws
 pub mod ReachedLaws
 pub mod ConsequenceLaws
+pub mod OwnIdLaws
 pub mod SaidLaws
 pub mod HaltLaws
 pub mod ExchangeLaws
@@ -50,6 +51,7 @@ pub mod UndoFaultLaws
 pub mod MessageStoreLaws
 pub mod LinkStepLaws
 pub mod LinkStrayLaws
+pub mod UndoIdLaws
 pub mod UndoLinkLaws
 pub mod ReadLaws
 pub mod LinkPresenceLaws

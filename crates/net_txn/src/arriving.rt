@@ -45,7 +45,7 @@ fn answer_echo<W: World>(
     payload: &ByteList,
 ) -> Result<(), Halt>
     requires { IsMessage (messages.EchoRequest payload.now) }
-    ensures speaks { Speaks W.Tells dpid (W.seen world.old) (W.seen world.new) }
+    ensures speaks { Speaks W.Tells dpid 0 0 (W.seen world.old) (W.seen world.new) }
     ensures halts { IfErr result (SaysHalt W.Tells dpid (W.seen world.old) (W.seen world.new)) }
     ensures told { W.Tells → OnOk result ((W.seen world.new).history
         ≡ (W.seen world.old).history ++ Acted (Sent dpid (message_bytes xid (messages.EchoReply payload.now))) ∷ []) }
@@ -120,7 +120,7 @@ impl Net {
         requires { IsMessage message.now }
         ensures ok { IfOk result (Becomes W.Tells dpid xid message.now (W.seen world.old) (W.seen world.new) self.old self.new) }
         ensures err { OnErr result (self.new ≡ self.old) }
-        ensures speaks { Speaks W.Tells dpid (W.seen world.old) (W.seen world.new) }
+        ensures speaks { Speaks W.Tells dpid 0 0 (W.seen world.old) (W.seen world.new) }
         ensures halts { IfErr result (ArrivalHalts W.Tells dpid message.now (W.seen world.old) (W.seen world.new)) }
     {
         match message {

@@ -56,7 +56,7 @@ impl Net {
         requires { IsMessage (messages.FlowMod flow) }
         ensures result { MatchResult result (Asked W.Tells dpid flow (W.seen world.old) (W.seen world.new) self.old self.new)
             (Halts W.Tells dpid flow (with_logged (logged_by dpid flow) self.old.log) (W.seen world.old) (W.seen world.new) self.old self.new) }
-        ensures speaks { Speaks W.Tells dpid (W.seen world.old) (W.seen world.new) }
+        ensures speaks { Speaks W.Tells dpid self.old.xid 2 (W.seen world.old) (W.seen world.new) }
         ensures cause { IfErr result (IsHaltCause W.Tells dpid (W.seen world.old) (W.seen world.new)) }
         ensures flooded { IfErr result (IfGivenUp W.Tells dpid flow (W.seen world.old) (W.seen world.new) self.old) }
         ensures stays { StaysBut self.old self.new }
@@ -106,7 +106,7 @@ impl Net {
         requires { IsMessage (messages.FlowMod flow) }
         ensures result { MatchResult result (Asked W.Tells dpid flow (W.seen world.old) (W.seen world.new) self.old self.new)
             (λ halt. Halts W.Tells dpid flow (log_halted dpid flow self.old halt) (W.seen world.old) (W.seen world.new) self.old self.new halt) }
-        ensures speaks { Speaks W.Tells dpid (W.seen world.old) (W.seen world.new) }
+        ensures speaks { Speaks W.Tells dpid self.old.xid 2 (W.seen world.old) (W.seen world.new) }
         ensures cause { IfErr result (IsHaltCause W.Tells dpid (W.seen world.old) (W.seen world.new)) }
         ensures flooded { IfErr result (IfGivenUp W.Tells dpid flow (W.seen world.old) (W.seen world.new) self.old) }
         ensures stays { StaysBut self.old self.new }

@@ -6,6 +6,8 @@ ghost use Rattle.outside.specs.Seen.{Continues};
 ghost use Rattle.outside.specs.InOrder.{MessagesSince};
 ghost use Rattle.flow_table.specs.View.{plains};
 ghost use Rattle.net_txn.specs.LinkSteps.{OnLinks, AsksWithoutStrays};
+ghost use Rattle.lego_model.specs.BarrierWaits.{next_xid};
+ghost use Rattle.net_txn.specs.OwnIds.{KeepsIds};
 ghost use Rattle.net_txn.specs.Said.{Speaks};
 ghost use Rattle.net_txn.specs.Causes.{IsCause};
 ghost use Rattle.net_txn.specs.Waits.{IfFlooded};
@@ -111,8 +113,8 @@ impl Net {
     ) -> Result<(), Halt>
         ensures joins { OnOk result (Joins W.Tells dpid features.now.ports (W.seen world.old) (W.seen world.new) self.old self.new) }
         ensures halts { IfErr result (JoinHalts W.Tells dpid (W.seen world.old) (W.seen world.new) self.old self.new) }
-        ensures speaks { Speaks W.Tells dpid (W.seen world.old) (W.seen world.new) }
-        ensures stays { self.new ≡ record self.old { views = self.new.views; ports = self.new.ports; xid = self.new.xid; kept = self.new.kept } }
+        ensures speaks { Speaks W.Tells dpid self.old.xid 3 (W.seen world.old) (W.seen world.new) }
+        ensures stays { self.new ≡ record self.old { views = self.new.views; ports = self.new.ports; xid = next_xid (next_xid (next_xid self.old.xid)); kept = self.new.kept } }
         ensures xid { self.old.xid < 2 ^ 32 }
     {
         let first = self.xid;
@@ -155,6 +157,7 @@ impl Net {
         // All bytes that came were messages.
         ensures read { OnOk result (W.Tells → MessagesSince (W.seen world.old) (W.seen world.new)) }
         ensures cause { IfErr result (IsCause W.Tells dpid (W.seen world.old) (W.seen world.new)) }
+        ensures ids { KeepsIds W.Tells 3 (W.seen world.old) (W.seen world.new) self.old.xid self.new.xid result }
         ensures flooded { IfErr result (IfFlooded W.Tells (greeted_from dpid self.old.xid) (greeting dpid self.old.xid) (W.seen world.old) (W.seen world.new)) }
         ensures log { self.new.log ≡ self.old.log }
         ensures moment { self.new.moment ≡ self.old.moment }

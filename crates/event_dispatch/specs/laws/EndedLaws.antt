@@ -8,7 +8,7 @@ use Rattle.of_types.specs.declared.journal.Act.{Act}
 use Rattle.of_types.specs.declared.journal.Act.TheVariants.{Stim, Started, Gave, Gone, Took, Ended, Sent, Got, Lost}
 use Rattle.outside.specs.declared.step.WorldStep.{WorldStep}
 use Rattle.outside.specs.declared.step.WorldStep.TheVariants.{Acted, TookInto, From, Joined, Left, Moment, Idle, End, Opened, NotOpened, NextFailed, SendLost, RecvLost, SendFailed, RecvFailed}
-use Rattle.outside.specs.Seen.{Seen, Continues}
+use Rattle.outside.specs.Seen.{Seen, Continues, journal}
 use Rattle.outside.specs.State.{State, state, at_first, is_running, after_stim, after_act, after_step, after_steps}
 use Rattle.outside.specs.laws.SeenLaws.{Continues-trans}
 use Rattle.outside.specs.laws.StateLaws.{state-append}
@@ -24,7 +24,9 @@ use Rattle.batch_laws.specs.laws.KeyLaws.{all-filter}
 use Rattle.event_dispatch.specs.declared.served.Served.{Served}
 use Rattle.event_dispatch.specs.declared.served.Served.TheVariants as served
 use Rattle.event_dispatch.specs.Serves.{IsUnopened}
-use Rattle.event_dispatch.specs.Steady.{NoStray, NoPoint, NoneMoves, IsEnded, NoneRuns}
+use Rattle.event_dispatch.specs.Steady.{NoStray, NoPoint, NoneMoves, NoOwnMessage, IsEnded, NoneRuns}
+use Rattle.lego_model.specs.OwnIds.{own_ids}
+use Rattle.event_dispatch.specs.laws.NumberLaws.{none_sent_none, none_sent_then}
 use Rattle.event_dispatch.specs.Talking.{KeepsTalking}
 use Rattle.lego_model.specs.History.{lost_of}
 use Rattle.run_laws.specs.Endings.{Leaves}
@@ -113,6 +115,7 @@ pub record EndedSoFar {Own : Type 0} (Tells : Type 0) (number n : ℕ) (old new 
   pub no_point : NoPoint Tells number old new
   pub places : Tells → MakesNoStrayCall old new
   pub messages : Tells → MessagesSince old new
+  pub none_sent : Tells → NoOwnMessage old new
   pub ended : Tells → (app : ℕ) → app < n → is_running app (state new) ≡ false
   pub none_moves : NoneMoves Tells old new
   pub leaves : Tells → Leaves number [] old new
@@ -153,6 +156,7 @@ ended_none {number = number} Tells seen = record {
   no_point = quietly_none Tells seen;
   places = λ told. no_strays_none seen;
   messages = λ told. messages-none seen;
+  none_sent = λ told. none_sent_none seen;
   ended = λ told app small. absurd (omega (arith, small));
   none_moves = none_move Tells seen;
   leaves = λ told. leaves_none number seen;
@@ -163,11 +167,17 @@ still_ended : {Own : Type 0} (Tells : Type 0) (n app : ℕ) (mid new : Seen Own)
 still_ended Tells n app mid new told ends none =
     ap (λ (s : State). is_running app s) (state-append mid new (end_steps n (is_running n (state mid))) ends.given (ends.told told).history) ∙ end_still n app (is_running n (state mid)) (state mid) none
 
+end_none_sent : (app : ℕ) (running : Bool) → own_ids (journal (end_steps app running)) ≡ []
+unfolding end_steps own_ids journal
+end_none_sent app true = refl
+end_none_sent app false = refl
+
 pub ended_next : {Own : Type 0} {Tells : Type 0} {number : ℕ} (n : ℕ) (old mid new : Seen Own) → n < number → Continues Tells old mid → EndedSoFar Tells number n old mid → Ends Tells n mid new → EndedSoFar Tells number (n + 1) old new
 ended_next {Tells = Tells} {number = number} n old mid new small before first ends = record {
   no_point = quietly_then Tells old mid new first.no_point (end_quietly Tells n mid new small ends);
   places = λ told. no_strays_then old mid new told before (ends_continue ends) (first.places told) (end_places Tells n mid new ends told);
   messages = λ told. messages-then old mid new told before (ends_continue ends) (first.messages told) (end_messages Tells n mid new ends told);
+  none_sent = λ told. none_sent_then (first.none_sent told) (record { steps = end_steps n (is_running n (state mid)); history = (ends.told told).history; none = end_none_sent n (is_running n (state mid)) });
   ended = λ told app less. elim (cases_eq app n) [
     | inl same ↦ subst (λ (i : ℕ). is_running i (state new) ≡ false) (sym same) (ends_is Tells n mid new ends told)
     | inr other ↦ still_ended Tells n app mid new told ends (first.ended told app (omega (arith, less, other)))
@@ -182,6 +192,7 @@ are_ended n old new all so_far = record {
   no_point = so_far.no_point;
   places = so_far.places;
   messages = so_far.messages;
+  none_sent = so_far.none_sent;
   ended = λ told app less. so_far.ended told app (omega (arith, all, less));
   none_moves = so_far.none_moves;
 }

@@ -38,7 +38,7 @@ use Rattle.event_dispatch.specs.TurnParts.{TurnFails, TurnDone}
 use Rattle.event_dispatch.specs.EventParts.{OfferDone, OfferStops, OffersDone, OffersStop, DispatchDone, DispatchStops}
 use Rattle.event_dispatch.specs.Cut.{IsOfTurn, OfferFails, StopsWithin, OffersFail, FailsIn}
 use Rattle.event_dispatch.specs.laws.SteadyLaws.{reads_none, quietly_none, quietly_here}
-use Rattle.event_dispatch.specs.laws.PassesLaws.{passes_number, so_far_none, so_far_then}
+use Rattle.event_dispatch.specs.laws.PassesLaws.{SameNext, next_of, passes_number, so_far_none, so_far_then}
 use Rattle.event_dispatch.specs.laws.TurnPartLaws.{passes_over}
 use Rattle.event_dispatch.specs.laws.WhyLaws.{why_then}
 use Rattle.event_dispatch.specs.laws.DispatchStrayLaws.{reads_over, later_here}
@@ -663,6 +663,9 @@ module _ (event : Event) (r : Run) (c : Core) (adds : Adds (event_line (r.core.e
   pub noted_views : c.net.views ≡ r.core.net.views
   noted_views = ap (λ (net : NetState). net.views) adds.stays.net
 
+  noted_next : SameNext r.core.net c.net
+  noted_next = next_of adds.stays.net
+
   dispatched_is : {Own : Type 0} {Tells : Type 0} {accepts : List TableView → Bool} (old new : Seen Own) (now_r : Run) → now_r.core.events ≡ c.events
       → AllOffered Tells accepts event old new c now_r.core r.apps.items now_r.apps.items → IsDispatched Tells accepts event old new r now_r
   dispatched_is {Own = Own} {Tells = Tells} {accepts = accepts} old new now_r events all = record {
@@ -719,7 +722,7 @@ module _ (event : Event) (r : Run) (c : Core) (adds : Adds (event_line (r.core.e
 
   pub dispatch_passes : {Own T E : Type 0} {Tells : Type 0} {old new : Seen Own} {now_net : NetState} {result : Result T E}
       → Passes Tells (length c.store) old new c.net now_net result → Passes Tells (length r.core.store) old new r.core.net now_net result
-  dispatch_passes passes = passes_number (length r.core.store) (length c.store) noted_number (passes_over r.core.net c.net noted_views passes)
+  dispatch_passes passes = passes_number (length r.core.store) (length c.store) noted_number (passes_over r.core.net c.net noted_next passes)
 
 -- another event waits
 pub going_queued : (queue : List Event) (r : Run) → Going r → Going (queued_run queue r)

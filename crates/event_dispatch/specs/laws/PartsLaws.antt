@@ -23,7 +23,8 @@ use Rattle.event_dispatch.specs.Cut.{WentToEnd}
 use Rattle.event_dispatch.specs.Parts.{PassesOn, PassesServed, PassesEnded, FinishFails, FinishesSo, WholeFails, GoesSo, RunsSo}
 use Rattle.event_dispatch.specs.laws.CutLaws.{if_err, went_cut, goes_on_cut, short_cut}
 use Rattle.event_dispatch.specs.laws.EndedLaws.{none_runs_none, none_runs_then}
-use Rattle.event_dispatch.specs.laws.PassesLaws.{passes_none, passes_then, passes_fails, passes_as, passes_number}
+use Rattle.event_dispatch.specs.laws.NumberLaws.{numbers_end, numbers_then, end_none, end_done, end_ended}
+use Rattle.event_dispatch.specs.laws.PassesLaws.{same_next, next_of, passes_none, passes_then, passes_fails, passes_as, passes_number}
 use Rattle.event_dispatch.specs.laws.PlainLaws.{whole_anyway, whole_finish, whole_then}
 use Rattle.event_dispatch.specs.laws.ReadLaws.{read_none, read_of, reads_as, reads_by, went_read, ended_read}
 use Rattle.event_dispatch.specs.laws.SteadyLaws.{places_none, places_then}
@@ -34,7 +35,7 @@ use Rattle.event_dispatch.specs.laws.WhyLaws.{continues_then, why_behind, why_st
 
 pub on_none : {Own T E : Type 0} {number : ℕ} (Tells : Type 0) (seen : Seen Own) (net : NetState) (k : ℕ) (result : Result T E)
     → PassesOn Tells number seen seen net net k k result
-on_none Tells seen net k result = record { passes = passes_none Tells seen net net result refl; never_fell = same_fell k }
+on_none Tells seen net k result = record { passes = passes_none Tells seen net net result (same_next net); never_fell = same_fell k }
 
 pub on_of : {Own T E Tells : Type 0} {number : ℕ} {old new : Seen Own} {net now_net : NetState} {result : Result T E} (k l : ℕ)
     → Passes Tells number old new net now_net result → NeverFell k l → PassesOn Tells number old new net now_net k l result
@@ -57,15 +58,14 @@ on_fails now_net result first failed = record { passes = passes_fails now_net re
 -- a part that was done, whatever it gave
 pub on_done : {Own A F T E Tells : Type 0} {number k l : ℕ} {old new : Seen Own} {net now_net : NetState} {x : A} (y : T)
     → PassesOn {T = A} {E = F} Tells number old new net now_net k l (Ok x) → PassesOn {E = E} Tells number old new net now_net k l (Ok y)
-on_done {now_net = now_net} y all = record { passes = passes_as now_net (Ok y) all.passes refl; never_fell = all.never_fell }
+on_done {now_net = now_net} y all = record { passes = passes_as now_net (Ok y) all.passes (same_next now_net); never_fell = all.never_fell }
 
 -- and then lines were written, or not
 pub on_written : {Own A F B G Tells : Type 0} {number k l : ℕ} {old new : Seen Own} {net : NetState} {mid_c now_c : Core} {a b : Option (List ℕ)} {x : A}
     {written : Result B G} (E : Type 0) → Passes {T = A} {E = F} Tells number old new net mid_c.net (Ok x) → WritesLines a b k l mid_c now_c written
     → PassesOn {T = Unit {0}} {E = E} Tells number old new net now_c.net k l (Ok tt)
 on_written {now_c = now_c} E first lines = record {
-  passes = passes_as now_c.net (Ok tt) first
-      (ap (λ (n : NetState). n.views) lines.stays.net);
+  passes = passes_as now_c.net (Ok tt) first (next_of lines.stays.net);
   never_fell = lines.never_fell;
 }
 
@@ -82,6 +82,7 @@ served_left Tells seen net k = record {
   continues = Continues-refl Tells seen;
   places = places_none Tells seen net;
   reads = read_none Tells seen net;
+  numbers = end_none Tells seen net;
   never_fell = same_fell k;
 }
 
@@ -89,16 +90,17 @@ served_left Tells seen net k = record {
 pub served_fails : {Own A F T Tells : Type 0} {number k l : ℕ} {old new : Seen Own} {net mid_net : NetState} {first : Result A F} (fault : Fault)
     (result : Result T Served) → PassesOn Tells number old new net mid_net k l first → IsErrAnd result (λ e. e ≡ served_by fault)
     → PassesServed Tells number old new net k l result
-served_fails {Tells = Tells} {old = old} {new = new} {net = net} fault result first failed = record {
+served_fails {Tells = Tells} {old = old} {new = new} {net = net} {mid_net = mid_net} {first = part} fault result first failed = record {
   continues = first.passes.continues;
   places = first.passes.places;
+  numbers = numbers_end mid_net part first.passes.numbers;
   reads = reads_by Tells fault result old new net failed;
   never_fell = first.never_fell;
 }
 
 pub served_done : {Own A F T Tells : Type 0} {number k l : ℕ} {old new : Seen Own} {net mid_net : NetState} {x : A} (y : T)
     → PassesOn {T = A} {E = F} Tells number old new net mid_net k l (Ok x) → PassesServed Tells number old new net k l (Ok y)
-served_done y all = record { continues = all.passes.continues; places = all.passes.places; reads = read_of all.passes.reads; never_fell = all.never_fell }
+served_done {mid_net = mid_net} y all = record { continues = all.passes.continues; places = all.passes.places; reads = read_of all.passes.reads; numbers = end_done mid_net all.passes.numbers; never_fell = all.never_fell }
 
 -- a part that was done, and then the last one
 pub served_then : {Own A F T Tells : Type 0} {number k l m : ℕ} {old mid new : Seen Own} {net mid_net : NetState} {x : A} {result : Result T Served}
@@ -108,6 +110,7 @@ served_then {Tells = Tells} {k = k} {l = l} {m = m} {old = old} {mid = mid} {new
   continues = continues_then Tells old mid new first.passes.continues second.continues;
   places = places_then old mid new net mid_net first.passes.continues second.continues first.passes.places first.passes.reads second.places;
   reads = went_read Tells result old mid new net mid_net first.passes.continues second.continues first.passes.reads second.reads;
+  numbers = numbers_then second.continues first.passes.reads first.passes.numbers second.numbers;
   never_fell = fell_then k l m first.never_fell second.never_fell;
 }
 
@@ -125,6 +128,7 @@ ended_then {Tells = Tells} {old = old} {mid = mid} {new = new} {net = net} {resu
   continues = continues_then Tells old mid new first.continues later;
   none_runs = none_runs_then old mid new net first.continues later first.places last;
   reads = ended_read Tells result old mid new net first.continues later last.messages first.reads;
+  numbers = end_ended later last.none_sent first.numbers;
   never_fell = first.never_fell;
 }
 
@@ -135,6 +139,7 @@ ended_short Tells seen net k result failed = record {
   continues = Continues-refl Tells seen;
   none_runs = none_runs_none Tells seen net;
   reads = reads_as Tells served.NoMemory result seen seen net failed tt;
+  numbers = end_none Tells seen net;
   never_fell = same_fell k;
 }
 
@@ -145,12 +150,13 @@ ended_fails {Tells = Tells} {old = old} {new = new} {net = net} {end = end} resu
   continues = all.continues;
   none_runs = all.none_runs;
   reads = reads_as Tells end result old new net failed all.reads;
+  numbers = all.numbers;
   never_fell = all.never_fell;
 }
 
 pub ended_done : {Own A T Tells : Type 0} {number k l : ℕ} {old new : Seen Own} {net : NetState} {x : A} (y : T)
     → PassesEnded {T = A} Tells number old new net k l (Ok x) → PassesEnded Tells number old new net k l (Ok y)
-ended_done y all = record { continues = all.continues; none_runs = all.none_runs; reads = all.reads; never_fell = all.never_fell }
+ended_done y all = record { continues = all.continues; none_runs = all.none_runs; reads = all.reads; numbers = all.numbers; never_fell = all.never_fell }
 
 -- of as many applications, and over the same of the network
 pub ended_as : {Own T Tells : Type 0} {k l : ℕ} {old new : Seen Own} {result : Result T Served} (n m : ℕ) (net now_net : NetState) → m ≡ n → now_net ≡ net

@@ -9,6 +9,7 @@ use Rattle.net_txn.specs.LinkSteps.{OnLinks}
 use Rattle.event_dispatch.specs.declared.engine_core.Core.{Core}
 use Rattle.event_dispatch.specs.Runs.{Waits}
 use Rattle.event_dispatch.specs.Passes.{Passes, PassesQuietly, PassesSoFar, PassesQuietlySoFar}
+use Rattle.event_dispatch.specs.laws.NumberLaws.{same_numbers, end_none, end_done, numbers_end, numbers_failed, numbers_then, numbers_as}
 use Rattle.event_dispatch.specs.laws.WhyLaws.{continues_then}
 use Rattle.event_dispatch.specs.laws.SteadyLaws.{places_none, places_then, places_number, reads_none, reads_then, reads_as, quietly_none, quietly_then, quietly_number}
 use Rattle.event_dispatch.specs.laws.DispatchStrayLaws.{links_quietly}
@@ -44,16 +45,42 @@ same_store waits = ap (λ (slots : List Slot). length slots) waits.store
 
 -- ---- Parts that call the world
 
+-- the same switches have views, and no transaction id was taken
+pub record SameNext (net now_net : NetState) : Type 0 where
+  pub views : now_net.views ≡ net.views
+  pub xid : now_net.xid ≡ net.xid
+
+pub same_next : (net : NetState) → SameNext net net
+same_next net = record { views = refl; xid = refl }
+
+pub next_of : {net now_net : NetState} → now_net ≡ net → SameNext net now_net
+next_of same = record { views = ap (λ (n : NetState). n.views) same; xid = ap (λ (n : NetState). n.xid) same }
+
 -- nothing was done: however the part ended, the same switches have views
 pub passes_none : {Own T E : Type 0} {number : ℕ} (Tells : Type 0) (seen : Seen Own) (net now_net : NetState) (result : Result T E)
-    → now_net.views ≡ net.views → Passes Tells number seen seen net now_net result
-passes_none Tells seen net now_net (Ok x) same = record { continues = Continues-refl Tells seen; places = places_none Tells seen net; reads = reads_none Tells seen net now_net same }
-passes_none Tells seen net now_net (Err fault) same = record { continues = Continues-refl Tells seen; places = places_none Tells seen net; reads = tt }
+    → SameNext net now_net → Passes Tells number seen seen net now_net result
+passes_none Tells seen net now_net (Ok x) same = record {
+  continues = Continues-refl Tells seen;
+  places = places_none Tells seen net;
+  reads = reads_none Tells seen net now_net same.views;
+  numbers = same_numbers Tells seen net now_net same.xid;
+}
+passes_none Tells seen net now_net (Err fault) same = record {
+  continues = Continues-refl Tells seen;
+  places = places_none Tells seen net;
+  reads = tt;
+  numbers = end_none Tells seen net;
+}
 
 -- and where it failed, whatever is kept now
 pub passes_not : {Own T E : Type 0} {number : ℕ} (Tells : Type 0) (seen : Seen Own) (net now_net : NetState) (result : Result T E)
     → IsErr result → Passes Tells number seen seen net now_net result
-passes_not Tells seen net now_net result failed = record { continues = Continues-refl Tells seen; places = places_none Tells seen net; reads = if_failed _ result failed }
+passes_not Tells seen net now_net result failed = record {
+  continues = Continues-refl Tells seen;
+  places = places_none Tells seen net;
+  reads = if_failed _ result failed;
+  numbers = numbers_failed now_net.xid result failed (end_none Tells seen net);
+}
 
 -- a part that was done, and then another, however that ended
 pub passes_then : {Own A F T E Tells : Type 0} {number : ℕ} {old mid new : Seen Own} {net mid_net now_net : NetState} {x : A} {result : Result T E}
@@ -63,28 +90,45 @@ passes_then {Tells = Tells} {old = old} {mid = mid} {new = new} {net = net} {mid
   continues = continues_then Tells old mid new first.continues second.continues;
   places = places_then old mid new net mid_net first.continues second.continues first.places first.reads second.places;
   reads = reads_then old mid new net mid_net now_net first.continues second.continues first.reads second.reads;
+  numbers = numbers_then second.continues first.reads first.numbers second.numbers;
 }
 passes_then {Tells = Tells} {old = old} {mid = mid} {new = new} {net = net} {mid_net = mid_net} {result = Err fault} first second = record {
   continues = continues_then Tells old mid new first.continues second.continues;
   places = places_then old mid new net mid_net first.continues second.continues first.places first.reads second.places;
   reads = tt;
+  numbers = numbers_then second.continues first.reads first.numbers second.numbers;
 }
 
 -- a part that failed, and with it the whole
 pub passes_fails : {Own A F T E Tells : Type 0} {number : ℕ} {old new : Seen Own} {net mid_net : NetState} {first : Result A F} (now_net : NetState) (result : Result T E)
     → Passes Tells number old new net mid_net first → IsErr result → Passes Tells number old new net now_net result
-passes_fails now_net result first failed = record { continues = first.continues; places = first.places; reads = if_failed _ result failed }
+passes_fails {mid_net = mid_net} {first = ended} now_net result first failed = record {
+  continues = first.continues;
+  places = first.places;
+  reads = if_failed _ result failed;
+  numbers = numbers_failed now_net.xid result failed (numbers_end mid_net ended first.numbers);
+}
 
 -- a part that was done, behind which the world was not called: the same switches have views
 pub passes_as : {Own A F T E Tells : Type 0} {number : ℕ} {old new : Seen Own} {net mid_net : NetState} {x : A} (now_net : NetState) (result : Result T E)
-    → Passes {T = A} {E = F} Tells number old new net mid_net (Ok x) → now_net.views ≡ mid_net.views → Passes Tells number old new net now_net result
-passes_as {Tells = Tells} {old = old} {new = new} {net = net} {mid_net = mid_net} now_net (Ok y) first same = record { continues = first.continues; places = first.places; reads = reads_as Tells old new net mid_net now_net same first.reads }
-passes_as now_net (Err fault) first same = record { continues = first.continues; places = first.places; reads = tt }
+    → Passes {T = A} {E = F} Tells number old new net mid_net (Ok x) → SameNext mid_net now_net → Passes Tells number old new net now_net result
+passes_as {Tells = Tells} {old = old} {new = new} {net = net} {mid_net = mid_net} now_net (Ok y) first same = record {
+  continues = first.continues;
+  places = first.places;
+  reads = reads_as Tells old new net mid_net now_net same.views first.reads;
+  numbers = numbers_as mid_net now_net first.numbers same.xid;
+}
+passes_as {mid_net = mid_net} now_net (Err fault) first same = record {
+  continues = first.continues;
+  places = first.places;
+  reads = tt;
+  numbers = end_done mid_net first.numbers;
+}
 
 -- of as many applications
 pub passes_number : {Own T E Tells : Type 0} {old new : Seen Own} {net now_net : NetState} {result : Result T E} (n m : ℕ) → m ≡ n
     → Passes Tells m old new net now_net result → Passes Tells n old new net now_net result
-passes_number n m same all = record { continues = all.continues; places = places_number n m same all.places; reads = all.reads }
+passes_number n m same all = record { continues = all.continues; places = places_number n m same all.places; reads = all.reads; numbers = all.numbers }
 
 pub passes_waits : {Own T E Tells : Type 0} {old new : Seen Own} {net now_net : NetState} {result : Result T E} {c now_c : Core} → Waits c now_c
     → Passes Tells (length now_c.store) old new net now_net result → Passes Tells (length c.store) old new net now_net result
@@ -92,11 +136,11 @@ passes_waits {c = c} {now_c = now_c} waits all = passes_number (length c.store) 
 
 -- in a loop: no part was done yet, and one more
 pub so_far_none : {Own : Type 0} {number : ℕ} (Tells : Type 0) (seen : Seen Own) (net : NetState) → PassesSoFar Tells number seen seen net net
-so_far_none Tells seen net = passes_none Tells seen net net (Ok tt) refl
+so_far_none Tells seen net = passes_none Tells seen net net (Ok tt) (same_next net)
 
 pub so_far : {Own T E Tells : Type 0} {number : ℕ} {old new : Seen Own} {net now_net : NetState} {x : T}
     → Passes {T = T} {E = E} Tells number old new net now_net (Ok x) → PassesSoFar Tells number old new net now_net
-so_far all = record { continues = all.continues; places = all.places; reads = all.reads }
+so_far all = record { continues = all.continues; places = all.places; reads = all.reads; numbers = all.numbers }
 
 pub so_far_then : {Own T E Tells : Type 0} {number : ℕ} {old mid new : Seen Own} {net mid_net now_net : NetState} {x : T}
     → PassesSoFar Tells number old mid net mid_net → Passes {T = T} {E = E} Tells number mid new mid_net now_net (Ok x)
@@ -105,7 +149,7 @@ so_far_then first second = passes_then first (so_far second)
 
 -- ---- Parts that give no event and begin no stimulus
 
-pub quiet_none : {Own T E : Type 0} {number : ℕ} (Tells : Type 0) (seen : Seen Own) (net now_net : NetState) (result : Result T E) → now_net.views ≡ net.views
+pub quiet_none : {Own T E : Type 0} {number : ℕ} (Tells : Type 0) (seen : Seen Own) (net now_net : NetState) (result : Result T E) → SameNext net now_net
     → PassesQuietly Tells number seen seen net now_net result
 quiet_none Tells seen net now_net result same = record { passes = passes_none Tells seen net now_net result same; no_point = quietly_none Tells seen; talks = keeps_none Tells seen }
 
@@ -127,7 +171,7 @@ pub quiet_fails : {Own A F T E Tells : Type 0} {number : ℕ} {old new : Seen Ow
 quiet_fails now_net result first failed = record { passes = passes_fails now_net result first.passes failed; no_point = first.no_point; talks = first.talks }
 
 pub quiet_as : {Own A F T E Tells : Type 0} {number : ℕ} {old new : Seen Own} {net mid_net : NetState} {x : A} (now_net : NetState) (result : Result T E)
-    → PassesQuietly {T = A} {E = F} Tells number old new net mid_net (Ok x) → now_net.views ≡ mid_net.views
+    → PassesQuietly {T = A} {E = F} Tells number old new net mid_net (Ok x) → SameNext mid_net now_net
     → PassesQuietly Tells number old new net now_net result
 quiet_as now_net result first same = record { passes = passes_as now_net result first.passes same; no_point = first.no_point; talks = first.talks }
 
@@ -140,7 +184,7 @@ pub quiet_waits : {Own T E Tells : Type 0} {old new : Seen Own} {net now_net : N
 quiet_waits {c = c} {now_c = now_c} waits all = quiet_number (length c.store) (length now_c.store) (same_store waits) all
 
 pub quiet_so_far_none : {Own : Type 0} {number : ℕ} (Tells : Type 0) (seen : Seen Own) (net : NetState) → PassesQuietlySoFar Tells number seen seen net net
-quiet_so_far_none Tells seen net = quiet_none Tells seen net net (Ok tt) refl
+quiet_so_far_none Tells seen net = quiet_none Tells seen net net (Ok tt) (same_next net)
 
 pub quiet_so_far : {Own T E Tells : Type 0} {number : ℕ} {old new : Seen Own} {net now_net : NetState} {x : T}
     → PassesQuietly {T = T} {E = E} Tells number old new net now_net (Ok x) → PassesQuietlySoFar Tells number old new net now_net

@@ -28,7 +28,13 @@ use Rattle.event_dispatch.specs.Shows.{application_of, focus_of, name_of, none_l
 use Rattle.event_dispatch.specs.Lines.{OnlyNotes, LostTold}
 use Rattle.event_dispatch.specs.Stored.{KeepsSlots, closes_slot, PlaysStaged}
 use Rattle.event_dispatch.specs.Talking.{KeepsTalking}
+use Rattle.outside.specs.InOrder.{InOrder}
+use Rattle.lego_model.specs.OwnIds.{IsShortRun, OwnIdsSoFar}
+use Rattle.net_txn.specs.Abreast.{Abreast}
 use Rattle.event_dispatch.specs.Passes.{Passes, PassesQuietly}
+use Rattle.event_dispatch.specs.laws.NumberLaws.{own_numbers, own_end}
+use Rattle.event_dispatch.specs.laws.PassesLaws.{SameNext}
+use Rattle.event_dispatch.specs.laws.SteadyLaws.{abreast_as}
 use Rattle.event_dispatch.specs.TurnParts.{TurnFails, PlayDone, HoldDone, HoldFails, GoOnDone, CloseDone}
 use Rattle.event_dispatch.specs.laws.DispatchStrayLaws.{places_as, reads_over, started_quietly, started_places, started_reads}
 use Rattle.event_dispatch.specs.laws.KeptLaws.{turn_read}
@@ -43,31 +49,42 @@ if_not P (Err fault) is = tt
 
 -- ---- The same switches had views before
 
+numbers_over : {Own Tells After : Type 0} {old new : Seen Own} (net mid_net : NetState) → SameNext net mid_net → (Tells → InOrder new → Abreast old mid_net → IsShortRun new → OwnIdsSoFar 0 old mid_net.xid → After)
+    → Tells → InOrder new → Abreast old net → IsShortRun new → OwnIdsSoFar 0 old net.xid → After
+numbers_over {old = old} net mid_net same all told order abreast short before =
+    all told order (abreast_as old net mid_net same.views abreast) short (subst (λ (n : ℕ). OwnIdsSoFar 0 old n) (sym same.xid) before)
+
 pub passes_over : {Own T E Tells : Type 0} {number : ℕ} {old new : Seen Own} {now_net : NetState} {result : Result T E} (net mid_net : NetState)
-    → mid_net.views ≡ net.views → Passes Tells number old new mid_net now_net result → Passes Tells number old new net now_net result
+    → SameNext net mid_net → Passes Tells number old new mid_net now_net result → Passes Tells number old new net now_net result
 passes_over {now_net = now_net} {result = Ok x} net mid_net same all = record {
   continues = all.continues;
-  places = places_as net mid_net same all.places;
-  reads = reads_over net mid_net now_net now_net same refl all.reads;
+  places = places_as net mid_net same.views all.places;
+  reads = reads_over net mid_net now_net now_net same.views refl all.reads;
+  numbers = numbers_over net mid_net same all.numbers;
 }
-passes_over {result = Err fault} net mid_net same all = record { continues = all.continues; places = places_as net mid_net same all.places; reads = tt }
+passes_over {now_net = now_net} {result = Err fault} net mid_net same all = record {
+  continues = all.continues;
+  places = places_as net mid_net same.views all.places;
+  reads = tt;
+  numbers = numbers_over net mid_net same all.numbers;
+}
 
 pub quiet_over : {Own T E Tells : Type 0} {number : ℕ} {old new : Seen Own} {now_net : NetState} {result : Result T E} (net mid_net : NetState)
-    → mid_net.views ≡ net.views → PassesQuietly Tells number old new mid_net now_net result → PassesQuietly Tells number old new net now_net result
+    → SameNext net mid_net → PassesQuietly Tells number old new mid_net now_net result → PassesQuietly Tells number old new net now_net result
 quiet_over net mid_net same all = record { passes = passes_over net mid_net same all.passes; no_point = all.no_point; talks = all.talks }
 
 -- ---- Calls for one application, none of which gives it an event
 
 pub quiet_own : {Own T E Tells : Type 0} {number : ℕ} {old new : Seen Own} (app : ℕ) (net now_net : NetState) (result : Result T E) → app < number
-    → Continues Tells old new → (Tells → OwnSteps app old new) → KeepsTalking Tells old new → OnOk result (now_net.views ≡ net.views)
+    → Continues Tells old new → (Tells → OwnSteps app old new) → KeepsTalking Tells old new → OnOk result (SameNext net now_net)
     → PassesQuietly Tells number old new net now_net result
 quiet_own app net now_net (Ok x) small continues own talks views = record {
-  passes = record { continues = continues; places = started_places app net small own; reads = started_reads app net now_net views continues own };
+  passes = record { continues = continues; places = started_places app net small own; reads = started_reads app net now_net views.views continues own; numbers = own_numbers net now_net own views.xid };
   no_point = started_quietly app small own;
   talks = talks;
 }
 quiet_own app net now_net (Err fault) small continues own talks views = record {
-  passes = record { continues = continues; places = started_places app net small own; reads = tt };
+  passes = record { continues = continues; places = started_places app net small own; reads = tt; numbers = own_end net own };
   no_point = started_quietly app small own;
   talks = talks;
 }

@@ -33,6 +33,7 @@ use Rattle.net_txn.specs.Net.{NetState}
 use Rattle.net_txn.specs.Losing.{lost_net, WaitHalts}
 use Rattle.net_txn.specs.Said.{frames_said, barrier_of, Replied, BreaksBy}
 use Rattle.net_txn.specs.laws.AskLaws.{no_flood_of}
+use Rattle.net_txn.specs.laws.OwnIdLaws.{FramesAscend, two_ascend, second_next, waits_leave, speaks_on_ids, speaks_over_ids}
 use Rattle.net_txn.specs.laws.LostLaws.{packets_said, breaks_halts, replied_none_lost, waits_none_lost}
 use Rattle.net_txn.specs.laws.ReadLaws.{waits_read}
 use Rattle.net_txn.specs.laws.TalkLaws.{speaks_on, speaks_links, speaks_place}
@@ -216,6 +217,10 @@ asked_broke {Tells = Tells} d xid a frames old new before came kept now_kept ans
 
 -- ---- The whole
 
+-- its transaction ids
+pub request_ascends : (d xid : ℕ) (a : Awaited) (frame : List ℕ) → a ≡ asked_from d xid → frame ≡ flows_request xid → FramesAscend xid 2 a (frame ∷ barrier_of a ∷ [])
+request_ascends d xid a frame is same = two_ascend a xid (StatsRequest asking) frame refl same (ap (λ (x : Awaited). x.barrier) is)
+
 others_go : {Own : Type 0} {Tells : Type 0} (d xid : ℕ) (old new : Seen Own) (kept now_kept : List (ℕ × List ℕ)) (rows : List FlowRow) → xid < 2 ^ 32 → AsksFrom Tells d xid old new kept now_kept (Ok rows) → Tells → lost_of new ≡ lost_of old
 others_go d xid old new kept now_kept rows lt asks told = waits_none_lost (request_sent d xid ∷ barrier_sent (asked_from d xid) ∷ []) (refl, (refl, tt)) refl asks.answer.answered.waits told
 
@@ -226,6 +231,7 @@ asks_rows d xid old new net now_kept rows lt next asks = record {
   links = speaks_links asks.speaks;
   no_strays = speaks_place asks.speaks;
   read = λ ok told. waits_read _ (refl, (refl, tt)) (next_xid-lt net.xid lt) asks.answer.answered.waits told;
+  ids = speaks_on_ids xid asks.speaks (omega arith) (λ small. next ∙ second_next net.xid small) (waits_leave asks.answer.answered.waits);
   asks = record {
     kept_more = asks.kept_more;
     answer = asks.answer;
@@ -242,6 +248,7 @@ asks_fault d xid old new net now_kept fault next asks = record {
   links = speaks_links asks.speaks;
   no_strays = speaks_place asks.speaks;
   read = λ ok. absurd cc;
+  ids = speaks_over_ids xid asks.speaks (omega arith) (λ small. next ∙ second_next net.xid small);
   asks = record {
     kept_more = asks.kept_more;
     answer = asks.answer.0;
@@ -251,13 +258,14 @@ asks_fault d xid old new net now_kept fault next asks = record {
   };
 }
 
-pub asks_lost : {Own : Type 0} {Tells : Type 0} (d xid : ℕ) (old new : Seen Own) (net : NetState) (now_kept : List (ℕ × List ℕ)) → AsksFrom Tells d net.xid old new net.kept now_kept (Err Lost)
+pub asks_lost : {Own : Type 0} {Tells : Type 0} (d xid : ℕ) (old new : Seen Own) (net : NetState) (now_kept : List (ℕ × List ℕ)) → xid ≡ next_xid (next_xid net.xid) → AsksFrom Tells d net.xid old new net.kept now_kept (Err Lost)
     → Asks Tells d old new net (lost_net d (record net { xid = xid; kept = now_kept })) (Ok None)
-asks_lost d xid old new net now_kept asks = record {
+asks_lost d xid old new net now_kept next asks = record {
   continues = speaks_on asks.speaks;
   links = speaks_links asks.speaks;
   no_strays = speaks_place asks.speaks;
   read = λ ok told. asks.answer.1 told;
+  ids = speaks_on_ids xid asks.speaks (omega arith) (λ small. next ∙ second_next net.xid small) asks.answer.0.some;
   asks = record {
     is_lost = asks.answer.0;
     net_is = ap (λ (k : List (ℕ × List ℕ)). record (lost_net d net) { xid = xid; kept = k }) (forget_kept d net.kept now_kept asks.kept_more);

@@ -28,7 +28,9 @@ use Rattle.lego_model.specs.declared.fault.TxnFault.{TxnFault}
 use Rattle.lego_model.specs.declared.fault.TxnFault.TheVariants.{SwitchBroke, Diverged, Flooded, NoMemory}
 use Rattle.app_frames.specs.declared.frame.Event.{Event}
 use Rattle.net_txn.specs.declared.queue.Storage.TheVariants.{Growing}
-use Rattle.net_txn.specs.Said.{Replied}
+use Rattle.net_txn.specs.Said.{barrier_of, Replied, Speaks}
+use Rattle.net_txn.specs.OwnIds.{KeepsIds}
+use Rattle.net_txn.specs.laws.OwnIdLaws.{FramesAscend, two_ascend, second_next, waits_leave, ids_none, speaks_on_ids, speaks_over_ids}
 use Rattle.net_txn.specs.Arriving.{notices_told}
 use Rattle.net_txn.specs.declared.halt.Halt.{Halt}
 use Rattle.net_txn.specs.declared.halt.Halt.TheVariants.{Lost, Fault}
@@ -43,7 +45,7 @@ use Rattle.flow_table.specs.declared.view.ViewRow.{ViewRow}
 use Rattle.flow_table.specs.View.{TableView}
 use Rattle.net_txn.specs.declared.logged.Logged.{Logged}
 use Rattle.net_txn.specs.Waits.{Brought, Waits, Floods, KeptMore}
-use Rattle.lego_model.specs.BarrierWaits.{barrier_sent}
+use Rattle.lego_model.specs.BarrierWaits.{barrier_sent, next_xid}
 use Rattle.net_txn.specs.Views.{rows_at, is_row_at, with_rows, with_added, rows_after}
 use Rattle.net_txn.specs.laws.ViewLaws.{rows_at-stays}
 use Rattle.net_txn.specs.Host.{held_read}
@@ -57,6 +59,11 @@ use Rattle.net_txn.specs.laws.TalkLaws.{IfHaltFlooded, speaks_on, speaks_links, 
 use Rattle.net_txn.specs.laws.LostLaws.{waits_none_lost}
 use Rattle.net_txn.specs.laws.ChangeFlightLaws.{flight_none_lost}
 use Rattle.net_txn.specs.laws.ConsequenceLaws.{IfAsked, AnswersSo, reaches, steps}
+
+-- what is sent uses two transaction ids
+pub change_ascends : {d : ℕ} (m : Change) (net : NetState) (a : Awaited) (frame : List ℕ) → a ≡ awaited_from d net.xid → frame ≡ message_bytes a.first (as_sent (FlowMod m)) → FramesAscend net.xid 2 a (frame ∷ barrier_of a ∷ [])
+change_ascends {d = d} m net a frame is spelled =
+    two_ascend a net.xid (as_sent (FlowMod m)) frame refl (spelled ∙ ap (λ (x : Awaited). message_bytes x.first (as_sent (FlowMod m))) is) (ap (λ (x : Awaited). x.barrier) is)
 
 pub sent_waits : {Own : Type 0} {Tells : Type 0} (d : ℕ) (m : Change) (net : NetState) (a : Awaited) (frame : List ℕ) (kept now_kept : List (ℕ × List ℕ)) (old new : Seen Own) (refusal : Brought)
     → a ≡ awaited_from d net.xid → frame ≡ message_bytes a.first (as_sent (FlowMod m)) → kept ≡ net.kept
@@ -136,6 +143,7 @@ Changes-held {Tells = Tells} d bytes seen net answer is = record {
   cause = tt;
   moment = refl;
   room = refl;
+  ids = ids_none Tells 0 seen net.xid net.xid refl;
   answered = inl (held_joined d bytes seen net answer is);
 }
 
@@ -169,6 +177,7 @@ Changes-short {Tells = Tells} d bytes seen net = record {
   cause = tt;
   moment = refl;
   room = refl;
+  ids = ids_none Tells 2 seen net.xid net.xid refl;
   answered = inl (short_joined d bytes seen net);
 }
 
@@ -346,26 +355,25 @@ forget_kept d kept now_kept more =
 left_of : ℕ → NetState → List TableView → List Logged → HeldBack → ℕ → List (ℕ × List ℕ) → NetState
 left_of d net views log held xid kept = record (lost_net d net) { views = filter (λ v. not (v.dpid == d)) views; log = log; held = held; xid = xid; kept = kept }
 
-lost_after : {Own : Type 0} {Tells : Type 0} {d : ℕ} {old new : Seen Own} (net mid : NetState) → StaysBut net mid → LosesSo Tells d net.log old new net mid → lost_net d mid ≡ record (lost_net d net) { xid = mid.xid }
+lost_after : {Own : Type 0} {Tells : Type 0} {d : ℕ} {old new : Seen Own} (net mid : NetState) → StaysBut net mid → LosesSo Tells d net.log old new net mid → lost_net d mid ≡ record (lost_net d net) { xid = next_xid (next_xid net.xid) }
 unfolding left_of
 lost_after {d = d} net mid stays l =
     let here = record net.held { notices = mid.held.notices } in
     ap (λ (n : NetState). lost_net d n) stays
-    ∙ ap (λ (vs : List TableView). left_of d net vs mid.log here mid.xid (filter (λ m. not (m.0 == d)) mid.kept)) l.views
-    ∙ ap (λ (log : List Logged). left_of d net net.views log here mid.xid (filter (λ m. not (m.0 == d)) mid.kept)) l.log_is
-    ∙ ap (λ (held : HeldBack). left_of d net net.views net.log (record net.held { notices = held.notices }) mid.xid (filter (λ m. not (m.0 == d)) mid.kept)) l.held
-    ∙ ap (λ (kept : List (ℕ × List ℕ)). left_of d net net.views net.log net.held mid.xid kept) (forget_kept d net.kept mid.kept l.kept)
+    ∙ ap (λ (vs : List TableView). left_of d net vs mid.log here (next_xid (next_xid net.xid)) (filter (λ m. not (m.0 == d)) mid.kept)) l.views
+    ∙ ap (λ (log : List Logged). left_of d net net.views log here (next_xid (next_xid net.xid)) (filter (λ m. not (m.0 == d)) mid.kept)) l.log_is
+    ∙ ap (λ (held : HeldBack). left_of d net net.views net.log (record net.held { notices = held.notices }) (next_xid (next_xid net.xid)) (filter (λ m. not (m.0 == d)) mid.kept)) l.held
+    ∙ ap (λ (kept : List (ℕ × List ℕ)). left_of d net net.views net.log net.held (next_xid (next_xid net.xid)) kept) (forget_kept d net.kept mid.kept l.kept)
 
 pub makes_lost : {Own : Type 0} {Tells : Type 0} {d : ℕ} {old new : Seen Own} (net mid now : NetState) → StaysBut net mid → LosesSo Tells d net.log old new net mid → now ≡ lost_net d mid → MakesLost Tells d old new net now
-makes_lost {Tells = Tells} {d = d} {old = old} {new = new} net mid now stays l gone =
-    let same : now ≡ record (lost_net d net) { xid = mid.xid } = gone ∙ lost_after net mid stays l in
-    record {
-      is_lost = l.is_lost;
-      read = l.read;
-      net_is = same ∙ ap (λ (x : ℕ). record (lost_net d net) { xid = x }) (sym (ap (λ (n : NetState). n.xid) same));
-    }
+makes_lost net mid now stays l gone = record { is_lost = l.is_lost; read = l.read; net_is = gone ∙ lost_after net mid stays l }
 
 -- ---- The whole
+
+-- the transaction ids, where the switch was not lost
+joined_ids : {Own : Type 0} (Tells : Type 0) (d : ℕ) (m : Change) (old new : Seen Own) (net now_net : NetState) (result : Result Answer TxnFault) → Speaks Tells d net.xid 2 old new → now_net.xid ≡ next_xid (next_xid net.xid) → Judged Tells d m old new net now_net result → KeepsIds Tells 2 old new net.xid now_net.xid result
+joined_ids Tells d m old new net now_net (Ok answer) s next asked = speaks_on_ids now_net.xid s (omega arith) (λ small. next ∙ second_next net.xid small) (waits_leave asked.waits)
+joined_ids Tells d m old new net now_net (Err fault) s next stopped = speaks_over_ids now_net.xid s (omega arith) (λ small. next ∙ second_next net.xid small)
 
 -- a change is no packet
 no_packet_held : (d : ℕ) (bytes : List ℕ) (xid : ℕ) (m : Change) (result : Result Answer TxnFault) (held : HeldBack) → reading_of bytes ≡ Ok (enveloped xid (FlowMod m)) → held.packets ≡ (held_after d bytes result held).packets
@@ -407,7 +415,7 @@ module _ {Own : Type 0} (Tells : Type 0) (d : ℕ) (bytes : List ℕ) (old new :
   }
 
   changes_lost : MakesLost Tells d old new net now_net → ChangesLost Tells d old new net now_net
-  changes_lost l = record { viewed = viewed d net.views ∙ some_is_some (rows_at d net.views) (host_known d bytes net none); is_lost = l.is_lost; net_is = l.net_is }
+  changes_lost l = record { viewed = viewed d net.views ∙ some_is_some (rows_at d net.views) (host_known d bytes net none); is_lost = l.is_lost; net_is = l.net_is ∙ ap (λ (x : ℕ). record (lost_net d net) { xid = x }) (sym (ap (λ (n : NetState). n.xid) l.net_is)) }
 
   pub Changes-by_switch : Makes Tells d m old new net now_net result → Changes Tells d bytes old new net now_net result
   Changes-by_switch makes = record {
@@ -421,5 +429,9 @@ module _ {Own : Type 0} (Tells : Type 0) (d : ℕ) (bytes : List ℕ) (old new :
     cause = makes.cause;
     moment = elim makes.made [ inl j ↦ ap (λ (n : NetState). n.moment) j.stays | inr l ↦ ap (λ (n : NetState). n.moment) l.1.net_is ];
     room = elim makes.made [ inl j ↦ ap (λ (n : NetState). n.room) j.stays | inr l ↦ ap (λ (n : NetState). n.room) l.1.net_is ];
+    ids = elim makes.made [
+      | inl j ↦ joined_ids Tells d m old new net now_net result makes.speaks (ap (λ (n : NetState). n.xid) j.stays) j.judged
+      | inr l ↦ subst (λ (r : Result Answer TxnFault). KeepsIds Tells 2 old new net.xid now_net.xid r) (sym l.0) (speaks_on_ids now_net.xid makes.speaks (omega arith) (λ small. ap (λ (n : NetState). n.xid) l.1.net_is ∙ second_next net.xid small) l.1.is_lost.some)
+    ];
     answered = elim makes.made [ inl j ↦ inl (changes_joined (speaks_on makes.speaks) makes.cause j) | inr l ↦ inr (none, l.0, changes_lost l.1) ];
   }

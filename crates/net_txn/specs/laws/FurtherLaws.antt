@@ -127,17 +127,17 @@ joined_still {base = base} {now = now} {parts = parts} d u free told joined = st
 
 pub Further-stuck : {Own : Type 0} {Tells : Type 0} {views : List TableView} {base now next : Seen Own} {kept kept1 kept2 : List (ℕ × List ℕ)} {ps qs : PortLists} {x y : ℕ} {switches more : List ℕ} {reverted : List Logged} {before : Option TxnFault} (d : ℕ) (later : List Logged) (halt : Halt)
     → Pending Tells views base now kept kept1 ps qs x y switches reverted before d → is_viewed d views ≡ true → (progress_of d later).failed ≡ true → (progress_of d later).lost ≡ is_lost halt → ((c : ℕ) → c ≢ d → SameFor c later reverted)
-    → KeptMore d kept1 kept2 → ((xs : List (ℕ × Key)) → IsThinned xs (map key_logged reverted) → IsThinned xs (map key_logged later)) → EndsStep d switches more → Fails Tells d (inverses_in d reverted) now next halt
+    → KeptMore d kept1 kept2 → ((xs : List (ℕ × Key)) → IsThinned xs (map key_logged reverted) → IsThinned xs (map key_logged later)) → EndsStep d switches more → Fails Tells d y (inverses_in d reverted) now next halt
     → Further Tells views base next kept kept2 ps (ports_by d halt qs) x (next_xid y) more later (first_fault_of before (fault_by halt))
 Further-stuck {Tells = Tells} {views = views} {base = base} {now = now} {next = next} {ps = ps} {qs = qs} {y = y} {switches = switches} {more = more} {reverted = reverted} d later halt p known failed out others some thinned step g =
     let s = p.undoing.stands d in
-    let f = subst (λ (xs : List (ℕ × Key)). Fails Tells d xs now next halt) (s.inverses known p.free) g in
+    let f = subst (λ (xs : List (ℕ × Key)). Fails Tells d y xs now next halt) (s.inverses known p.free) g in
     let cause = IsHaltOf-behind d (inverses_of (parts_of d p.parts)) base.counts now.counts next.counts f.steps halt p.undoing.continues.none_fell f.cause in
     let part = Stuck y halt f.steps in
     record {
       parts = (d, part) ∷ p.parts;
       undoing = Undoing-part d part later p.undoing f.moves refl others
-          (Stands-stuck (is_viewed d views) d y base.counts now.counts next.counts (parts_of d p.parts) reverted later halt f.steps p.undoing.continues.none_fell f.moves.continues.none_fell s known p.free (record { each = f.moves.each; cause = cause; places = f.places; quiet = f.quiet }) failed
+          (Stands-stuck (is_viewed d views) d y base.counts now.counts next.counts (parts_of d p.parts) reverted later halt f.steps p.undoing.continues.none_fell f.moves.continues.none_fell s known p.free (record { ids = f.ids; each = f.moves.each; cause = cause; places = f.places; quiet = f.quiet }) failed
           (out ∙ sym (out_of_stuck y halt f.steps (parts_of d p.parts))))
           (λ told joined. f.loses told (joined_still d p.undoing p.free told (joined d known)))
           some (thinned (sent_in p.parts) p.undoing.order) (ends_more d part switches more p.parts refl step p.undoing.ends);

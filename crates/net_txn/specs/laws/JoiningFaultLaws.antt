@@ -1,7 +1,7 @@
 -- How a switch fails to join; and that where a world keeps its word, it gives no cause for a fault.
 use Rattle.std.specs.Prelude.{◌≡◌, ◌==◌, ℕ, ◌^◌, ◌<◌, not, List, [], ◌∷◌, ◌++◌, length, filter, Option, Some, None, refl}
 use Rattle.std.specs.List.{AllByRecursion}
-use Rattle.std.proofs.Common.{ap, ◌∙◌, subst, arith}
+use Rattle.std.proofs.Common.{sym, ap, ◌∙◌, subst, arith}
 use Rattle.of_types.specs.declared.journal.Act.TheVariants.{Sent}
 use Rattle.of_wire.specs.declared.message.Message.TheVariants.{FlowMod, SetConfig}
 use Rattle.of_wire.specs.Spelling.{message_bytes}
@@ -33,6 +33,7 @@ use Rattle.net_txn.specs.laws.LostLaws.{packets_said, breaks_halts, replied_none
 use Rattle.net_txn.specs.Joining.{delete_all, greeted_from, greeting, DoesNotJoin}
 use Rattle.net_txn.specs.JoiningSteps.{JoinHalts}
 use Rattle.net_txn.specs.laws.JoiningStepLaws.{are_read, after_all, greeted, greeted_none, none_first}
+use Rattle.net_txn.specs.laws.OwnIdLaws.{FramesAscend, three_ascend}
 use Rattle.net_txn.specs.laws.ChangeLaws.{forget_kept}
 
 -- ---- From the call on
@@ -101,12 +102,20 @@ pub short_behind : {Own : Type 0} {Tells : Type 0} (d : ℕ) (a : Awaited) (fram
     → JoinHalts Tells d old new net now_net (Fault NoMemory)
 short_behind d a frames old new net now_net kept now_kept answer r not = record { not_joined = not; halts = (tt, tt, replied_none_lost a frames r) }
 
+-- ---- Its transaction ids
+
+pub greeting_ascends : (d xid : ℕ) (a : Awaited) (frame then_frame : List ℕ) → a ≡ greeted_from d xid → frame ≡ message_bytes xid (FlowMod delete_all) → then_frame ≡ message_bytes (next_xid xid) (SetConfig first_config) → FramesAscend xid 3 a (frame ∷ then_frame ∷ barrier_of a ∷ [])
+greeting_ascends d xid a frame then_frame is first second = three_ascend a xid (FlowMod delete_all) (SetConfig first_config) frame then_frame refl refl first second (ap (λ (x : Awaited). x.barrier) is)
+
 -- ---- What the host keeps where it was lost
 
-pub not_joined : (d : ℕ) (net mid : NetState) (kept : List (ℕ × List ℕ)) → mid ≡ record net { views = mid.views; ports = mid.ports; xid = mid.xid; kept = mid.kept } → DoesNotJoin d net mid → kept ≡ filter (λ m. not (m.0 == d)) mid.kept
+pub not_joined : (d : ℕ) (net mid : NetState) (kept : List (ℕ × List ℕ)) → mid ≡ record net { views = mid.views; ports = mid.ports; xid = next_xid (next_xid (next_xid net.xid)); kept = mid.kept } → DoesNotJoin d net mid → kept ≡ filter (λ m. not (m.0 == d)) mid.kept
     → record mid { kept = kept } ≡ record net { xid = mid.xid; kept = filter (λ m. not (m.0 == d)) net.kept }
-not_joined d net mid kept stays not is =
+not_joined d net mid kept stays unjoined is =
+    let next = next_xid (next_xid (next_xid net.xid)) in
+    let left = filter (λ (m : ℕ × List ℕ). not (m.0 == d)) net.kept in
     ap (λ (n : NetState). record n { kept = kept }) stays
-    ∙ ap (λ (vs : List TableView). record net { views = vs; ports = mid.ports; xid = mid.xid; kept = kept }) not.views
-    ∙ ap (λ (ps : List KnownPorts). record net { ports = ps; xid = mid.xid; kept = kept }) not.known
-    ∙ ap (λ (k : List (ℕ × List ℕ)). record net { xid = mid.xid; kept = k }) (is ∙ forget_kept d net.kept mid.kept not.kept)
+    ∙ ap (λ (vs : List TableView). record net { views = vs; ports = mid.ports; xid = next; kept = kept }) unjoined.views
+    ∙ ap (λ (ps : List KnownPorts). record net { ports = ps; xid = next; kept = kept }) unjoined.known
+    ∙ ap (λ (k : List (ℕ × List ℕ)). record net { xid = next; kept = k }) (is ∙ forget_kept d net.kept mid.kept unjoined.kept)
+    ∙ ap (λ (x : ℕ). record net { xid = x; kept = left }) (sym (ap (λ (n : NetState). n.xid) stays))

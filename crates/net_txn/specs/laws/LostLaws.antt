@@ -1,8 +1,8 @@
 -- Laws of switches that are lost in calls: what was said before the link failed, and what is seen of the loss.
-use Rattle.std.specs.Prelude.{◌≡◌, ◌≢◌, ℕ, ◌^◌, ◌<◌, Bool, true, false, List, [], ◌∷◌, ◌++◌, length, filter, ◌⊎◌, Option, Some, None, IsOk, refl}
+use Rattle.std.specs.Prelude.{◌≡◌, ◌≢◌, ℕ, ◌^◌, ◌<◌, ◌≤◌, Bool, true, false, List, [], ◌∷◌, ◌++◌, length, filter, ◌⊎◌, Option, Some, None, IsOk, refl}
 use Rattle.std.specs.List.{AllByRecursion, flat_map, list_any}
-use Rattle.std.proofs.Common.{sym, ap, ◌∙◌, subst, append_assoc, inl, inr}
-use Rattle.std.proofs.lemmas.List.{append-nil}
+use Rattle.std.proofs.Common.{sym, ap, ◌∙◌, subst, append_assoc, inl, inr, arith}
+use Rattle.std.proofs.lemmas.List.{append-nil, length-append}
 use Rattle.std.proofs.lemmas.Grind.{flat_map-append}
 use Rattle.std.proofs.lemmas.List.Elements.{filter_map-append, filter-append}
 use Rattle.lego_io.specs.Count.{Rose}
@@ -41,6 +41,7 @@ use Rattle.net_txn.specs.LinkSteps.{AreLinkSteps}
 use Rattle.net_txn.specs.laws.LinkStepLaws.{links_append, wait_links}
 use Rattle.net_txn.specs.Losing.{GoesOut, SaysNone, IsLost, SaysHalt, WaitHalts}
 use Rattle.net_txn.specs.Said.{Said, Says, Hears, HearsNoise, CannotSay, CannotHear, LacksMemory, steps_in, joined_behind, said_steps, IsSaid, IsSaidTo, AreSaidTo, Calls, unsaid, unheard, last_said, said_by, heard_said, wait_said, frames_said, barrier_of, IsOfLink, reply_heard, IsBreak, Replied, Breaks, BreaksBy, IsHaltBy, SaysNot}
+use Rattle.net_txn.specs.laws.OwnIdLaws.{leaves_by}
 use Rattle.net_txn.specs.laws.EchoLaws.{echo_reply-reading}
 use Rattle.net_txn.specs.laws.HeardLaws.{IsMessage-barrier}
 use Rattle.net_txn.specs.laws.LinkPresenceLaws.{losses_by, lost_none_all, loses-append}
@@ -244,9 +245,27 @@ says_none {old = old} said c told out = record {
   none_sent = none_sent_out said (subst (λ (b : Bool). AreSaidTo b said) out (c.joined told));
 }
 
+-- its step
+one_by : (d : ℕ) (joined : Bool) (x : Said) → IsFailed d x → 1 ≤ length (steps_in joined x)
+one_by d true (CannotSay e) is = omega arith
+one_by d false (CannotSay e) is = omega arith
+one_by d true (CannotHear e) is = omega arith
+one_by d false (CannotHear e) is = omega arith
+one_by d joined (Says e bytes) is = absurd is
+one_by d joined (Hears e bytes) is = absurd is
+one_by d joined (HearsNoise e bytes) is = absurd is
+one_by d joined (LacksMemory e) is = absurd is
+
+pub some_by : (d : ℕ) (joined : Bool) (front : List Said) (last : Said) → IsFailed d last → 1 ≤ length (said_steps joined (front ++ last ∷ []))
+some_by d joined [] last failed = rw (one_alone joined last) (one_by d joined last failed)
+some_by d joined (x ∷ xs) last failed =
+    let rest = said_steps (joined_behind joined x) (xs ++ last ∷ []) in
+    omega (arith, length-append (steps_in joined x) rest, some_by d (joined_behind joined x) xs last failed)
+
 pub is_lost : {Own : Type 0} {Tells : Type 0} {old new : Seen Own} (d : ℕ) (packets : List Held) (front : List Said) (last : Said) → AreFine front → IsFailed d last → packets_said front ≡ packets → Calls Tells d (front ++ last ∷ []) old new → IsLost Tells d packets old new
 is_lost {Tells = Tells} {old = old} {new = new} d packets front last fine failed same c = record {
   rose = rose_by d last old new failed (all_behind (IsSaid d old.counts new.counts) front (last ∷ []) c.each).0;
+  some = leaves_by old new (said_steps (is_joined d (state old)) (front ++ last ∷ [])) c.told (some_by d (is_joined d (state old)) front last failed);
   out = λ told joined. subst (λ (ps : List Held). GoesOut d ps old new) same (goes_out d front last fine failed c told joined);
   was_out = λ told out. says_none (front ++ last ∷ []) c told out;
 }

@@ -1,10 +1,13 @@
 -- One packet that is released: it is sent and taken, or its switch is lost, or it stops.
-use Rattle.std.specs.Prelude.{◌≡◌, ◌≢◌, ◌⊎◌, ℕ, ◌^◌, ◌<◌, ◌≤◌, Bool, true, false, List, [], ◌∷◌, ◌++◌, Result, Ok, Err, MatchResult, refl}
-use Rattle.std.proofs.Common.{sym, ap, ◌∙◌, subst, append_assoc, inl, inr}
+use Rattle.std.specs.Prelude.{◌≡◌, ◌≢◌, ◌⊎◌, ℕ, ◌+◌, ◌^◌, ◌<◌, ◌≤◌, Bool, true, false, List, [], ◌∷◌, ◌++◌, Result, Ok, Err, MatchResult, refl}
+use Rattle.std.proofs.Common.{sym, ap, ◌∙◌, subst, append_assoc, inl, inr, arith}
 use Rattle.lego_io.specs.laws.CountLaws.{Rose-after}
 use Rattle.of_types.specs.declared.journal.Act.{Act}
 use Rattle.of_wire.specs.declared.bodies.PacketOut.{PacketOut as Packet}
 use Rattle.of_wire.specs.declared.message.Message.TheVariants.{PacketOut}
+use Rattle.of_wire.specs.declared.message.Envelope.{Envelope}
+use Rattle.of_wire.specs.declared.fault.WireFault.{WireFault}
+use Rattle.of_wire.specs.Reading.{reading_of}
 use Rattle.of_wire.specs.Spelling.{message_bytes}
 use Rattle.of_wire.specs.Grammar.{IsMessage}
 use Rattle.app_frames.specs.declared.frame.Event.{Event}
@@ -33,9 +36,12 @@ use Rattle.net_txn.specs.Views.{is_viewed}
 use Rattle.net_txn.specs.Net.{NetState}
 use Rattle.net_txn.specs.Losing.{lost_net, IsLost}
 use Rattle.net_txn.specs.Said.{Said, Says, said_steps, Calls, IsOfLink, unsaid, wait_said, last_said, frames_said, barrier_of, reply_heard, Replied, Breaks, BreaksBy, Speaks, SaysNot, SaysTo}
-use Rattle.net_txn.specs.Releases.{packet_awaited, packet_steps, takes_all, MovesBy, SendsPacket, BreaksAt}
+use Rattle.net_txn.specs.Releases.{Knows, packet_awaited, packet_steps, takes_read, takes_all, MovesBy, SendsPacket, BreaksAt}
 use Rattle.net_txn.specs.ReleaseSteps.{PacketSent, PacketUnsent, BarrierPassed, BarrierBroke, BarrierStops, packet_frames, PacketTold, PacketBroke, PacketStops, TakenBeforeReply, LostBeforeReply, StopsBeforeReply, ReleasesPacket}
 use Rattle.net_txn.specs.laws.TalkLaws.{speaks_none, says_speak, talks_behind, talks_not, talks_speak, talks_waits, talks_cause, talks_flooded, halt_or}
+use Rattle.lego_model.specs.laws.OwnIdLaws.{own_id-sent}
+use Rattle.net_txn.specs.laws.ArrivalLaws.{net_after_xid}
+use Rattle.net_txn.specs.laws.OwnIdLaws.{FramesAscend, one_ascends, two_ascend, second_next, leaves_then, waits_leave, ids_none, speaks_on_ids, speaks_stop}
 use Rattle.net_txn.specs.laws.LinkPresenceLaws.{losses_by}
 use Rattle.net_txn.specs.laws.SaidLaws.{joined_after, Calls-none, Calls-joined, said_links}
 use Rattle.net_txn.specs.laws.LostLaws.{packets_none, said_released, released_two, losses_two, is_link, fault_is_none, says_halts, breaks_halts, breaks_none_lost, replied_none_lost, Calls-read}
@@ -224,12 +230,15 @@ packet_breaks d packet old new net fault viewed is lt (inr (inr b)) =
 
 -- ---- Its calls are of one link, and no switch is lost by them
 
-told_speaks : {Own : Type 0} {Tells : Type 0} (d xid : ℕ) (packet : Packet) (old new : Seen Own) (came : List (ℕ × List ℕ)) → PacketTold Tells d xid packet old new came → Speaks Tells d old new
-told_speaks d xid packet old new came t = talks_speak (packet_awaited d xid) [] came d (packet_bytes xid packet ∷ []) (Ok t.brought) refl t.replied
+packet_ascends : (d xid : ℕ) (packet : Packet) → FramesAscend xid 2 (packet_awaited d xid) (packet_bytes xid packet ∷ barrier_of (packet_awaited d xid) ∷ [])
+packet_ascends d xid packet = two_ascend (packet_awaited d xid) xid (PacketOut packet) (packet_bytes xid packet) refl refl refl
 
-stops_speaks : {Own : Type 0} {Tells : Type 0} (d xid : ℕ) (packet : Packet) (old new : Seen Own) (fault : TxnFault) → PacketStops Tells d xid packet old new fault → Speaks Tells d old new
-stops_speaks {Tells = Tells} d xid packet old new fault (inl none) = subst (λ (x : Seen _). Speaks Tells d old x) (sym none.0) (speaks_none Tells d old)
-stops_speaks d xid packet old new fault (inr (inl b)) = talks_speak (packet_awaited d xid) [] b.came d (packet_bytes xid packet ∷ []) (Err (Fault fault)) refl b.breaks
+told_speaks : {Own : Type 0} {Tells : Type 0} (d xid : ℕ) (packet : Packet) (old new : Seen Own) (came : List (ℕ × List ℕ)) → PacketTold Tells d xid packet old new came → Speaks Tells d xid 2 old new
+told_speaks d xid packet old new came t = talks_speak xid 2 (packet_awaited d xid) [] came d (packet_bytes xid packet ∷ []) (Ok t.brought) refl t.replied (packet_ascends d xid packet)
+
+stops_speaks : {Own : Type 0} {Tells : Type 0} (d xid : ℕ) (packet : Packet) (old new : Seen Own) (fault : TxnFault) → PacketStops Tells d xid packet old new fault → Speaks Tells d xid 2 old new
+stops_speaks {Tells = Tells} d xid packet old new fault (inl none) = subst (λ (x : Seen _). Speaks Tells d xid 2 old x) (sym none.0) (speaks_none Tells d xid 2 old)
+stops_speaks d xid packet old new fault (inr (inl b)) = talks_speak xid 2 (packet_awaited d xid) [] b.came d (packet_bytes xid packet ∷ []) (Err (Fault fault)) refl b.breaks (packet_ascends d xid packet)
 stops_speaks d xid packet old new fault (inr (inr b)) = told_speaks d xid packet old new b.came b.told
 
 stops_none_lost : {Own : Type 0} {Tells : Type 0} (d xid : ℕ) (packet : Packet) (old new : Seen Own) (fault : TxnFault) → PacketStops Tells d xid packet old new fault → Tells → lost_of new ≡ lost_of old
@@ -244,6 +253,7 @@ stops_none_lost d xid packet old new fault (inr (inr b)) told = replied_none_los
 lost_sent : {Own : Type 0} {Tells : Type 0} (d xid : ℕ) (packet : Packet) (old mid new : Seen Own) → xid < 2 ^ 32 → IsMessage (PacketOut packet) → PacketSent Tells d xid packet old mid → Continues Tells mid new → IsLost Tells d [] mid new → IsLost Tells d ((d, packet) ∷ []) old new
 lost_sent {Tells = Tells} d xid packet old mid new lt is sent later lost = record {
   rose = Rose-after (old.counts.link_faults d) (mid.counts.link_faults d) (new.counts.link_faults d) (sent.continues.none_fell.link_faults d) lost.rose;
+  some = leaves_then old _ later sent.told (omega arith);
   out = λ told joined. (
       let bytes = packet_bytes xid packet in
       let said = Says d bytes ∷ [] in
@@ -277,15 +287,27 @@ barrier_lost a old new small b = breaks_halts [] Lost small packets_none b.break
 barrier_on : {Own : Type 0} {Tells : Type 0} (a : Awaited) (old new : Seen Own) (halt : Halt) → BarrierBroke Tells a old new halt → Continues Tells old new
 barrier_on a old new halt b = breaks_on a (barrier_of a ∷ []) old new [] b.came b.breaks.buf b.breaks.trouble b.breaks.breaks
 
-lost_speaks : {Own : Type 0} {Tells : Type 0} (d xid : ℕ) (packet : Packet) (old mid new : Seen Own) → PacketSent Tells d xid packet old mid → BarrierBroke Tells (packet_awaited d xid) mid new Lost → Speaks Tells d old new
+lost_speaks : {Own : Type 0} {Tells : Type 0} (d xid : ℕ) (packet : Packet) (old mid new : Seen Own) → PacketSent Tells d xid packet old mid → BarrierBroke Tells (packet_awaited d xid) mid new Lost → Speaks Tells d xid 2 old new
 lost_speaks d xid packet old mid new sent b =
-    talks_speak (packet_awaited d xid) [] b.came d (packet_bytes xid packet ∷ []) (Err Lost) refl (talks_behind (packet_awaited d xid) [] new [] b.came (packet_bytes xid packet) (Err Lost) sent b.breaks)
+    talks_speak xid 2 (packet_awaited d xid) [] b.came d (packet_bytes xid packet ∷ []) (Err Lost) refl (talks_behind (packet_awaited d xid) [] new [] b.came (packet_bytes xid packet) (Err Lost) sent b.breaks) (packet_ascends d xid packet)
 
 abbrev with_xid : NetState → ℕ → NetState
 with_xid net xid = record net { xid = xid }
 
 lost_is : (d : ℕ) (net now_net : NetState) (xid : ℕ) → now_net ≡ lost_net d (with_xid net xid) → now_net ≡ with_xid (lost_net d net) now_net.xid
 lost_is d net now_net xid is = let x : now_net.xid ≡ xid = ap (λ (n : NetState). n.xid) is in is ∙ ap (with_xid (lost_net d net)) (sym x)
+
+-- what is taken in takes no transaction id
+read_xid : (d : ℕ) (r : Result Envelope WireFault) (k : Knows) → (takes_read d r k).0.xid ≡ k.0.xid
+read_xid d (Ok e) k = net_after_xid d e.message k.0
+read_xid d (Err fault) k = refl
+
+all_xid : (came : List (ℕ × List ℕ)) (k : Knows) → (takes_all came k).0.xid ≡ k.0.xid
+all_xid [] k = refl
+all_xid (m ∷ more) k = all_xid more (takes_read m.0 (reading_of m.1) k) ∙ read_xid m.0 (reading_of m.1) k
+
+taken_xid : (came : List (ℕ × List ℕ)) (net now_net : NetState) (queue now_queue : List Event) → (now_net, now_queue) ≡ takes_all came (net, queue) → now_net.xid ≡ net.xid
+taken_xid came net now_net queue now_queue is = ap (λ (k : Knows). k.0.xid) is ∙ all_xid came (net, queue)
 
 -- ---- The whole of one packet
 
@@ -295,6 +317,7 @@ passes_packet Tells d packet seen net queue unviewed = record {
   stays = stays_same net;
   calls = calls_none Tells net.views seen;
   read = λ ok told. messages-none seen;
+  ids = ids_none Tells 0 seen net.xid net.xid refl;
   does = inr (inl (refl, record { unviewed = unviewed; seen = refl; net_is = refl; queue_is = refl }));
 }
 
@@ -308,20 +331,23 @@ unsent_packet d packet old new net queue xid fault viewed is lt unsent =
       stays = stays_xid net xid;
       calls = calls_one d net.views old new viewed (stops_speaks d net.xid packet old new fault stops) (stops_none_lost d net.xid packet old new fault stops);
       read = λ ok. absurd cc;
+      ids = speaks_stop net.xid (stops_speaks d net.xid packet old new fault stops);
       does = packet_breaks d packet old new net fault viewed is lt stops;
     }
 
 -- its switch was lost before
-pub lost_before : {Own : Type 0} {Tells : Type 0} (d : ℕ) (packet : Packet) (old new : Seen Own) (net now_net : NetState) (queue : List Event) (xid : ℕ) → is_viewed d net.views ≡ true → now_net ≡ lost_net d (with_xid net xid)
+pub lost_before : {Own : Type 0} {Tells : Type 0} (d : ℕ) (packet : Packet) (old new : Seen Own) (net now_net : NetState) (queue : List Event) (xid : ℕ) → is_viewed d net.views ≡ true → net.xid < 2 ^ 32 → xid ≡ next_xid (next_xid net.xid) → now_net ≡ lost_net d (with_xid net xid)
     → PacketUnsent Tells d old new Lost → ReleasesPacket Tells (d, packet) old new net now_net queue queue (Ok false)
-lost_before d packet old new net now_net queue xid viewed is (inl short) = absurd (let none = short.1 in cc)
-lost_before {Tells = Tells} d packet old new net now_net queue xid viewed is (inr s) =
+lost_before d packet old new net now_net queue xid viewed lt next is (inl short) = absurd (let none = short.1 in cc)
+lost_before {Tells = Tells} d packet old new net now_net queue xid viewed lt next is (inr s) =
     let halts = says_halts Lost s in
+    let speaks = says_speak net.xid 2 (packet_bytes net.xid packet) (lost_result s) s (λ small. one_ascends net.xid (net.xid + 2) d (packet_bytes net.xid packet) (own_id-sent net.xid (PacketOut packet) lt refl) (omega arith)) in
     record {
       lost = d ∷ [];
       stays = stays_lost d net now_net (with_xid net xid) refl refl refl refl is;
-      calls = calls_lost d net.views old new [] viewed (says_speak (packet_bytes xid packet) (lost_result s) s) halts.0;
+      calls = calls_lost d net.views old new [] viewed speaks halts.0;
       read = λ ok told. halts.1 told;
+      ids = speaks_on_ids now_net.xid speaks (omega arith) (λ small. ap (λ (n : NetState). n.xid) is ∙ next ∙ second_next net.xid small) halts.0.some;
       does = inr (inr (inl (refl, record { continues = s.calls.continues; viewed = viewed; is_lost = halts.0; net_is = lost_is d net now_net xid is; queue_is = refl })));
     }
   where
@@ -338,6 +364,7 @@ stops_packet d packet old mid new net now_net queue now_queue xid fault viewed i
       stays = stays_then [] [] net (with_xid net xid) now_net (stays_xid net xid) s.stays;
       calls = calls_one d net.views old new viewed (stops_speaks d net.xid packet old new fault stops) (stops_none_lost d net.xid packet old new fault stops);
       read = λ ok. absurd cc;
+      ids = speaks_stop net.xid (stops_speaks d net.xid packet old new fault stops);
       does = packet_breaks d packet old new net fault viewed is lt stops;
     }
 
@@ -353,6 +380,7 @@ settled_packet d packet old mid new net now_net queue now_queue xid viewed is ra
       stays = stays_then [] [] net (with_xid net xid) now_net (stays_xid net xid) s.stays;
       calls = calls_one d net.views old new viewed (told_speaks d net.xid packet old new s.came told) (replied_none_lost (packet_awaited d net.xid) (packet_frames d net.xid packet) told.replied);
       read = λ ok. waits_read _ (refl, (refl, tt)) (next_xid-lt net.xid range.1) (talks_waits (packet_bytes net.xid packet ∷ []) told.replied);
+      ids = speaks_on_ids now_net.xid (told_speaks d net.xid packet old new s.came told) (omega arith) (λ small. taken_xid s.came (with_xid net xid) now_net queue now_queue s.taken ∙ next ∙ second_next net.xid small) (waits_leave (talks_waits (packet_bytes net.xid packet ∷ []) told.replied));
       does = inl (refl, viewed, sends_packet d packet old new net now_net queue now_queue s.came is range told took);
     }
 settled_packet {Tells = Tells} d packet old mid new net now_net queue now_queue xid viewed is range next sent (inr s) =
@@ -365,5 +393,6 @@ settled_packet {Tells = Tells} d packet old mid new net now_net queue now_queue 
       stays = stays_lost d net now_net (with_xid net xid) refl refl refl refl s.net_is;
       calls = calls_lost d net.views old new ((d, packet) ∷ []) viewed (lost_speaks d net.xid packet old mid new sent s.broke) lost;
       read = λ ok told. messages-then old mid new told sent.continues later (Calls-read (Says d (packet_bytes net.xid packet) ∷ []) sent (tt, tt) told) (halts.1 told);
+      ids = speaks_on_ids now_net.xid (lost_speaks d net.xid packet old mid new sent s.broke) (omega arith) (λ small. ap (λ (n : NetState). n.xid) s.net_is ∙ next ∙ second_next net.xid small) lost.some;
       does = inr (inr (inr (refl, record { continues = Continues-trans Tells old mid new sent.continues later; viewed = viewed; is_lost = lost; net_is = lost_is d net now_net xid s.net_is; queue_is = s.queue_is })));
     }

@@ -1,6 +1,6 @@
 -- The laws of a commit: how its parts make the whole.
 use Rattle.std.specs.Prelude.{◌≡◌, ℕ, Bool, List, [], ◌∷◌, ◌++◌, map, drop, Result, Ok, Err, refl}
-use Rattle.std.proofs.Common.{ap, ◌∙◌, inl, inr}
+use Rattle.std.proofs.Common.{ap, ◌∙◌, inl, inr, arith}
 use Rattle.flow_table.specs.View.{TableView}
 use Rattle.app_frames.specs.declared.frame.Event.{Event}
 use Rattle.outside.specs.Seen.{Seen}
@@ -12,6 +12,8 @@ use Rattle.net_txn.specs.Losing.{lost_net, lose_all}
 use Rattle.net_txn.specs.Undos.{Undoes, key_logged, lost_parts}
 use Rattle.net_txn.specs.Releases.{committed, Commits}
 use Rattle.net_txn.specs.ReleaseSteps.{ReleasedFront, StopsBehind}
+use Rattle.net_txn.specs.laws.OwnIdLaws.{so_far_ascends}
+use Rattle.net_txn.specs.laws.UndoIdLaws.{undone_ids}
 use Rattle.net_txn.specs.laws.LinkPresenceLaws.{stays_in}
 use Rattle.net_txn.specs.laws.AbreastLaws.{without_keys-viewed, lose_all-viewed}
 
@@ -32,6 +34,7 @@ commits_undone start old new net now_net queue result u =
       links = u.links;
       no_strays = u.no_strays;
       read = λ ok. absurd cc;
+      ids = λ told short joined before. ((undone_ids u told short joined 0 (omega arith) before).0, λ ok. absurd cc);
       lost = lost;
       losses = u.losses;
       moment = ap (λ (n : NetState). n.moment) u.net_is ∙ lose_all-moment lost _;
@@ -49,6 +52,7 @@ commits_all start old new net now_net queue now_queue sizes r = record {
   links = r.calls.links;
   no_strays = r.calls.no_strays;
   read = λ ok. r.read;
+  ids = λ told short joined before. (let after = r.ids told short before in (so_far_ascends new now_net.xid 0 short (omega arith) after, λ ok. after));
   lost = r.lost;
   losses = r.calls.losses;
   moment = r.stays.moment;
@@ -66,6 +70,7 @@ commits_stopped start old new net now_net queue now_queue fault r = record {
   links = r.calls.links;
   no_strays = r.calls.no_strays;
   read = λ ok. absurd cc;
+  ids = λ told short joined before. (r.ids told short before, λ ok. absurd cc);
   lost = r.lost;
   losses = r.calls.losses;
   moment = r.stays.moment;

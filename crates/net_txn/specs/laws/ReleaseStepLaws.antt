@@ -17,6 +17,7 @@ use Rattle.lego_model.specs.History.{lost_of}
 use Rattle.lego_model.specs.Packets.{Held}
 use Rattle.net_txn.specs.Losing.{lost_net, is_among, IsLost}
 use Rattle.net_txn.specs.Said.{Speaks}
+use Rattle.net_txn.specs.laws.OwnIdLaws.{ids_none, ids_then, stops_then}
 use Rattle.net_txn.specs.Undos.{AreJoined}
 use Rattle.net_txn.specs.Views.{is_viewed}
 use Rattle.net_txn.specs.Net.{NetState}
@@ -164,7 +165,7 @@ calls_none Tells views seen = record {
   losses = λ told joined. sym (append-nil (lost_of seen));
 }
 
-pub calls_one : {Own : Type 0} {Tells : Type 0} (d : ℕ) (views : List TableView) (old new : Seen Own) → is_viewed d views ≡ true → Speaks Tells d old new → (Tells → lost_of new ≡ lost_of old) → CallsLinks Tells [] views old new
+pub calls_one : {Own : Type 0} {Tells : Type 0} {xid most : ℕ} (d : ℕ) (views : List TableView) (old new : Seen Own) → is_viewed d views ≡ true → Speaks Tells d xid most old new → (Tells → lost_of new ≡ lost_of old) → CallsLinks Tells [] views old new
 calls_one d views old new viewed s none = record {
   continues = speaks_on s;
   links = speaks_links s;
@@ -172,7 +173,7 @@ calls_one d views old new viewed s none = record {
   losses = λ told joined. none_more (lost_of old) (lost_of new) (none told);
 }
 
-pub calls_lost : {Own : Type 0} {Tells : Type 0} (d : ℕ) (views : List TableView) (old new : Seen Own) (packets : List Held) → is_viewed d views ≡ true → Speaks Tells d old new → IsLost Tells d packets old new → CallsLinks Tells (d ∷ []) views old new
+pub calls_lost : {Own : Type 0} {Tells : Type 0} {xid most : ℕ} (d : ℕ) (views : List TableView) (old new : Seen Own) (packets : List Held) → is_viewed d views ≡ true → Speaks Tells d xid most old new → IsLost Tells d packets old new → CallsLinks Tells (d ∷ []) views old new
 calls_lost d views old new packets viewed s lost = record {
   continues = speaks_on s;
   links = speaks_links s;
@@ -218,7 +219,7 @@ all_more Tells (h ∷ hs) sent held one_sent old mid new net mid_net now_net que
     (first, (later ++ one_sent, (ap (λ (xs : List Held). xs ++ one_sent) split ∙ append_assoc first later one_sent, (mid1, (net1, (queue1, (head, all_more Tells hs later held one_sent mid1 mid new net1 mid_net now_net queue1 mid_queue now_queue rest one)))))))
 
 pub front_none : {Own : Type 0} (Tells : Type 0) (seen : Seen Own) (net : NetState) (queue : List Event) → ReleasedFront Tells [] seen seen net net queue queue []
-front_none Tells seen net queue = record { lost = []; stays = stays_same net; calls = calls_none Tells net.views seen; read = λ told. messages-none seen; sent = []; all = (refl, refl, refl, refl); sizes_is = refl }
+front_none Tells seen net queue = record { lost = []; stays = stays_same net; calls = calls_none Tells net.views seen; read = λ told. messages-none seen; ids = ids_none Tells 0 seen net.xid net.xid refl; sent = []; all = (refl, refl, refl, refl); sizes_is = refl }
 
 pub front_more : {Own : Type 0} {Tells : Type 0} (front : List Held) (held : Held) (old mid new : Seen Own) (net mid_net now_net : NetState) (queue mid_queue now_queue : List Event) (sizes now_sizes : List (ℕ × ℕ)) → ReleasedFront Tells front old mid net mid_net queue mid_queue sizes
     → ReleasesNoted Tells held mid new mid_net now_net mid_queue now_queue sizes now_sizes (Ok tt) → ReleasedFront Tells (front ++ held ∷ []) old new net now_net queue now_queue now_sizes
@@ -229,6 +230,7 @@ front_more {Tells = Tells} front held old mid new net mid_net now_net queue mid_
       stays = stays_then before.lost one.lost net mid_net now_net before.stays one.stays;
       calls = calls_then before.lost one.lost net mid_net old mid new before.stays before.calls one.calls;
       read = λ told. messages-then old mid new told before.calls.continues one.calls.continues (before.read told) (one.read refl told);
+      ids = ids_then one.calls.continues before.ids one.ids;
       sent = before.sent ++ more;
       all = all_more Tells front before.sent held more old mid new net mid_net now_net queue mid_queue now_queue before.all one.does;
       sizes_is = noted ∙ ap (λ (ss : List (ℕ × ℕ)). ss ++ map size_of more) before.sizes_is ∙ sym (map-append size_of before.sent more);
@@ -240,6 +242,7 @@ stops_behind all front held rest old mid new net mid_net now_net queue mid_queue
   lost = before.lost ++ one.lost;
   stays = stays_then before.lost one.lost net mid_net now_net before.stays one.stays;
   calls = calls_then before.lost one.lost net mid_net old mid new before.stays before.calls one.calls;
+  ids = stops_then one.calls.continues before.ids one.ids;
   front = front;
   broken = held;
   rest = rest;

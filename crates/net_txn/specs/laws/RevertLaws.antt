@@ -42,7 +42,7 @@ skipped_first log later f e lt is failed out stuck u = rw (marked_first log late
 
 pub stuck_first : {Own : Type 0} {Tells : Type 0} {views : List TableView} {base now next : Seen Own} {kept kept1 : List (ℕ × List ℕ)} {ps qs : PortLists} {x y z : ℕ} {switches : List ℕ} {before : Option TxnFault} (log later : List Logged) (f : UndoProgress) (e : Logged) (halt : Halt) → 0 < length log → later ≡ set log 0 (with_progress f (get_or log 0 e)) → f.failed ≡ true → f.lost ≡ is_lost halt → z ≡ next_xid y
     → Further Tells views base now kept kept1 ps qs x y switches (drop 1 log) before → is_viewed (get_or log 0 e).dpid views ≡ true → (progress_of (get_or log 0 e).dpid (drop 1 log)).failed ≡ false
-    → Fails Tells (get_or log 0 e).dpid (inverses_in (get_or log 0 e).dpid (drop 1 log)) now next halt → Further Tells views base next kept kept1 ps (ports_by (get_or log 0 e).dpid halt qs) x z [] later (first_fault_of before (fault_by halt))
+    → Fails Tells (get_or log 0 e).dpid y (inverses_in (get_or log 0 e).dpid (drop 1 log)) now next halt → Further Tells views base next kept kept1 ps (ports_by (get_or log 0 e).dpid halt qs) x z [] later (first_fault_of before (fault_by halt))
 stuck_first {kept1 = kept1} log later f e halt lt is failed out step u known unfailed fails =
     let d = (get_or log 0 e).dpid in
     let g = with_progress f (get_or log 0 e) in
@@ -95,7 +95,7 @@ barred_in d reverted j e at lt_xid step p known ends t =
     (λ c other. (progress_of-set_other d c reverted j g at is other, inverses_in-set c reverted j e g lt refl refl refl)) (map-set_same key_logged reverted j g e refl) ends t)
 
 pub stuck_in : {Own : Type 0} {Tells : Type 0} {views : List TableView} {base now next : Seen Own} {kept kept1 kept2 : List (ℕ × List ℕ)} {ps qs : PortLists} {x y z : ℕ} {switches more : List ℕ} {before : Option TxnFault} (d : ℕ) (reverted : List Logged) (j : ℕ) (e : Logged) (halt : Halt) (lost : Bool) → IsProgressAt d reverted j → lost ≡ is_lost halt → z ≡ next_xid y
-    → Pending Tells views base now kept kept1 ps qs x y switches reverted before d → is_viewed d views ≡ true → EndsStep d switches more → KeptMore d kept1 kept2 → Fails Tells d (inverses_in d reverted) now next halt
+    → Pending Tells views base now kept kept1 ps qs x y switches reverted before d → is_viewed d views ≡ true → EndsStep d switches more → KeptMore d kept1 kept2 → Fails Tells d y (inverses_in d reverted) now next halt
     → Further Tells views base next kept kept2 ps (ports_by d halt qs) x z more (set reverted j (failed_at lost (get_or reverted j e))) (first_fault_of before (fault_by halt))
 stuck_in d reverted j e halt lost at out step p known ends some t =
     let g = failed_at lost (get_or reverted j e) in
@@ -111,7 +111,7 @@ unfaulted {Tells = Tells} {views = views} {base = base} {now = now} {kept = kept
 -- whichever it was
 pub await_in : {Own : Type 0} {Tells : Type 0} {views : List TableView} {base now next : Seen Own} {kept kept1 kept2 : List (ℕ × List ℕ)} {ps qs : PortLists} {x y z : ℕ} {switches more : List ℕ} {before : Option TxnFault} (d : ℕ) (reverted : List Logged) (j : ℕ) (e : Logged) (r : Result (Unit {0}) Trouble) (buf : List ℕ) → IsProgressAt d reverted j → y < 2 ^ 32 → z ≡ next_xid y
     → Pending Tells views base now kept kept1 ps qs x y switches reverted before d → is_viewed d views ≡ true → EndsStep d switches more → KeptMore d kept1 kept2
-    → OnOk r (AwaitsReplies Tells (alone d y) (barrier_sent (alone d y) ∷ []) (inverses_in d reverted) now next kept1 kept2) → IfErr r (λ t. Fails Tells d (inverses_in d reverted) now next (halt_by d t buf))
+    → OnOk r (AwaitsReplies Tells (alone d y) (barrier_sent (alone d y) ∷ []) (inverses_in d reverted) now next kept1 kept2) → IfErr r (λ t. Fails Tells d y (inverses_in d reverted) now next (halt_by d t buf))
     → Further Tells views base next kept kept2 ps (ports_of d r buf qs) x z more (set reverted j (with_progress (record { xid = (get_or reverted j e).progress.xid; since = 0; failed = is_err r; lost = loses_by r }) (get_or reverted j e))) (first_fault_of before (fault_of d r buf))
 await_in d reverted j e (Ok u) buf at lt_xid step p known ends some ok err = unfaulted (barred_in d reverted j e at lt_xid step p known ends ok)
 await_in d reverted j e (Err t) buf at lt_xid step p known ends some ok err = stuck_in d reverted j e (halt_by d t buf) (is_of_link t) at (lost_link d t buf) step p known ends some err
@@ -121,12 +121,12 @@ pub await_reverted : {Own : Type 0} {Tells : Type 0} {views : List TableView} {b
     → later ≡ set log 0 (with_progress (record { xid = (get_or log 0 e).progress.xid; since = 0; failed = is_err r; lost = loses_by r }) (get_or log 0 e)) → y < 2 ^ 32 → z ≡ next_xid y
     → Pending Tells views base now kept kept1 ps qs x y switches log before d → is_viewed d views ≡ true → KeptMore (get_or log 0 e).dpid kept1 kept2
     → OnOk r (AwaitsReplies Tells (alone (get_or log 0 e).dpid y) (barrier_sent (alone (get_or log 0 e).dpid y) ∷ []) (inverses_in (get_or log 0 e).dpid log) now next kept1 kept2)
-    → IfErr r (λ t. Fails Tells (get_or log 0 e).dpid (inverses_in (get_or log 0 e).dpid log) now next (halt_by (get_or log 0 e).dpid t buf))
+    → IfErr r (λ t. Fails Tells (get_or log 0 e).dpid y (inverses_in (get_or log 0 e).dpid log) now next (halt_by (get_or log 0 e).dpid t buf))
     → Further Tells views base next kept kept2 ps (ports_of d r buf qs) x z [] later (first_fault_of before (fault_of d r buf))
 await_reverted {Tells = Tells} {now = now} {next = next} {kept1 = kept1} {kept2 = kept2} {y = y} d log later e r buf some is marked lt_xid step p known more ok err =
     let here : IsProgressAt d log 0 = subst (λ (xs : List Logged). IsProgressAt d xs 0) (sym (cut_first log e some)) is in
     let ok2 = subst (λ (n : ℕ). OnOk r (AwaitsReplies Tells (alone n y) (barrier_sent (alone n y) ∷ []) (inverses_in n log) now next kept1 kept2)) is ok in
-    let err2 = subst (λ (n : ℕ). IfErr r (λ t. Fails Tells n (inverses_in n log) now next (halt_by n t buf))) is err in
+    let err2 = subst (λ (n : ℕ). IfErr r (λ t. Fails Tells n y (inverses_in n log) now next (halt_by n t buf))) is err in
     rw marked (await_in d log 0 e r buf here lt_xid step p known (inl refl) (subst (λ (n : ℕ). KeptMore n kept1 kept2) is more) ok2 err2)
 
 -- the switch of the newest inverse that was reverted to it
@@ -134,14 +134,15 @@ pub await_expected : {Own : Type 0} {Tells : Type 0} {views : List TableView} {b
     → later ≡ set log at (with_progress (record { xid = (get_or log at e).progress.xid; since = 0; failed = is_err r; lost = loses_by r }) (get_or log at e)) → y < 2 ^ 32 → z ≡ next_xid y → i ≡ y
     → Further Tells views base now kept kept1 ps qs x y switches log before → is_viewed d views ≡ true → (get_or log at e).progress.failed ≡ false → KeptMore (get_or log at e).dpid kept1 kept2
     → OnOk r (AwaitsReplies Tells (alone (get_or log at e).dpid i) (barrier_sent (alone (get_or log at e).dpid i) ∷ []) (inverses_in (get_or log at e).dpid log) now next kept1 kept2)
-    → IfErr r (λ t. Fails Tells (get_or log at e).dpid (inverses_in (get_or log at e).dpid log) now next (halt_by (get_or log at e).dpid t buf))
+    → IfErr r (λ t. Fails Tells (get_or log at e).dpid i (inverses_in (get_or log at e).dpid log) now next (halt_by (get_or log at e).dpid t buf))
     → Further Tells views base next kept kept2 ps (ports_of d r buf qs) x z (d ∷ switches) later (first_fault_of before (fault_of d r buf))
 await_expected {Tells = Tells} {now = now} {next = next} {kept1 = kept1} {kept2 = kept2} {y = y} d i log later at e r buf here marked lt_xid step taken u known unfailed some ok err =
     let is = IsProgressAt-dpid d log at e here in
     let free = ap (λ (f : UndoProgress). f.failed) (progress_of-at d log at e here) ∙ unfailed in
     let ok1 = subst (λ (n : ℕ). OnOk r (AwaitsReplies Tells (alone (get_or log at e).dpid n) (barrier_sent (alone (get_or log at e).dpid n) ∷ []) (inverses_in (get_or log at e).dpid log) now next kept1 kept2)) taken ok in
     let ok2 = subst (λ (n : ℕ). OnOk r (AwaitsReplies Tells (alone n y) (barrier_sent (alone n y) ∷ []) (inverses_in n log) now next kept1 kept2)) is ok1 in
-    let err2 = subst (λ (n : ℕ). IfErr r (λ t. Fails Tells n (inverses_in n log) now next (halt_by n t buf))) is err in
+    let err1 = subst (λ (n : ℕ). IfErr r (λ t. Fails Tells (get_or log at e).dpid n (inverses_in (get_or log at e).dpid log) now next (halt_by (get_or log at e).dpid t buf))) taken err in
+    let err2 = subst (λ (n : ℕ). IfErr r (λ t. Fails Tells n y (inverses_in n log) now next (halt_by n t buf))) is err1 in
     rw marked (await_in d log at e r buf here lt_xid step (Pending-of d u known free) known (inr refl) (subst (λ (n : ℕ). KeptMore n kept1 kept2) is some) ok2 err2)
 
 -- and no inverse stands behind its barrier

@@ -1,7 +1,7 @@
 -- Laws of a message, a barrier behind it and the wait for its reply: what was said is of links alone and in place, and why it failed.
-use Rattle.std.specs.Prelude.{◌≡◌, ℕ, ◌==◌, Bool, true, false, List, [], ◌∷◌, ◌++◌, length, take, ◌⊎◌, Option, Some, None, Result, Ok, Err, IfOk, OnOk, OnErr, refl, if◌then◌else◌}
+use Rattle.std.specs.Prelude.{◌≡◌, ℕ, ◌+◌, ◌^◌, ◌<◌, ◌==◌, Bool, true, false, List, [], ◌∷◌, ◌++◌, length, take, ◌⊎◌, Option, Some, None, Result, Ok, Err, IfOk, OnOk, OnErr, refl, if◌then◌else◌}
 use Rattle.std.specs.List.{AllByRecursion}
-use Rattle.std.proofs.Common.{sym, ap, ◌∙◌, subst, append_assoc, inl, inr}
+use Rattle.std.proofs.Common.{sym, ap, ◌∙◌, subst, append_assoc, inl, inr, arith}
 use Rattle.std.proofs.lemmas.List.{append-nil}
 use Rattle.of_types.specs.Fields.{number_at}
 use Rattle.of_types.specs.declared.journal.Act.TheVariants.{Sent, Got}
@@ -24,13 +24,15 @@ use Rattle.lego_model.specs.UndoFaults.{GoesWithoutStrays, key_sent, key_refused
 use Rattle.net_txn.specs.Causes.{EndsByGot, IsHaltCause, IsLinkCause}
 use Rattle.net_txn.specs.Waits.{Brought, Waits, IfFlooded, KeptMore}
 use Rattle.net_txn.specs.Undos.{halt_by}
-use Rattle.net_txn.specs.Said.{Said, Says, HearsNoise, Speaks, said_steps, IsSaid, Calls, unsaid, wait_said, last_said, IsOfLink, IsBreak, frames_said, barrier_of, reply_heard, Replied, Breaks, IsHaltBy, BreaksBy, Talks, SaysNot, SaysTo}
+use Rattle.net_txn.specs.Said.{Said, Says, HearsNoise, ids_said, Speaks, said_steps, IsSaid, Calls, unsaid, wait_said, last_said, IsOfLink, IsBreak, frames_said, barrier_of, reply_heard, Replied, Breaks, IsHaltBy, BreaksBy, Talks, SaysNot, SaysTo}
 use Rattle.net_txn.specs.laws.WaitLaws.{kept_of_more}
 use Rattle.net_txn.specs.laws.LinkStepLaws.{links_append, wait_links}
 use Rattle.net_txn.specs.laws.LinkStrayLaws.{sure_settled, no_strays_by}
 use Rattle.net_txn.specs.laws.UndoWithoutStraysLaws.{goes_none, goes_append, goes_sure}
 use Rattle.net_txn.specs.laws.SaidLaws.{all_behind, steps_append, joined_after, fine_append, fine_none_lost, fine_frames, Calls-none, Calls-links, whole_steps, frames_go, unsaid_goes, whole_goes}
 use Rattle.net_txn.specs.laws.ExchangeLaws.{replied_behind, breaks_behind}
+use Rattle.lego_model.specs.OwnIds.{AscendWithin}
+use Rattle.net_txn.specs.laws.OwnIdLaws.{FramesAscend, whole_ascend, front_ascend, unsaid_ids, last_ids}
 
 -- ---- A message before
 
@@ -49,12 +51,12 @@ talks_not {a = a} first kept halt s = record {
 
 -- ---- What was said
 
-pub speaks_none : {Own : Type 0} (Tells : Type 0) (d : ℕ) (seen : Seen Own) → Speaks Tells d seen seen
-speaks_none Tells d seen = record { said = []; calls = Calls-none Tells d seen; goes = goes_none d }
+pub speaks_none : {Own : Type 0} (Tells : Type 0) (d xid most : ℕ) (seen : Seen Own) → Speaks Tells d xid most seen seen
+speaks_none Tells d xid most seen = record { said = []; calls = Calls-none Tells d seen; goes = goes_none d; ids = λ small. omega arith }
 
-replied_speaks : {Own : Type 0} {Tells : Type 0} (a : Awaited) (first : List (List ℕ)) (old new : Seen Own) (kept now_kept : List (ℕ × List ℕ)) (answer : Brought)
-    → Replied Tells a (first ++ barrier_of a ∷ []) Growing [] old new kept now_kept answer → Speaks Tells a.dpid old new
-replied_speaks a first old new kept now_kept answer r =
+replied_speaks : {Own : Type 0} {Tells : Type 0} (xid most : ℕ) (a : Awaited) (first : List (List ℕ)) (old new : Seen Own) (kept now_kept : List (ℕ × List ℕ)) (answer : Brought)
+    → Replied Tells a (first ++ barrier_of a ∷ []) Growing [] old new kept now_kept answer → FramesAscend xid most a (first ++ barrier_of a ∷ []) → Speaks Tells a.dpid xid most old new
+replied_speaks xid most a first old new kept now_kept answer r ascend =
     let d = a.dpid in
     let settled = barrier_sent a ∷ (wait_steps a r.got ++ reply_got a ∷ []) in
     record {
@@ -63,6 +65,7 @@ replied_speaks a first old new kept now_kept answer r =
       goes = subst (GoesWithoutStrays d) (sym (whole_steps true a first r.got (reply_heard a ∷ [])))
           (goes_append d (said_steps true (frames_said d first)) settled (fine_none_lost true (frames_said d first) (fine_frames d first)) (frames_go d first)
           (goes_sure d settled (refl, links_append (wait_steps a r.got) (reply_got a ∷ []) (wait_links a r.got) (refl, tt)) (sure_settled a r.got)));
+      ids = λ small. whole_ascend xid most a (first ++ barrier_of a ∷ []) r.got (reply_heard a ∷ []) refl ascend small;
     }
 
 pub unsent_goes : (d : ℕ) (frames : List (List ℕ)) (t : Trouble) → GoesWithoutStrays d (said_steps true (frames_said d frames ++ unsaid d t))
@@ -70,36 +73,48 @@ unsent_goes d frames t =
     let fine = fine_frames d frames in
     subst (GoesWithoutStrays d) (sym (fine_append true (frames_said d frames) (unsaid d t) fine)) (unsaid_goes d (said_steps true (frames_said d frames)) t (fine_none_lost true (frames_said d frames) fine) (frames_go d frames))
 
-breaks_speaks : {Own : Type 0} {Tells : Type 0} (a : Awaited) (first : List (List ℕ)) (old new : Seen Own) (kept now_kept : List (ℕ × List ℕ)) (buf : List ℕ) (t : Trouble)
-    → Breaks Tells a (first ++ barrier_of a ∷ []) Growing [] old new kept now_kept buf t → Speaks Tells a.dpid old new
-breaks_speaks a first old new kept now_kept buf t (inl u) = record { said = frames_said a.dpid u.first ++ unsaid a.dpid t; calls = u.calls; goes = unsent_goes a.dpid u.first t }
-breaks_speaks a first old new kept now_kept buf t (inr u) = record {
+breaks_speaks : {Own : Type 0} {Tells : Type 0} (xid most : ℕ) (a : Awaited) (first : List (List ℕ)) (old new : Seen Own) (kept now_kept : List (ℕ × List ℕ)) (buf : List ℕ) (t : Trouble)
+    → Breaks Tells a (first ++ barrier_of a ∷ []) Growing [] old new kept now_kept buf t → FramesAscend xid most a (first ++ barrier_of a ∷ []) → Speaks Tells a.dpid xid most old new
+breaks_speaks xid most a first old new kept now_kept buf t (inl u) ascend = record {
+  said = frames_said a.dpid u.first ++ unsaid a.dpid t;
+  calls = u.calls;
+  goes = unsent_goes a.dpid u.first t;
+  ids = λ small. front_ascend xid most a (first ++ barrier_of a ∷ []) u.first u.rest t u.frames_is ascend small;
+}
+breaks_speaks xid most a first old new kept now_kept buf t (inr u) ascend = record {
   said = frames_said a.dpid (first ++ barrier_of a ∷ []) ++ (wait_said a u.got ++ last_said a.dpid u.by t buf);
   calls = u.calls;
   goes = whole_goes a first u.got u.by t buf u.is_xid u.before.before_reply;
+  ids = λ small. whole_ascend xid most a (first ++ barrier_of a ∷ []) u.got (last_said a.dpid u.by t buf) (last_ids a.dpid u.by t buf) ascend small;
 }
 
-pub talks_speak : {Own : Type 0} {Tells : Type 0} {old new : Seen Own} (a : Awaited) (kept now_kept : List (ℕ × List ℕ)) (d : ℕ) (first : List (List ℕ)) (result : Result Brought Halt) → a.dpid ≡ d
-    → Talks Tells a first old new kept now_kept result → Speaks Tells d old new
-talks_speak {Tells = Tells} {old = old} {new = new} a kept now_kept d first (Ok answer) is r =
-    subst (λ (x : ℕ). Speaks Tells x old new) is (replied_speaks a first old new kept now_kept answer r)
-talks_speak {Tells = Tells} {old = old} {new = new} a kept now_kept d first (Err halt) is b =
-    subst (λ (x : ℕ). Speaks Tells x old new) is (breaks_speaks a first old new kept now_kept b.buf b.trouble b.breaks)
+pub talks_speak : {Own : Type 0} {Tells : Type 0} {old new : Seen Own} (xid most : ℕ) (a : Awaited) (kept now_kept : List (ℕ × List ℕ)) (d : ℕ) (first : List (List ℕ)) (result : Result Brought Halt) → a.dpid ≡ d
+    → Talks Tells a first old new kept now_kept result → FramesAscend xid most a (first ++ barrier_of a ∷ []) → Speaks Tells d xid most old new
+talks_speak {Tells = Tells} {old = old} {new = new} xid most a kept now_kept d first (Ok answer) is r ascend =
+    subst (λ (x : ℕ). Speaks Tells x xid most old new) is (replied_speaks xid most a first old new kept now_kept answer r ascend)
+talks_speak {Tells = Tells} {old = old} {new = new} xid most a kept now_kept d first (Err halt) is b ascend =
+    subst (λ (x : ℕ). Speaks Tells x xid most old new) is (breaks_speaks xid most a first old new kept now_kept b.buf b.trouble b.breaks ascend)
 
 -- one message alone
-pub says_speak : {Own T : Type 0} {Tells : Type 0} {d : ℕ} {old new : Seen Own} (frame : List ℕ) (result : Result T Halt) → SaysTo Tells d frame old new result → Speaks Tells d old new
-says_speak {d = d} frame (Ok x) c = record { said = frames_said d (frame ∷ []); calls = c; goes = frames_go d (frame ∷ []) }
-says_speak {d = d} frame (Err halt) s = record { said = unsaid d s.trouble; calls = s.calls; goes = unsent_goes d [] s.trouble }
+pub says_speak : {Own T : Type 0} {Tells : Type 0} {d : ℕ} {old new : Seen Own} (xid most : ℕ) (frame : List ℕ) (result : Result T Halt) → SaysTo Tells d frame old new result → (xid + most < 2 ^ 32 → AscendWithin xid (ids_said (Says d frame ∷ [])) (xid + most))
+    → Speaks Tells d xid most old new
+says_speak {d = d} xid most frame (Ok x) c ascend = record { said = frames_said d (frame ∷ []); calls = c; goes = frames_go d (frame ∷ []); ids = ascend }
+says_speak {d = d} xid most frame (Err halt) s ascend = record {
+  said = unsaid d s.trouble;
+  calls = s.calls;
+  goes = unsent_goes d [] s.trouble;
+  ids = λ small. subst (λ (ids : List ℕ). AscendWithin xid ids (xid + most)) (sym (unsaid_ids d s.trouble)) (omega arith);
+}
 
 -- ---- So of links alone, and in place
 
-pub speaks_on : {Own : Type 0} {Tells : Type 0} {d : ℕ} {old new : Seen Own} → Speaks Tells d old new → Continues Tells old new
+pub speaks_on : {Own : Type 0} {Tells : Type 0} {d xid most : ℕ} {old new : Seen Own} → Speaks Tells d xid most old new → Continues Tells old new
 speaks_on p = p.calls.continues
 
-pub speaks_links : {Own : Type 0} {Tells : Type 0} {d : ℕ} {old new : Seen Own} → Speaks Tells d old new → OnLinks Tells old new
+pub speaks_links : {Own : Type 0} {Tells : Type 0} {d xid most : ℕ} {old new : Seen Own} → Speaks Tells d xid most old new → OnLinks Tells old new
 speaks_links p = Calls-links p.calls
 
-pub speaks_place : {Own : Type 0} {Tells : Type 0} {d : ℕ} {old new : Seen Own} → Speaks Tells d old new → AsksWithoutStrays Tells d old new
+pub speaks_place : {Own : Type 0} {Tells : Type 0} {d xid most : ℕ} {old new : Seen Own} → Speaks Tells d xid most old new → AsksWithoutStrays Tells d old new
 speaks_place {d = d} {old = old} {new = new} p told order joined =
     let steps = said_steps true p.said in
     let history = p.calls.told told ∙ ap (λ (b : Bool). old.history ++ said_steps b p.said) joined in

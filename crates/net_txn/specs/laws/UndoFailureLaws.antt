@@ -155,17 +155,18 @@ has_cause d sent old new steps NoMemory cause = tt
 
 record Failing (d : ℕ) (old new : Counts) (all : List WorldStep) : Type 0 where
   halt : Halt
+  xid : ℕ
   older : List (ℕ × Part)
   steps : List WorldStep
   behind : List WorldStep
-  by : IsStuckBy d (inverses_of (parts_of d older)) old new halt steps
+  by : IsStuckBy d xid (inverses_of (parts_of d older)) old new halt steps
   steps_is : all ≡ (steps_of older ++ steps) ++ behind
 
 failing_here : (d : ℕ) (old new : Counts) (p : Part) (older : List (ℕ × Part)) → IsRun old new d (p ∷ parts_of d older) → is_stuck (p ∷ parts_of d older) ≡ true → is_out (p ∷ parts_of d older) ≡ false → (f : Failing d old new (steps_of older ++ part_steps d p)) × (is_lost f.halt ≡ false)
 failing_here d old new (Inverse xid k) older run is in_still = absurd cc
 failing_here d old new (BarrierPassed xid got) older run is in_still = absurd cc
 failing_here d old new (Stuck xid halt steps) older run is in_still = (
-  record { halt = halt; older = older; steps = steps; behind = []; by = run.0; steps_is = sym (append-nil (steps_of older ++ steps)) },
+  record { halt = halt; xid = xid; older = older; steps = steps; behind = []; by = run.0; steps_is = sym (append-nil (steps_of older ++ steps)) },
   sym (out_of_stuck xid halt steps (parts_of d older)) ∙ in_still,
 )
 
@@ -174,6 +175,7 @@ failing_longer d old new all more g =
     let f = g.0 in (
       record {
         halt = f.halt;
+        xid = f.xid;
         older = f.older;
         steps = f.steps;
         behind = f.behind ++ more;

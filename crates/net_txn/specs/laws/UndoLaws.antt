@@ -46,7 +46,7 @@ IsRun-later d old mid new [] up after run = tt
 IsRun-later d old mid new (Inverse xid k ∷ older) up after run = (run.0, run.1, run.2, IsRun-later d old mid new older up after run.3)
 IsRun-later d old mid new (BarrierPassed xid got ∷ older) up after run = (run.0, run.1, IsRun-later d old mid new older up after run.2)
 IsRun-later d old mid new (Stuck xid halt steps ∷ older) up after run =
-    (record { each = run.0.each; cause = IsHaltOf-later d (inverses_of older) old mid new steps halt up after run.0.cause; places = run.0.places; quiet = run.0.quiet }, run.1, IsRun-later d old mid new older up after run.2)
+    (record { ids = run.0.ids; each = run.0.each; cause = IsHaltOf-later d (inverses_of older) old mid new steps halt up after run.0.cause; places = run.0.places; quiet = run.0.quiet }, run.1, IsRun-later d old mid new older up after run.2)
 
 Stands-later : (known : Bool) (d : ℕ) (old mid new : Counts) (parts : List Part) (reverted : List Logged) → NoneFell old mid → NoneFell mid new → Stands known d old mid parts reverted → Stands known d old new parts reverted
 Stands-later known d old mid new parts reverted up after s = record {
@@ -114,7 +114,7 @@ Stands-inverse known d old mid new parts reverted e up after s known_is free can
 }
 
 pub Stands-stuck : (known : Bool) (d xid : ℕ) (old mid new : Counts) (parts : List Part) (reverted later : List Logged) (halt : Halt) (steps : List WorldStep) → NoneFell old mid → NoneFell mid new → Stands known d old mid parts reverted → known ≡ true → is_stuck parts ≡ false
-    → IsStuckBy d (inverses_of parts) old new halt steps → (progress_of d later).failed ≡ true → (progress_of d later).lost ≡ is_out (Stuck xid halt steps ∷ parts) → Stands known d old new (Stuck xid halt steps ∷ parts) later
+    → IsStuckBy d xid (inverses_of parts) old new halt steps → (progress_of d later).failed ≡ true → (progress_of d later).lost ≡ is_out (Stuck xid halt steps ∷ parts) → Stands known d old new (Stuck xid halt steps ∷ parts) later
 Stands-stuck known d xid old mid new parts reverted later halt steps up after s known_is free stuck failed out = record {
   unknown = λ no. no_view known _ known_is no;
   run = (stuck, free, IsRun-later d old mid new parts up after s.run);

@@ -1,7 +1,7 @@
 -- Laws of the wait of an undo: what was said leaves the steps of its switch, and a failure has its cause in them.
-use Rattle.std.specs.Prelude.{◌≡◌, ℕ, ◌^◌, ◌<◌, Bool, true, false, List, [], ◌∷◌, ◌++◌, length, map, Option, Some, None, Ok, Err, IsOk, refl}
+use Rattle.std.specs.Prelude.{◌≡◌, ℕ, ◌+◌, ◌^◌, ◌<◌, ◌≤◌, Bool, true, false, List, [], ◌∷◌, ◌++◌, length, map, Option, Some, None, Ok, Err, IsOk, refl}
 use Rattle.std.specs.List.{AllByRecursion}
-use Rattle.std.proofs.Common.{sym, ap, ◌∙◌, subst, append_assoc, inl, inr}
+use Rattle.std.proofs.Common.{sym, ap, ◌∙◌, subst, append_assoc, inl, inr, arith}
 use Rattle.std.proofs.lemmas.List.{append-nil}
 use Rattle.lego_io.specs.laws.CountLaws.{Rose-after}
 use Rattle.of_types.specs.Fields.{number_at}
@@ -29,15 +29,17 @@ use Rattle.net_txn.specs.declared.queue.Storage.TheVariants.{Reserved}
 use Rattle.net_txn.specs.declared.trouble.Trouble.{Trouble}
 use Rattle.net_txn.specs.declared.trouble.Trouble.TheVariants as troubles
 use Rattle.lego_model.specs.UndoFaults.{inverse_bytes, Goes, GoesWithoutStrays, key_refused, AreBefore}
+use Rattle.lego_model.specs.OwnIds.{own_ids, AscendWithin}
 use Rattle.net_txn.specs.MessageStore.{KeptWhereFit}
 use Rattle.net_txn.specs.Waits.{Brought, IsRead, KeptMore}
 use Rattle.net_txn.specs.Undos.{halt_by, alone, Moves, IsFaultOf, IsHaltOf, GoesOutBy, LosesBy, Fails, AwaitsReplies, PassesBarrier}
-use Rattle.net_txn.specs.Said.{Said, Says, Hears, HearsNoise, CannotSay, CannotHear, LacksMemory, IsSaid, Calls, steps_in, said_steps, unsaid, unheard, wait_said, last_said, IsOfLink, IsBreak, AreHeard, frames_said, barrier_of, reply_heard, Replied, Breaks}
+use Rattle.net_txn.specs.Said.{Said, Says, Hears, HearsNoise, CannotSay, CannotHear, LacksMemory, ids_said, IsSaid, Calls, steps_in, said_steps, unsaid, unheard, wait_said, last_said, IsOfLink, IsBreak, AreHeard, frames_said, barrier_of, reply_heard, Replied, Breaks}
 use Rattle.net_txn.specs.laws.WaitLaws.{of_switch, kept_of_more}
 use Rattle.net_txn.specs.laws.LinkPresenceLaws.{steps_stay, losses_by, lost_none_all}
 use Rattle.net_txn.specs.laws.SaidLaws.{all_two, all_behind, all_weaker, is_fine, AreFine, fine_append, fine_none_lost, fine_frames, fine_wait, said_links, Calls-moves, whole_steps, whole_goes}
+use Rattle.net_txn.specs.laws.OwnIdLaws.{FramesAscend, said_ids, unsaid_ids, last_ids, whole_ascend, front_ascend, barrier_id, one_ascends}
 use Rattle.net_txn.specs.laws.TalkLaws.{last_of, unsent_goes}
-use Rattle.net_txn.specs.laws.LostLaws.{packets_said, packets_none, said_released, none_two, wait_none, heard_none, losses_two, IsFailed, failed_out, failed_waits, failed_lost, one_alone, IsReadSaid, said_brings, frames_read, wait_read, is_link, fine_unsaid, fine_last, barrier_none, front_none}
+use Rattle.net_txn.specs.laws.LostLaws.{packets_said, packets_none, said_released, none_two, wait_none, heard_none, losses_two, IsFailed, failed_out, failed_waits, failed_lost, one_alone, some_by, IsReadSaid, said_brings, frames_read, wait_read, is_link, fine_unsaid, fine_last, barrier_none, front_none}
 
 -- what arose later arose in the whole
 IsFaultOf-behind : (d : ℕ) (sent : List (ℕ × Key)) (old mid new : Counts) (steps : List WorldStep) (fault : TxnFault) → NoneFell old mid → IsFaultOf d sent mid new steps fault → IsFaultOf d sent old new steps fault
@@ -101,12 +103,13 @@ stays_by d troubles.Short buf said none fine = none_by said fine
 stays_by d troubles.Full buf said none fine = none_by said fine
 
 -- what failed, by what was said
-fails_by : {Own : Type 0} {Tells : Type 0} {old new : Seen Own} (d : ℕ) (sent : List (ℕ × Key)) (said : List Said) (steps : List WorldStep) (halt : Halt) → Calls Tells d said old new → said_steps (is_joined d (state old)) said ≡ steps → IsHaltOf d sent old.counts new.counts steps halt
-    → GoesWithoutStrays d (said_steps true said) → packets_said said ≡ [] → LosesBy d halt (said_steps true said) → Fails Tells d sent old new halt
-fails_by {old = old} {new = new} d sent said steps halt c same cause goes none loses =
+fails_by : {Own : Type 0} {Tells : Type 0} {old new : Seen Own} (d xid : ℕ) (sent : List (ℕ × Key)) (said : List Said) (steps : List WorldStep) (halt : Halt) → Calls Tells d said old new → said_steps (is_joined d (state old)) said ≡ steps → IsHaltOf d sent old.counts new.counts steps halt
+    → GoesWithoutStrays d (said_steps true said) → packets_said said ≡ [] → LosesBy d halt (said_steps true said) → (xid + 1 < 2 ^ 32 → AscendWithin xid (ids_said said) (xid + 1)) → (halt ≡ Lost → 1 ≤ length steps) → Fails Tells d xid sent old new halt
+fails_by {old = old} {new = new} d xid sent said steps halt c same cause goes none loses ascends some =
     let b = is_joined d (state old) in
     record {
       steps = steps;
+      ids = record { ids = λ small. subst (λ (ids : List ℕ). AscendWithin xid ids (xid + 1)) (sym (ap (λ (s : List WorldStep). own_ids (journal s)) (sym same) ∙ said_ids b said)) (ascends small); some = some };
       moves = Calls-moves steps same c;
       cause = cause;
       places = subst (GoesWithoutStrays d) same (said_goes d said old.counts new.counts b c.each goes);
@@ -167,14 +170,24 @@ unsent_loses d frames troubles.Short buf why =
     stays_by d troubles.Short buf said refl (all_two (λ x. is_fine x ≡ true) (frames_said d frames) (unsaid d troubles.Short) (fine_frames d frames) (fine_unsaid d troubles.Short refl))
 unsent_loses d frames troubles.Full buf why = absurd why
 
-unsent_fails : {Own : Type 0} {Tells : Type 0} (d : ℕ) (sent : List (ℕ × Key)) (frames : List (List ℕ)) (old new : Seen Own) (t : Trouble) (buf : List ℕ) → packets_said (frames_said d frames) ≡ [] → IsOfLink t → Calls Tells d (frames_said d frames ++ unsaid d t) old new
-    → Fails Tells d sent old new (halt_by d t buf)
-unsent_fails d sent frames old new t buf none why c =
-    fails_by d sent (frames_said d frames ++ unsaid d t) _ (halt_by d t buf) c refl (unsent_halt d sent frames old new t buf (is_joined d (state old)) why c) (unsent_goes d frames t)
-    (none_two (frames_said d frames) (unsaid d t) none (none_unsaid d t)) (unsent_loses d frames t buf why)
+-- a switch that was lost
+unsent_some : (d : ℕ) (frames : List (List ℕ)) (t : Trouble) (buf : List ℕ) (b : Bool) → halt_by d t buf ≡ Lost → 1 ≤ length (said_steps b (frames_said d frames ++ unsaid d t))
+unsent_some d frames troubles.Link buf b lost = some_by d b (frames_said d frames) (CannotSay d) refl
+unsent_some d frames (troubles.Broke n) buf b lost = absurd cc
+unsent_some d frames (troubles.Refused k x n) buf b lost = absurd cc
+unsent_some d frames troubles.Flooded buf b lost = absurd cc
+unsent_some d frames troubles.Short buf b lost = absurd cc
+unsent_some d frames troubles.Full buf b lost = absurd cc
 
-pub says_fails : {Own : Type 0} {Tells : Type 0} {d : ℕ} {old new : Seen Own} (sent : List (ℕ × Key)) (t : Trouble) (buf : List ℕ) → (IsOfLink t × Calls Tells d (unsaid d t) old new) → Fails Tells d sent old new (halt_by d t buf)
-says_fails {d = d} {old = old} {new = new} sent t buf s = unsent_fails d sent [] old new t buf packets_none s.0 s.1
+unsent_fails : {Own : Type 0} {Tells : Type 0} (d xid : ℕ) (sent : List (ℕ × Key)) (frames : List (List ℕ)) (old new : Seen Own) (t : Trouble) (buf : List ℕ) → packets_said (frames_said d frames) ≡ [] → IsOfLink t → Calls Tells d (frames_said d frames ++ unsaid d t) old new
+    → (xid + 1 < 2 ^ 32 → AscendWithin xid (ids_said (frames_said d frames ++ unsaid d t)) (xid + 1)) → Fails Tells d xid sent old new (halt_by d t buf)
+unsent_fails d xid sent frames old new t buf none why c ascends =
+    fails_by d xid sent (frames_said d frames ++ unsaid d t) _ (halt_by d t buf) c refl (unsent_halt d sent frames old new t buf (is_joined d (state old)) why c) (unsent_goes d frames t)
+    (none_two (frames_said d frames) (unsaid d t) none (none_unsaid d t)) (unsent_loses d frames t buf why) ascends (unsent_some d frames t buf (is_joined d (state old)))
+
+pub says_fails : {Own : Type 0} {Tells : Type 0} {d : ℕ} {old new : Seen Own} (xid : ℕ) (sent : List (ℕ × Key)) (t : Trouble) (buf : List ℕ) → (IsOfLink t × Calls Tells d (unsaid d t) old new) → Fails Tells d xid sent old new (halt_by d t buf)
+says_fails {d = d} {old = old} {new = new} xid sent t buf s =
+    unsent_fails d xid sent [] old new t buf packets_none s.0 s.1 (λ small. subst (λ (ids : List ℕ). AscendWithin xid ids (xid + 1)) (sym (unsaid_ids d t)) (omega arith))
 
 -- ---- A barrier and the wait behind it
 
@@ -289,16 +302,20 @@ unreplied_loses a got by troubles.Flooded buf = waited_stays a got by troubles.F
 unreplied_loses a got by troubles.Short buf = waited_stays a got by troubles.Short buf refl
 unreplied_loses a got by troubles.Full buf = waited_stays a got by troubles.Full buf refl
 
+barrier_ascends : (a : Awaited) → a.barrier < 2 ^ 32 → FramesAscend a.barrier 1 a (barrier_of a ∷ [])
+barrier_ascends a small few = one_ascends a.barrier (a.barrier + 1) a.dpid (barrier_of a) (barrier_id a.barrier small) (omega arith)
+
 breaks_fails : {Own : Type 0} {Tells : Type 0} (a : Awaited) (sent : List (ℕ × Key)) (old new : Seen Own) (kept now_kept : List (ℕ × List ℕ)) (buf : List ℕ) (t : Trouble) → a.barrier < 2 ^ 32 → Breaks Tells a (barrier_of a ∷ []) Reserved sent old new kept now_kept buf t
-    → Fails Tells a.dpid sent old new (halt_by a.dpid t buf)
+    → Fails Tells a.dpid a.barrier sent old new (halt_by a.dpid t buf)
 breaks_fails a sent old new kept now_kept buf t small (inl u) =
-    unsent_fails a.dpid sent u.first old new t buf (front_none a.dpid (barrier_of a ∷ []) u.first u.rest u.frames_is (barrier_none a.dpid a.barrier small)) u.why u.calls
+    unsent_fails a.dpid a.barrier sent u.first old new t buf (front_none a.dpid (barrier_of a ∷ []) u.first u.rest u.frames_is (barrier_none a.dpid a.barrier small)) u.why u.calls
+    (front_ascend a.barrier 1 a (barrier_of a ∷ []) u.first u.rest t u.frames_is (barrier_ascends a small))
 breaks_fails a sent old new kept now_kept buf t small (inr u) =
     let b = is_joined a.dpid (state old) in
-    fails_by a.dpid sent (waited_said a u.got u.by t buf) (waited b a u.got u.by t buf) (halt_by a.dpid t buf) u.calls (whole_steps b a [] u.got (last_said a.dpid u.by t buf))
+    fails_by a.dpid a.barrier sent (waited_said a u.got u.by t buf) (waited b a u.got u.by t buf) (halt_by a.dpid t buf) u.calls (whole_steps b a [] u.got (last_said a.dpid u.by t buf))
     (unreplied_halt a sent u.got old new u.by t buf b u.is_xid u.before u.why u.calls) (whole_goes a [] u.got u.by t buf u.is_xid u.before.before_reply)
     (none_two (frames_said a.dpid (barrier_of a ∷ [])) (wait_said a u.got ++ last_said a.dpid u.by t buf) (barrier_none a.dpid a.barrier small) (none_two (wait_said a u.got) (last_said a.dpid u.by t buf) (wait_none a u.got u.before.read) (none_last a.dpid u.by t buf)))
-    (unreplied_loses a u.got u.by t buf)
+    (unreplied_loses a u.got u.by t buf) (whole_ascend a.barrier 1 a (barrier_of a ∷ []) u.got (last_said a.dpid u.by t buf) (last_ids a.dpid u.by t buf) (barrier_ascends a small)) (λ lost. omega arith)
 
 breaks_kept : {Own : Type 0} {Tells : Type 0} (a : Awaited) (sent : List (ℕ × Key)) (old new : Seen Own) (kept now_kept : List (ℕ × List ℕ)) (buf : List ℕ) (t : Trouble) → Breaks Tells a (barrier_of a ∷ []) Reserved sent old new kept now_kept buf t
     → KeptMore a.dpid kept now_kept

@@ -1,19 +1,19 @@
 use Rattle.std.proofs.Common.{Ok, Err, false, refl, sym}
 use Rattle.event_dispatch.specs.declared.fault.Fault.TheVariants as faults
 use Rattle.event_dispatch.specs.laws.OfferLaws.{offer_passed, offer_none, offer_ended}
-use Rattle.event_dispatch.specs.laws.PassesLaws.{passes_none}
+use Rattle.event_dispatch.specs.laws.PassesLaws.{same_next, passes_none}
 use Rattle.event_dispatch.proofs.dispatch.offer.Goals as goal
 
 pub returns-then-not-takes : goal.returns-then-not-takes
 returns-then-not-takes g c = record {
-  passes = passes_none g.W.World.Tells (g.W.World.seen c.args.world.now) c.args.core.now.net c.args.core.now.net (Ok false) refl;
+  passes = passes_none g.W.World.Tells (g.W.World.seen c.args.world.now) c.args.core.now.net c.args.core.now.net (Ok false) (same_next _);
   done = offer_passed g.W.World.Tells (g.J.Judge.accepts c.args.judge.now) c.args.event.now (g.W.World.seen c.args.world.now) c.args.core.now c.args.app.now
       c.requires.goes c.requires.done c.requires.failed (sym (c.if-not-takes.ensures c.args.core.now.store));
 }
 
 pub returns-then-len-gt-MOST_BODY : goal.returns-then-len-gt-MOST_BODY
 returns-then-len-gt-MOST_BODY g c = record {
-  passes = passes_none g.W.World.Tells (g.W.World.seen c.args.world.now) c.args.core.now.net c.args.core.now.net (Err faults.NoMemory) refl;
+  passes = passes_none g.W.World.Tells (g.W.World.seen c.args.world.now) c.args.core.now.net c.args.core.now.net (Err faults.NoMemory) (same_next _);
   done = offer_none g.W.World.Tells c.args.event.now (g.W.World.seen c.args.world.now) c.args.core.now c.args.app.now;
 }
 

@@ -1,6 +1,6 @@
 use Rattle.std.proofs.Common.{Ok, length, refl, arith}
 use Rattle.event_dispatch.specs.EventParts.{OffersStop}
-use Rattle.event_dispatch.specs.laws.PassesLaws.{at_fault, passes_then, passes_fails, passes_as, passes_number}
+use Rattle.event_dispatch.specs.laws.PassesLaws.{same_next, at_fault, passes_then, passes_fails, passes_as, passes_number}
 use Rattle.event_dispatch.specs.laws.OfferLaws.{offers_first, next_split, next_before, next_place, offers_on, offers_end, all_offered, offers_stop_at}
 use Rattle.event_dispatch.proofs.dispatch.offer_all.Goals as goal
 
@@ -38,7 +38,7 @@ pub returns-then-branch : goal.returns-then-branch
 returns-then-branch g c = record {
   passes = passes_then c.loop-at.invariant.passes
       (passes_number (length c.args.core.now.store) (length c.loop-at.core.store) c.loop-at.invariant.number
-      (passes_as c.offer.new.core.net (Ok tt) c.in_ok-offer.ensures.passes refl));
+      (passes_as c.offer.new.core.net (Ok tt) c.in_ok-offer.ensures.passes (same_next _)));
   done = offers_end c.loop-at.at (g.W.World.seen c.args.world.now) (g.W.World.seen c.loop-at.world) (g.W.World.seen c.offer.new.world) c.args.core.now
       c.loop-at.core c.offer.new.core c.args.apps.now.items c.loop-at.apps.items c.index_mut.result.now c.offer.new.app c.in_ok-offer.field-0
       c.loop-at.invariant (next_split c.loop-at.at c.index_mut.result.now c.loop-at.invariant
@@ -55,7 +55,7 @@ loop-at-preserved g c =
 
 pub returns : goal.returns
 returns g c = record {
-  passes = passes_as c.loop-at.core.net (Ok tt) c.loop-at.invariant.passes refl;
+  passes = passes_as c.loop-at.core.net (Ok tt) c.loop-at.invariant.passes (same_next _);
   done = all_offered c.loop-at.at (g.W.World.seen c.args.world.now) (g.W.World.seen c.loop-at.world) c.args.core.now c.loop-at.core c.args.apps.now.items
       c.loop-at.apps.items c.loop-at.invariant (omega
       (arith, c.loop-at-test.false, c.len-at-end.ensures, c.loop-at.invariant.number_is, c.requires.going.number));

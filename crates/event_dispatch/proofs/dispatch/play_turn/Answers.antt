@@ -5,6 +5,7 @@ use Rattle.event_dispatch.specs.Why.{fault_of, ended_by}
 use Rattle.event_dispatch.specs.laws.DispatchStrayLaws.{later_links, later_own, turn_committed, turn_undone, stop_undone, played_places, played_reads}
 use Rattle.event_dispatch.specs.laws.FaultLaws.{commit_why, undo_why, stops_why}
 use Rattle.event_dispatch.specs.laws.LeftLaws.{left_stopped, left_failed, left_committed}
+use Rattle.event_dispatch.specs.laws.NumberLaws.{numbers_failed, played_numbers, committed_end, undone_end, stopped_end}
 use Rattle.event_dispatch.specs.laws.PassesLaws.{if_failed, at_fault}
 use Rattle.event_dispatch.specs.laws.PlainLaws.{turn_noted, turn_stopped, turn_not_undone, turn_uncommitted}
 use Rattle.event_dispatch.specs.laws.StoreLaws.{keeps_same, keeps_handed}
@@ -34,6 +35,7 @@ returns-in_ok-out-in-Ok-Done-clause-passes g c = record {
   places = played_places _ _ _ (later_own c.args.app.now.index c.requires.place (returns-in_ok-out-in-Ok-Done-clause-keeps g c).later)
       (returns-in_ok-out-in-Ok-Done-clause-done g c).plays.plays;
   reads = played_reads _ _ _ (returns-in_ok-out-in-Ok-Done-clause-done g c).plays.plays;
+  numbers = played_numbers _ _ _ (returns-in_ok-out-in-Ok-Done-clause-done g c).plays.plays;
 }
 
 pub returns-in_ok-abort-in-Ok-Failed-clause-keeps : goal.returns-in_ok-abort-in-Ok-Failed-clause-keeps
@@ -56,6 +58,7 @@ returns-in_ok-abort-in-Ok-Failed-clause-passes g c = record {
   places = played_places _ _ _ (later_own c.args.app.now.index c.requires.place (returns-in_ok-abort-in-Ok-Failed-clause-keeps g c).later)
       (returns-in_ok-abort-in-Ok-Failed-clause-done g c).plays.plays;
   reads = played_reads _ _ _ (returns-in_ok-abort-in-Ok-Failed-clause-done g c).plays.plays;
+  numbers = played_numbers _ _ _ (returns-in_ok-abort-in-Ok-Failed-clause-done g c).plays.plays;
 }
 
 pub returns-in_err-out-in-Ok-Done-clause-keeps : goal.returns-in_err-out-in-Ok-Done-clause-keeps
@@ -74,6 +77,8 @@ returns-in_err-out-in-Ok-Done-clause-passes g c = record {
       (later_own c.args.app.now.index c.requires.place (returns-in_err-out-in-Ok-Done-clause-keeps g c).later) c.in-Ok-Done.ensures.ok.turns
       c.in_err-out-in-Ok-Done.ensures;
   reads = if_failed _ c.from_residual.result c.from_residual.ensures.0;
+  numbers = numbers_failed _ c.from_residual.result c.from_residual.ensures.0
+      (committed_end c.args.net.now c.begin-txn.ensures.net c.in-Ok-Done.ensures.ok.turns c.in_err-out-in-Ok-Done.ensures);
 }
 
 pub returns-in_err-out-in-Ok-Done-clause-done : goal.returns-in_err-out-in-Ok-Done-clause-done
@@ -113,6 +118,8 @@ returns-in_err-abort-in-Ok-Failed-clause-passes g c = record {
       (later_own c.args.app.now.index c.requires.place (returns-in_err-abort-in-Ok-Failed-clause-keeps g c).later) c.in-Ok-Failed.ensures.ok.turns
       c.abort.ensures;
   reads = if_failed _ c.from_residual-in_err-abort-in-Ok-Failed.result c.from_residual-in_err-abort-in-Ok-Failed.ensures.0;
+  numbers = numbers_failed _ c.from_residual-in_err-abort-in-Ok-Failed.result c.from_residual-in_err-abort-in-Ok-Failed.ensures.0
+      (undone_end c.args.net.now c.begin-txn.ensures.net c.in-Ok-Failed.ensures.ok.turns c.abort.ensures);
 }
 
 pub returns-in_err-abort-in-Ok-Failed-clause-done : goal.returns-in_err-abort-in-Ok-Failed-clause-done
@@ -149,6 +156,7 @@ returns-in-Err-clause-passes g c = record {
   places = stop_undone c.args.net.now c.begin-txn.ensures.net (later_own c.args.app.now.index c.requires.place (returns-in-Err-clause-keeps g c).later)
       c.in-Err.ensures.err c.abort-in-Err.ensures;
   reads = tt;
+  numbers = stopped_end c.args.net.now c.begin-txn.ensures.net c.in-Err.ensures.err c.abort-in-Err.ensures;
 }
 
 pub returns-in-Err-clause-done : goal.returns-in-Err-clause-done

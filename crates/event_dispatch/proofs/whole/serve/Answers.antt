@@ -5,6 +5,7 @@ use Rattle.event_dispatch.specs.laws.PlainLaws.{unopened_plain, served_plain}
 use Rattle.event_dispatch.specs.laws.ReadLaws.{unopened_places, opened_places, unopened_read, all_read, failed_read}
 use Rattle.run_laws.specs.First.{net_at_first}
 use Rattle.event_dispatch.specs.laws.EndedLaws.{unopened_ended, opened_ended}
+use Rattle.event_dispatch.specs.laws.NumberLaws.{unopened_ids, opened_ids}
 use Rattle.event_dispatch.specs.laws.WhyLaws.{continues_then, why_sink, why_behind, same_fell}
 use Rattle.event_dispatch.proofs.whole.serve.Goals as goal
 
@@ -132,3 +133,18 @@ pub returns-in-Err-run-clause-every_application_ended : goal.returns-in-Err-run-
 returns-in-Err-run-clause-every_application_ended g c =
     opened_ended g.W.World.Tells (g.W.World.seen c.args.world.now) (g.W.World.seen c.open.new.world) (g.W.World.seen c.run.new.world) net_at_first
     c.in_default.ensures.opened c.in-Err-run.ensures.passes.none_runs
+
+pub returns-in-Err-clause-own_ids_ascend : goal.returns-in-Err-clause-own_ids_ascend
+returns-in-Err-clause-own_ids_ascend g c =
+    λ told none order. unopened_ids g.W.World.Tells (g.W.World.seen c.args.world.now) (g.W.World.seen c.open.new.world) c.in-Err.served
+    c.in-Err.ensures.unopened told none
+
+pub returns-in-Ok-clause-own_ids_ascend : goal.returns-in-Ok-clause-own_ids_ascend
+returns-in-Ok-clause-own_ids_ascend g c =
+    opened_ids g.W.World.Tells (g.W.World.seen c.args.world.now) (g.W.World.seen c.open.new.world) (g.W.World.seen c.run.new.world)
+    c.in_default.ensures.opened c.in-Ok.ensures.passes.numbers
+
+pub returns-in-Err-run-clause-own_ids_ascend : goal.returns-in-Err-run-clause-own_ids_ascend
+returns-in-Err-run-clause-own_ids_ascend g c =
+    opened_ids g.W.World.Tells (g.W.World.seen c.args.world.now) (g.W.World.seen c.open.new.world) (g.W.World.seen c.run.new.world)
+    c.in_default.ensures.opened c.in-Err-run.ensures.passes.numbers

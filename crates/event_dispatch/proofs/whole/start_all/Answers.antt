@@ -1,6 +1,6 @@
 use Rattle.std.proofs.Common.{refl, arith}
 use Rattle.event_dispatch.specs.laws.BeginLaws.{starts_first, start_split, start_place, start_rests, starts_next, all_started, starts_going}
-use Rattle.event_dispatch.specs.laws.PassesLaws.{if_failed, quiet_fails, quiet_then, quiet_as, quiet_waits}
+use Rattle.event_dispatch.specs.laws.PassesLaws.{same_next, if_failed, quiet_fails, quiet_then, quiet_as, quiet_waits}
 use Rattle.event_dispatch.proofs.whole.start_all.Goals as goal
 
 pub loop-at-init : goal.loop-at-init
@@ -30,7 +30,7 @@ pub returns : goal.returns
 returns g c =
     let so_far = c.loop-at.invariant in
     record {
-      passes = quiet_as _ _ so_far.passes refl;
+      passes = quiet_as _ _ so_far.passes (same_next _);
       done = record {
         going = starts_going c.loop-at.at (g.W.World.seen c.args.world.now) (g.W.World.seen c.loop-at.world) c.args.core.now c.loop-at.core
             c.args.apps.now.items c.loop-at.apps.items so_far (omega (

@@ -2,7 +2,7 @@ use Rattle.crash_policy.specs.Policies.{app_value}
 use Rattle.std.proofs.Common.{map, refl, sym, subst}
 use Rattle.legosdn.specs.Live.{Taken}
 use Rattle.legosdn.proofs.Serving.{serves_unread, serves_taken}
-use Rattle.legosdn.proofs.Runs.{none_runs_yet}
+use Rattle.legosdn.proofs.Runs.{none_runs_yet, no_ids_yet}
 use Rattle.legosdn.proofs.live.run_live.Goals as goal
 
 pub returns-in_err-apps-clause-serves : goal.returns-in_err-apps-clause-serves
@@ -18,3 +18,6 @@ returns-clause-serves g c =
 
 pub returns-in_err-apps-clause-ended : goal.returns-in_err-apps-clause-ended
 returns-in_err-apps-clause-ended g c = λ told none. none_runs_yet (g.W.World.seen c.args.live.now) none
+
+pub returns-in_err-apps-clause-ids : goal.returns-in_err-apps-clause-ids
+returns-in_err-apps-clause-ids g c = λ told none order short. no_ids_yet (g.W.World.seen c.args.live.now) none

@@ -5,7 +5,7 @@ use Rattle.legosdn.proofs.Causes.{are_new, run_causes}
 use Rattle.legosdn.specs.Headline.{KeepsLines, Loaded}
 use Rattle.legosdn.proofs.Loads.{loaded_on, loaded_as, unread_as}
 use Rattle.legosdn.proofs.Losses.{nothing_lost}
-use Rattle.legosdn.proofs.Runs.{untouched, none_runs, runs_by_read, lines_by_read, new_strays}
+use Rattle.legosdn.proofs.Runs.{untouched, none_runs, no_ids, runs_by_read, lines_by_read, new_strays}
 use Rattle.legosdn.proofs.top.replay.Goals as goal
 
 pub returns-clause-why : goal.returns-clause-why
@@ -58,3 +58,9 @@ returns-in_err-apps-clause-lost g c = λ none. nothing_lost (seen_of c.load.new.
 
 pub returns-clause-lost : goal.returns-clause-lost
 returns-clause-lost g c = c.simulate.ensures.lost (untouched c.load.new.sim c.in_ok-apps.ensures.new)
+
+pub returns-in_err-apps-clause-ids : goal.returns-in_err-apps-clause-ids
+returns-in_err-apps-clause-ids g c = λ short. no_ids c.load.new.sim c.load.ensures.new
+
+pub returns-clause-ids : goal.returns-clause-ids
+returns-clause-ids g c = c.simulate.ensures.ids (untouched c.load.new.sim c.in_ok-apps.ensures.new)

@@ -3,7 +3,7 @@ use Rattle.legosdn.specs.declared.stop.Stop.TheVariants.{NoMemory}
 use Rattle.legosdn.proofs.Serving.{replays_unread}
 use Rattle.sim_world.specs.World.{seen_of}
 use Rattle.legosdn.proofs.Losses.{nothing_lost}
-use Rattle.legosdn.proofs.Runs.{untouched, none_runs, none_runs_yet, new_strays}
+use Rattle.legosdn.proofs.Runs.{untouched, none_runs, none_runs_yet, no_ids, no_ids_yet, new_strays}
 use Rattle.legosdn.proofs.top.run.Goals as goal
 
 pub returns-in_err-read_words-clause-replays : goal.returns-in_err-read_words-clause-replays
@@ -60,3 +60,21 @@ pub returns-in-Some-Run-clause-serves : goal.returns-in-Some-Run-clause-serves
 returns-in-Some-Run-clause-serves g c = λ port rounds is.
     let same : c.in-Some-Run.rounds ≡ rounds = search rules in
     rw (sym same) c.run_live.ensures.serves
+
+pub returns-in_err-read_words-clause-ids : goal.returns-in_err-read_words-clause-ids
+returns-in_err-read_words-clause-ids g c = λ short. no_ids c.args.sim.now c.requires.new
+
+pub returns-in-Some-Run-clause-ids : goal.returns-in-Some-Run-clause-ids
+returns-in-Some-Run-clause-ids g c = λ short. no_ids c.args.sim.now c.requires.new
+
+pub returns-in-None-clause-ids : goal.returns-in-None-clause-ids
+returns-in-None-clause-ids g c = λ short. no_ids c.args.sim.now c.requires.new
+
+pub returns-in_err-read_words-clause-live_ids : goal.returns-in_err-read_words-clause-live_ids
+returns-in_err-read_words-clause-live_ids g c = λ told none order short. no_ids_yet (g.W.World.seen c.args.live.now) none
+
+pub returns-in-Some-Replay-clause-live_ids : goal.returns-in-Some-Replay-clause-live_ids
+returns-in-Some-Replay-clause-live_ids g c = λ told none order short. no_ids_yet (g.W.World.seen c.args.live.now) none
+
+pub returns-in-None-clause-live_ids : goal.returns-in-None-clause-live_ids
+returns-in-None-clause-live_ids g c = λ told none order short. no_ids_yet (g.W.World.seen c.args.live.now) none

@@ -24,3 +24,6 @@ pub returns-clause-lost : goal.returns-clause-lost
 returns-clause-lost g c = λ none.
     none_is_lost (seen_of c.run_world-ended.new.world) c.keeps_word.ensures.word
     (c.run_world-ended.ensures.strays (tells (seen_of c.args.sim.now) (seen_of c.run_world-ended.new.world) none c.keeps_word.ensures.word))
+
+pub returns-clause-ids : goal.returns-clause-ids
+returns-clause-ids g c = λ none. c.run_world-ended.ensures.ids tt none c.keeps_word.ensures.word

@@ -11,7 +11,7 @@ use Rattle.net_txn.proofs.reverting.revert_to.Goals as goal
 pub returns-in_err-send_first-clause-undoing : goal.returns-in_err-send_first-clause-undoing
 returns-in_err-send_first-clause-undoing g c = λ base views x first ps qs fault e u known unfailed more.
     let p = err_from_is_err_and c.from_residual.result c.from_residual.ensures.1 in
-    rw (p.1, p.2) (stuck_first c.args.log.now c.send_first.new.log _ e _ c.requires.place (c.in_err-send_first.ensures.marked e) refl (lost_link _ _ c.args.buf.now) c.take_xid-id.ensures.next u known unfailed (says_fails _ _ _ (c.in_err-send_first.ensures.says e)))
+    rw (p.1, p.2) (stuck_first c.args.log.now c.send_first.new.log _ e _ c.requires.place (c.in_err-send_first.ensures.marked e) refl (lost_link _ _ c.args.buf.now) c.take_xid-id.ensures.next u known unfailed (says_fails _ _ _ _ (c.in_err-send_first.ensures.says e)))
 
 pub returns-then-since-lt-MOST_BEHIND_BARRIER-clause-undoing :
     goal.returns-then-since-lt-MOST_BEHIND_BARRIER-clause-undoing
@@ -30,4 +30,4 @@ returns-clause-undoing g c = λ base views x first ps qs fault e u known unfaile
     ap (λ (xs : List Logged). (get_or xs 0 e).dpid) (e1.marked e) ∙ ap (λ (l : Logged). l.dpid) (get_or-set_same c.args.log.now 0 sent e c.requires.place) in
     let lt : 0 < length c.send_first.new.log = subst (λ (xs : List Logged). 0 < length xs) (sym (e1.marked e)) (lt-length-set c.args.log.now 0 sent c.requires.place) in
     let s = c.await_at.ensures in
-    await_reverted d c.send_first.new.log c.await_at.new.log e c.await_at.result c.await_at.new.buf lt here (s.marked e) (omega arith) c.take_xid-id-2.ensures.next p known (s.passes e).kept_more (rw c.take_xid-id-2.ensures.taken at (s.passes e).replied) (s.passes e).failed
+    await_reverted d c.send_first.new.log c.await_at.new.log e c.await_at.result c.await_at.new.buf lt here (s.marked e) (omega arith) c.take_xid-id-2.ensures.next p known (s.passes e).kept_more (rw c.take_xid-id-2.ensures.taken at (s.passes e).replied) (rw c.take_xid-id-2.ensures.taken at (s.passes e).failed)

@@ -4,7 +4,7 @@ use Rattle.of_wire.specs.declared.message.Message.TheVariants.{BarrierReply}
 use Rattle.of_wire.specs.Spelling.{message_bytes}
 use Rattle.lego_model.specs.declared.wait.Awaited.{Awaited}
 use Rattle.net_txn.specs.laws.AskLaws.{long_parts, sorted_more, sorted_some, came_more, asked_waits, answer_by_replies}
-use Rattle.net_txn.specs.laws.AskFaultLaws.{asked_halts, asked_short, asked_broke}
+use Rattle.net_txn.specs.laws.AskFaultLaws.{request_ascends, asked_halts, asked_short, asked_broke}
 use Rattle.net_txn.specs.laws.WaitLaws.{none_kept}
 use Rattle.net_txn.specs.laws.TalkLaws.{speaks_none, talks_speak, talks_ok, talks_err, talks_waits}
 use Rattle.net_txn.proofs.row_request.request_rows.Goals as goal
@@ -12,18 +12,18 @@ use Rattle.net_txn.proofs.row_request.request_rows.Goals as goal
 pub returns-in_err-request : goal.returns-in_err-request
 returns-in_err-request g c =
     let p = err_from_is_err_and c.from_residual.result c.from_residual.ensures.1 in
-    rw (p.1, p.2) (record { speaks = speaks_none g.W.World.Tells c.args.dpid (g.W.World.seen c.args.world.now); kept_more = none_kept c.args.dpid c.args.kept.now; answer = (inl tt, tt, λ told. refl) })
+    rw (p.1, p.2) (record { speaks = speaks_none g.W.World.Tells c.args.dpid c.args.xid 2 (g.W.World.seen c.args.world.now); kept_more = none_kept c.args.dpid c.args.kept.now; answer = (inl tt, tt, λ told. refl) })
 
 pub returns-in_err-came : goal.returns-in_err-came
 returns-in_err-came g c =
     let p = err_from_is_err_and c.from_residual-in_err-came.result c.from_residual-in_err-came.ensures.1 in
-    rw (p.1, p.2) (record { speaks = speaks_none g.W.World.Tells c.args.dpid (g.W.World.seen c.args.world.now); kept_more = none_kept c.args.dpid c.args.kept.now; answer = (inl tt, tt, λ told. refl) })
+    rw (p.1, p.2) (record { speaks = speaks_none g.W.World.Tells c.args.dpid c.args.xid 2 (g.W.World.seen c.args.world.now); kept_more = none_kept c.args.dpid c.args.kept.now; answer = (inl tt, tt, λ told. refl) })
 
 pub returns-in_err-ask : goal.returns-in_err-ask
 returns-in_err-ask g c =
     let p = err_from_is_err_and c.from_residual-in_err-ask.result c.from_residual-in_err-ask.ensures.1 in
     rw (p.1, p.2) (record {
-      speaks = talks_speak _ _ _ c.args.dpid (c.as_slice.result.now ∷ []) c.ask.result (ap (λ (a : Awaited). a.dpid) c.asked-awaited.ensures) c.ask.ensures;
+      speaks = talks_speak c.args.xid 2 _ _ _ c.args.dpid (c.as_slice.result.now ∷ []) c.ask.result (ap (λ (a : Awaited). a.dpid) c.asked-awaited.ensures) c.ask.ensures (request_ascends c.args.dpid c.args.xid c.asked-awaited.result c.as_slice.result.now c.asked-awaited.ensures (c.as_slice.ensures ∙ c.in_ok-request.ensures.bytes));
       kept_more = none_kept c.args.dpid c.args.kept.now;
       answer = asked_halts c.args.dpid c.args.xid c.asked-awaited.result c.as_slice.result.now (g.W.World.seen c.args.world.now) (g.W.World.seen c.ask.new.world) _ c.ask.new.kept c.args.kept.now c.args.kept.now c.in_err-ask.field-0.0 (omega arith)
           c.asked-awaited.ensures (c.as_slice.ensures ∙ c.in_ok-request.ensures.bytes) c.in_err-ask.ensures;
@@ -38,7 +38,7 @@ returns-in_err-replies g c =
     let more = came_more g.W.World.Tells c.args.dpid c.args.xid c.asked-awaited.result _ old new c.in_ok-came.came came c.ask.result c.asked-awaited.ensures c.in_ok-came.ensures (talks_ok _ _ _ _ _ _ (c.as_slice.result.now ∷ []) c.ask.result c.ask.ensures) (talks_err _ _ _ _ _ _ (c.as_slice.result.now ∷ []) c.ask.result c.ask.ensures) in
     let (n, kept) = c.in_err-replies.ensures.kept_err in
     rw (p.1, p.2) (record {
-      speaks = talks_speak _ _ _ c.args.dpid (c.as_slice.result.now ∷ []) c.ask.result (ap (λ (a : Awaited). a.dpid) c.asked-awaited.ensures) c.ask.ensures;
+      speaks = talks_speak c.args.xid 2 _ _ _ c.args.dpid (c.as_slice.result.now ∷ []) c.ask.result (ap (λ (a : Awaited). a.dpid) c.asked-awaited.ensures) c.ask.ensures (request_ascends c.args.dpid c.args.xid c.asked-awaited.result c.as_slice.result.now c.asked-awaited.ensures (c.as_slice.ensures ∙ c.in_ok-request.ensures.bytes));
       kept_more = sorted_some c.args.dpid c.args.xid n came c.args.kept.now c.sort_out.new.kept more kept;
       answer = asked_short c.args.dpid c.args.xid _ _ old new _ came c.args.kept.now c.sort_out.new.kept _ c.in_ok-ask.ensures;
     })
@@ -54,7 +54,7 @@ returns-in-Ok g c =
     let more = came_more g.W.World.Tells c.args.dpid c.args.xid c.asked-awaited.result _ old new c.in_ok-came.came came c.ask.result c.asked-awaited.ensures c.in_ok-came.ensures (talks_ok _ _ _ _ _ _ (c.as_slice.result.now ∷ []) c.ask.result c.ask.ensures) (talks_err _ _ _ _ _ _ (c.as_slice.result.now ∷ []) c.ask.result c.ask.ensures) in
     let waits = asked_waits c.args.dpid c.args.xid c.asked-awaited.result c.as_slice.result.now old new c.in_ok-came.came came c.in_ok-ask.field-0 c.asked-awaited.ensures (c.as_slice.ensures ∙ c.in_ok-request.ensures.bytes) c.in_ok-came.ensures (talks_waits (c.as_slice.result.now ∷ []) c.in_ok-ask.ensures) in
     record {
-      speaks = talks_speak _ _ _ c.args.dpid (c.as_slice.result.now ∷ []) c.ask.result (ap (λ (a : Awaited). a.dpid) c.asked-awaited.ensures) c.ask.ensures;
+      speaks = talks_speak c.args.xid 2 _ _ _ c.args.dpid (c.as_slice.result.now ∷ []) c.ask.result (ap (λ (a : Awaited). a.dpid) c.asked-awaited.ensures) c.ask.ensures (request_ascends c.args.dpid c.args.xid c.asked-awaited.result c.as_slice.result.now c.asked-awaited.ensures (c.as_slice.ensures ∙ c.in_ok-request.ensures.bytes));
       kept_more = sorted_more c.args.dpid c.args.xid came c.args.kept.now c.sort_out.new.kept more c.in_ok-replies.ensures.kept;
       answer = answer_by_replies c.args.dpid c.args.xid old new c.args.kept.now c.sort_out.new.kept came c.in_ok-replies.replies.parts.items c.in_ok-replies.replies.refusals.items c.in_ok-request.request c.asked-awaited.result.barrier (Ok c.in-Ok.rows)
           (record { brought = c.in_ok-ask.field-0; waits = waits; kept_is = c.in_ok-replies.ensures.kept })
@@ -74,7 +74,7 @@ returns-in-Err g c =
     c.in_ok-replies.ensures.parts c.in_ok-replies.ensures.refusals c.in_ok-request.ensures.bytes (ap (λ (x : Awaited). x.barrier) c.asked-awaited.ensures)
     tt tt c.in-Err.ensures.err in
     record {
-      speaks = talks_speak _ _ _ c.args.dpid (c.as_slice.result.now ∷ []) c.ask.result (ap (λ (a : Awaited). a.dpid) c.asked-awaited.ensures) c.ask.ensures;
+      speaks = talks_speak c.args.xid 2 _ _ _ c.args.dpid (c.as_slice.result.now ∷ []) c.ask.result (ap (λ (a : Awaited). a.dpid) c.asked-awaited.ensures) c.ask.ensures (request_ascends c.args.dpid c.args.xid c.asked-awaited.result c.as_slice.result.now c.asked-awaited.ensures (c.as_slice.ensures ∙ c.in_ok-request.ensures.bytes));
       kept_more = sorted_more c.args.dpid c.args.xid came c.args.kept.now c.sort_out.new.kept more c.in_ok-replies.ensures.kept;
       answer = asked_broke c.args.dpid c.args.xid _ _ old new _ came c.args.kept.now c.sort_out.new.kept _ c.in_ok-request.request (message_bytes c.asked-awaited.result.barrier BarrierReply) c.in_ok-replies.replies.parts.items c.in_ok-replies.replies.refusals.items c.in-Err.fault c.in_ok-ask.ensures cause c.in-Err.ensures.err;
     }

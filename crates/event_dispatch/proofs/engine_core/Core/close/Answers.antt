@@ -9,7 +9,7 @@ use Rattle.event_dispatch.specs.Shows.{name_of}
 use Rattle.event_dispatch.specs.TurnParts.{CloseDone}
 use Rattle.app_visor.specs.laws.OwnLaws.{own_none}
 use Rattle.net_txn.specs.Net.{NetState}
-use Rattle.event_dispatch.specs.laws.PassesLaws.{quiet_none, quiet_not, quiet_fails, quiet_as, quiet_waits}
+use Rattle.event_dispatch.specs.laws.PassesLaws.{same_next, quiet_none, quiet_not, quiet_fails, quiet_as, quiet_waits}
 use Rattle.event_dispatch.specs.laws.TurnPartLaws.{if_not, quiet_over, done_so, failed_so}
 use Rattle.event_dispatch.specs.laws.WhyLaws.{waits_then}
 use Rattle.event_dispatch.proofs.engine_core.Core.close.Goals as goal
@@ -33,8 +33,12 @@ returns-in_err-tell_lost-in-Done g c = record {
 pub returns-in_ok-tell_lost-in-Done-clause-passes : goal.returns-in_ok-tell_lost-in-Done-clause-passes
 returns-in_ok-tell_lost-in-Done-clause-passes g c =
     quiet_none g.W.World.Tells (g.W.World.seen c.args.world.now) c.args.self.now.net c.tell_lost.new.self.net _
-    (ap (λ (n : NetState). n.views) c.in_ok-tell_lost-in-Done.ensures.tells.net ∙ ap (λ (n : NetState). n.views)
-    c.in_ok-note_done-in-Done.ensures.adds.stays.net)
+    (record {
+      views = ap (λ (n : NetState). n.views) c.in_ok-tell_lost-in-Done.ensures.tells.net ∙ ap (λ (n : NetState). n.views)
+          c.in_ok-note_done-in-Done.ensures.adds.stays.net;
+      xid = ap (λ (n : NetState). n.xid) c.in_ok-tell_lost-in-Done.ensures.tells.net ∙ ap (λ (n : NetState). n.xid)
+          c.in_ok-note_done-in-Done.ensures.adds.stays.net;
+    })
 
 pub returns-in_ok-tell_lost-in-Done-clause-keeps : goal.returns-in_ok-tell_lost-in-Done-clause-keeps
 returns-in_ok-tell_lost-in-Done-clause-keeps g c =
@@ -62,8 +66,12 @@ returns-in_err-go_on-in-Failed g c = record {
       (quiet_waits (waits_then c.args.self.now c.note_turn.new.self c.tell_lost-in-Failed.new.self c.in_ok-note_turn-in-Failed.ensures.waits
       c.in_ok-tell_lost-in-Failed.ensures.waits)
       (quiet_over c.args.self.now.net c.tell_lost-in-Failed.new.self.net
-      (ap (λ (n : NetState). n.views) c.in_ok-tell_lost-in-Failed.ensures.tells.net ∙ ap (λ (n : NetState). n.views)
-      c.in_ok-note_turn-in-Failed.ensures.adds.stays.net) c.in_err-go_on-in-Failed.ensures.passes)) c.from_residual-in_err-go_on-in-Failed.ensures.0;
+      (record {
+        views = ap (λ (n : NetState). n.views) c.in_ok-tell_lost-in-Failed.ensures.tells.net ∙ ap (λ (n : NetState). n.views)
+            c.in_ok-note_turn-in-Failed.ensures.adds.stays.net;
+        xid = ap (λ (n : NetState). n.xid) c.in_ok-tell_lost-in-Failed.ensures.tells.net ∙ ap (λ (n : NetState). n.xid)
+            c.in_ok-note_turn-in-Failed.ensures.adds.stays.net;
+      }) c.in_err-go_on-in-Failed.ensures.passes)) c.from_residual-in_err-go_on-in-Failed.ensures.0;
   keeps = record { index = c.go_on.ensures.keeps.same.index; rule = c.go_on.ensures.keeps.same.rule; own = c.go_on.ensures.keeps.own };
   done = if_not _ c.from_residual-in_err-go_on-in-Failed.result c.from_residual-in_err-go_on-in-Failed.ensures.0;
 }
@@ -73,8 +81,12 @@ returns-in_ok-go_on-in-Failed-clause-passes g c =
     quiet_as _ (Ok false) (quiet_waits (waits_then c.args.self.now c.note_turn.new.self c.tell_lost-in-Failed.new.self c.in_ok-note_turn-in-Failed.ensures.waits
     c.in_ok-tell_lost-in-Failed.ensures.waits)
     (quiet_over c.args.self.now.net c.tell_lost-in-Failed.new.self.net
-    (ap (λ (n : NetState). n.views) c.in_ok-tell_lost-in-Failed.ensures.tells.net ∙ ap (λ (n : NetState). n.views)
-    c.in_ok-note_turn-in-Failed.ensures.adds.stays.net) c.in_ok-go_on-in-Failed.ensures.passes)) refl
+    (record {
+      views = ap (λ (n : NetState). n.views) c.in_ok-tell_lost-in-Failed.ensures.tells.net ∙ ap (λ (n : NetState). n.views)
+          c.in_ok-note_turn-in-Failed.ensures.adds.stays.net;
+      xid = ap (λ (n : NetState). n.xid) c.in_ok-tell_lost-in-Failed.ensures.tells.net ∙ ap (λ (n : NetState). n.xid)
+          c.in_ok-note_turn-in-Failed.ensures.adds.stays.net;
+    }) c.in_ok-go_on-in-Failed.ensures.passes)) (same_next _)
 
 pub returns-in_ok-go_on-in-Failed-clause-keeps : goal.returns-in_ok-go_on-in-Failed-clause-keeps
 returns-in_ok-go_on-in-Failed-clause-keeps g c =

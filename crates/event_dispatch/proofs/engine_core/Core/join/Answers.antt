@@ -1,7 +1,9 @@
+use Rattle.event_dispatch.specs.declared.fault.Fault.{Fault}
 use Rattle.event_dispatch.specs.declared.fault.Fault.TheVariants as faults
+use Rattle.lego_model.specs.declared.fault.TxnFault.{TxnFault}
 use Rattle.std.specs.Prelude.{ℕ, Vec}
 use Rattle.std.specs.Global.{Global}
-use Rattle.std.proofs.Common.{refl, sym, ap, subst}
+use Rattle.std.proofs.Common.{Ok, refl, sym, ap, subst, inl, inr}
 use Rattle.outside.specs.Seen.{Seen}
 use Rattle.net_txn.specs.Net.{NetState}
 use Rattle.event_dispatch.specs.declared.engine_core.Core.{Core}
@@ -19,7 +21,8 @@ use Rattle.event_dispatch.proofs.engine_core.Core.join.Goals as goal
 
 pub returns-in_err-joined : goal.returns-in_err-joined
 returns-in_err-joined g c = record {
-  uses = joins_on_links g.W.World.Tells c.args.dpid (g.W.World.seen c.args.world.now) (g.W.World.seen c.joined.new.world) c.joined.ensures.continues c.joined.ensures.links c.joined.ensures.no_strays;
+  uses = joins_on_links g.W.World.Tells c.args.dpid (g.W.World.seen c.args.world.now) (g.W.World.seen c.joined.new.world) c.args.self.now.net c.joined.new.self _ c.joined.result c.from_residual.result c.joined.ensures.continues c.joined.ensures.links c.joined.ensures.no_strays
+      c.joined.ensures.ids (λ _. c.from_residual.ensures.0) (inl c.from_residual.ensures.0);
   done = at_fault _ _ (fault_of c.in_err-joined.field-0.0) c.from_residual.result c.from_residual.ensures.1 (record {
     why = join_why g.W.World.Tells c.args.dpid c.args.self.now.net.xid (g.W.World.seen c.args.world.now) (g.W.World.seen c.joined.new.world) c.in_err-joined.field-0.0 c.in_err-joined.ensures.cause c.in_err-joined.ensures.flooded;
     plain = join_fault c.args.dpid (g.W.World.seen c.args.world.now) (g.W.World.seen c.joined.new.world) c.args.self.now.net c.joined.new.self c.in_err-joined.field-0.0 c.in_err-joined.ensures.in_step;
@@ -28,13 +31,15 @@ returns-in_err-joined g c = record {
 
 pub returns-in_err-announce : goal.returns-in_err-announce
 returns-in_err-announce g c = record {
-  uses = joins_on_links g.W.World.Tells c.args.dpid (g.W.World.seen c.args.world.now) (g.W.World.seen c.joined.new.world) c.joined.ensures.continues c.joined.ensures.links c.joined.ensures.no_strays;
+  uses = joins_on_links g.W.World.Tells c.args.dpid (g.W.World.seen c.args.world.now) (g.W.World.seen c.joined.new.world) c.args.self.now.net c.joined.new.self _ c.joined.result c.from_residual-in_err-announce.result c.joined.ensures.continues c.joined.ensures.links c.joined.ensures.no_strays
+      c.joined.ensures.ids (λ _. c.from_residual-in_err-announce.ensures.0) (inl c.from_residual-in_err-announce.ensures.0);
   done = at_fault _ _ faults.NoMemory c.from_residual-in_err-announce.result c.from_residual-in_err-announce.ensures.1 (record { why = tt; plain = join_memory c.args.dpid (g.W.World.seen c.args.world.now) (g.W.World.seen c.joined.new.world) });
 }
 
 pub returns-in_err-note_loss : goal.returns-in_err-note_loss
 returns-in_err-note_loss g c = record {
-  uses = joins_on_links g.W.World.Tells c.args.dpid (g.W.World.seen c.args.world.now) (g.W.World.seen c.joined.new.world) c.joined.ensures.continues c.joined.ensures.links c.joined.ensures.no_strays;
+  uses = joins_on_links g.W.World.Tells c.args.dpid (g.W.World.seen c.args.world.now) (g.W.World.seen c.joined.new.world) c.args.self.now.net c.joined.new.self _ c.joined.result c.from_residual-in_err-note_loss.result c.joined.ensures.continues c.joined.ensures.links c.joined.ensures.no_strays
+      c.joined.ensures.ids (λ _. c.from_residual-in_err-note_loss.ensures.0) (inl c.from_residual-in_err-note_loss.ensures.0);
   done = at_fault _ _ faults.NoMemory c.from_residual-in_err-note_loss.result c.from_residual-in_err-note_loss.ensures.1 (record { why = tt; plain = join_memory c.args.dpid (g.W.World.seen c.args.world.now) (g.W.World.seen c.joined.new.world) });
 }
 
@@ -42,13 +47,19 @@ pub returns : goal.returns
 returns g c = record {
   uses = elim c.match-message.branch [
     | in-FeaturesReply+in_ok-joined+then-branch+in_ok-announce w ↦
-        subst (λ (s : Seen _). UsesLinksOf g.W.World.Tells c.args.dpid (g.W.World.seen c.args.world.now) s) (sym (ap g.W.World.seen w.world-is))
-        (joins_on_links g.W.World.Tells c.args.dpid (g.W.World.seen c.args.world.now) (g.W.World.seen w.joined.new.world) w.joined.ensures.continues w.joined.ensures.links w.joined.ensures.no_strays)
+        subst (λ (r : Core). UsesLinksOf {T = Unit {0}} {E = Fault} g.W.World.Tells c.args.dpid (g.W.World.seen c.args.world.now) (g.W.World.seen c.match-message.world) c.args.self.now.net r.net (Ok tt)) (sym w.self-is)
+        (subst (λ (s : Seen _). UsesLinksOf {T = Unit {0}} {E = Fault} g.W.World.Tells c.args.dpid (g.W.World.seen c.args.world.now) s c.args.self.now.net w.announce.new.self.net (Ok tt)) (sym (ap g.W.World.seen w.world-is))
+        (joins_on_links {F = TxnFault} g.W.World.Tells c.args.dpid (g.W.World.seen c.args.world.now) (g.W.World.seen w.joined.new.world) c.args.self.now.net w.joined.new.self w.announce.new.self.net (Ok w.in_ok-joined.field-0) (Ok tt) w.joined.ensures.continues w.joined.ensures.links w.joined.ensures.no_strays
+        w.in_ok-joined.ensures.ids (λ f. f) (inr (ap (λ (n : NetState). n.xid) w.announce.ensures.net))))
     | in-FeaturesReply+in_ok-joined+else-branch+in_ok-note_loss w ↦
-        subst (λ (s : Seen _). UsesLinksOf g.W.World.Tells c.args.dpid (g.W.World.seen c.args.world.now) s) (sym (ap g.W.World.seen w.world-is))
-        (joins_on_links g.W.World.Tells c.args.dpid (g.W.World.seen c.args.world.now) (g.W.World.seen w.joined.new.world) w.joined.ensures.continues w.joined.ensures.links w.joined.ensures.no_strays)
+        subst (λ (r : Core). UsesLinksOf {T = Unit {0}} {E = Fault} g.W.World.Tells c.args.dpid (g.W.World.seen c.args.world.now) (g.W.World.seen c.match-message.world) c.args.self.now.net r.net (Ok tt)) (sym w.self-is)
+        (subst (λ (s : Seen _). UsesLinksOf {T = Unit {0}} {E = Fault} g.W.World.Tells c.args.dpid (g.W.World.seen c.args.world.now) s c.args.self.now.net w.note_loss.new.self.net (Ok tt)) (sym (ap g.W.World.seen w.world-is))
+        (joins_on_links {F = TxnFault} g.W.World.Tells c.args.dpid (g.W.World.seen c.args.world.now) (g.W.World.seen w.joined.new.world) c.args.self.now.net w.joined.new.self w.note_loss.new.self.net (Ok w.in_ok-joined.field-0) (Ok tt) w.joined.ensures.continues w.joined.ensures.links w.joined.ensures.no_strays
+        w.in_ok-joined.ensures.ids (λ f. f) (inr (ap (λ (n : NetState). n.xid) w.in_ok-note_loss.ensures.adds.stays.net))))
     | in_default w ↦
-        subst (λ (s : Seen _). UsesLinksOf g.W.World.Tells c.args.dpid (g.W.World.seen c.args.world.now) s) (sym (ap g.W.World.seen w.world-is)) (joins_none g.W.World.Tells c.args.dpid (g.W.World.seen c.args.world.now))
+        subst (λ (r : Core). UsesLinksOf {T = Unit {0}} {E = Fault} g.W.World.Tells c.args.dpid (g.W.World.seen c.args.world.now) (g.W.World.seen c.match-message.world) c.args.self.now.net r.net (Ok tt)) (sym w.self-is)
+        (subst (λ (s : Seen _). UsesLinksOf {T = Unit {0}} {E = Fault} g.W.World.Tells c.args.dpid (g.W.World.seen c.args.world.now) s c.args.self.now.net c.args.self.now.net (Ok tt)) (sym (ap g.W.World.seen w.world-is))
+        (joins_none g.W.World.Tells c.args.dpid (g.W.World.seen c.args.world.now) c.args.self.now.net c.args.self.now.net (Ok tt) refl))
   ];
   done = elim c.match-message.branch [
     | in-FeaturesReply+in_ok-joined+then-branch+in_ok-announce w ↦

@@ -5,7 +5,7 @@ use Rattle.checkpoint_store.specs.Slots.{Slot}
 use Rattle.event_dispatch.specs.ReportEnd.{TablesShown}
 use Rattle.event_dispatch.specs.Why.{served_by}
 use Rattle.event_dispatch.specs.laws.LastLaws.{take_whole, tables_none, tables_next}
-use Rattle.event_dispatch.specs.laws.PassesLaws.{at_fault, quiet_none, quiet_fails, quiet_then, quiet_as, quiet_number, quiet_so_far_none, quiet_so_far_then}
+use Rattle.event_dispatch.specs.laws.PassesLaws.{same_next, at_fault, quiet_none, quiet_fails, quiet_then, quiet_as, quiet_number, quiet_so_far_none, quiet_so_far_then}
 use Rattle.event_dispatch.specs.laws.PlainLaws.{calm_anyway, tables_then}
 use Rattle.event_dispatch.specs.laws.WhyLaws.{ends_then, why_then}
 use Rattle.event_dispatch.proofs.engine_core.Core.note_tables.Goals as goal
@@ -34,7 +34,7 @@ loop-dpid-preserved g c =
 
 pub returns-in_err-switches : goal.returns-in_err-switches
 returns-in_err-switches g c = record {
-  passes = quiet_none g.W.World.Tells (g.W.World.seen c.args.world.now) c.args.self.now.net c.args.self.now.net _ refl;
+  passes = quiet_none g.W.World.Tells (g.W.World.seen c.args.world.now) c.args.self.now.net c.args.self.now.net _ (same_next _);
   done = at_fault _ _ faults.NoMemory c.from_residual.result c.from_residual.ensures.1
       (record {
         why = tt;
@@ -61,7 +61,7 @@ returns-in_err-note_table g c =
 
 pub returns : goal.returns
 returns g c = record {
-  passes = quiet_as _ _ c.loop-dpid.invariant.passes refl;
+  passes = quiet_as _ _ c.loop-dpid.invariant.passes (same_next _);
   done = record {
     waits = c.loop-dpid.invariant.waits;
     shown = subst (λ (ds : List ℕ). TablesShown g.W.World.Tells ds (g.W.World.seen c.args.world.now) (g.W.World.seen c.loop-dpid.world) c.args.self.now

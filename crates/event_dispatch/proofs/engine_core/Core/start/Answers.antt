@@ -1,7 +1,7 @@
 use Rattle.std.proofs.Common.{ap, refl}
 use Rattle.std.proofs.lemmas.Result.{on_ok_weaker}
 use Rattle.net_txn.specs.Net.{NetState}
-use Rattle.event_dispatch.specs.laws.PassesLaws.{if_failed}
+use Rattle.event_dispatch.specs.laws.PassesLaws.{next_of, if_failed}
 use Rattle.event_dispatch.specs.laws.TalkingLaws.{keeps_tried, keeps_restarted}
 use Rattle.event_dispatch.specs.laws.TurnPartLaws.{quiet_own}
 use Rattle.event_dispatch.proofs.engine_core.Core.start.Goals as goal
@@ -23,7 +23,7 @@ returns-clause-passes g c =
     quiet_own c.args.app.now.state.index c.args.self.now.net _ c.note_start.result c.requires.place c.restart.ensures.continues c.restart.ensures.own
     (keeps_restarted g.W.World.Tells c.args.app.now.state.index (g.W.World.seen c.args.world.now) (g.W.World.seen c.restart.new.world) c.restart.ensures.own
     c.in_ok-back.ensures.ok)
-    (on_ok_weaker c.note_start.result (λ noted. ap (λ (n : NetState). n.views) noted.adds.stays.net) c.note_start.ensures)
+    (on_ok_weaker c.note_start.result (λ noted. next_of noted.adds.stays.net) c.note_start.ensures)
 
 pub returns-clause-keeps : goal.returns-clause-keeps
 returns-clause-keeps g c = record { same = record { index = c.restart.ensures.index; rule = refl; done = refl; failed = refl }; own = c.restart.ensures.own }

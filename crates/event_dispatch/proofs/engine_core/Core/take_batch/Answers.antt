@@ -6,7 +6,7 @@ use Rattle.event_dispatch.specs.Told.{GoesBegun}
 use Rattle.event_dispatch.specs.Why.{served_by}
 use Rattle.event_dispatch.specs.laws.BatchLaws.{then_told, batch_goes, batch_ends, batch_too_long}
 use Rattle.event_dispatch.specs.laws.BatchSteadyLaws.{next_number, here_goes, here_ends, here_kept}
-use Rattle.event_dispatch.specs.laws.PassesLaws.{at_fault, passes_then, passes_fails, passes_as, passes_waits, so_far, so_far_then}
+use Rattle.event_dispatch.specs.laws.PassesLaws.{same_next, at_fault, passes_then, passes_fails, passes_as, passes_waits, so_far, so_far_then}
 use Rattle.event_dispatch.specs.laws.PlainLaws.{batch_kept, batch_next}
 use Rattle.event_dispatch.specs.laws.SteadyLaws.{calls_then}
 use Rattle.event_dispatch.specs.laws.TakingLaws.{goes_at_first, kept_comes_first, point_at_first}
@@ -85,7 +85,7 @@ returns-in-Some g c =
     let before = c.loop-item.invariant in
     let next = c.in_ok-rest.ensures in
     record {
-      passes = passes_as c.take_next.new.self.net _ (so_far_then before.passes (passes_waits before.waits next.passes.passes)) refl;
+      passes = passes_as c.take_next.new.self.net _ (so_far_then before.passes (passes_waits before.waits next.passes.passes)) (same_next _);
       talks = keeps_then g.W.World.Tells (g.W.World.seen c.args.world.now) (g.W.World.seen c.loop-item.world) (g.W.World.seen c.take_next.new.world) before.talks next.passes.talks;
       buffer = next.passes.buffer ∙ before.buffer;
       done = record {
@@ -101,7 +101,7 @@ pub returns : goal.returns
 returns g c =
     let before = c.loop-item.invariant in
     record {
-      passes = passes_as c.loop-item.self.net _ before.passes refl;
+      passes = passes_as c.loop-item.self.net _ before.passes (same_next _);
       talks = before.talks;
       buffer = before.buffer;
       done = record {

@@ -1,16 +1,17 @@
-use Rattle.std.proofs.Common.{refl, sym}
+use Rattle.event_dispatch.specs.declared.fault.Fault.TheVariants as faults
+use Rattle.std.proofs.Common.{Ok, Err, refl, sym}
 use Rattle.outside.specs.declared.step.WorldStep.TheVariants.{Joined}
 use Rattle.batch_laws.specs.laws.HandleLaws.{joined_ignored, unread_handles}
 use Rattle.event_dispatch.specs.laws.BatchLaws.{unread, takes_none, joined_taken}
 use Rattle.event_dispatch.specs.laws.BatchSteadyLaws.{joined_puts, only_none}
 use Rattle.event_dispatch.specs.laws.PassesLaws.{match_weaker, waits_none}
 use Rattle.event_dispatch.specs.laws.PlainLaws.{join_memory}
-use Rattle.event_dispatch.specs.laws.TakingLaws.{uses_none}
+use Rattle.event_dispatch.specs.laws.TakingLaws.{uses_none, uses_not}
 use Rattle.event_dispatch.proofs.engine_core.Core.take_in.Goals as goal
 
 pub returns-then-is_joined : goal.returns-then-is_joined
 returns-then-is_joined g c = record {
-  uses = uses_none g.W.World.Tells (Joined c.args.dpid c.args.frame.now) (g.W.World.seen c.args.world.now) c.args.self.now.net;
+  uses = uses_none g.W.World.Tells (Joined c.args.dpid c.args.frame.now) (g.W.World.seen c.args.world.now) c.args.self.now.net c.args.self.now.net (Ok tt) refl;
   done = record {
     waits = waits_none c.args.self.now;
     messages = only_none g.W.World.Tells (g.W.World.seen c.args.world.now);
@@ -24,6 +25,7 @@ returns-in-Ok g c =
     let uses = c.join.ensures.uses in
     record {
       uses = record {
+        numbers = λ told order at short before. uses.numbers told short before;
         continues = uses.continues;
         talks = uses.talks;
         links = uses.links;
@@ -41,13 +43,13 @@ returns-in-Ok g c =
 
 pub returns-then-ran_short : goal.returns-then-ran_short
 returns-then-ran_short g c = record {
-  uses = uses_none g.W.World.Tells (Joined c.args.dpid c.args.frame.now) (g.W.World.seen c.args.world.now) c.args.self.now.net;
+  uses = uses_not g.W.World.Tells (Joined c.args.dpid c.args.frame.now) (g.W.World.seen c.args.world.now) c.args.self.now.net c.args.self.now.net (Err faults.NoMemory) refl;
   done = record { why = tt; plain = join_memory c.args.dpid (g.W.World.seen c.args.world.now) (g.W.World.seen c.args.world.now) };
 }
 
 pub returns-else-ran_short : goal.returns-else-ran_short
 returns-else-ran_short g c = record {
-  uses = uses_none g.W.World.Tells (Joined c.args.dpid c.args.frame.now) (g.W.World.seen c.args.world.now) c.args.self.now.net;
+  uses = uses_none g.W.World.Tells (Joined c.args.dpid c.args.frame.now) (g.W.World.seen c.args.world.now) c.args.self.now.net c.args.self.now.net (Ok tt) refl;
   done = record {
     waits = waits_none c.args.self.now;
     messages = only_none g.W.World.Tells (g.W.World.seen c.args.world.now);

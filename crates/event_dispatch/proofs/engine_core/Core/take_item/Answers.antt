@@ -1,12 +1,13 @@
 use Rattle.event_dispatch.specs.declared.fault.Fault.TheVariants as faults
 use Rattle.std.specs.Prelude.{ℕ, Vec}
 use Rattle.std.specs.Global.{Global}
-use Rattle.std.proofs.Common.{subst, refl, ap, ◌∙◌}
+use Rattle.std.proofs.Common.{Ok, subst, refl, ap, ◌∙◌}
 use Rattle.outside.specs.Calls.{item_step}
 use Rattle.outside.specs.declared.step.WorldStep.{WorldStep}
 use Rattle.net_txn.specs.Net.{NetState}
 use Rattle.batch_laws.specs.laws.HandleLaws.{moment_handles}
 use Rattle.event_dispatch.specs.Batch.{TakesItem}
+use Rattle.event_dispatch.specs.Numbers.{AscendsAtItem}
 use Rattle.event_dispatch.specs.Taking.{ItemDone}
 use Rattle.event_dispatch.specs.laws.BatchLaws.{from_step, joined_step, left_step, moment_step, rest_handles, takes_none, left_taken}
 use Rattle.event_dispatch.specs.laws.BatchSteadyLaws.{from_puts, joined_item, only_none}
@@ -14,7 +15,7 @@ use Rattle.event_dispatch.specs.laws.ItemLaws as why
 use Rattle.event_dispatch.specs.laws.KeptLaws.{read_alike}
 use Rattle.event_dispatch.specs.laws.PassesLaws.{at_fault, match_weaker, waits_none}
 use Rattle.event_dispatch.specs.laws.PlainLaws.{item_from, item_joined, item_memory}
-use Rattle.event_dispatch.specs.laws.TakingLaws.{uses_none}
+use Rattle.event_dispatch.specs.laws.TakingLaws.{uses_none, uses_not, from_ascends}
 use Rattle.event_dispatch.proofs.engine_core.Core.take_item.Goals as goal
 
 pub returns-in-From : goal.returns-in-From
@@ -22,6 +23,7 @@ returns-in-From g c =
     let passes = c.take_message.ensures.passes in
     record {
       uses = record {
+        numbers = from_ascends c.take_message.new.self.net c.take_message.result c.args.item c.in-From.dpid c.in-From.size c.args.buf.now c.in-From.is passes.passes.numbers;
         continues = passes.passes.continues;
         talks = passes.talks;
         links = passes.links;
@@ -41,6 +43,8 @@ returns-in-Joined g c =
     let uses = c.take_in.ensures.uses in
     record {
       uses = record {
+        numbers = subst (λ (step : WorldStep). AscendsAtItem g.W.World.Tells step (g.W.World.seen c.args.world.now) (g.W.World.seen c.take_in.new.world) c.args.self.now.net c.take_in.new.self.net c.take_in.result)
+            (joined_step c.args.item c.in-Joined.dpid c.in-Joined.size c.args.buf.now c.in-Joined.is) uses.numbers;
         continues = uses.continues;
         talks = uses.talks;
         links = uses.links;
@@ -59,7 +63,7 @@ pub returns-in_ok-take_out-in-Left : goal.returns-in_ok-take_out-in-Left
 returns-in_ok-take_out-in-Left g c =
     let left = c.in_ok-take_out-in-Left.ensures.done in
     record {
-      uses = uses_none g.W.World.Tells (item_step c.args.item c.args.buf.now) (g.W.World.seen c.args.world.now) c.args.self.now.net;
+      uses = uses_none g.W.World.Tells (item_step c.args.item c.args.buf.now) (g.W.World.seen c.args.world.now) c.args.self.now.net c.take_out.new.self.net (Ok tt) left.xid;
       done = record {
         waits = left.waits;
         messages = only_none g.W.World.Tells (g.W.World.seen c.args.world.now);
@@ -72,7 +76,7 @@ returns-in_ok-take_out-in-Left g c =
 
 pub returns-in_err-take_out-in-Left : goal.returns-in_err-take_out-in-Left
 returns-in_err-take_out-in-Left g c = record {
-  uses = uses_none g.W.World.Tells (item_step c.args.item c.args.buf.now) (g.W.World.seen c.args.world.now) c.args.self.now.net;
+  uses = uses_not g.W.World.Tells (item_step c.args.item c.args.buf.now) (g.W.World.seen c.args.world.now) c.args.self.now.net _ c.from_residual.result c.from_residual.ensures.0;
   done = at_fault _ _ faults.NoMemory c.from_residual.result c.from_residual.ensures.1 (record {
     why = why.item_memory (item_step c.args.item c.args.buf.now) (g.W.World.seen c.args.world.now) (g.W.World.seen c.args.world.now);
     plain = item_memory c.args.item c.args.buf.now (g.W.World.seen c.args.world.now) (g.W.World.seen c.args.world.now);
@@ -83,7 +87,7 @@ pub returns-in-Moment : goal.returns-in-Moment
 returns-in-Moment g c =
     let set = c.set_moment.ensures in
     record {
-      uses = uses_none g.W.World.Tells (item_step c.args.item c.args.buf.now) (g.W.World.seen c.args.world.now) c.args.self.now.net;
+      uses = uses_none g.W.World.Tells (item_step c.args.item c.args.buf.now) (g.W.World.seen c.args.world.now) c.args.self.now.net c.set_moment.new.self (Ok tt) (ap (λ (n : NetState). n.xid) set);
       done = record {
         waits = record { room = ap (λ (n : NetState). n.room) set; events = refl; store = refl; left = λ none. ap (λ (n : NetState). n.left) set ∙ none };
         messages = only_none g.W.World.Tells (g.W.World.seen c.args.world.now);
@@ -97,7 +101,7 @@ returns-in-Moment g c =
 
 pub returns-in-Idle : goal.returns-in-Idle
 returns-in-Idle g c = record {
-  uses = uses_none g.W.World.Tells (item_step c.args.item c.args.buf.now) (g.W.World.seen c.args.world.now) c.args.self.now.net;
+  uses = uses_none g.W.World.Tells (item_step c.args.item c.args.buf.now) (g.W.World.seen c.args.world.now) c.args.self.now.net c.args.self.now.net (Ok tt) refl;
   done = record {
     waits = waits_none c.args.self.now;
     messages = only_none g.W.World.Tells (g.W.World.seen c.args.world.now);

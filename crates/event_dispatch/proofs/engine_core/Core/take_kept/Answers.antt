@@ -4,7 +4,7 @@ use Rattle.net_txn.specs.Net.{NetState}
 use Rattle.event_dispatch.specs.laws.BatchLaws.{kept_at_first, kept_one_more, kept_line, kept_ends, kept_all}
 use Rattle.event_dispatch.specs.laws.BatchSteadyLaws.{taken_read, taken_waits}
 use Rattle.event_dispatch.specs.laws.ItemLaws.{kept_why}
-use Rattle.event_dispatch.specs.laws.PassesLaws.{at_fault, waits_none}
+use Rattle.event_dispatch.specs.laws.PassesLaws.{same_next, at_fault, waits_none}
 use Rattle.event_dispatch.specs.laws.PlainLaws.{kept_memory, kept_none}
 use Rattle.event_dispatch.specs.laws.TakingLaws.{on_links_at_first, on_links_fails, on_links_as, on_links_waits, taken_passes, taken_so_far}
 use Rattle.event_dispatch.proofs.engine_core.Core.take_kept.Goals as goal
@@ -43,7 +43,7 @@ returns-in_default g c =
     let so_far = c.loop-taken.invariant in
     let rest = c.in_ok-dpid.ensures.rest in
     record {
-      passes = on_links_as c.waiting.new.self _ so_far.passes (ap (λ (n : NetState). n.views) rest);
+      passes = on_links_as c.waiting.new.self _ so_far.passes (record { views = ap (λ (n : NetState). n.views) rest; xid = ap (λ (n : NetState). n.xid) rest });
       done = record {
         waits = taken_waits c.args.self.now c.loop-taken.self (record c.loop-taken.self { net = c.waiting.new.self }) c.waiting.new.self rest so_far.waits (waits_none (record c.loop-taken.self { net = c.waiting.new.self }));
         lines = so_far.lines;
@@ -68,7 +68,7 @@ pub returns : goal.returns
 returns g c =
     let so_far = c.loop-taken.invariant in
     record {
-      passes = on_links_as c.loop-taken.self.net _ so_far.passes refl;
+      passes = on_links_as c.loop-taken.self.net _ so_far.passes (same_next _);
       done = record {
         waits = so_far.waits;
         lines = so_far.lines;

@@ -13,14 +13,14 @@ use Rattle.event_dispatch.specs.laws.BatchSteadyLaws.{arrived_only, only_none, t
 use Rattle.event_dispatch.specs.laws.FaultLaws.{arrival_why}
 use Rattle.event_dispatch.specs.laws.ItemLaws.{message_memory}
 use Rattle.event_dispatch.specs.laws.KeptLaws.{arrived_read}
-use Rattle.event_dispatch.specs.laws.PassesLaws.{at_fault, waits_none}
+use Rattle.event_dispatch.specs.laws.PassesLaws.{same_next, at_fault, waits_none}
 use Rattle.event_dispatch.specs.laws.PlainLaws.{read_memory, read_arrived}
 use Rattle.event_dispatch.specs.laws.TakingLaws.{on_links_none, on_links_fails, on_links_as, arrived_passes}
 use Rattle.event_dispatch.proofs.engine_core.Core.take_message.Goals as goal
 
 pub returns-then-not-is_joined : goal.returns-then-not-is_joined
 returns-then-not-is_joined g c = record {
-  passes = on_links_none g.W.World.Tells (g.W.World.seen c.args.world.now) c.args.self.now.net c.args.self.now.net _ refl;
+  passes = on_links_none g.W.World.Tells (g.W.World.seen c.args.world.now) c.args.self.now.net c.args.self.now.net _ (same_next _);
   done = record {
     waits = waits_none c.args.self.now;
     messages = only_none g.W.World.Tells (g.W.World.seen c.args.world.now);
@@ -73,7 +73,7 @@ returns g c =
     record {
       passes = on_links_as c.tell_lost.new.self.net _
           (arrived_passes g.W.World.Tells c.args.dpid c.args.frame.now (g.W.World.seen c.args.world.now) (g.W.World.seen c.arrived.new.world) c.args.self.now.net c.arrived.new.self _ known arrives)
-          (ap (λ (n : NetState). n.views) tells.net);
+          (record { views = ap (λ (n : NetState). n.views) tells.net; xid = ap (λ (n : NetState). n.xid) tells.net });
       done = record {
         waits = waits_taken c.args.self.now arrived c.tell_lost.new.self c.in_ok-tell_lost.ensures.waits refl refl takes;
         messages = arrived_only g.W.World.Tells c.args.dpid c.args.frame.now (g.W.World.seen c.args.world.now) (g.W.World.seen c.arrived.new.world) c.args.self.now.net c.arrived.new.self c.in_ok-event.event arrives;

@@ -38,7 +38,7 @@ returns-in_err-take_item-in_default g c =
     let told = c.in_ok-item.ensures in
     let failed = c.in_err-take_item-in_default.ensures in
     record {
-      passes = next_handled c.in_ok-item.item _ c.from_residual-in_err-take_item-in_default.result told.asks told.done.nexts failed.uses (if_failed _ c.from_residual-in_err-take_item-in_default.result c.from_residual-in_err-take_item-in_default.ensures.0);
+      passes = next_handled c.in_ok-item.item _ c.from_residual-in_err-take_item-in_default.result told.asks told.done.nexts failed.uses (λ _. c.from_residual-in_err-take_item-in_default.ensures.0) (if_failed _ c.from_residual-in_err-take_item-in_default.result c.from_residual-in_err-take_item-in_default.ensures.0);
       done = at_fault _ _ c.in_err-take_item-in_default.field-0.0 c.from_residual-in_err-take_item-in_default.result c.from_residual-in_err-take_item-in_default.ensures.1 (record {
         why = next_why c.in_ok-item.item c.next_item.new.buf (g.W.World.seen c.args.world.now) (g.W.World.seen c.next_item.new.world) (g.W.World.seen c.take_item.new.world) c.in_err-take_item-in_default.field-0.0 told.done.nexts failed.done.why;
         plain = next_taken c.in_ok-item.item c.next_item.new.buf (g.W.World.seen c.args.world.now) (g.W.World.seen c.next_item.new.world) (g.W.World.seen c.take_item.new.world) c.in_err-take_item-in_default.field-0.0 told.done.nexts failed.uses.continues failed.done.plain;
@@ -50,7 +50,7 @@ returns-in_ok-take_item-in_default g c =
     let told = c.in_ok-item.ensures in
     let took = c.in_ok-take_item-in_default.ensures in
     record {
-      passes = next_handled c.in_ok-item.item _ _ told.asks told.done.nexts took.uses
+      passes = next_handled c.in_ok-item.item _ _ told.asks told.done.nexts took.uses (λ f. f)
           (handled_reads g.W.World.Tells c.in_ok-item.item c.next_item.new.buf (g.W.World.seen c.args.world.now) (g.W.World.seen c.next_item.new.world) (g.W.World.seen c.take_item.new.world) c.args.self.now.net c.take_item.new.self.net c.args.self.now.queue c.take_item.new.self.queue told.done.nexts took.done.takes.handles took.uses.links took.done.messages);
       done = handled_done c.in_ok-item.item c.next_item.new.buf (g.W.World.seen c.args.world.now) (g.W.World.seen c.next_item.new.world) (g.W.World.seen c.take_item.new.world) c.args.self.now c.take_item.new.self (no_rest c.in_ok-item.item c.in_default.not-Idle c.in_default.not-End) told.asks.bytes told.done.nexts took.uses took.done;
     }

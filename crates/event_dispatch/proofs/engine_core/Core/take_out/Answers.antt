@@ -11,6 +11,7 @@ returns-in_ok-push-clause-done c =
     let left = c.in_ok-event.ensures.ok in
     record {
       waits = record { room = ap (λ (n : NetState). n.room) left; events = refl; store = refl; left = λ none. ap (λ (n : NetState). n.left) left ∙ none };
+      xid = ap (λ (n : NetState). n.xid) left;
       read = λ read. read_same (without c.args.dpid c.args.self.now.net) c.left.new.self left (read_left c.args.dpid c.args.self.now.net.kept read);
       departs = left_departs c.args.dpid c.args.self.now.net c.left.new.self c.args.self.now.queue c.push.new.self c.in_ok-event.event (c.if-is_joined.ensures.joined refl) c.in_ok-event.ensures.event left c.in_ok-push.ensures.ok;
     }
@@ -18,6 +19,7 @@ returns-in_ok-push-clause-done c =
 pub returns-else-is_joined-clause-done : goal.returns-else-is_joined-clause-done
 returns-else-is_joined-clause-done c = record {
   waits = waits_none c.args.self.now;
+  xid = refl;
   read = λ read. read;
   departs = left_ignored c.args.dpid c.args.self.now.net c.args.self.now.queue (c.if-is_joined.ensures.out refl);
 }

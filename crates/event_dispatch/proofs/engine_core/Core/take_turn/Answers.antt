@@ -6,7 +6,7 @@ use Rattle.event_dispatch.specs.Stored.{KeepsOthers}
 use Rattle.event_dispatch.specs.TurnParts.{TurnFails}
 use Rattle.event_dispatch.specs.laws.DispatchStrayLaws.{later_quietly}
 use Rattle.event_dispatch.specs.laws.LeftLaws.{left_closed}
-use Rattle.event_dispatch.specs.laws.PassesLaws.{at_fault, passes_then, passes_fails, passes_as, passes_number}
+use Rattle.event_dispatch.specs.laws.PassesLaws.{same_next, at_fault, passes_then, passes_fails, passes_as, passes_number}
 use Rattle.event_dispatch.specs.laws.PlainLaws.{turn_memory}
 use Rattle.event_dispatch.specs.laws.TalkingLaws.{turn_closed}
 use Rattle.event_dispatch.specs.laws.TurnLaws.{turn_is}
@@ -50,7 +50,7 @@ returns g c = record {
   passes = passes_as _ (Ok c.in_ok-close.field-0)
       (passes_then c.in_ok-closing.ensures.passes
       (passes_number (length c.args.self.now.store) (length c.hold_turn.new.store) c.hold_turn.ensures.keeps.others.number c.in_ok-close.ensures.passes.passes))
-      refl;
+      (same_next _);
   later = later_quietly c.args.app.now.state.index c.hold_turn.ensures.keeps.later c.close.ensures.passes.no_point.none_quiescent
       (λ told. subst (λ (i : ℕ). OwnSteps i (g.W.World.seen c.hold_turn.new.world) (g.W.World.seen c.close.new.world)) c.hold_turn.ensures.keeps.index
       (c.close.ensures.keeps.own told));

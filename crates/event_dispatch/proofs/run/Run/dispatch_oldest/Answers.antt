@@ -7,7 +7,7 @@ use Rattle.event_dispatch.specs.Shows.{engine_of}
 use Rattle.event_dispatch.specs.Why.{served_by}
 use Rattle.event_dispatch.specs.laws.CutLaws.{still_is, fails_next, one_still, one_unwritten}
 use Rattle.event_dispatch.specs.laws.OfferLaws.{going_queued}
-use Rattle.event_dispatch.specs.laws.PassesLaws.{at_fault, passes_none, passes_fails, passes_as}
+use Rattle.event_dispatch.specs.laws.PassesLaws.{same_next, at_fault, passes_none, passes_fails, passes_as}
 use Rattle.event_dispatch.specs.laws.PlainLaws.{run_anyway, run_fails}
 use Rattle.event_dispatch.specs.laws.RoundLaws.{one_settled, none_settled, going_stays}
 use Rattle.event_dispatch.specs.laws.WhyLaws.{same_fell, why_sink}
@@ -15,7 +15,7 @@ use Rattle.event_dispatch.proofs.run.Run.dispatch_oldest.Goals as goal
 
 pub returns-in_default : goal.returns-in_default
 returns-in_default g c = record {
-  passes = passes_none g.W.World.Tells (g.W.World.seen c.args.world.now) c.args.self.now.core.net c.args.self.now.core.net (Ok false) refl;
+  passes = passes_none g.W.World.Tells (g.W.World.seen c.args.world.now) c.args.self.now.core.net c.args.self.now.core.net (Ok false) (same_next _);
   never_fell = same_fell (g.K.Sink.faults c.args.sink.now);
   done = record {
     going = going_queued c.take_first.new.self c.args.self.now c.requires.going;
@@ -69,7 +69,7 @@ returns-in_err-write g c = record {
 
 pub returns : goal.returns
 returns g c = record {
-  passes = passes_as c.write.new.self.net (Ok true) c.in_ok-dispatch.ensures.passes (ap (λ (n : NetState). n.views) c.write.ensures.stays.net);
+  passes = passes_as c.write.new.self.net (Ok true) c.in_ok-dispatch.ensures.passes (record { views = ap (λ (n : NetState). n.views) c.write.ensures.stays.net; xid = ap (λ (n : NetState). n.xid) c.write.ensures.stays.net });
   never_fell = c.write.ensures.never_fell;
   done = record {
     going = going_stays c.dispatch.new.self c.write.new.self c.in_ok-dispatch.ensures.done.going c.in_ok-write.ensures.waits c.write.ensures.stays;

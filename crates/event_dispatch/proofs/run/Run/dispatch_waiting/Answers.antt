@@ -1,7 +1,7 @@
 use Rattle.std.proofs.Common.{◌+◌, ◌∙◌, Ok, length, rules, arith, refl}
 use Rattle.event_dispatch.specs.EventParts.{WaitingStops}
 use Rattle.event_dispatch.specs.Why.{served_by}
-use Rattle.event_dispatch.specs.laws.PassesLaws.{at_fault, passes_then, passes_fails, passes_as, passes_number, so_far_none, so_far_then}
+use Rattle.event_dispatch.specs.laws.PassesLaws.{same_next, at_fault, passes_then, passes_fails, passes_as, passes_number, so_far_none, so_far_then}
 use Rattle.event_dispatch.specs.laws.PlainLaws.{run_settled}
 use Rattle.event_dispatch.specs.laws.RoundLaws.{some_none, some_more, settles_early, settles_all}
 use Rattle.event_dispatch.specs.laws.WhyLaws.{fell_then, same_fell, why_behind}
@@ -59,7 +59,7 @@ returns-then-not-branch g c = record {
   passes = passes_then c.loop-event.invariant.passes
       (passes_as c.dispatch_oldest.new.self.core.net (Ok tt)
       (passes_number (length c.args.self.now.core.store) (length c.loop-event.self.core.store) c.loop-event.invariant.number
-      c.in_ok-dispatch_oldest.ensures.passes) refl);
+      c.in_ok-dispatch_oldest.ensures.passes) (same_next _));
   never_fell = fell_then (g.K.Sink.faults c.args.sink.now) (g.K.Sink.faults c.loop-event.sink) (g.K.Sink.faults c.dispatch_oldest.new.sink)
       c.loop-event.invariant.never_fell c.dispatch_oldest.ensures.never_fell;
   done = record {
@@ -94,7 +94,7 @@ loop-event-preserved g c = record {
 
 pub returns : goal.returns
 returns g c = record {
-  passes = passes_as c.loop-event.self.core.net (Ok tt) c.loop-event.invariant.passes refl;
+  passes = passes_as c.loop-event.self.core.net (Ok tt) c.loop-event.invariant.passes (same_next _);
   never_fell = c.loop-event.invariant.never_fell;
   done = record {
     going = c.loop-event.invariant.going;

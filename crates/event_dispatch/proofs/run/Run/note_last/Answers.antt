@@ -29,7 +29,7 @@ returns-in_err-note_end g c = record {
 
 pub returns : goal.returns
 returns g c = record {
-  passes = quiet_as _ _ c.in_ok-note_tables.ensures.passes (ap (λ (n : NetState). n.views) c.in_ok-note_end.ensures.adds.stays.net);
+  passes = quiet_as _ _ c.in_ok-note_tables.ensures.passes (record { views = ap (λ (n : NetState). n.views) c.in_ok-note_end.ensures.adds.stays.net; xid = ap (λ (n : NetState). n.xid) c.in_ok-note_end.ensures.adds.stays.net });
   apps = refl;
   done = record {
     waits = waits_at_end c.args.self.now.core c.note_tables.new.self c.note_end.new.self c.in_ok-note_tables.ensures.done.waits c.in_ok-note_end.ensures.waits;

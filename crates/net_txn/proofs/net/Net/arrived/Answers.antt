@@ -1,8 +1,9 @@
-use Rattle.std.proofs.Common.{rules, refl}
+use Rattle.std.proofs.Common.{rules, refl, Err}
 use Rattle.std.proofs.lemmas.Result.{err_from_is_err_and}
 use Rattle.outside.specs.laws.SeenLaws.{Continues-refl}
 use Rattle.net_txn.specs.laws.LinkStepLaws.{OnLinks-refl}
 use Rattle.net_txn.specs.laws.LinkStrayLaws.{no_strays_none}
+use Rattle.net_txn.specs.laws.OwnIdLaws.{ids_none}
 use Rattle.net_txn.specs.laws.ArrivalLaws.{arrives_read_as}
 use Rattle.net_txn.proofs.net.Net.arrived.Goals as goal
 
@@ -13,6 +14,7 @@ returns-in_err-bytes-in-Err g c =
       continues = Continues-refl g.W.World.Tells (g.W.World.seen c.args.world.now);
       links = OnLinks-refl g.W.World.Tells (g.W.World.seen c.args.world.now);
       no_strays = λ told keeps joined. no_strays_none (g.W.World.seen c.args.world.now);
+      ids = ids_none g.W.World.Tells 0 (g.W.World.seen c.args.world.now) c.args.self.now.xid _ (search rules);
       cause = tt;
       err = search rules;
       losses = λ told. refl;
@@ -25,6 +27,7 @@ returns-in-Err-NoMemory g c =
       continues = Continues-refl g.W.World.Tells (g.W.World.seen c.args.world.now);
       links = OnLinks-refl g.W.World.Tells (g.W.World.seen c.args.world.now);
       no_strays = λ told keeps joined. no_strays_none (g.W.World.seen c.args.world.now);
+      ids = ids_none g.W.World.Tells 0 (g.W.World.seen c.args.world.now) c.args.self.now.xid _ (search rules);
       cause = tt;
       err = search rules;
       losses = λ told. refl;
@@ -37,6 +40,7 @@ returns-in_ok-bytes-in-Err g c =
       continues = Continues-refl g.W.World.Tells (g.W.World.seen c.args.world.now);
       links = OnLinks-refl g.W.World.Tells (g.W.World.seen c.args.world.now);
       no_strays = λ told keeps joined. no_strays_none (g.W.World.seen c.args.world.now);
+      ids = ids_none g.W.World.Tells 0 (g.W.World.seen c.args.world.now) c.args.self.now.xid _ (search rules);
       cause = search rules;
       err = search rules;
       losses = λ told. refl;

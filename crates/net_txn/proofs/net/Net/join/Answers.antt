@@ -13,7 +13,7 @@ use Rattle.net_txn.specs.Net.{NetState}
 use Rattle.net_txn.specs.Ports.{PortLists}
 use Rattle.net_txn.specs.laws.WaitLaws.{waits_kept}
 use Rattle.net_txn.specs.laws.ChangeLaws.{kept_for}
-use Rattle.net_txn.specs.laws.JoiningFaultLaws.{greeted_halts, greeted_waits, short_behind}
+use Rattle.net_txn.specs.laws.JoiningFaultLaws.{greeting_ascends, greeted_halts, greeted_waits, short_behind}
 use Rattle.net_txn.specs.laws.LostLaws.{replied_none_lost}
 use Rattle.net_txn.specs.laws.TalkLaws.{talks_speak, talks_waits, talks_kept}
 use Rattle.net_txn.proofs.net.Net.join.Goals as goal
@@ -48,13 +48,22 @@ returns-in_err-admit-clause-halts g c =
     }))
 
 pub returns-in_err-greet-clause-speaks : goal.returns-in_err-greet-clause-speaks
-returns-in_err-greet-clause-speaks g c = talks_speak _ _ _ c.args.dpid (c.as_slice.result.now ∷ c.as_slice-2.result.now ∷ []) c.greet.result (ap (λ (a : Awaited). a.dpid) c.greeted-awaited.ensures) c.greet.ensures
+returns-in_err-greet-clause-speaks g c = talks_speak c.args.self.now.xid 3 _ _ _ c.args.dpid (c.as_slice.result.now ∷ c.as_slice-2.result.now ∷ []) c.greet.result (ap (λ (a : Awaited). a.dpid) c.greeted-awaited.ensures) c.greet.ensures
+    (greeting_ascends c.args.dpid c.args.self.now.xid c.greeted-awaited.result c.as_slice.result.now c.as_slice-2.result.now (c.greeted-awaited.ensures ∙ ap (λ (n : NetState). greeted_from c.args.dpid n.xid) c.self.view_is)
+    (c.as_slice.ensures ∙ c.in_ok-emptying.ensures.bytes ∙ ap (λ (n : NetState). message_bytes n.xid (FlowMod delete_all)) c.self.view_is)
+    (c.as_slice-2.ensures ∙ c.configuring.ensures.bytes ∙ ap (λ (x : ℕ). message_bytes x (SetConfig first_config)) c.following.ensures.next ∙ ap (λ (n : NetState). message_bytes (next_xid n.xid) (SetConfig first_config)) c.self.view_is))
 
 pub returns-in_err-admit-clause-speaks : goal.returns-in_err-admit-clause-speaks
-returns-in_err-admit-clause-speaks g c = talks_speak _ _ _ c.args.dpid (c.as_slice.result.now ∷ c.as_slice-2.result.now ∷ []) c.greet.result (ap (λ (a : Awaited). a.dpid) c.greeted-awaited.ensures) c.greet.ensures
+returns-in_err-admit-clause-speaks g c = talks_speak c.args.self.now.xid 3 _ _ _ c.args.dpid (c.as_slice.result.now ∷ c.as_slice-2.result.now ∷ []) c.greet.result (ap (λ (a : Awaited). a.dpid) c.greeted-awaited.ensures) c.greet.ensures
+    (greeting_ascends c.args.dpid c.args.self.now.xid c.greeted-awaited.result c.as_slice.result.now c.as_slice-2.result.now (c.greeted-awaited.ensures ∙ ap (λ (n : NetState). greeted_from c.args.dpid n.xid) c.self.view_is)
+    (c.as_slice.ensures ∙ c.in_ok-emptying.ensures.bytes ∙ ap (λ (n : NetState). message_bytes n.xid (FlowMod delete_all)) c.self.view_is)
+    (c.as_slice-2.ensures ∙ c.configuring.ensures.bytes ∙ ap (λ (x : ℕ). message_bytes x (SetConfig first_config)) c.following.ensures.next ∙ ap (λ (n : NetState). message_bytes (next_xid n.xid) (SetConfig first_config)) c.self.view_is))
 
 pub returns-clause-speaks : goal.returns-clause-speaks
-returns-clause-speaks g c = talks_speak _ _ _ c.args.dpid (c.as_slice.result.now ∷ c.as_slice-2.result.now ∷ []) c.greet.result (ap (λ (a : Awaited). a.dpid) c.greeted-awaited.ensures) c.greet.ensures
+returns-clause-speaks g c = talks_speak c.args.self.now.xid 3 _ _ _ c.args.dpid (c.as_slice.result.now ∷ c.as_slice-2.result.now ∷ []) c.greet.result (ap (λ (a : Awaited). a.dpid) c.greeted-awaited.ensures) c.greet.ensures
+    (greeting_ascends c.args.dpid c.args.self.now.xid c.greeted-awaited.result c.as_slice.result.now c.as_slice-2.result.now (c.greeted-awaited.ensures ∙ ap (λ (n : NetState). greeted_from c.args.dpid n.xid) c.self.view_is)
+    (c.as_slice.ensures ∙ c.in_ok-emptying.ensures.bytes ∙ ap (λ (n : NetState). message_bytes n.xid (FlowMod delete_all)) c.self.view_is)
+    (c.as_slice-2.ensures ∙ c.configuring.ensures.bytes ∙ ap (λ (x : ℕ). message_bytes x (SetConfig first_config)) c.following.ensures.next ∙ ap (λ (n : NetState). message_bytes (next_xid n.xid) (SetConfig first_config)) c.self.view_is))
 
 pub returns-clause-joins : goal.returns-clause-joins
 returns-clause-joins g c =

@@ -1,4 +1,4 @@
-use Rattle.std.proofs.Common.{◌≡◌, ◌==◌, not, filter, sym, ap, ◌∙◌, subst, refl, Ok}
+use Rattle.std.proofs.Common.{◌≡◌, ◌==◌, not, filter, sym, ap, ◌∙◌, subst, refl, Ok, true, false, ℕ, arith}
 use Rattle.outside.specs.State.{state, switch_of}
 use Rattle.net_txn.specs.declared.halt.Halt.{Halt}
 use Rattle.net_txn.specs.Joining.{greeted_from, greeting}
@@ -7,6 +7,7 @@ use Rattle.net_txn.specs.Net.{NetState}
 use Rattle.net_txn.specs.laws.JoiningFaultLaws.{join_plain, not_joined}
 use Rattle.net_txn.specs.laws.JoiningStepLaws.{in_step_of}
 use Rattle.net_txn.specs.laws.TalkLaws.{speaks_on, speaks_links, speaks_place}
+use Rattle.net_txn.specs.laws.OwnIdLaws.{third_next, waits_leave, speaks_on_ids, speaks_over_ids}
 use Rattle.net_txn.specs.laws.ReadLaws.{joins_read}
 use Rattle.net_txn.proofs.net.Net.joined.Goals as goal
 
@@ -52,3 +53,17 @@ returns-in-Err-Fault-clause-in_step g c told keeps none =
     let net = c.args.self.now in
     let halts = subst (λ (h : Halt). WaitHalts g.W.World.Tells (greeted_from c.args.dpid net.xid) (greeting c.args.dpid net.xid) (g.W.World.seen c.args.world.now) (g.W.World.seen c.join.new.world) h) c.in-Err-Fault.field-0-is c.in-Err-Fault.ensures.halts.halts in
     join_plain c.args.dpid c.args.self.now.xid (g.W.World.seen c.args.world.now) (g.W.World.seen c.join.new.world) c.in-Err-Fault.fault c.join.ensures.xid told (speaks_on c.join.ensures.speaks) keeps none halts.1 halts.0
+
+pub returns-in-Ok-clause-ids : goal.returns-in-Ok-clause-ids
+returns-in-Ok-clause-ids g c =
+    speaks_on_ids c.join.new.self.xid c.join.ensures.speaks (omega arith) (λ small. ap (λ (n : NetState). n.xid) c.join.ensures.stays ∙ third_next c.args.self.now.xid small) (waits_leave c.in-Ok.ensures.joins.waits)
+
+pub returns-in-Err-Lost-clause-ids : goal.returns-in-Err-Lost-clause-ids
+returns-in-Err-Lost-clause-ids g c =
+    let net = c.args.self.now in
+    let halts = subst (λ (h : Halt). WaitHalts g.W.World.Tells (greeted_from c.args.dpid net.xid) (greeting c.args.dpid net.xid) (g.W.World.seen c.args.world.now) (g.W.World.seen c.join.new.world) h) c.in-Err-Lost.field-0-is c.in-Err-Lost.ensures.halts.halts in
+    speaks_on_ids _ c.join.ensures.speaks (omega arith) (λ small. ap (λ (n : NetState). n.xid) (c.self.view_is ∙ c.join.ensures.stays) ∙ third_next net.xid small) halts.0.some
+
+pub returns-in-Err-Fault-clause-ids : goal.returns-in-Err-Fault-clause-ids
+returns-in-Err-Fault-clause-ids g c =
+    speaks_over_ids c.join.new.self.xid c.join.ensures.speaks (omega arith) (λ small. ap (λ (n : NetState). n.xid) c.join.ensures.stays ∙ third_next c.args.self.now.xid small)

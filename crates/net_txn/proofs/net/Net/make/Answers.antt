@@ -9,7 +9,7 @@ use Rattle.net_txn.specs.Views.{rows_after}
 use Rattle.net_txn.specs.Net.{NetState, awaited_from}
 use Rattle.lego_model.specs.BarrierWaits.{next_xid}
 use Rattle.net_txn.specs.laws.WaitLaws.{waits_kept}
-use Rattle.net_txn.specs.laws.ChangeLaws.{sent_waits, given_up, kept_for, same_log, same_views, log_cut, held_same, held_more, brought_as}
+use Rattle.net_txn.specs.laws.ChangeLaws.{change_ascends, sent_waits, given_up, kept_for, same_log, same_views, log_cut, held_same, held_more, brought_as}
 use Rattle.net_txn.specs.laws.ChangeFlightLaws.{replied_then, halts_then}
 use Rattle.net_txn.specs.laws.TalkLaws.{speaks_none, talks_speak, talks_waits, talks_cause, talks_flooded, talks_kept}
 use Rattle.net_txn.proofs.net.Net.make.Goals as goal
@@ -109,22 +109,26 @@ returns-in_err-answer-clause-cause g c =
     rw (p.1, p.2) (talks_cause c.args.dpid (c.as_slice.result.now ∷ []) c.in_err-answer.field-0.0 (ap (λ (a : Awaited). a.dpid) c.await_from-awaited.ensures) c.in_err-answer.ensures)
 
 pub returns-in_err-answer-clause-speaks : goal.returns-in_err-answer-clause-speaks
-returns-in_err-answer-clause-speaks g c = talks_speak _ _ _ c.args.dpid (c.as_slice.result.now ∷ []) c.ask.result (ap (λ (a : Awaited). a.dpid) c.await_from-awaited.ensures) c.ask.ensures
+returns-in_err-answer-clause-speaks g c = talks_speak c.args.self.now.xid 2 _ _ _ c.args.dpid (c.as_slice.result.now ∷ []) c.ask.result (ap (λ (a : Awaited). a.dpid) c.await_from-awaited.ensures) c.ask.ensures
+    (change_ascends c.args.flow c.args.self.now c.await_from-awaited.result c.as_slice.result.now (c.await_from-awaited.ensures ∙ ap (λ (n : NetState). awaited_from c.args.dpid n.xid) c.self.view_is) (c.as_slice.ensures ∙ c.in_ok-frame.ensures.frame))
 
 pub returns-in_err-take_effect-in-None-clause-speaks : goal.returns-in_err-take_effect-in-None-clause-speaks
-returns-in_err-take_effect-in-None-clause-speaks g c = talks_speak _ _ _ c.args.dpid (c.as_slice.result.now ∷ []) c.ask.result (ap (λ (a : Awaited). a.dpid) c.await_from-awaited.ensures) c.ask.ensures
+returns-in_err-take_effect-in-None-clause-speaks g c = talks_speak c.args.self.now.xid 2 _ _ _ c.args.dpid (c.as_slice.result.now ∷ []) c.ask.result (ap (λ (a : Awaited). a.dpid) c.await_from-awaited.ensures) c.ask.ensures
+    (change_ascends c.args.flow c.args.self.now c.await_from-awaited.result c.as_slice.result.now (c.await_from-awaited.ensures ∙ ap (λ (n : NetState). awaited_from c.args.dpid n.xid) c.self.view_is) (c.as_slice.ensures ∙ c.in_ok-frame.ensures.frame))
 
 pub returns-in-None-clause-speaks : goal.returns-in-None-clause-speaks
-returns-in-None-clause-speaks g c = talks_speak _ _ _ c.args.dpid (c.as_slice.result.now ∷ []) c.ask.result (ap (λ (a : Awaited). a.dpid) c.await_from-awaited.ensures) c.ask.ensures
+returns-in-None-clause-speaks g c = talks_speak c.args.self.now.xid 2 _ _ _ c.args.dpid (c.as_slice.result.now ∷ []) c.ask.result (ap (λ (a : Awaited). a.dpid) c.await_from-awaited.ensures) c.ask.ensures
+    (change_ascends c.args.flow c.args.self.now c.await_from-awaited.result c.as_slice.result.now (c.await_from-awaited.ensures ∙ ap (λ (n : NetState). awaited_from c.args.dpid n.xid) c.self.view_is) (c.as_slice.ensures ∙ c.in_ok-frame.ensures.frame))
 
 pub returns-clause-speaks : goal.returns-clause-speaks
-returns-clause-speaks g c = talks_speak _ _ _ c.args.dpid (c.as_slice.result.now ∷ []) c.ask.result (ap (λ (a : Awaited). a.dpid) c.await_from-awaited.ensures) c.ask.ensures
+returns-clause-speaks g c = talks_speak c.args.self.now.xid 2 _ _ _ c.args.dpid (c.as_slice.result.now ∷ []) c.ask.result (ap (λ (a : Awaited). a.dpid) c.await_from-awaited.ensures) c.ask.ensures
+    (change_ascends c.args.flow c.args.self.now c.await_from-awaited.result c.as_slice.result.now (c.await_from-awaited.ensures ∙ ap (λ (n : NetState). awaited_from c.args.dpid n.xid) c.self.view_is) (c.as_slice.ensures ∙ c.in_ok-frame.ensures.frame))
 
 pub returns-in_err-frame-clause-speaks : goal.returns-in_err-frame-clause-speaks
-returns-in_err-frame-clause-speaks g c = speaks_none g.W.World.Tells c.args.dpid (g.W.World.seen c.args.world.now)
+returns-in_err-frame-clause-speaks g c = speaks_none g.W.World.Tells c.args.dpid c.args.self.now.xid 2 (g.W.World.seen c.args.world.now)
 
 pub returns-in_err-make_room-clause-speaks : goal.returns-in_err-make_room-clause-speaks
-returns-in_err-make_room-clause-speaks g c = speaks_none g.W.World.Tells c.args.dpid (g.W.World.seen c.args.world.now)
+returns-in_err-make_room-clause-speaks g c = speaks_none g.W.World.Tells c.args.dpid c.args.self.now.xid 2 (g.W.World.seen c.args.world.now)
 
 pub returns-in_err-push_logged-clause-speaks : goal.returns-in_err-push_logged-clause-speaks
-returns-in_err-push_logged-clause-speaks g c = speaks_none g.W.World.Tells c.args.dpid (g.W.World.seen c.args.world.now)
+returns-in_err-push_logged-clause-speaks g c = speaks_none g.W.World.Tells c.args.dpid c.args.self.now.xid 2 (g.W.World.seen c.args.world.now)

@@ -59,7 +59,7 @@ returns-in-Err-Lost g c =
     let viewed : is_viewed c.args.dpid net.views ≡ true = sym (c.is_viewed.ensures ∙ ap (λ (vs : List Lent). is_viewed c.args.dpid (plains vs)) c.deref.ensures.value) ∙ known in
     let new = g.W.World.seen c.send_packet.new.world in
     let unsent = subst (λ (h : Halt). PacketUnsent g.W.World.Tells c.args.dpid old new h) c.in-Err-Lost.field-0-is c.in-Err-Lost.ensures in
-    let does = lost_before {Tells = g.W.World.Tells} c.args.dpid c.args.packet old new net c.lose.new.self c.args.queue.now xid viewed c.lose.ensures unsent in
+    let does = lost_before {Tells = g.W.World.Tells} c.args.dpid c.args.packet old new net c.lose.new.self c.args.queue.now xid viewed (omega arith) (c.following-self-inside.ensures.next ∙ ap next_xid c.following.ensures.next) c.lose.ensures unsent in
     subst (λ (x : NetState). ReleasesPacket g.W.World.Tells (c.args.dpid, c.args.packet) old new x c.lose.new.self c.args.queue.now c.args.queue.now (Ok false)) c.self.view_is does
 
 pub returns-in-Err-Fault : goal.returns-in-Err-Fault

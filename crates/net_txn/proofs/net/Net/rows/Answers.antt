@@ -44,6 +44,6 @@ returns-in-Err-Lost-clause-asks g c =
     let old = g.W.World.seen c.args.world.now in
     let new = g.W.World.seen c.request_rows.new.world in
     let net : NetState = record { views = plains s.views.items; ports = s.ports.known; left = s.ports.left; log = s.log.items; held = record { packets = s.held.items; notices = s.notices }; xid = s.xid; moment = s.moment; kept = s.kept; room = vec_len s.rooms } in
-    let now = asks_lost {Tells = g.W.World.Tells} c.args.dpid c.following-self-inside.result old new net c.request_rows.new.kept (subst (λ (h : Halt). AsksFrom g.W.World.Tells c.args.dpid c.self.inside.xid (g.W.World.seen c.args.world.now) (g.W.World.seen c.request_rows.new.world) c.self.inside.kept c.request_rows.new.kept (Err h)) c.in-Err-Lost.field-0-is c.in-Err-Lost.ensures) in
+    let now = asks_lost {Tells = g.W.World.Tells} c.args.dpid c.following-self-inside.result old new net c.request_rows.new.kept (c.following-self-inside.ensures.next ∙ ap next_xid c.following.ensures.next) (subst (λ (h : Halt). AsksFrom g.W.World.Tells c.args.dpid c.self.inside.xid (g.W.World.seen c.args.world.now) (g.W.World.seen c.request_rows.new.world) c.self.inside.kept c.request_rows.new.kept (Err h)) c.in-Err-Lost.field-0-is c.in-Err-Lost.ensures) in
     subst (λ (n : NetState). Asks g.W.World.Tells c.args.dpid old new n c.lose.new.self (Ok None)) c.self.view_is
     (subst (λ (n : NetState). Asks g.W.World.Tells c.args.dpid old new net n (Ok None)) (sym c.lose.ensures) now)

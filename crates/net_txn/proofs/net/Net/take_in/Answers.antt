@@ -35,7 +35,7 @@ unanswered d xid (messages.QueueGetConfigReply payload) other = refl
 pub returns-in_err-take_news-in_default : goal.returns-in_err-take_news-in_default
 returns-in_err-take_news-in_default g c =
     let p = err_from_is_err_and c.from_residual-in_err-take_news-in_default.result c.from_residual-in_err-take_news-in_default.ensures.1 in
-    rw (p.1, p.2) (record { ok = tt; err = c.in_err-take_news-in_default.ensures.err; speaks = speaks_none g.W.World.Tells c.args.dpid (g.W.World.seen c.args.world.now); halts = record { halts = (refl, λ told. refl); request = λ lost. absurd cc } })
+    rw (p.1, p.2) (record { ok = tt; err = c.in_err-take_news-in_default.ensures.err; speaks = speaks_none g.W.World.Tells c.args.dpid 0 0 (g.W.World.seen c.args.world.now); halts = record { halts = (refl, λ told. refl); request = λ lost. absurd cc } })
 
 pub returns-in_ok-take_news-in_default : goal.returns-in_ok-take_news-in_default
 returns-in_ok-take_news-in_default g c =
@@ -47,6 +47,6 @@ returns-in_ok-take_news-in_default g c =
         told = λ told. sym (append-nil old.history) ∙ ap (λ (steps : List WorldStep). old.history ++ steps) (sym (unanswered c.args.dpid c.args.xid c.args.message.now c.in_default.not-EchoRequest));
       };
       err = tt;
-      speaks = speaks_none g.W.World.Tells c.args.dpid old;
+      speaks = speaks_none g.W.World.Tells c.args.dpid 0 0 old;
       halts = tt;
     }
