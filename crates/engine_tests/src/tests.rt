@@ -17,10 +17,10 @@ use std::test::Fail;
 use trace_world::Traced;
 
 /// The rules for the kinds of events where a policy says nothing of them.
-const SAME_RULES: [Policy; 6] = [Policy::Absolute; 6];
+static SAME_RULES: [Policy; 6] = [Policy::Absolute; 6];
 
 /// It is given events of each kind.
-const ALL_EVENTS: [bool; 6] = [true; 6];
+static ALL_EVENTS: [bool; 6] = [true; 6];
 
 /// An application `app` of which a policy says nothing else, and that no command starts.
 fn usual_app(alloc: Global) -> Result<AppRule, AllocError> {
@@ -35,7 +35,7 @@ fn usual_app(alloc: Global) -> Result<AppRule, AllocError> {
 }
 
 /// How a run ended, without its numbers.
-#[derive(Clone, Copy, Debug, PartialEq, Eq)]
+#[derive(Clone, Copy, PartialEq, Eq)]
 enum Ending {
     Whole,
     Shut,
@@ -83,9 +83,8 @@ fn let_fail(world: &mut SimWorld, fails: Option<(CallKind, u64)>) -> Result<(), 
 
 /// A world in which nothing happens, where a call is to fail, if one is named.
 fn quiet_world(alloc: Global, fails: Option<(CallKind, u64)>) -> Result<SimWorld, AllocError> {
-    let mut sim = SimWorld::new(alloc)?;
-    let_fail(&mut sim, fails)?;
-    Ok(sim)
+    let mut world = SimWorld::new(alloc)?;
+    let_fail(&mut world, fails).and(Ok(world))
 }
 
 /// Two moments come.
@@ -100,19 +99,22 @@ fn let_moments_come(world: &mut SimWorld) -> Result<(), AllocError>
 
 /// A world in which two moments come.
 fn world_of_moments(alloc: Global) -> Result<SimWorld, AllocError> {
-    let mut sim = SimWorld::new(alloc)?;
-    let_moments_come(&mut sim)?;
-    Ok(sim)
+    let mut world = SimWorld::new(alloc)?;
+    let_moments_come(&mut world).and(Ok(world))
 }
 
-/// How a run in any world ended, its report, and the acts of the world in words; of these two some writes are to fail.
-fn outcome<W: World + Drop>(
+/// How a run comes out: its end, its report, and the acts of its world in words.
+type Outcome<'a> = (Ending, &'a str, &'a str);
+
+/// Tells whether a run in any world comes out so, where some writes of its report and some of the acts are to fail. The world ends with it.
+fn comes_out_so<W: World + Drop>(
     alloc: Global,
     world: W,
     rounds: u64,
     writes: &[u64],
     lines: &[u64],
-) -> Result<(Ending, MemSink, MemSink), AllocError>
+    wanted: &Outcome<'_>,
+) -> Result<bool, AllocError>
     requires { rounds ≤ 1000000000 }
 {
     let acts = MemSink::new(alloc, 4096, lines)?;
@@ -120,7 +122,11 @@ fn outcome<W: World + Drop>(
     let mut traced = Traced::new(alloc, world, acts);
     let ending = run(alloc, &mut traced, &mut report, rounds)?;
     let (_world, acts) = traced.into_parts();
-    Ok((ending, report, acts))
+    Ok(
+        ending == wanted.0
+            && report.bytes() == wanted.1.as_bytes()
+            && acts.bytes() == wanted.2.as_bytes(),
+    )
 }
 
 const STARTED: &str = "start app ready\n";
@@ -165,18 +171,8 @@ world ended
 app 0 ended
 ";
 
-/// How a run came out: its end, its report, and the acts of its world.
-type Outcome<'a> = (Ending, &'a str, &'a str);
-
-/// Tells whether a run came out so.
-fn is_outcome(found: &(Ending, MemSink, MemSink), wanted: &Outcome<'_>) -> bool {
-    found.0 == wanted.0
-        && found.1.bytes() == wanted.1.as_bytes()
-        && found.2.bytes() == wanted.2.as_bytes()
-}
-
 /// Which call of the world is to fail, which writes of the report, and which of the acts; and what comes of it.
-const FAILURES: [(Option<(CallKind, u64)>, &[u64], &[u64], Outcome<'static>); 7] = [
+static FAILURES: [(Option<(CallKind, u64)>, &[u64], &[u64], Outcome<'static>); 7] = [
     (None, &[], &[], (Ending::Whole, REPORT, ACTS)),
     (
         Some((CallKind::Open, 1)),
@@ -205,8 +201,8 @@ const FAILURES: [(Option<(CallKind, u64)>, &[u64], &[u64], Outcome<'static>); 7]
 fn worlds_and_sinks_fail(rt: HostRuntime) -> Result<(), Fail> {
     for (fails, writes, lines, wanted) in &FAILURES {
         let world = quiet_world(rt.alloc(), *fails)?;
-        let found = outcome(rt.alloc(), world, MOST_ROUNDS, writes, lines)?;
-        assert!(rt; is_outcome(&found, wanted), "{fails:?}");
+        let is_so = comes_out_so(rt.alloc(), world, MOST_ROUNDS, writes, lines, wanted)?;
+        assert!(rt; is_so, "{fails:?}");
     }
     Ok(())
 }
@@ -249,7 +245,7 @@ app 0 ended
 ";
 
 /// How many rounds a run has over two moments, and what comes of it.
-const ROUNDS: [(u64, Outcome<'static>); 3] = [
+static ROUNDS: [(u64, Outcome<'static>); 3] = [
     (1, (Ending::Whole, REPORT_AT_ONE, ACTS_OF_ONE)),
     (2, (Ending::Whole, REPORT_AT_TWO, ACTS_OF_TWO)),
     (3, (Ending::Whole, REPORT_AT_TWO, ACTS_OF_THREE)),
@@ -259,8 +255,9 @@ const ROUNDS: [(u64, Outcome<'static>); 3] = [
 fn each_stimulus_takes_a_round(rt: HostRuntime) -> Result<(), Fail> {
     for (rounds, wanted) in &ROUNDS {
         let world = world_of_moments(rt.alloc())?;
-        let found = outcome(rt.alloc(), world, (*rounds).min(MOST_ROUNDS), &[], &[])?;
-        assert!(rt; is_outcome(&found, wanted), "{rounds}");
+        let rounds = (*rounds).min(MOST_ROUNDS);
+        let is_so = comes_out_so(rt.alloc(), world, rounds, &[], &[], wanted)?;
+        assert!(rt; is_so, "{rounds}");
     }
     Ok(())
 }
