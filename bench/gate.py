@@ -139,6 +139,8 @@ def joined(new, old, commit):
     for crate in {**old, **new}:
         kept, at = old.get(crate, (dict.fromkeys(KINDS, 0), ""))
         took = {kind: new.get(crate, {}).get(kind, 0) for kind in KINDS}
+        if not edits_in(crate):
+            kept = {**kept, "start": 0, "edits": 0}
         rows[crate] = {kind: took[kind] or kept[kind] for kind in KINDS}, commit if any(took.values()) else at
     return rows
 
