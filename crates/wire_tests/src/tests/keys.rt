@@ -21,7 +21,7 @@ const LINK: PacketKey = PacketKey {
 };
 
 /// Frames that came in by port 9, and their keys: first of the link layer, then of IPv4 and what it carries, then of ARP.
-const FRAMES: [(&[u8], PacketKey); 23] = [
+static FRAMES: [(&[u8], PacketKey); 23] = [
     // Ethernet II of a type that says nothing more.
     (
         &[
@@ -342,6 +342,6 @@ const FRAMES: [(&[u8], PacketKey); 23] = [
 #[test]
 fn keys_of_frames(rt: HostRuntime) {
     for (frame, key) in &FRAMES {
-        assert_eq!(rt; key_of(9, frame), *key);
+        assert!(rt; key_of(9, frame) == *key, "{frame:?}");
     }
 }

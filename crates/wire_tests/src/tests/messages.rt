@@ -1,12 +1,13 @@
 //! Messages by the tables of OpenFlow 1.0.0, 5.1 to 5.5, written out by hand.
 
+use super::has_bytes;
 use of_action::ActionKind;
 use of_wire::{Envelope, WireFault, check, decode, encode, size};
-use std::alloc::Global;
+use std::alloc::{AllocError, Global};
 use std::test::Fail;
 
 /// One message of each type.
-const MESSAGES: [&[u8]; 23] = [
+static MESSAGES: [&[u8]; 23] = [
     // HELLO
     &[1, 0, 0, 11, 1, 2, 3, 4, 0xaa, 0xbb, 0xcc],
     // ERROR
@@ -93,19 +94,30 @@ fn is_written(alloc: Global, envelope: &Envelope, bytes: &[u8]) -> Result<bool, 
     Ok(
         size(message) == bytes.len()
             && bytes.len() <= 65_535
-            && encode(alloc, envelope.xid, message)?.as_slice() == bytes,
+            && has_bytes(encode(alloc, envelope.xid, message)?, bytes),
     )
+}
+
+/// Tells whether the copy of a message equals it.
+fn is_copied(envelope: &Envelope) -> Result<bool, WireFault> {
+    let copy = envelope.clone()?;
+    let is_same = copy == *envelope;
+    drop(copy);
+    Ok(is_same)
+}
+
+/// Tells whether a message has this xid, is written as these bytes and equals its copy.
+fn is_kept(alloc: Global, envelope: &Envelope, xid: u32, bytes: &[u8]) -> Result<bool, WireFault> {
+    Ok(envelope.xid == xid && is_copied(envelope)? && is_written(alloc, envelope, bytes)?)
 }
 
 /// Tells whether the bytes are read as a message of this xid, which is written as these bytes and equals its copy.
 fn is_message(alloc: Global, xid: u32, bytes: &[u8]) -> Result<bool, WireFault> {
+    check(bytes)?;
     let envelope = decode(alloc, bytes)?;
-    Ok(
-        envelope.xid == xid
-            && check(bytes) == Ok(())
-            && envelope.clone()? == envelope
-            && is_written(alloc, &envelope, bytes)?,
-    )
+    let is_kept = is_kept(alloc, &envelope, xid, bytes);
+    drop(envelope);
+    is_kept
 }
 
 #[test]
@@ -116,16 +128,28 @@ fn messages_are_read_and_written(rt: HostRuntime) -> Result<(), Fail> {
     Ok(())
 }
 
+/// An ECHO_REQUEST of 65,535 bytes.
+fn largest(alloc: Global) -> Result<Vec<u8>, AllocError> {
+    let mut bytes = Vec::from_slice(alloc, &[1, 2, 0xff, 0xff])?;
+    bytes.resize(65_535, 7).and(Ok(bytes))
+}
+
+/// Tells whether the largest message is read and written.
+fn is_largest_read(alloc: Global) -> Result<bool, WireFault> {
+    let bytes = largest(alloc)?;
+    let is_message = is_message(alloc, 0x0707_0707, &bytes);
+    drop(bytes);
+    is_message
+}
+
 #[test]
 fn the_largest_message(rt: HostRuntime) -> Result<(), Fail> {
-    let mut bytes = Vec::from_slice(rt.alloc(), &[1, 2, 0xff, 0xff])?;
-    bytes.resize(65_535, 7)?;
-    assert!(rt; is_message(rt.alloc(), 0x0707_0707, &bytes)?);
+    assert!(rt; is_largest_read(rt.alloc())?);
     Ok(())
 }
 
 /// Bytes that are no message, and why.
-const REFUSED: [(&[u8], WireFault); 12] = [
+static REFUSED: [(&[u8], WireFault); 12] = [
     (&[4, 22, 0, 9, 0, 0, 0, 0], WireFault::BadVersion),
     (&[1, 22, 0, 9, 0, 0, 0, 0], WireFault::BadType),
     (&[1], WireFault::BadLength),

@@ -2,6 +2,7 @@
 
 ghost use Rattle.std.specs.Prelude.{◌≤◌, length, All, IfOk, OnOk};
 
+use super::has_bytes;
 use of_stats::{
     FlowRow, PortRow, StatsFault, Sum, TableRow, join_replies, read_flow_rows, read_port_row,
     read_sum, split_reply, write_flow_rows, write_sum, write_table_row,
@@ -11,7 +12,7 @@ use std::alloc::{AllocError, Global};
 use std::test::Fail;
 
 /// A row of flow statistics, by the table of OpenFlow 1.0.0, 5.3.5: in_port 3, one OUTPUT to port 2.
-const ROW: [u8; 96] = [
+static ROW: [u8; 96] = [
     0, 96, 0, 0, // length, table_id, pad
     0, 0x38, 0x20, 0xfe, 0, 3, 0, 0, 0, 0, 0, 0, 0, 0, 0, 0, 0, 0, 0, 0, // match
     0, 0, 0, 0, 0, 0, 0, 0, 0, 0, 0, 0, 0, 0, 0, 0, 0, 0, 0, 0, //
@@ -26,46 +27,61 @@ const ROW: [u8; 96] = [
 /// Tells whether the row counts what `ROW` says.
 fn is_row(row: &FlowRow) -> bool {
     row.key.priority == 0x8000
-        && [row.idle, row.hard] == [10, 20]
-        && [row.cookie, row.packets, row.bytes] == [7, 2, 128]
+        && (row.idle == 10 && row.hard == 20)
+        && (row.cookie == 7 && row.packets == 2 && row.bytes == 128)
         && row.duration_sec == 300
 }
 
 /// Tells whether the body is read as so many rows that count what `ROW` says, which are written as these bytes.
 fn has_rows(alloc: Global, body: &[u8], count: usize, written: &[u8]) -> Result<bool, StatsFault> {
     let rows = read_flow_rows(alloc, body)?;
-    Ok(
-        rows.len() == count
-            && rows.iter().all(is_row)
-            && write_flow_rows(alloc, &rows)?.as_slice() == written,
-    )
+    let are_rows = rows.len() == count && rows.iter().all(is_row);
+    let bytes = write_flow_rows(alloc, &rows);
+    drop(rows);
+    Ok(has_bytes(bytes?, written) && are_rows)
+}
+
+/// `ROW` twice.
+fn two_rows(alloc: Global) -> Result<Vec<u8>, AllocError> {
+    let mut rows = Vec::from_slice(alloc, &ROW)?;
+    rows.extend_from_slice(&ROW).and(Ok(rows))
+}
+
+/// Tells whether two rows are read, and written again.
+fn are_two_rows(alloc: Global) -> Result<bool, StatsFault> {
+    let body = two_rows(alloc)?;
+    let has_rows = has_rows(alloc, &body, 2, &body);
+    drop(body);
+    has_rows
+}
+
+/// `ROW` with other bytes where its table and its nanoseconds stand.
+fn other_row() -> [u8; 96] {
+    let mut row = ROW;
+    row[2] = 9;
+    row[51] = 9;
+    row
 }
 
 #[test]
 fn rows_of_flows(rt: HostRuntime) -> Result<(), Fail> {
-    let mut body = Vec::from_slice(rt.alloc(), &ROW)?;
-    body.extend_from_slice(&ROW)?;
-    assert!(rt; has_rows(rt.alloc(), &body, 2, &body)?);
-
+    assert!(rt; are_two_rows(rt.alloc())?);
     // What a row says of its table and of nanoseconds is not kept.
-    let mut other = ROW;
-    other[2] = 9;
-    other[51] = 9;
-    assert!(rt; has_rows(rt.alloc(), &other, 1, &ROW)?);
+    assert!(rt; has_rows(rt.alloc(), &other_row(), 1, &ROW)?);
     Ok(())
 }
 
-const SUM: Sum = Sum {
+static SUM: Sum = Sum {
     packets: 5,
     bytes: 300,
     flows: 2,
 };
 
-const SUM_BYTES: [u8; 24] = [
+static SUM_BYTES: [u8; 24] = [
     0, 0, 0, 0, 0, 0, 0, 5, 0, 0, 0, 0, 0, 0, 1, 44, 0, 0, 0, 2, 0, 0, 0, 0,
 ];
 
-const TABLE: TableRow = TableRow {
+static TABLE: TableRow = TableRow {
     table_id: 1,
     name: *b"table0\0\0\0\0\0\0\0\0\0\0\0\0\0\0\0\0\0\0\0\0\0\0\0\0\0\0",
     wildcards: 0x3f_ffff,
@@ -75,13 +91,13 @@ const TABLE: TableRow = TableRow {
     matched_count: 5,
 };
 
-const TABLE_BYTES: [u8; 64] = [
+static TABLE_BYTES: [u8; 64] = [
     1, 0, 0, 0, b't', b'a', b'b', b'l', b'e', b'0', 0, 0, 0, 0, 0, 0, 0, 0, 0, 0, 0, 0, 0, 0, 0, 0,
     0, 0, 0, 0, 0, 0, 0, 0, 0, 0, 0, 0x3f, 0xff, 0xff, 0, 0, 1, 0, 0, 0, 0, 3, 0, 0, 0, 0, 0, 0, 0,
     4, 0, 0, 0, 0, 0, 0, 0, 5,
 ];
 
-const PORT: PortRow = PortRow {
+static PORT: PortRow = PortRow {
     port_no: 7,
     rx_packets: 1,
     tx_packets: 2,
@@ -97,7 +113,7 @@ const PORT: PortRow = PortRow {
     collisions: 12,
 };
 
-const PORT_BYTES: [u8; 104] = [
+static PORT_BYTES: [u8; 104] = [
     0, 7, 0, 0, 0, 0, 0, 0, 0, 0, 0, 0, 0, 0, 0, 1, 0, 0, 0, 0, 0, 0, 0, 2, 0, 0, 0, 0, 0, 0, 0, 3,
     0, 0, 0, 0, 0, 0, 0, 4, 0, 0, 0, 0, 0, 0, 0, 5, 0, 0, 0, 0, 0, 0, 0, 6, 0, 0, 0, 0, 0, 0, 0, 7,
     0, 0, 0, 0, 0, 0, 0, 8, 0, 0, 0, 0, 0, 0, 0, 9, 0, 0, 0, 0, 0, 0, 0, 10, 0, 0, 0, 0, 0, 0, 0,
@@ -115,7 +131,7 @@ fn sums_tables_and_ports(rt: HostRuntime) {
 type Part<'a> = (u16, u16, &'a [u8]);
 
 /// Parts, and the body that they are joined to.
-const JOINED: [(&[Part<'static>], Result<&[u8], StatsFault>); 4] = [
+static JOINED: [(&[Part<'static>], Result<&[u8], StatsFault>); 4] = [
     // Of another type.
     (
         &[(1, 1, b"a"), (2, 0, b"b")],
@@ -127,13 +143,36 @@ const JOINED: [(&[Part<'static>], Result<&[u8], StatsFault>); 4] = [
     (&[(1, 1, b"")], Err(StatsFault::Bad { place: 0 })),
 ];
 
-/// Copies the bodies of parts.
-fn owned(alloc: Global, parts: &[Part<'_>]) -> Result<Vec<(u16, u16, ByteList)>, AllocError> {
-    let mut owned = Vec::new(alloc);
-    for (kind, flags, body) in parts {
-        owned.push((*kind, *flags, ByteList::from_slice(alloc, body)?))?;
+/// Parts with bodies of their own.
+type Parts = Vec<(u16, u16, ByteList)>;
+
+/// Adds a part with a copy of its body.
+fn push_part(owned: &mut Parts, alloc: Global, part: &Part<'_>) -> Result<(), AllocError> {
+    let (kind, flags, body) = *part;
+    owned.push((kind, flags, ByteList::from_slice(alloc, body)?))?;
+    Ok(())
+}
+
+/// Adds parts with copies of their bodies.
+fn push_parts(owned: &mut Parts, alloc: Global, parts: &[Part<'_>]) -> Result<(), AllocError> {
+    for part in parts {
+        push_part(owned, alloc, part)?;
     }
-    Ok(owned)
+    Ok(())
+}
+
+/// Copies the bodies of parts.
+fn owned(alloc: Global, parts: &[Part<'_>]) -> Result<Parts, AllocError> {
+    let mut owned = Vec::new(alloc);
+    push_parts(&mut owned, alloc, parts).and(Ok(owned))
+}
+
+/// Tells whether this body is wanted.
+fn is_body(body: ByteList, want: &Result<&[u8], StatsFault>) -> bool {
+    match want {
+        Ok(bytes) => has_bytes(body, bytes),
+        Err(_) => false,
+    }
 }
 
 /// Tells whether the parts are joined to this body, or are not for this reason.
@@ -142,16 +181,19 @@ fn is_joined(
     parts: &[Part<'_>],
     want: &Result<&[u8], StatsFault>,
 ) -> Result<bool, AllocError> {
-    Ok(match join_replies(alloc, &owned(alloc, parts)?) {
-        Ok(body) => *want == Ok(body.as_slice()),
+    let parts = owned(alloc, parts)?;
+    let joined = join_replies(alloc, &parts);
+    drop(parts);
+    Ok(match joined {
+        Ok(body) => is_body(body, want),
         Err(fault) => *want == Err(fault),
     })
 }
 
 #[test]
 fn parts_joined(rt: HostRuntime) -> Result<(), Fail> {
-    for (parts, want) in &JOINED {
-        assert!(rt; is_joined(rt.alloc(), parts, want)?, "{parts:?}");
+    for (number, (parts, want)) in JOINED.iter().enumerate() {
+        assert!(rt; is_joined(rt.alloc(), parts, want)?, "row {number}");
     }
     Ok(())
 }
@@ -178,26 +220,47 @@ fn four_rows(alloc: Global) -> Result<Vec<ByteList>, AllocError>
     Ok(rows)
 }
 
-/// Of each part into which the rows are split: its type, its flags and how many bytes it has.
-fn parts_of(
+/// Tells whether the parts have these types, flags and numbers of bytes.
+fn are_parts(parts: &[(u16, u16, ByteList)], wants: &[(u16, u16, usize)]) -> bool {
+    if parts.len() != wants.len() {
+        return false;
+    }
+    for k in 0..parts.len() {
+        let (kind, flags, body) = &parts[k];
+        if (*kind, *flags, body.len()) != wants[k] {
+            return false;
+        }
+    }
+    true
+}
+
+/// Tells whether the rows are split into parts of these types, flags and numbers of bytes.
+fn is_split(
     alloc: Global,
     kind: u16,
     rows: &[ByteList],
-) -> Result<Vec<(u16, u16, usize)>, AllocError>
+    wants: &[(u16, u16, usize)],
+) -> Result<bool, AllocError>
     requires { All (λ row. length row ≤ 65523) rows.now }
 {
-    let mut found = Vec::new(alloc);
-    for (kind, flags, body) in &split_reply(alloc, kind, rows)? {
-        found.push((*kind, *flags, body.len()))?;
-    }
-    Ok(found)
+    let parts = split_reply(alloc, kind, rows)?;
+    let are_parts = are_parts(&parts, wants);
+    drop(parts);
+    Ok(are_parts)
+}
+
+/// Tells whether four rows are split into three parts.
+fn are_four_rows_split(alloc: Global) -> Result<bool, AllocError> {
+    let rows = four_rows(alloc)?;
+    let wants = [(4, 1, 65_523), (4, 1, 1), (4, 0, 65_523)];
+    let is_split = is_split(alloc, 4, &rows, &wants);
+    drop(rows);
+    is_split
 }
 
 #[test]
 fn parts_of_rows(rt: HostRuntime) -> Result<(), Fail> {
-    let alloc = rt.alloc();
-    assert!(rt; parts_of(alloc, 1, &[])?.as_slice() == [(1, 0, 0)].as_slice());
-    let want = [(4, 1, 65_523), (4, 1, 1), (4, 0, 65_523)];
-    assert!(rt; parts_of(alloc, 4, &four_rows(alloc)?)?.as_slice() == want.as_slice());
+    assert!(rt; is_split(rt.alloc(), 1, &[], &[(1, 0, 0)])?);
+    assert!(rt; are_four_rows_split(rt.alloc())?);
     Ok(())
 }

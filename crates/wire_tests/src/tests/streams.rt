@@ -1,6 +1,6 @@
 //! A stream of messages, cut anywhere.
 
-use of_stream::cut_pieces;
+use of_stream::{Cut, cut_pieces};
 use of_types::ByteList;
 use std::alloc::{AllocError, Global};
 use std::test::Fail;
@@ -52,7 +52,7 @@ const BARRIER_REQUEST: [u8; 8] = [1, 18, 0, 8, 0, 0, 0, 10];
 
 const BARRIER_REPLY: [u8; 8] = [1, 19, 0, 8, 0, 0, 0, 10];
 
-const MESSAGES: [&[u8]; 12] = [
+static MESSAGES: [&[u8]; 12] = [
     &HELLO,
     &FEATURES_REQUEST,
     &FEATURES_REPLY,
@@ -67,22 +67,45 @@ const MESSAGES: [&[u8]; 12] = [
     &BARRIER_REPLY,
 ];
 
+/// Adds a list of these bytes.
+fn push_list(lists: &mut Vec<ByteList>, alloc: Global, part: &[u8]) -> Result<(), AllocError> {
+    lists.push(ByteList::from_slice(alloc, part)?)?;
+    Ok(())
+}
+
+/// Adds lists of these bytes.
+fn push_lists(lists: &mut Vec<ByteList>, alloc: Global, parts: &[&[u8]]) -> Result<(), AllocError> {
+    for part in parts {
+        push_list(lists, alloc, part)?;
+    }
+    Ok(())
+}
+
 /// Lists of these bytes.
 fn lists(alloc: Global, parts: &[&[u8]]) -> Result<Vec<ByteList>, AllocError> {
     let mut lists = Vec::new(alloc);
-    for part in parts {
-        lists.push(ByteList::from_slice(alloc, part)?)?;
+    push_lists(&mut lists, alloc, parts).and(Ok(lists))
+}
+
+/// Adds the messages, one after the other.
+fn push_messages(bytes: &mut Vec<u8>) -> Result<(), AllocError> {
+    for message in &MESSAGES {
+        bytes.extend_from_slice(message)?;
     }
-    Ok(lists)
+    Ok(())
 }
 
 /// The messages, one after the other.
 fn stream(alloc: Global) -> Result<Vec<u8>, AllocError> {
     let mut bytes = Vec::new(alloc);
-    for message in &MESSAGES {
-        bytes.extend_from_slice(message)?;
-    }
-    Ok(bytes)
+    push_messages(&mut bytes).and(Ok(bytes))
+}
+
+/// Tells whether a stream was cut into these messages, and nothing is left.
+fn are_messages(cut: Cut, messages: &[ByteList]) -> bool {
+    let are_messages = cut.frames.as_slice() == messages && cut.rest.is_empty();
+    drop(cut);
+    are_messages
 }
 
 /// Tells whether a stream that comes in these two pieces is cut into these messages, and nothing is left.
@@ -93,20 +116,44 @@ fn is_cut(
     messages: &[ByteList],
 ) -> Result<bool, AllocError> {
     let pieces = lists(alloc, &[front, back])?;
-    let cut = cut_pieces(alloc, &pieces)?;
-    Ok(cut.frames.as_slice() == messages && cut.rest.is_empty())
+    let cut = cut_pieces(alloc, &pieces);
+    drop(pieces);
+    Ok(are_messages(cut?, messages))
+}
+
+/// The first place at which a stream is not cut into these messages.
+fn first_wrong(
+    alloc: Global,
+    bytes: &[u8],
+    messages: &[ByteList],
+) -> Result<Option<usize>, AllocError> {
+    for place in 0..bytes.len() {
+        if !is_cut(alloc, &bytes[..place], &bytes[place..], messages)? {
+            return Ok(Some(place));
+        }
+    }
+    Ok(None)
+}
+
+/// The first place at which the stream of these messages is not cut into them.
+fn first_wrong_of(alloc: Global, messages: &[ByteList]) -> Result<Option<usize>, AllocError> {
+    let bytes = stream(alloc)?;
+    let wrong = first_wrong(alloc, &bytes, messages);
+    drop(bytes);
+    wrong
+}
+
+/// The first place at which the stream of the messages is not cut into them.
+fn first_wrong_place(alloc: Global) -> Result<Option<usize>, AllocError> {
+    let messages = lists(alloc, &MESSAGES)?;
+    let wrong = first_wrong_of(alloc, &messages);
+    drop(messages);
+    wrong
 }
 
 #[test]
 fn one_stream_cut_at_every_place(rt: HostRuntime) -> Result<(), Fail> {
-    let alloc = rt.alloc();
-    let messages = lists(alloc, &MESSAGES)?;
-    let bytes = stream(alloc)?;
-    for place in 0..bytes.len() {
-        assert!(rt;
-            is_cut(alloc, &bytes[..place], &bytes[place..], &messages)?,
-            "{place}"
-        );
-    }
+    let wrong = first_wrong_place(rt.alloc())?;
+    assert!(rt; wrong.is_none(), "{wrong:?}");
     Ok(())
 }
