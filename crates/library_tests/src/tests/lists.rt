@@ -43,32 +43,52 @@ fn stimulus(alloc: Global, number: usize) -> Result<WorldStim, AllocError> {
     })
 }
 
-/// All of them, packed.
-fn packed(alloc: Global) -> Result<StimulusList, AllocError> {
-    let mut list = StimulusList::new(alloc);
+/// Packs all of them.
+fn push_all(alloc: Global, list: &mut StimulusList) -> Result<(), AllocError> {
     for number in 0..STIMULI {
-        list.push(&stimulus(alloc, number)?)?;
+        let stimulus = stimulus(alloc, number)?;
+        let pushed = list.push(&stimulus);
+        drop(stimulus);
+        pushed?;
     }
-    Ok(list)
+    Ok(())
+}
+
+/// Whether it is the stimulus of a number.
+fn is_stimulus(alloc: Global, found: &WorldStim, number: usize) -> Result<bool, AllocError> {
+    let wanted = stimulus(alloc, number)?;
+    let is_same = wanted == *found;
+    drop(wanted);
+    Ok(is_same)
 }
 
 /// Whether the stimulus of a number is found in its place.
 fn is_found(alloc: Global, list: &StimulusList, number: usize) -> Result<bool, AllocError> {
-    match list.get(alloc, number)? {
-        Some(found) => Ok(found == stimulus(alloc, number)?),
-        None => Ok(false),
-    }
+    let Some(found) = list.get(alloc, number)? else {
+        return Ok(false);
+    };
+    let is_stimulus = is_stimulus(alloc, &found, number);
+    drop(found);
+    is_stimulus
 }
 
-/// Whether each is found in its place, and none behind them.
-fn are_found(alloc: Global) -> Result<bool, AllocError> {
-    let list = packed(alloc)?;
+/// Whether each is found in its place when all are packed, and none behind them.
+fn keeps_all(alloc: Global, list: &mut StimulusList) -> Result<bool, AllocError> {
+    push_all(alloc, list)?;
     for number in 0..STIMULI {
-        if !is_found(alloc, &list, number)? {
+        if !is_found(alloc, list, number)? {
             return Ok(false);
         }
     }
     Ok(list.len() == STIMULI && list.get(alloc, STIMULI)?.is_none())
+}
+
+/// Whether a new list keeps them.
+fn are_found(alloc: Global) -> Result<bool, AllocError> {
+    let mut list = StimulusList::new(alloc);
+    let keeps_all = keeps_all(alloc, &mut list);
+    drop(list);
+    keeps_all
 }
 
 #[test]
@@ -77,28 +97,47 @@ fn stimuli_are_found_again(rt: HostRuntime) -> Result<(), Fail> {
     Ok(())
 }
 
-/// The steps of a turn: two bytes, and the end.
-fn script(alloc: Global) -> Result<StepList, AllocError> {
-    let mut script = StepList::new(alloc);
-    let bytes = ByteList::from_slice(alloc, &STEP)?;
-    script.push(&ScriptStep::Bytes(bytes))?;
-    script.push(&ScriptStep::Closed)?;
-    Ok(script)
+/// Adds the steps of a turn: two bytes, and the end.
+fn push_steps(alloc: Global, script: &mut StepList) -> Result<(), AllocError> {
+    let step = ScriptStep::Bytes(ByteList::from_slice(alloc, &STEP)?);
+    let pushed = script.push(&step);
+    drop(step);
+    pushed?;
+    script.push(&ScriptStep::Closed)
 }
 
-/// Whether these are the steps of [`script`].
+/// Whether these are the steps that [`push_steps`] adds.
 fn is_script(steps: &Steps<'_>) -> bool {
     steps.len() == 2
         && matches!(steps.get(0), StepRef::Bytes([1, 2]))
         && matches!(steps.get(1), StepRef::Closed)
 }
 
+/// Adds a line without steps, and one with them.
+fn push_lines(
+    alloc: Global,
+    list: &mut ReplyList,
+    script: &mut StepList,
+) -> Result<(), AllocError> {
+    list.push(3, script)?;
+    push_steps(alloc, script)?;
+    list.push(4, script)
+}
+
 /// Whether two lines are found in their places, the first without steps.
+fn has_lines(list: &ReplyList) -> bool {
+    list.len() == 2 && list.app(1) == 4 && is_script(&list.steps(1)) && list.steps(0).len() == 0
+}
+
+/// Whether a new list keeps the lines.
 fn keeps_replies(alloc: Global) -> Result<bool, AllocError> {
+    let mut script = StepList::new(alloc);
     let mut list = ReplyList::new(alloc);
-    list.push(3, &StepList::new(alloc))?;
-    list.push(4, &script(alloc)?)?;
-    Ok(list.len() == 2 && list.app(1) == 4 && is_script(&list.steps(1)) && list.steps(0).len() == 0)
+    let pushed = push_lines(alloc, &mut list, &mut script);
+    let has_lines = has_lines(&list);
+    drop(list);
+    drop(script);
+    pushed.and(Ok(has_lines))
 }
 
 #[test]
