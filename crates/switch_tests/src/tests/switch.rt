@@ -7,7 +7,7 @@ use super::messages::{
     TO_FLOOD, TO_IN_PORT, TO_TABLE, changed,
 };
 use of_types::{ByteList, PortChange, PortNo, Stimulus, get_u64};
-use of_wire::{WireFault, decode, size};
+use of_wire::{Envelope, WireFault, decode, size};
 use std::alloc::{AllocError, Global};
 use std::test::Fail;
 use switch_sim::{MessageList, SimSwitch};
@@ -201,7 +201,18 @@ const STEPS: &[Step] = &[
     Step::Counts([(0, 0), (0, 0), (0, 1)]),
 ];
 
-/// What the switch sends when a message reaches it.
+/// What the switch sends for a message.
+fn answer(switch: &mut SimSwitch, envelope: &Envelope) -> Result<MessageList, WireFault>
+    requires { switch.old.table.next ≤ 1000 }
+    ensures { switch.new.table.next ≤ switch.old.table.next + 1 }
+{
+    if size(&envelope.message) > 65535 {
+        return Err(WireFault::BadLength);
+    }
+    Ok(switch.message(envelope.xid, &envelope.message)?)
+}
+
+/// What the switch sends when the bytes of a message reach it.
 pub(super) fn send(
     alloc: Global,
     switch: &mut SimSwitch,
@@ -211,10 +222,9 @@ pub(super) fn send(
     ensures { switch.new.table.next ≤ switch.old.table.next + 1 }
 {
     let envelope = decode(alloc, bytes)?;
-    if size(&envelope.message) > 65535 {
-        return Err(WireFault::BadLength);
-    }
-    Ok(switch.message(envelope.xid, &envelope.message)?)
+    let sent = answer(switch, &envelope);
+    drop(envelope);
+    sent
 }
 
 /// Whether one message was sent that begins with these bytes; where there are none, whether no message was.
