@@ -5,6 +5,6 @@ pub mod Stands
 pub mod Reverting
 pub mod Same
 pub mod Corrected
-pub mod Owned
+pub mod CorrectedSwitch
 pub mod Table
 pub mod laws

@@ -10,5 +10,6 @@ pub mod SameLaws
 pub mod RestoredLaws
 pub mod InFlightLaws
 pub mod CorrectedLaws
-pub mod OwnedLaws
+pub mod CorrectedSwitchLaws
+pub mod ShownEntryLaws
 pub mod TableLaws
