@@ -24,7 +24,7 @@ use Rattle.crash_policy.specs.Policies.{AppValue}
 use Rattle.crash_policy.specs.Asking.{is_given, rule_at}
 use Rattle.lego_model.specs.Journal.{Reply, Start, Untold}
 use Rattle.lego_model.specs.Turns.{Outcome, Completed, Failed, Table, turn_of, outcome_of}
-use Rattle.lego_model.specs.Places.{Place, switch_at, with_place, undone_places}
+use Rattle.lego_model.specs.Places.{Place, switch_at, with_place}
 use Rattle.lego_model.specs.Losses.{PacketLoss, Stays, BeforeSent, AfterSent, TurnLosses, Losses, next_flag, next_packet, next_turn, batch_fewer, turn_fewer}
 pub use Rattle.lego_model.specs.Events.{ports_of, two_bytes, event_of_message, event_of_read, events_of, join_event, leave_event}
 use Rattle.lego_model.specs.Packets.{Held, HeldBack, Play, fresh_play, play, play_undo}

@@ -9,7 +9,7 @@ ghost use Rattle.outside.specs.State.{state, at_first};
 ghost use Rattle.outside.specs.InOrder.{BringMessages, InOrder};
 ghost use Rattle.sim_world.specs.World.{given_of, seen_of};
 ghost use Rattle.sim_world.specs.Places.{AreExpected};
-ghost use Rattle.sim_world.specs.Building.{nothing_given, IsNew, Begins};
+ghost use Rattle.sim_world.specs.Building.{nothing_given, IsNew};
 ghost use Rattle.command_words.specs.Commands.{command_in};
 ghost use Rattle.lego_model.specs.History.{lost_of};
 ghost use Rattle.lego_model.specs.OwnIds.{IsShortRun, OwnIdsAscend};

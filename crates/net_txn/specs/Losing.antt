@@ -54,7 +54,7 @@ pub record SaysNone {Own : Type 0} (old new : Seen Own) : Type 0 where
   pub history : new.history ≡ old.history ++ steps
   pub none_sent : SendsNone (journal steps)
 
--- The count of its link rose in these calls, the last of which left a step.
+-- The count of its link rose in these calls, some call left a step.
 pub record IsLost {Own : Type 0} (Tells : Type 0) (d : ℕ) (packets : List Held) (old new : Seen Own) : Type 0 where
   pub rose : Rose (old.counts.link_faults d) (new.counts.link_faults d)
   pub some : LeavesStep Tells old new

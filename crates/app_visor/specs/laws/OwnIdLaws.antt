@@ -1,12 +1,12 @@
 -- The transaction ids of the messages of a turn ascend.
-use Rattle.std.specs.Prelude.{◌≡◌, ℕ, ◌≤◌, Bool, true, List, [], ◌∷◌, ◌++◌, map, Ok, refl}
+use Rattle.std.specs.Prelude.{◌≡◌, ℕ, Bool, true, List, [], ◌∷◌, ◌++◌, map, refl}
 use Rattle.std.proofs.Common.{sym, ap, ◌∙◌, subst, inl, inr, arith}
-use Rattle.std.proofs.lemmas.List.{append-nil, length-append}
+use Rattle.std.proofs.lemmas.List.{append-nil}
 use Rattle.of_types.specs.declared.journal.Act.{Act}
 use Rattle.of_types.specs.declared.journal.Act.TheVariants.{Stim, Started, Gave, Gone, Took, Ended, Sent, Got, Lost}
 use Rattle.flow_table.specs.View.{TableView}
 use Rattle.outside.specs.declared.step.WorldStep.{WorldStep}
-use Rattle.outside.specs.Seen.{Seen, Continues, journal}
+use Rattle.outside.specs.Seen.{Seen, journal}
 use Rattle.lego_model.specs.declared.fault.TxnFault.{TxnFault}
 use Rattle.lego_model.specs.Journal.{is_of}
 use Rattle.lego_model.specs.OwnIds.{own_ids, AscendWithin, IsShortRun, OwnIdsSoFar}
@@ -15,10 +15,10 @@ use Rattle.net_txn.specs.laws.OwnIdLaws.{own_ids_two, so_far_then, so_far_none, 
 use Rattle.journal_laws.specs.Readings.{is_call, Calls}
 use Rattle.app_visor.specs.declared.state.TurnEnd.{TurnEnd}
 use Rattle.app_visor.specs.CallsFor.{OwnSteps}
-use Rattle.app_visor.specs.Talks.{step_of, give_act, Told}
+use Rattle.app_visor.specs.Talks.{step_of, give_act}
 use Rattle.app_visor.specs.Beats.{Beat, Talk, Asks, Chain, Halts, Stops}
 use Rattle.app_visor.specs.Turns.{Turns}
-use Rattle.app_visor.specs.laws.BeatLaws.{Chain-continues, Leads-continues, halts_continue}
+use Rattle.app_visor.specs.laws.BeatLaws.{Chain-continues, halts_continue}
 
 -- ---- Calls for an application send no message
 

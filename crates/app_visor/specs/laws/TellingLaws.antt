@@ -1,7 +1,6 @@
 -- Laws of what a history tells: what calls for an application and of links leave.
-use Rattle.std.specs.Prelude.{◌≡◌, ◌==◌, ℕ, true, false, List, [], ◌∷◌, ◌++◌, map, filter, None, slice_index, refl}
-use Rattle.std.proofs.Common.{sym, ap, ◌∙◌, true≢false, arith}
-use Rattle.of_types.specs.Fields.{number_at}
+use Rattle.std.specs.Prelude.{◌≡◌, ◌==◌, ℕ, true, false, List, [], ◌∷◌, ◌++◌, map, filter, None, refl}
+use Rattle.std.proofs.Common.{sym, ap, ◌∙◌, true≢false}
 use Rattle.of_types.specs.declared.journal.Act.{Act}
 use Rattle.of_types.specs.declared.journal.Act.TheVariants.{Stim, Started, Gave, Gone, Took, Ended, Sent, Got, Lost}
 use Rattle.of_types.specs.declared.journal.WorldStim.{WorldStim}

@@ -1,5 +1,5 @@
 -- Laws of what each part of a whole run leaves: where nothing was done, where parts follow one another, and where one of them ended the whole.
-use Rattle.std.proofs.Common.{◌≡◌, ℕ, Bool, List, length, Option, Result, Ok, Err, IfErr, IsErr, IsErrAnd, refl, ap, subst}
+use Rattle.std.proofs.Common.{◌≡◌, ℕ, Bool, List, length, Option, Result, Ok, Err, IfErr, IsErr, IsErrAnd, subst}
 use Rattle.lego_io.specs.Count.{NeverFell}
 use Rattle.flow_table.specs.View.{TableView}
 use Rattle.crash_policy.specs.Policies.{AppValue}

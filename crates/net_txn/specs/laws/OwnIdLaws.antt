@@ -1,6 +1,6 @@
 -- Laws of the transaction ids of what is said on a link.
-use Rattle.std.specs.Prelude.{◌≡◌, ◌==◌, ℕ, ◌+◌, ◌*◌, ◌^◌, ◌<◌, ◌≤◌, Bool, true, false, List, [], ◌∷◌, ◌++◌, length, Option, Some, None, Result, Ok, Err, refl, if◌then◌else◌}
-use Rattle.std.proofs.Common.{sym, ap, ◌∙◌, subst, append_assoc, inl, inr, arith}
+use Rattle.std.specs.Prelude.{◌≡◌, ◌==◌, ℕ, ◌+◌, ◌*◌, ◌^◌, ◌<◌, ◌≤◌, Bool, true, false, List, [], ◌∷◌, ◌++◌, length, Option, Some, None, refl}
+use Rattle.std.proofs.Common.{sym, ap, ◌∙◌, subst, append_assoc, arith}
 use Rattle.std.proofs.lemmas.List.{append-nil, append_cancel_left, length-append}
 use Rattle.std.proofs.lemmas.List.Elements.{filter_map-append}
 use Rattle.std.proofs.lemmas.Bool.{ne_eqb}
@@ -21,7 +21,7 @@ use Rattle.lego_model.specs.laws.OwnIdLaws.{own_ids-append, ascend_le, ascend_to
 use Rattle.net_txn.specs.declared.trouble.Trouble.{Trouble}
 use Rattle.net_txn.specs.declared.trouble.Trouble.TheVariants as troubles
 use Rattle.net_txn.specs.OwnIds.{LeavesStep, IdsGoOn, StopsIds}
-use Rattle.net_txn.specs.Said.{Said, Says, Hears, HearsNoise, CannotSay, CannotHear, LacksMemory, id_said, ids_said, Speaks, steps_in, joined_behind, said_steps, Calls, unsaid, unheard, said_by, heard_said, wait_said, last_said, frames_said, barrier_of}
+use Rattle.net_txn.specs.Said.{Said, Says, Hears, HearsNoise, CannotSay, CannotHear, LacksMemory, id_said, ids_said, Speaks, steps_in, joined_behind, said_steps, unsaid, unheard, said_by, heard_said, wait_said, last_said, frames_said, barrier_of}
 use Rattle.net_txn.specs.Waits.{Brought, Waits}
 
 -- ---- The ids of what was said are those of its steps

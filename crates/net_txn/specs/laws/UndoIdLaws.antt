@@ -1,32 +1,30 @@
 -- The transaction ids of an undo ascend: each part takes the next one, and so few that they do not begin anew.
-use Rattle.std.specs.Prelude.{◌≡◌, ◌==◌, ℕ, ◌+◌, ◌*◌, ◌^◌, ◌<◌, ◌≤◌, Bool, true, false, List, [], ◌∷◌, ◌++◌, length, map, ◌⊎◌, Option, Some, None, Result, IsOk, refl, if◌then◌else◌}
+use Rattle.std.specs.Prelude.{◌≡◌, ◌==◌, ℕ, ◌+◌, ◌^◌, ◌<◌, ◌≤◌, Bool, true, false, List, [], ◌∷◌, ◌++◌, length, map, Option, Some, None, Result, IsOk, refl}
 use Rattle.std.specs.Option.{is_some}
 use Rattle.std.proofs.Common.{sym, ap, ◌∙◌, subst, inl, inr, arith}
 use Rattle.std.proofs.lemmas.Bool.{cases_eq, eq-eqb, ne_eqb}
-use Rattle.std.proofs.lemmas.List.{length-append, length-map, append-nil}
+use Rattle.std.proofs.lemmas.List.{length-append, length-map}
 use Rattle.of_match.specs.declared.key.Key.{Key}
 use Rattle.of_wire.specs.declared.message.Message.TheVariants.{FlowMod}
 use Rattle.flow_table.specs.Switch.{Declared}
 use Rattle.flow_table.specs.View.{TableView}
 use Rattle.outside.specs.declared.step.WorldStep.{WorldStep}
-use Rattle.outside.specs.declared.step.WorldStep.TheVariants.{Acted}
 use Rattle.outside.specs.Seen.{Counts, Seen, journal}
-use Rattle.outside.specs.State.{Link, State, after_steps, state, at_first, link_at_first, link_of, switch_in, switch_of, declared_in, is_joined}
+use Rattle.outside.specs.State.{Link, State, after_steps, state, at_first, link_at_first, link_of, switch_in, switch_of}
 use Rattle.outside.specs.laws.LinkKeptLaws.{steps-declared}
 use Rattle.lego_model.specs.declared.fault.TxnFault.{TxnFault}
-use Rattle.lego_model.specs.BarrierWaits.{next_xid, barrier_sent, wait_steps, reply_got}
+use Rattle.lego_model.specs.BarrierWaits.{next_xid}
 use Rattle.lego_model.specs.UndoFaults.{delete_strict, inverse_bytes}
-use Rattle.lego_model.specs.OwnIds.{own_id_of, own_ids, AscendWithin, IsShortRun, OwnIdsAscend, OwnIdsSoFar}
+use Rattle.lego_model.specs.OwnIds.{own_ids, AscendWithin, IsShortRun, OwnIdsAscend, OwnIdsSoFar}
 use Rattle.lego_model.specs.laws.OwnIdLaws.{ascend_then, ascend_to, own_id-sent}
-use Rattle.net_txn.specs.declared.halt.Halt.{Halt}
 use Rattle.net_txn.specs.declared.halt.Halt.TheVariants.{Lost, Fault}
 use Rattle.net_txn.specs.Net.{NetState}
 use Rattle.net_txn.specs.Views.{is_viewed}
 use Rattle.net_txn.specs.Losing.{lose_all, lost_net}
 use Rattle.net_txn.specs.Said.{Says, wait_said, frames_said, barrier_of, reply_heard, said_steps}
-use Rattle.net_txn.specs.Undos.{Part, Inverse, BarrierPassed, Stuck, HasIdAtMost, alone, part_steps, steps_of, parts_of, next_free, xid_of, AreNumbered, is_stuck, lost_parts, fault_in, first_fault, IsRun, ended_by, AreJoined, Undoes}
+use Rattle.net_txn.specs.Undos.{Part, Inverse, BarrierPassed, Stuck, HasIdAtMost, alone, part_steps, steps_of, parts_of, next_free, xid_of, AreNumbered, is_stuck, lost_parts, fault_in, first_fault, IsRun, AreJoined, Undoes}
 use Rattle.net_txn.specs.laws.AgreeLaws.{both_none, no_fault}
-use Rattle.net_txn.specs.laws.OwnIdLaws.{own_ids_two, said_ids, wait_ids, with_none, ids_append, one_ascends, barrier_id, next_small, so_far_then, so_far_ascends}
+use Rattle.net_txn.specs.laws.OwnIdLaws.{own_ids_two, said_ids, wait_ids, with_none, ids_append, one_ascends, barrier_id, next_small, so_far_then}
 use Rattle.net_txn.specs.laws.RestoreLaws.{AllRun, runs_here, runs_older}
 use Rattle.net_txn.specs.laws.SaidLaws.{whole_steps}
 

@@ -1,4 +1,4 @@
-use Rattle.std.proofs.Common.{Ok, Err, false, refl, sym}
+use Rattle.std.proofs.Common.{Ok, Err, false, sym}
 use Rattle.event_dispatch.specs.declared.fault.Fault.TheVariants as faults
 use Rattle.event_dispatch.specs.laws.OfferLaws.{offer_passed, offer_none, offer_ended}
 use Rattle.event_dispatch.specs.laws.PassesLaws.{same_next, passes_none}

@@ -1,4 +1,4 @@
-use Rattle.std.proofs.Common.{Ok, length, refl, arith}
+use Rattle.std.proofs.Common.{Ok, length, arith}
 use Rattle.event_dispatch.specs.EventParts.{OffersStop}
 use Rattle.event_dispatch.specs.laws.PassesLaws.{same_next, at_fault, passes_then, passes_fails, passes_as, passes_number}
 use Rattle.event_dispatch.specs.laws.OfferLaws.{offers_first, next_split, next_before, next_place, offers_on, offers_end, all_offered, offers_stop_at}

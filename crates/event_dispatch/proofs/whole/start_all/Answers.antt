@@ -1,4 +1,4 @@
-use Rattle.std.proofs.Common.{refl, arith}
+use Rattle.std.proofs.Common.{arith}
 use Rattle.event_dispatch.specs.laws.BeginLaws.{starts_first, start_split, start_place, start_rests, starts_next, all_started, starts_going}
 use Rattle.event_dispatch.specs.laws.PassesLaws.{same_next, if_failed, quiet_fails, quiet_then, quiet_as, quiet_waits}
 use Rattle.event_dispatch.proofs.whole.start_all.Goals as goal

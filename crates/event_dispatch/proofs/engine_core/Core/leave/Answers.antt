@@ -1,7 +1,6 @@
-use Rattle.std.proofs.Common.{ap, refl}
+use Rattle.std.proofs.Common.{refl}
 use Rattle.std.proofs.lemmas.Result.{on_ok_weaker}
 use Rattle.app_visor.specs.laws.OwnLaws.{own_ended}
-use Rattle.net_txn.specs.Net.{NetState}
 use Rattle.event_dispatch.specs.laws.PassesLaws.{next_of}
 use Rattle.event_dispatch.specs.laws.TalkingLaws.{keeps_ended}
 use Rattle.event_dispatch.specs.laws.TurnPartLaws.{quiet_own}

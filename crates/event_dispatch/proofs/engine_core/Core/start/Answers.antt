@@ -1,6 +1,5 @@
-use Rattle.std.proofs.Common.{ap, refl}
+use Rattle.std.proofs.Common.{refl}
 use Rattle.std.proofs.lemmas.Result.{on_ok_weaker}
-use Rattle.net_txn.specs.Net.{NetState}
 use Rattle.event_dispatch.specs.laws.PassesLaws.{next_of, if_failed}
 use Rattle.event_dispatch.specs.laws.TalkingLaws.{keeps_tried, keeps_restarted}
 use Rattle.event_dispatch.specs.laws.TurnPartLaws.{quiet_own}

@@ -1,4 +1,4 @@
-use Rattle.std.proofs.Common.{ℕ, List, Ok, length, refl, sym, subst, ◌∙◌}
+use Rattle.std.proofs.Common.{ℕ, List, Ok, length, sym, subst, ◌∙◌}
 use Rattle.app_visor.specs.CallsFor.{OwnSteps}
 use Rattle.checkpoint_store.specs.Slots.{Slot}
 use Rattle.event_dispatch.specs.declared.fault.Fault.TheVariants as faults

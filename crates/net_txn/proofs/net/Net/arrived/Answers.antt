@@ -1,4 +1,4 @@
-use Rattle.std.proofs.Common.{rules, refl, Err}
+use Rattle.std.proofs.Common.{rules, refl}
 use Rattle.std.proofs.lemmas.Result.{err_from_is_err_and}
 use Rattle.outside.specs.laws.SeenLaws.{Continues-refl}
 use Rattle.net_txn.specs.laws.LinkStepLaws.{OnLinks-refl}

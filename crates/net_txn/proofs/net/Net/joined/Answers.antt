@@ -1,4 +1,4 @@
-use Rattle.std.proofs.Common.{◌≡◌, ◌==◌, not, filter, sym, ap, ◌∙◌, subst, refl, Ok, true, false, ℕ, arith}
+use Rattle.std.proofs.Common.{◌≡◌, ◌==◌, not, filter, sym, ap, ◌∙◌, subst, refl, Ok, arith}
 use Rattle.outside.specs.State.{state, switch_of}
 use Rattle.net_txn.specs.declared.halt.Halt.{Halt}
 use Rattle.net_txn.specs.Joining.{greeted_from, greeting}
