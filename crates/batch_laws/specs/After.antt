@@ -9,7 +9,7 @@ use Rattle.outside.specs.Conforming.{AreDeclaredFrom}
 use Rattle.net_txn.specs.Views.{rows_at, ViewsAscend}
 use Rattle.switch_laws.specs.Shown.{shown_places}
 use Rattle.switch_laws.specs.Sound.{AllSound}
-use Rattle.batch_laws.specs.Knowledge.{Knowledge}
+use Rattle.batch_laws.specs.Knowledge.{known_by, Knowledge}
 use Rattle.batch_laws.specs.Calm.{known_ports}
 use Rattle.batch_laws.specs.Lasting.{AllLast}
 use Rattle.batch_laws.specs.LinkTells.{KnownIn, StandsIn}
@@ -32,8 +32,8 @@ SoundIn (Some s) = AllSound s.table.entries
 
 -- After it the events that wait and the switches are those of the reference controller, and the engine knows each switch as it is.
 pub record After (x : WorldStim) (s : State) (before k : Knowledge) : Type 0 where
-  pub queue : k.queue ≡ before.queue ++ events_after x s.moment (shown_places (declared_in s.links) before.views s)
-  pub places : shown_places (declared_in s.links) k.views (after_stim x s) ≡ places_after x s.moment (shown_places (declared_in s.links) before.views s)
+  pub queue : k.queue ≡ before.queue ++ events_after x s.moment (shown_places (declared_in s.links) (known_by before) s)
+  pub places : shown_places (declared_in s.links) (known_by k) (after_stim x s) ≡ places_after x s.moment (shown_places (declared_in s.links) (known_by before) s)
   pub known : (d : ℕ) → KnownIn (switch_of d (after_stim x s)) (rows_at d k.views) (known_ports d k.ports)
   pub order : ViewsAscend 0 k.views
   pub moment : k.moment ≡ (after_stim x s).moment

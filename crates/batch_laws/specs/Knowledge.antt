@@ -9,6 +9,7 @@ use Rattle.of_wire.specs.declared.message.Envelope.{Envelope}
 use Rattle.of_wire.specs.declared.fault.WireFault.{WireFault}
 use Rattle.of_wire.specs.Reading.{reading_of}
 use Rattle.of_wire.specs.Spelling.{message_bytes}
+use Rattle.flow_table.specs.declared.entry.Entry.{Entry}
 use Rattle.flow_table.specs.View.{TableView}
 use Rattle.app_frames.specs.declared.frame.Event.{Event}
 use Rattle.app_frames.specs.declared.frame.EventKind.TheVariants as kinds
@@ -20,12 +21,17 @@ use Rattle.net_txn.specs.Views.{rows_at, with_rows}
 use Rattle.net_txn.specs.Joining.{with_view}
 use Rattle.net_txn.specs.Leaving.{ports_at, ports_text, left_event}
 use Rattle.net_txn.specs.Arriving.{key_removed, without_key, known_after, event_of}
+use Rattle.switch_laws.specs.Shown.{corrections}
 
 pub record Knowledge : Type 0 where
   pub views : List TableView
   pub ports : List KnownPorts
   pub moment : ℕ
   pub queue : List Event
+
+-- an entry as its owner sees it, by what is known
+abbrev pub known_by : Knowledge → ℕ → Entry → Entry
+known_by k = corrections k.views
 
 abbrev pub knowledge_of : NetState → List Event → Knowledge
 knowledge_of net queue = record { views = net.views; ports = net.ports; moment = net.moment; queue = queue }

@@ -12,7 +12,7 @@ use Rattle.flow_table.specs.View.{TableView}
 use Rattle.flow_table.specs.Table.{IsTable}
 use Rattle.flow_table.specs.Switch.{SwitchState}
 use Rattle.flow_table.specs.Step.{after_stimulus}
-use Rattle.undo_laws.specs.Owned.{owned_switch}
+use Rattle.undo_laws.specs.CorrectedSwitch.{corrected_switch}
 use Rattle.app_frames.specs.declared.frame.Event.{Event}
 use Rattle.lego_model.specs.Answers.{Rows, rows_of_table, rows_of_view}
 use Rattle.lego_model.specs.Events.{ports_of}
@@ -22,9 +22,9 @@ use Rattle.outside.specs.declared.step.WorldStep.TheVariants.{From}
 use Rattle.outside.specs.State.{Link, link_of, stimulus_sends}
 use Rattle.outside.specs.Conforming.{may_be_raw}
 use Rattle.net_txn.specs.Views.{rows_at, ViewsAscend}
-use Rattle.switch_laws.specs.Shown.{flags_in, rows_or_none, flags_at}
+use Rattle.switch_laws.specs.Shown.{rows_or_none, correction_in, corrections}
 use Rattle.switch_laws.specs.Sound.{AllSound}
-use Rattle.batch_laws.specs.Knowledge.{Knowledge}
+use Rattle.batch_laws.specs.Knowledge.{known_by, Knowledge}
 use Rattle.batch_laws.specs.Calm.{known_ports}
 use Rattle.batch_laws.specs.Lasting.{Lasts}
 use Rattle.batch_laws.specs.Tells.{FitsRead}
@@ -63,7 +63,7 @@ HappensIn x (Some s) = Happens x
 -- what it knows then
 pub record KnownThen (x : Stimulus) (o : Option SwitchState) (before after : Option (List ViewRow)) (described : Option (List PortDesc)) : Type 0 where
   pub known : KnownIn (option_map (after_stimulus x) o) after described
-  pub shown : option_map (owned_switch (flags_in (rows_or_none after))) (option_map (after_stimulus x) o) ≡ option_map (after_stimulus x) (option_map (owned_switch (flags_in (rows_or_none before))) o)
+  pub shown : option_map (corrected_switch (correction_in (rows_or_none after))) (option_map (after_stimulus x) o) ≡ option_map (after_stimulus x) (option_map (corrected_switch (correction_in (rows_or_none before))) o)
 
 -- what becomes of the knowledge of all switches
 pub record SwitchStep (d : ℕ) (x : Stimulus) (o : Option SwitchState) (k now : Knowledge) : Type 0 where
@@ -71,14 +71,14 @@ pub record SwitchStep (d : ℕ) (x : Stimulus) (o : Option SwitchState) (k now :
   pub others : (e : ℕ) → e ≢ d → rows_at e now.views ≡ rows_at e k.views
   pub others_ports : (e : ℕ) → e ≢ d → known_ports e now.ports ≡ known_ports e k.ports
   pub order : (least : ℕ) → ViewsAscend least k.views → ViewsAscend least now.views
-  pub queue : now.queue ≡ k.queue ++ sent_events x d (option_map (owned_switch (flags_at d k.views)) o)
+  pub queue : now.queue ≡ k.queue ++ sent_events x d (option_map (corrected_switch (known_by k d)) o)
   pub moment : now.moment ≡ k.moment
 
 abbrev pub items_of : Stimulus → Link → List WorldStep
 items_of x l = map (From l.declared.dpid) (stimulus_sends x l.switch)
 
 abbrev pub seen_events : Stimulus → List TableView → Link → List Event
-seen_events x views l = sent_events x l.declared.dpid (option_map (owned_switch (flags_at l.declared.dpid views)) l.switch)
+seen_events x views l = sent_events x l.declared.dpid (option_map (corrected_switch (corrections views l.declared.dpid)) l.switch)
 
 pub record LinkReady (x : Stimulus) (k : Knowledge) (l : Link) : Type 0 where
   pub known : KnownIn l.switch (rows_at l.declared.dpid k.views) (known_ports l.declared.dpid k.ports)

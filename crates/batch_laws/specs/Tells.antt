@@ -11,7 +11,7 @@ use Rattle.flow_table.specs.declared.view.ViewRow.{ViewRow}
 use Rattle.flow_table.specs.View.{TableView}
 use Rattle.flow_table.specs.Switch.{SwitchState}
 use Rattle.flow_table.specs.Step.{after_stimulus, sent_by_stimulus}
-use Rattle.undo_laws.specs.Owned.{owned_switch}
+use Rattle.undo_laws.specs.CorrectedSwitch.{corrected_switch}
 use Rattle.lego_model.specs.Answers.{rows_of_table, rows_of_view}
 use Rattle.lego_model.specs.Events.{ports_of, events_of}
 use Rattle.lego_model.specs.Controller.{places_after, events_after, left_at}
@@ -19,9 +19,9 @@ use Rattle.lego_model.specs.Places.{Place, with_place}
 use Rattle.outside.specs.declared.step.WorldStep.{WorldStep}
 use Rattle.outside.specs.declared.step.WorldStep.TheVariants.{From}
 use Rattle.net_txn.specs.Views.{rows_at, ViewsAscend}
-use Rattle.switch_laws.specs.Shown.{flags_in, shown_places}
+use Rattle.switch_laws.specs.Shown.{shown_places, correction_in, shown_by}
 use Rattle.switch_laws.specs.Since.{ports_known}
-use Rattle.batch_laws.specs.Knowledge.{Knowledge, ports_lost}
+use Rattle.batch_laws.specs.Knowledge.{known_by, Knowledge, ports_lost}
 use Rattle.batch_laws.specs.Calm.{known_ports}
 use Rattle.outside.specs.State.{State, switch_of, after_stim, state}
 use Rattle.of_types.specs.declared.journal.WorldStim.{WorldStim}
@@ -70,9 +70,9 @@ pub record ViewChanged (d : ℕ) (rows : List ViewRow) (before now : List TableV
 pub record SwitchHandled (d : ℕ) (x : Stimulus) (s : SwitchState) (rows : List ViewRow) (k now : Knowledge) : Type 0 where
   pub rows_now : List ViewRow
   pub views : ViewChanged d rows_now k.views now.views
-  pub queue : now.queue ≡ k.queue ++ events_of d (sent_by_stimulus x (owned_switch (flags_in rows) s))
+  pub queue : now.queue ≡ k.queue ++ events_of d (sent_by_stimulus x (corrected_switch (correction_in rows) s))
   pub agrees : rows_of_view rows_now ≡ rows_of_table (after_stimulus x s).table.entries
-  pub shown : owned_switch (flags_in rows_now) (after_stimulus x s) ≡ after_stimulus x (owned_switch (flags_in rows) s)
+  pub shown : corrected_switch (correction_in rows_now) (after_stimulus x s) ≡ after_stimulus x (corrected_switch (correction_in rows) s)
   pub ports : known_ports d now.ports ≡ Some (ports_of (after_stimulus x s))
   pub others : (e : ℕ) → e ≢ d → known_ports e now.ports ≡ known_ports e k.ports
   pub moment : now.moment ≡ k.moment
@@ -91,8 +91,8 @@ pub record OnlyOne (d : ℕ) (s now : State) (k after : Knowledge) : Type 0 wher
 
 -- what is so once the items of a stimulus are handled
 pub record StimulusHandled {Own : Type 0} (x : WorldStim) (seen : Seen Own) (net : NetState) (queue : List Event) (k : Knowledge) : Type 0 where
-  pub queue_is : k.queue ≡ queue ++ events_after x (state seen).moment (shown_places seen.given.declared net.views (state seen))
-  pub places : shown_places seen.given.declared k.views (after_stim x (state seen)) ≡ places_after x (state seen).moment (shown_places seen.given.declared net.views (state seen))
+  pub queue_is : k.queue ≡ queue ++ events_after x (state seen).moment (shown_places seen.given.declared (shown_by net) (state seen))
+  pub places : shown_places seen.given.declared (known_by k) (after_stim x (state seen)) ≡ places_after x (state seen).moment (shown_places seen.given.declared (shown_by net) (state seen))
   pub agrees : (d : ℕ) → Agrees d k.views (after_stim x (state seen))
   pub known : (d : ℕ) → ports_lost d k.ports ≡ ports_known d (switch_of d (after_stim x (state seen)))
   pub order : ViewsAscend 0 k.views
@@ -102,9 +102,9 @@ pub record StimulusHandled {Own : Type 0} (x : WorldStim) (seen : Seen Own) (net
 -- What is so once a switch was lost while they were handled: as the reference controller has it, the switch is out.
 pub record StimulusLost {Own : Type 0} (x : WorldStim) (d : ℕ) (seen new : Seen Own) (net : NetState) (queue : List Event) (k : Knowledge) : Type 0 where
   pub after : List Place
-  pub after_is : after ≡ places_after x (state seen).moment (shown_places seen.given.declared net.views (state seen))
+  pub after_is : after ≡ places_after x (state seen).moment (shown_places seen.given.declared (shown_by net) (state seen))
   pub queue_is : k.queue ≡ queue ++ left_at x d after
-  pub places : shown_places seen.given.declared k.views (state new) ≡ with_place d (λ o. None) after
+  pub places : shown_places seen.given.declared (known_by k) (state new) ≡ with_place d (λ o. None) after
   pub agrees : (e : ℕ) → Agrees e k.views (state new)
   pub known : (e : ℕ) → ports_lost e k.ports ≡ ports_known e (switch_of e (state new))
   pub order : ViewsAscend 0 k.views

@@ -10,7 +10,7 @@ use Rattle.lego_model.specs.ReferenceRun.{Said}
 use Rattle.outside.specs.Seen.{Seen}
 use Rattle.outside.specs.State.{state}
 use Rattle.net_txn.specs.Net.{NetState}
-use Rattle.switch_laws.specs.Shown.{shown_places}
+use Rattle.switch_laws.specs.Shown.{shown_places, shown_by}
 use Rattle.batch_laws.specs.Calm.{Calm}
 use Rattle.lego_model.specs.History.{given_in, released_of, lost_of, points_in}
 
@@ -136,7 +136,7 @@ ahead batches turns later = record { batches = batches ++ later.batches; turns =
 pub record Shares {Own : Type 0} (seen : Seen Own) (net : NetState) (queue : List Event) (events : ℕ) (losses : Losses) (r : Run) : Type 0 where
   pub calm : Calm seen net
   pub moment : r.moment ≡ (state seen).moment
-  pub places : r.places ≡ shown_places seen.given.declared net.views (state seen)
+  pub places : r.places ≡ shown_places seen.given.declared (shown_by net) (state seen)
   pub queue_is : r.queue ≡ queue
   pub events_is : r.events ≡ events
   pub released : r.released ≡ released_of seen
@@ -148,7 +148,7 @@ pub record Shares {Own : Type 0} (seen : Seen Own) (net : NetState) (queue : Lis
 pub record Stands {Own : Type 0} (seen : Seen Own) (e : Engine) (said : ℕ → Said) (losses : Losses) (r : Run) : Type 0 where
   pub calm : Calm seen e.net
   pub moment : r.moment ≡ (state seen).moment
-  pub places : r.places ≡ shown_places seen.given.declared e.net.views (state seen)
+  pub places : r.places ≡ shown_places seen.given.declared (shown_by e.net) (state seen)
   pub queue : r.queue ≡ e.queue
   pub events : r.events ≡ e.events
   pub apps : r.apps ≡ apps_from 0 seen e.apps said

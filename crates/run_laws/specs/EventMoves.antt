@@ -10,7 +10,7 @@ use Rattle.lego_model.specs.Losses.{TurnLosses}
 use Rattle.lego_model.specs.Scripted.{AreStartFronts, IsFront}
 use Rattle.outside.specs.Seen.{Seen, Continues}
 use Rattle.outside.specs.State.{state, marks_at_event}
-use Rattle.switch_laws.specs.Shown.{shown_places}
+use Rattle.switch_laws.specs.Shown.{shown_places, shown_by}
 use Rattle.batch_laws.specs.Calm.{Calm}
 use Rattle.journal_laws.specs.Readings.{LastStands}
 use Rattle.lego_model.specs.History.{starts_in, replies_in, own_acts, given_in, stimuli_in, released_of, lost_of}
@@ -38,7 +38,7 @@ pub record StartsAlike {Own : Type 0} (Tells : Type 0) (policy : Policy) (text :
   pub index : now_e.index ≡ e.index
   pub rule : now_e.rule ≡ e.rule
   pub calm : Calm old e.net → Calm new now_e.net
-  pub places : (declared : List Declared) → shown_places declared now_e.net.views (state new) ≡ shown_places declared e.net.views (state old)
+  pub places : (declared : List Declared) → shown_places declared (shown_by now_e.net) (state new) ≡ shown_places declared (shown_by e.net) (state old)
   pub app : (said_starts : List Start) (said_replies : List Reply) → AreStartFronts starts said_starts
       → after_failure policy (app_at e (given_in e.index old) said_starts said_replies) ≡ (app_at now_e (given_in e.index new) (drop (length starts) said_starts) said_replies, tries)
   pub text_is : (names : List (List ℕ)) → name_of e.index names ≡ e.rule.name → text ≡ lines_text names (map (Started e.index) tries ++ gone_line e.index now_e.alive)
@@ -67,7 +67,7 @@ pub record TurnAlike {Own : Type 0} (allows : List Place → Bool) (event : Even
   pub left : List Event
   pub calm : Calm new now_e.net
   pub moment : (state new).moment ≡ (state old).moment
-  pub places : release.places ≡ shown_places old.given.declared now_e.net.views (state new)
+  pub places : release.places ≡ shown_places old.given.declared (shown_by now_e.net) (state new)
   pub queue : now_e.queue ≡ e.queue ++ (release.events ++ left)
   pub released : released_of new ≡ released_of old ++ release.packets
   pub lost : lost_of new ≡ lost_of old ++ leavers left
@@ -76,7 +76,7 @@ pub record TurnAlike {Own : Type 0} (allows : List Place → Bool) (event : Even
   pub rule : now_e.rule ≡ e.rule
   pub marks : (state new).marks ≡ (if given then marks_at_event (Some e.events) (state old) else (state old).marks)
   pub turned : (said_starts : List Start) (said : Reply) (later_replies : List Reply) → AreStartFronts starts said_starts → IsFront reply said
-      → turn allows e.events e.net.moment event losses (shown_places old.given.declared e.net.views (state old)) (app_at e (given_in e.index old) said_starts (said ∷ later_replies))
+      → turn allows e.events e.net.moment event losses (shown_places old.given.declared (shown_by e.net) (state old)) (app_at e (given_in e.index old) said_starts (said ∷ later_replies))
       ≡ record {
         release = release;
         left = left;

@@ -12,7 +12,7 @@ use Rattle.net_txn.specs.Losing.{is_among}
 use Rattle.lego_model.specs.AtOnce.{AtOnce}
 use Rattle.flow_table.specs.View.{TableView}
 use Rattle.switch_laws.specs.Orderly.{OrderlySince}
-use Rattle.switch_laws.specs.Shown.{shown_switch, shown_places}
+use Rattle.switch_laws.specs.Shown.{shown_switch, shown_places, corrections, shown_by}
 use Rattle.run_laws.specs.Engine.{Application, Engine}
 use Rattle.lego_model.specs.History.{own_acts, given_in, stimuli_in, released_of, lost_of}
 use Rattle.flow_table.specs.Switch.{SwitchState}
@@ -41,7 +41,7 @@ table_lines d rows vs = switch_line d (length rows) ++ flow_lines rows vs
 
 -- what is said of a switch of a world, as its owner sees it, where these are lost
 abbrev pub shown_text : List ℕ → List TableView → State → ℕ → List ℕ
-shown_text lost views s d = if is_among d lost then lost_line d else switch_text (shown_switch views s d)
+shown_text lost views s d = if is_among d lost then lost_line d else switch_text (shown_switch (corrections views) s d)
 
 -- how a switch stands then
 abbrev pub switch_left : List ℕ → State → ℕ → Option SwitchState
@@ -63,7 +63,7 @@ place_lines lost p = if is_among p.declared.dpid lost then lost_line p.declared.
 
 -- what the engine says at the end, where these switches are lost
 abbrev pub last_text : {Own : Type 0} → List ℕ → Seen Own → Engine → List ℕ
-last_text lost seen e = flat_map (place_lines lost) (shown_places seen.given.declared e.net.views (state seen)) ++ engine_end e
+last_text lost seen e = flat_map (place_lines lost) (shown_places seen.given.declared (shown_by e.net) (state seen)) ++ engine_end e
 
 -- what the reference controller says at the end, where the applications have these names
 abbrev pub last_lines : List (List ℕ) → Run → List ℕ

@@ -15,7 +15,7 @@ use Rattle.app_visor.specs.declared.state.TurnEnd.{TurnEnd}
 use Rattle.app_visor.specs.Beats.{Beat}
 use Rattle.app_visor.specs.Turns.{reply_by, Turns}
 use Rattle.app_visor.specs.Attempts.{OneTry, starts_of, Restarts}
-use Rattle.switch_laws.specs.Shown.{shown_places}
+use Rattle.switch_laws.specs.Shown.{shown_places, shown_by}
 use Rattle.journal_laws.specs.Readings.{LastStands}
 use Rattle.lego_model.specs.History.{starts_in, replies_in, own_acts}
 
@@ -44,4 +44,4 @@ pub record AreRead (Own : Type 0) (app : ℕ) (Tells : Type 0) (accepts : List T
 
 -- the judge of the engine says what that of the reference controller says of the switches that it shows
 pub record JudgesAlike (Own : Type 0) (allows : List Place → Bool) (accepts : List TableView → Bool) : Type 0 where
-  pub alike : (seen : Seen Own) (net : NetState) → allows (shown_places seen.given.declared net.views (state seen)) ≡ accepts net.views
+  pub alike : (seen : Seen Own) (net : NetState) → allows (shown_places seen.given.declared (shown_by net) (state seen)) ≡ accepts net.views

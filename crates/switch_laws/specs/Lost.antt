@@ -11,7 +11,7 @@ use Rattle.outside.specs.State.{state}
 use Rattle.net_txn.specs.declared.ports.KnownPorts.{KnownPorts}
 use Rattle.net_txn.specs.Net.{NetState}
 use Rattle.net_txn.specs.Leaving.{left_event}
-use Rattle.switch_laws.specs.Shown.{shown_places}
+use Rattle.switch_laws.specs.Shown.{shown_places, shown_by}
 
 -- Switches were lost, with these Leave events, in order, which the host has not told yet; the history has their losses.
 pub record LeavesBy {Own : Type 0} (old new : Seen Own) (net now_net : NetState) (left : List Event) : Type 0 where
@@ -25,7 +25,7 @@ pub record LeavesBy {Own : Type 0} (old new : Seen Own) (net now_net : NetState)
 -- what the reference controller plays messages on: its own switches, what is held, at which messages to come switches are lost, and the Leave
 -- events of those that were
 abbrev pub shown_play : {Own : Type 0} → List Declared → Seen Own → NetState → List Bool → List Event → Play
-shown_play declared seen net losing left = record { places = shown_places declared net.views (state seen); held = net.held; losing = losing; inner = []; left = left }
+shown_play declared seen net losing left = record { places = shown_places declared (shown_by net) (state seen); held = net.held; losing = losing; inner = []; left = left }
 
 -- The reference controller answers the message the same, and loses its switch there or not; its switches stand then as the world's do.
 pub record ExchangeShown {Own : Type 0} (declared : List Declared) (d : ℕ) (bytes : List ℕ) (old new : Seen Own) (net now_net : NetState) (given : Answer) : Type 0 where
@@ -41,4 +41,4 @@ pub record UndoShown {Own : Type 0} (declared : List Declared) (lost : List ℕ)
   pub left : List Event
   pub leaves : LeavesBy old new net now_net left
   pub leavers_is : leavers left ≡ lost
-  pub undoing_is : undoing lost (shown_places declared net0.views (state first)) (shown_places declared net.views (state old)) ≡ (shown_places declared now_net.views (state new), left)
+  pub undoing_is : undoing lost (shown_places declared (shown_by net0) (state first)) (shown_places declared (shown_by net) (state old)) ≡ (shown_places declared (shown_by now_net) (state new), left)

@@ -22,7 +22,7 @@ use Rattle.net_txn.specs.Causes.{IsPlain}
 use Rattle.net_txn.specs.Losing.{lose_all}
 use Rattle.net_txn.specs.Net.{NetState}
 use Rattle.switch_laws.specs.Lost.{LeavesBy}
-use Rattle.switch_laws.specs.Shown.{shown_places}
+use Rattle.switch_laws.specs.Shown.{shown_places, shown_by}
 use Rattle.switch_laws.specs.Since.{Ready}
 use Rattle.switch_laws.specs.Sound.{Sound}
 
@@ -52,13 +52,13 @@ pub record MovesOrLoses {Own : Type 0} (packets : List Held) (old new : Seen Own
   pub released_is : released (journal steps) ≡ packets
   pub moved : (e : ℕ) → (switch_of e (state new) ≡ option_map (after_packets e packets) (switch_of e (state old))) ⊎ WasLost e old new
 
--- The switches stand then, with the flags of the owners, as the reference controller's do that releases the same packets and loses these of
+-- The switches stand then, as they are shown, as the reference controller's do that releases the same packets and loses these of
 -- their switches; its events joined the queue, and the history released its packets. All is ready again, and nothing else is known of them.
 pub record ReleaseShown {Own : Type 0} (held : HeldBack) (sent : List Held) (old new : Seen Own) (net now_net : NetState) (queue now_queue : List Event) : Type 0 where
   pub losing : List PacketLoss
   pub release_is : Release
-  pub is : release_is ≡ release losing (shown_places old.given.declared net.views (state old)) held
-  pub places : shown_places old.given.declared now_net.views (state new) ≡ release_is.places
+  pub is : release_is ≡ release losing (shown_places old.given.declared (shown_by net) (state old)) held
+  pub places : shown_places old.given.declared (shown_by now_net) (state new) ≡ release_is.places
   pub events : now_queue ≡ queue ++ release_is.events
   pub packets : release_is.packets ≡ sent
   pub none_more : release_is.losing ≡ []

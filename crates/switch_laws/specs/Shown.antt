@@ -1,19 +1,22 @@
--- The switches of a world as the owners of their entries see them: what the reference controller has in their places. All of this is
--- our own.
+-- The switches of a world as the owners of their entries see them: what the reference controller has in their places. How an entry is shown is a
+-- matter of what the host keeps of its key; laws speak of any correction that goes along with the switch. All of this is our own.
 use Rattle.std.specs.Prelude.{◌≡◌, ◌==◌, ℕ, Bool, false, List, [], ◌∷◌, map, Option, Some, None, if◌then◌else◌}
 use Rattle.std.specs.Option.{option_map}
 use Rattle.of_match.specs.declared.key.Key.{Key}
 use Rattle.of_match.specs.Key.{key_number}
 use Rattle.of_wire.specs.declared.bodies.FlowMod.{FlowMod as Change}
+use Rattle.flow_table.specs.declared.entry.Entry.{Entry}
 use Rattle.flow_table.specs.declared.view.ViewRow.{ViewRow}
 use Rattle.flow_table.specs.View.{TableView}
 use Rattle.flow_table.specs.Table.{IsTable}
+use Rattle.flow_table.specs.Corrected.{shown_entry}
 use Rattle.flow_table.specs.Switch.{Declared, SwitchState}
-use Rattle.undo_laws.specs.Owned.{owned_switch}
+use Rattle.undo_laws.specs.CorrectedSwitch.{corrected_switch}
 use Rattle.outside.specs.Seen.{is_declared}
 use Rattle.outside.specs.State.{State, switch_of}
 use Rattle.lego_model.specs.Answers.{Rows, flow_mod_refused, would_touch, rows_of_table}
 use Rattle.lego_model.specs.Places.{Place}
+use Rattle.net_txn.specs.Net.{NetState}
 use Rattle.net_txn.specs.Views.{rows_at, rows_after}
 use Rattle.std.specs.List.{list_any}
 
@@ -26,19 +29,29 @@ abbrev pub rows_or_none : Option (List ViewRow) → List ViewRow
 rows_or_none None = []
 rows_or_none (Some rows) = rows
 
-abbrev pub flags_at : ℕ → List TableView → Key → ℕ
-flags_at d views = flags_in (rows_or_none (rows_at d views))
+-- an entry as its owner sees it, by the rows of its switch. It has the owner's flags; today no entry is put back that was there before, so that
+-- none has lost anything.
+abbrev pub correction_in : List ViewRow → Entry → Entry
+correction_in rows = shown_entry rows []
 
--- a switch of a world, while it is joined, with the flags of the owners
-abbrev pub shown_switch : List TableView → State → ℕ → Option SwitchState
-shown_switch views s d = option_map (owned_switch (flags_at d views)) (switch_of d s)
+-- of each switch, by the views
+abbrev pub corrections : List TableView → ℕ → Entry → Entry
+corrections views d = correction_in (rows_or_none (rows_at d views))
+
+-- by all that the host keeps
+abbrev pub shown_by : NetState → ℕ → Entry → Entry
+shown_by net = corrections net.views
+
+-- a switch of a world, while it is joined, as it is shown
+abbrev pub shown_switch : (ℕ → Entry → Entry) → State → ℕ → Option SwitchState
+shown_switch shown s d = option_map (corrected_switch (shown d)) (switch_of d s)
 
 -- declared switches that stand so
 abbrev pub places : (ℕ → Option SwitchState) → List Declared → List Place
 places f ds = map (λ d. record { declared = d; switch = f d.dpid }) ds
 
-unfoldable pub shown_places : List Declared → List TableView → State → List Place
-shown_places ds views s = places (shown_switch views s) ds
+unfoldable pub shown_places : List Declared → (ℕ → Entry → Entry) → State → List Place
+shown_places ds shown s = places (shown_switch shown s) ds
 
 -- ---- A change that the host lets pass
 
@@ -47,9 +60,9 @@ pub record Passes (m : Change) (rows : Rows) : Type 0 where
   pub unrefused : flow_mod_refused m ≡ None
   pub untouched : would_touch m rows ≡ false
 
--- the flags of the owners after a change that was not refused
-abbrev pub flags_after : Change → List ViewRow → Key → ℕ
-flags_after m rows = flags_in (rows_after m rows)
+-- an entry as its owner sees it after a change that was not refused
+abbrev pub correction_after : Change → List ViewRow → Entry → Entry
+correction_after m rows = correction_in (rows_after m rows)
 
 -- ---- What stands, of a world that keeps its word
 

@@ -1,4 +1,5 @@
 pub mod FlagLaws
+pub mod CorrectionLaws
 pub mod PlaceLaws
 pub mod LinkLaws
 pub mod ShownChangeLaws

@@ -16,7 +16,7 @@ ghost use Rattle.switch_laws.specs.Sound.{Sound};
 
 use outside::World;
 
-/// A release in a world that keeps its word: with the flags of the owners the switches stand then as the reference
+/// A release in a world that keeps its word: as they are shown the switches stand then as the reference
 /// controller's do that releases the same packets and loses the same of their switches, its events joined the queue, and all is ready
 /// again. In any world that tells, where each switch that has a view was joined, each switch moved by the packets that were sent
 /// to it alone, or was lost, and the history released them in order.

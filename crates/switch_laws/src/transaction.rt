@@ -33,7 +33,7 @@ pub fn transactions_stand<W: World>()
         → GoesOn start lost first old new net0 now_net }
 {}
 
-/// An undo that succeeded in a world that keeps its word: with the flags of the owners the switches are those of the reference
+/// An undo that succeeded in a world that keeps its word: as they are shown the switches are those of the reference
 /// controller that gets the earlier tables back and loses the same switches in it, and all is ready again.
 pub fn undos_are_shown<W: World>()
     ensures shown { (start : ℕ) (lost : List ℕ) (first old new : Seen W.Own) (net0 net now_net : NetState) → W.Tells → Conforming new → Since start lost first old net0 net

@@ -17,7 +17,7 @@ ghost use Rattle.net_txn.specs.Releases.{Commits};
 ghost use Rattle.app_visor.specs.declared.state.TurnEnd.{TurnEnd};
 ghost use Rattle.app_visor.specs.Beats.{Stops};
 ghost use Rattle.app_visor.specs.Turns.{reply_by, Turns};
-ghost use Rattle.switch_laws.specs.Shown.{shown_places};
+ghost use Rattle.switch_laws.specs.Shown.{shown_by, shown_places};
 ghost use Rattle.switch_laws.specs.Released.{StopsFor};
 ghost use Rattle.switch_laws.specs.Since.{Ready};
 ghost use Rattle.lego_model.specs.AfterFault.{UndoneButFailed, TurnDone, TurnKept, TurnReleasing};
@@ -31,7 +31,7 @@ use outside::World;
 pub fn turns_are_shown<W: World>()
     ensures { (accepts : List TableView → Bool) (allows : List Place → Bool) (app budget : ℕ) (rest frame : List ℕ) (old new : Seen W.Own) (net now_net : NetState) (end : TurnEnd) (unread : List ℕ)
         → W.Tells → Conforming new → Ready old net → (t : Turns W.Tells accepts app budget rest frame old new net now_net end unread)
-        → allows (shown_places old.given.declared now_net.views (state new)) ≡ accepts now_net.views
+        → allows (shown_places old.given.declared (shown_by now_net) (state new)) ≡ accepts now_net.views
         → PlayedAlike allows budget rest (reply_by t.given t.trace) old new net now_net t.answers t.outcome }
 {}
 

@@ -10,7 +10,7 @@ use Rattle.of_types.specs.declared.journal.WorldStim.TheVariants.{At, Of}
 use Rattle.flow_table.specs.declared.view.ViewRow.{ViewRow}
 use Rattle.flow_table.specs.Switch.{Declared, SwitchState}
 use Rattle.flow_table.specs.Step.{after_stimulus, sent_by_stimulus}
-use Rattle.undo_laws.specs.Owned.{owned_switch}
+use Rattle.undo_laws.specs.CorrectedSwitch.{corrected_switch}
 use Rattle.app_frames.specs.declared.frame.Event.{Event}
 use Rattle.lego_model.specs.Answers.{rows_of_view}
 use Rattle.lego_model.specs.Events.{ports_of}
@@ -24,9 +24,9 @@ use Rattle.outside.specs.Conforming.{AreDeclaredFrom, IsStimulus}
 use Rattle.outside.specs.laws.LinkKeptLaws.{keeps_stimulated}
 use Rattle.net_txn.specs.Views.{rows_at}
 use Rattle.net_txn.specs.laws.SaidLaws.{all_weaker}
-use Rattle.switch_laws.specs.Shown.{flags_in, rows_or_none, flags_at, shown_switch, shown_places}
+use Rattle.switch_laws.specs.Shown.{rows_or_none, shown_switch, shown_places, correction_in}
 use Rattle.switch_laws.specs.laws.SoundLaws.{stimulus-sound}
-use Rattle.batch_laws.specs.Knowledge.{Knowledge, handled, handled_all}
+use Rattle.batch_laws.specs.Knowledge.{known_by, Knowledge, handled, handled_all}
 use Rattle.batch_laws.specs.Calm.{known_ports}
 use Rattle.batch_laws.specs.Tells.{FitsItem}
 use Rattle.batch_laws.specs.laws.LinkTellLaws.{switch-step, links-step}
@@ -106,19 +106,19 @@ module _ (t : ℕ) (s : State) (k : Knowledge) (facts : Facts s k) (within : t <
   unfolding handled
   handled-then = ap (λ (items : List WorldStep). handled_all items k) items-then
 
-  places-then : shown_places (declared_in s.links) told_all.views (after_stim (At t) s) ≡ places_after (At t) s.moment (shown_places (declared_in s.links) k.views s)
+  places-then : shown_places (declared_in s.links) (known_by told_all) (after_stim (At t) s) ≡ places_after (At t) s.moment (shown_places (declared_in s.links) (known_by k) s)
   unfolding shown_places places_after
   places-then =
-      sym (place-map (stimulated (Advance t)) (shown_switch k.views s) (shown_switch told_all.views (after_stim (At t) s)) (declared_in s.links)
-      (all-of (λ (x : Declared). stimulated (Advance t) (place_at (shown_switch k.views s) x) ≡ place_at (shown_switch told_all.views (after_stim (At t) s)) x)
-      (λ x. ap (λ (o : Option SwitchState). record { declared = x; switch = o }) (sym (known-then x.dpid).shown ∙ ap (option_map (owned_switch (flags_at x.dpid told_all.views))) (sym (switch-then x.dpid)))) (declared_in s.links)))
+      sym (place-map (stimulated (Advance t)) (shown_switch (known_by k) s) (shown_switch (known_by told_all) (after_stim (At t) s)) (declared_in s.links)
+      (all-of (λ (x : Declared). stimulated (Advance t) (place_at (shown_switch (known_by k) s) x) ≡ place_at (shown_switch (known_by told_all) (after_stim (At t) s)) x)
+      (λ x. ap (λ (o : Option SwitchState). record { declared = x; switch = o }) (sym (known-then x.dpid).shown ∙ ap (option_map (corrected_switch (known_by told_all x.dpid))) (sym (switch-then x.dpid)))) (declared_in s.links)))
 
-  events-then : flat_map (seen_events (Advance t) k.views) s.links ≡ events_after (At t) s.moment (shown_places (declared_in s.links) k.views s)
+  events-then : flat_map (seen_events (Advance t) k.views) s.links ≡ events_after (At t) s.moment (shown_places (declared_in s.links) (known_by k) s)
   unfolding shown_places events_after
   events-then =
-      sym (events-links (Advance t) (shown_switch k.views s) k.views s.links
-      (links-known (λ l. shown_switch k.views s l.declared.dpid ≡ option_map (owned_switch (flags_at l.declared.dpid k.views)) l.switch) s facts.ascend
-      (λ l is. ap (option_map (owned_switch (flags_at l.declared.dpid k.views))) is)))
+      sym (events-links (Advance t) (shown_switch (known_by k) s) k.views s.links
+      (links-known (λ l. shown_switch (known_by k) s l.declared.dpid ≡ option_map (corrected_switch (known_by k l.declared.dpid)) l.switch) s facts.ascend
+      (λ l is. ap (option_map (corrected_switch (known_by k l.declared.dpid))) is)))
 
   after-told : After (At t) s k told_all
   unfolding after_stim
@@ -152,17 +152,17 @@ module _ (d : ℕ) (x : Stimulus) (s : State) (k : Knowledge) (facts : Facts s k
   one-other e other = ap switch_in (link_of-other d e (link_stimulated x) (keeps_stimulated x) other s.links)
 
   abbrev shown_then : ℕ → Option SwitchState
-  shown_then = shown_switch told_one.views (after_stim (Of d x) s)
+  shown_then = shown_switch (known_by told_one) (after_stim (Of d x) s)
 
   abbrev shown_before : ℕ → Option SwitchState
-  shown_before = shown_switch k.views s
+  shown_before = shown_switch (known_by k) s
 
   shown-here : shown_then d ≡ option_map (after_stimulus x) (shown_before d)
-  shown-here = ap (option_map (owned_switch (flags_at d told_one.views))) one-here ∙ one-told.here.shown
+  shown-here = ap (option_map (corrected_switch (known_by told_one d))) one-here ∙ one-told.here.shown
 
   shown-other : (e : ℕ) → e ≢ d → shown_then e ≡ shown_before e
   shown-other e other =
-      ap₂ (λ (rows : Option (List ViewRow)) o. option_map (owned_switch (flags_in (rows_or_none rows))) o) (one-told.others e other) (one-other e other)
+      ap₂ (λ (rows : Option (List ViewRow)) o. option_map (corrected_switch (correction_in (rows_or_none rows))) o) (one-told.others e other) (one-other e other)
 
   one-place : (y : Declared) → at_place d (stimulated x) (place_at shown_before y) ≡ place_at shown_then y
   one-place y =
@@ -175,13 +175,13 @@ module _ (d : ℕ) (x : Stimulus) (s : State) (k : Knowledge) (facts : Facts s k
         | inr other ↦ rw other (ap (λ (o : Option SwitchState). record { declared = y; switch = o }) (sym (shown-other y.dpid (eqb-false y.dpid d other))))
       ]
 
-  one-places : shown_places (declared_in s.links) told_one.views (after_stim (Of d x) s) ≡ places_after (Of d x) s.moment (shown_places (declared_in s.links) k.views s)
+  one-places : shown_places (declared_in s.links) (known_by told_one) (after_stim (Of d x) s) ≡ places_after (Of d x) s.moment (shown_places (declared_in s.links) (known_by k) s)
   unfolding shown_places places_after
   one-places =
       sym (place-map (at_place d (stimulated x)) shown_before shown_then (declared_in s.links)
       (all-of (λ (y : Declared). at_place d (stimulated x) (place_at shown_before y) ≡ place_at shown_then y) one-place (declared_in s.links)))
 
-  one-events : sent_events x d (shown_before d) ≡ events_after (Of d x) s.moment (shown_places (declared_in s.links) k.views s)
+  one-events : sent_events x d (shown_before d) ≡ events_after (Of d x) s.moment (shown_places (declared_in s.links) (known_by k) s)
   unfolding shown_places events_after
   one-events =
       sym (flat-one d (events_at x) shown_before (sent_events x d (shown_before d)) 1 (declared_in s.links) facts.ascend declared

@@ -24,7 +24,7 @@ use Rattle.outside.specs.declared.step.WorldStep.{WorldStep}
 use Rattle.outside.specs.declared.step.WorldStep.TheVariants.{From, Joined, Left, Moment, Idle, End}
 use Rattle.outside.specs.Seen.{Seen, journal}
 use Rattle.outside.specs.laws.SeenLaws.{journal-append}
-use Rattle.outside.specs.State.{Link, State, link_of, waits_in, switch_in, waits_of, switch_of, upcoming, is_joined, link_stimulated, due_of, after_stim, after_step, state}
+use Rattle.outside.specs.State.{Link, State, link_of, switch_in, waits_of, switch_of, upcoming, is_joined, link_stimulated, due_of, after_stim, after_step, state}
 use Rattle.outside.specs.laws.StateLaws.{state-append}
 use Rattle.outside.specs.laws.LinkLaws.{switch_of-from, switch_of-from_other, link_of-same}
 use Rattle.outside.specs.Calls.{item_step}

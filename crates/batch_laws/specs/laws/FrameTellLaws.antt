@@ -24,13 +24,14 @@ use Rattle.flow_table.specs.Hit.{with_counts}
 use Rattle.flow_table.specs.Switch.{Declared, PortState, SwitchState, controller_number, port_at, port_desc}
 use Rattle.flow_table.specs.Frames.{packet_in, sent_by_output, sent_by_outputs, entry_hit, is_silent, sent_by_miss, sent_by_hit, sent_by_lookup, takes, sent_by_frame}
 use Rattle.flow_table.specs.Step.{after_stimulus, sent_by_stimulus}
-use Rattle.undo_laws.specs.Owned.{IsNoMoment}
-use Rattle.undo_laws.specs.laws.OwnedLaws.{stimulus-owned, sent-owned}
+use Rattle.undo_laws.specs.CorrectedSwitch.{IsNoMoment}
+use Rattle.undo_laws.specs.laws.CorrectedSwitchLaws.{stimulus-shown, sent-shown}
 use Rattle.lego_model.specs.Answers.{rows_of_table}
 use Rattle.lego_model.specs.Events.{events_of}
 use Rattle.outside.specs.Conforming.{may_be_raw}
 use Rattle.outside.specs.declared.step.WorldStep.TheVariants.{From}
-use Rattle.switch_laws.specs.Shown.{flags_in}
+use Rattle.switch_laws.specs.Shown.{correction_in}
+use Rattle.switch_laws.specs.laws.CorrectionLaws.{goes_along}
 use Rattle.switch_laws.specs.Standing.{FaceKept}
 use Rattle.switch_laws.specs.laws.FaceLaws.{face-same, face-frame}
 use Rattle.batch_laws.specs.Knowledge.{Knowledge, handled_all}
@@ -162,9 +163,9 @@ plain-switch d x s rows k timeless known all face =
     subst (SwitchHandled d x s rows k) (sym done) (record {
       rows_now = rows;
       views = view-kept d rows k.views known.rows_are;
-      queue = ap (λ sent. k.queue ++ events_of d sent) (sym (sent-owned (flags_in rows) x s timeless));
+      queue = ap (λ sent. k.queue ++ events_of d sent) (sym (sent-shown (correction_in rows) (goes_along rows) x s timeless));
       agrees = known.agrees ∙ sym face.rows;
-      shown = sym (stimulus-owned (flags_in rows) x s);
+      shown = sym (stimulus-shown (correction_in rows) (goes_along rows) x s timeless);
       ports = known.ports ∙ ap some_ports (sym (face.ports s.declared.dpid) ∙ ap (λ (y : Declared). map (port_desc y.dpid) (after_stimulus x s).ports) (sym face.declared));
       others = λ e other. refl;
       moment = refl;

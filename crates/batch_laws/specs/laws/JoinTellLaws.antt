@@ -1,6 +1,6 @@
 -- What the engine knows after a switch joined: what the reference controller has then.
-use Rattle.std.proofs.Common.{◌≡◌, ◌≢◌, ◌==◌, ℕ, ◌+◌, ◌^◌, ◌<◌, ◌≤◌, true, not, List, [], ◌∷◌, ◌++◌, map, Option, Some, None, Ok, if◌then◌else◌, refl, sym, ap, ap₂, ◌∙◌, subst, inl, inr, arith}
-use Rattle.std.proofs.lemmas.Bool.{cases_lt, eqb-false, eq-eqb, ne_eqb, lt-ltb, le-ltb, cases_Bool}
+use Rattle.std.proofs.Common.{◌≡◌, ◌≢◌, ◌==◌, ℕ, ◌+◌, ◌^◌, ◌<◌, true, not, List, [], ◌∷◌, ◌++◌, map, Option, Some, None, Ok, if◌then◌else◌, refl, sym, ap, ap₂, ◌∙◌, subst, inl, inr, arith}
+use Rattle.std.proofs.lemmas.Bool.{eq-eqb, ne_eqb, cases_Bool}
 use Rattle.std.proofs.lemmas.List.{append-nil, length-map}
 use Rattle.std.specs.Prelude.{IsTrue, is_some}
 use Rattle.std.specs.List.{AllByRecursion}
@@ -13,10 +13,8 @@ use Rattle.of_wire.specs.Spelling.{port_fields, message_size}
 use Rattle.of_wire.specs.Grammar.{IsMessage, enveloped}
 use Rattle.of_wire.specs.Reading.{reading_of}
 use Rattle.of_wire.specs.laws.ReadingLaws.{reading_of-message_bytes}
-use Rattle.flow_table.specs.declared.view.ViewRow.{ViewRow}
-use Rattle.flow_table.specs.View.{TableView}
 use Rattle.flow_table.specs.Switch.{Declared, PortState, SwitchState, joined_at, port_desc, features_of, features_reply}
-use Rattle.undo_laws.specs.Owned.{owned_switch}
+use Rattle.undo_laws.specs.CorrectedSwitch.{corrected_switch}
 use Rattle.app_frames.specs.declared.frame.Event.{Event}
 use Rattle.app_frames.specs.declared.frame.EventKind.TheVariants as kinds
 use Rattle.lego_model.specs.Answers.{rows_of_view}
@@ -31,13 +29,12 @@ use Rattle.outside.specs.laws.LinkLaws.{link_of-same, link_of-other}
 use Rattle.outside.specs.Conforming.{MayDeclare}
 use Rattle.outside.specs.laws.LinkKeptLaws.{keeps_joined}
 use Rattle.net_txn.specs.declared.ports.KnownPorts.{KnownPorts}
-use Rattle.net_txn.specs.Views.{rows_at, ViewsAscend}
-use Rattle.net_txn.specs.Joining.{with_view}
+use Rattle.net_txn.specs.Views.{rows_at}
 use Rattle.net_txn.specs.laws.JoiningLaws.{rows_at-with_view, rows_at-with_view-other}
 use Rattle.net_txn.specs.laws.OrderLaws.{with_view-ascends}
 use Rattle.net_txn.specs.laws.SaidLaws.{all_weaker}
-use Rattle.switch_laws.specs.Shown.{flags_at, shown_switch, places, shown_places}
-use Rattle.batch_laws.specs.Knowledge.{Knowledge, handled, handled_all, joined_by}
+use Rattle.switch_laws.specs.Shown.{shown_switch, places, shown_places}
+use Rattle.batch_laws.specs.Knowledge.{known_by, Knowledge, handled, handled_all, joined_by}
 use Rattle.batch_laws.specs.Calm.{known_ports}
 use Rattle.batch_laws.specs.laws.HistoryLaws.{joined-lasts}
 use Rattle.batch_laws.specs.Lasting.{AscendPorts, Lasts, LinkLasts}
@@ -115,27 +112,27 @@ join-event-at d moment p =
     ]
 
 join-events : (d : ℕ) (s : State) (k : Knowledge) (l : Link) → Facts s k → is_declared d (declared_in s.links) ≡ true → link_of d s.links ≡ Some l
-    → events_after (Join d) s.moment (shown_places (declared_in s.links) k.views s) ≡ joins_at s.moment (record { declared = l.declared; switch = shown_switch k.views s d })
+    → events_after (Join d) s.moment (shown_places (declared_in s.links) (known_by k) s) ≡ joins_at s.moment (record { declared = l.declared; switch = shown_switch (known_by k) s d })
 unfolding shown_places events_after
 join-events d s k l facts declared found =
-    let g : ℕ → Option SwitchState = shown_switch k.views s in
+    let g : ℕ → Option SwitchState = shown_switch (known_by k) s in
     flat-alike (events_at_join d s.moment) (events_of_one d (joins_at s.moment)) (join-event-at d s.moment) (places g (declared_in s.links))
     ∙ flat-one d (joins_at s.moment) g (joins_at s.moment (record { declared = l.declared; switch = g d })) 1 (declared_in s.links) facts.ascend declared
     (all_weaker (λ (y : Declared). y.dpid ≡ d → y ≡ l.declared) (λ y. y.dpid ≡ d → joins_at s.moment (place_at g y) ≡ joins_at s.moment (record { declared = l.declared; switch = g d }))
     (λ y is same. ap₂ (λ (x : Declared) (n : ℕ). joins_at s.moment (record { declared = x; switch = g n })) (is same) same) (declared_in s.links) (declared-found d 1 s.links l facts.ascend found))
 
 join-places : (d : ℕ) (s : State) (k after : Knowledge) (l : Link) → Facts s k → link_of d s.links ≡ Some l → OnlyOne d s (after_stim (Join d) s) k after
-    → shown_switch after.views (after_stim (Join d) s) d ≡ Some (or_joined s.moment l.declared (shown_switch k.views s d))
-    → shown_places (declared_in s.links) after.views (after_stim (Join d) s) ≡ places_after (Join d) s.moment (shown_places (declared_in s.links) k.views s)
+    → shown_switch (known_by after) (after_stim (Join d) s) d ≡ Some (or_joined s.moment l.declared (shown_switch (known_by k) s d))
+    → shown_places (declared_in s.links) (known_by after) (after_stim (Join d) s) ≡ places_after (Join d) s.moment (shown_places (declared_in s.links) (known_by k) s)
 unfolding shown_places places_after
 join-places d s k after l facts found only here =
     let now : State = after_stim (Join d) s in
-    let g : ℕ → Option SwitchState = shown_switch k.views s in
-    sym (place-map (at_place d (joined s.moment)) g (shown_switch after.views now) (declared_in s.links)
-    (all_weaker (λ (y : Declared). y.dpid ≡ d → y ≡ l.declared) (λ y. at_place d (joined s.moment) (place_at g y) ≡ place_at (shown_switch after.views now) y)
+    let g : ℕ → Option SwitchState = shown_switch (known_by k) s in
+    sym (place-map (at_place d (joined s.moment)) g (shown_switch (known_by after) now) (declared_in s.links)
+    (all_weaker (λ (y : Declared). y.dpid ≡ d → y ≡ l.declared) (λ y. at_place d (joined s.moment) (place_at g y) ≡ place_at (shown_switch (known_by after) now) y)
     (λ y is. place-of-one d s now k after facts only (joined s.moment) y (λ same.
     ap (λ (o : Option SwitchState). record { declared = y; switch = o })
-    (ap₂ (λ (x : Declared) (n : ℕ). some_switch (or_joined s.moment x (g n))) (is same) same ∙ sym here ∙ ap (shown_switch after.views now) (sym same)))) (declared_in s.links)
+    (ap₂ (λ (x : Declared) (n : ℕ). some_switch (or_joined s.moment x (g n))) (is same) same ∙ sym here ∙ ap (shown_switch (known_by after) now) (sym same)))) (declared_in s.links)
     (declared-found d 1 s.links l facts.ascend found)))
 
 -- ---- What the engine knows then
@@ -167,12 +164,12 @@ stays-joined d s k l y facts declared found is =
     let before : switch_of d s ≡ Some y = switch-before d s l found ∙ is in
     let here : switch_of d now ≡ Some y = join-here d s l found ∙ ap (switch_joined s.moment l.declared) is in
     let only : OnlyOne d s now k k = record { switches = join-other d s l found; rows = λ e other. refl; described = λ e other. refl } in
-    let shown : shown_switch k.views s d ≡ Some (owned_switch (flags_at d k.views) y) = ap (option_map (owned_switch (flags_at d k.views))) before in
+    let shown : shown_switch (known_by k) s d ≡ Some (corrected_switch (known_by k d) y) = ap (option_map (corrected_switch (known_by k d))) before in
     record {
       queue =
           sym (append-nil k.queue)
           ∙ ap (λ (es : List Event). k.queue ++ es) (sym (join-events d s k l facts declared found ∙ ap (λ (o : Option SwitchState). joins_at s.moment (record { declared = l.declared; switch = o })) shown));
-      places = join-places d s k k l facts found only (ap (option_map (owned_switch (flags_at d k.views))) here ∙ ap (λ (o : Option SwitchState). some_switch (or_joined s.moment l.declared o)) (sym shown));
+      places = join-places d s k k l facts found only (ap (option_map (corrected_switch (known_by k d))) here ∙ ap (λ (o : Option SwitchState). some_switch (or_joined s.moment l.declared o)) (sym shown));
       known = all-known d s now k k facts only (subst (λ (o : Option SwitchState). KnownIn o (rows_at d k.views) (known_ports d k.ports)) (before ∙ sym here) (facts.known d));
       order = facts.order;
       moment = facts.moment;
@@ -196,13 +193,13 @@ comes d s k l facts declared found number may is =
       rows = λ e other. rows_at-with_view-other d e k.views other;
       described = λ e other. added-other d e (features_of j).ports k.ports other;
     } in
-    let shown : shown_switch k.views s d ≡ None = ap (option_map (owned_switch (flags_at d k.views))) before in
+    let shown : shown_switch (known_by k) s d ≡ None = ap (option_map (corrected_switch (known_by k d))) before in
     let event : join_event j ≡ record { kind = kinds.Join; dpid = d; body = features_reply 0 j } = ap (λ (n : ℕ). record { kind = kinds.Join; dpid = n; body = features_reply 0 j }) number in
     subst (After (Join d) s k) (sym (joined-handled d k j none (features-read j may.number (joined-lasts s.moment l.declared may)))) (record {
       queue =
           ap (λ (e : Event). k.queue ++ e ∷ []) (sym event)
           ∙ ap (λ (es : List Event). k.queue ++ es) (sym (join-events d s k l facts declared found ∙ ap (λ (o : Option SwitchState). joins_at s.moment (record { declared = l.declared; switch = o })) shown));
-      places = join-places d s k after l facts found only (ap (option_map (owned_switch (flags_at d after.views))) here ∙ ap (λ (o : Option SwitchState). some_switch (or_joined s.moment l.declared o)) (sym shown));
+      places = join-places d s k after l facts found only (ap (option_map (corrected_switch (known_by after d))) here ∙ ap (λ (o : Option SwitchState). some_switch (or_joined s.moment l.declared o)) (sym shown));
       known = all-known d s now k after facts only (subst (λ (o : Option SwitchState). KnownIn o (rows_at d after.views) (known_ports d after.ports)) (sym here) (record {
         agrees = ap (option_map rows_of_view) (rows_at-with_view d k.views);
         ports = added-here d (features_of j).ports k.ports known.ports;

@@ -11,7 +11,7 @@ use Rattle.of_wire.specs.Spelling.{ports_bytes}
 use Rattle.flow_table.specs.declared.view.ViewRow.{ViewRow}
 use Rattle.flow_table.specs.View.{TableView}
 use Rattle.flow_table.specs.Switch.{Declared, SwitchState}
-use Rattle.undo_laws.specs.Owned.{owned_switch}
+use Rattle.undo_laws.specs.CorrectedSwitch.{corrected_switch}
 use Rattle.app_frames.specs.declared.frame.Event.{Event}
 use Rattle.app_frames.specs.declared.frame.EventKind.TheVariants as kinds
 use Rattle.lego_model.specs.Answers.{rows_of_view}
@@ -25,10 +25,10 @@ use Rattle.outside.specs.State.{Link, State, link_of, switch_in, switch_of, with
 use Rattle.outside.specs.laws.LinkLaws.{link_of-same, link_of-other}
 use Rattle.net_txn.specs.declared.ports.KnownPorts.{KnownPorts}
 use Rattle.net_txn.specs.Views.{rows_at, ViewsAscend}
-use Rattle.net_txn.specs.Leaving.{ports_at, port_text, ports_text}
-use Rattle.switch_laws.specs.Shown.{flags_in, rows_or_none, flags_at, shown_switch, shown_places}
+use Rattle.net_txn.specs.Leaving.{ports_at, ports_text}
+use Rattle.switch_laws.specs.Shown.{rows_or_none, shown_switch, shown_places, correction_in}
 use Rattle.switch_laws.specs.laws.LossLaws.{rows-gone, rows-stay, text-bytes}
-use Rattle.batch_laws.specs.Knowledge.{Knowledge, is_known, handled, handled_all, left_by}
+use Rattle.batch_laws.specs.Knowledge.{known_by, Knowledge, is_known, handled, handled_all, left_by}
 use Rattle.batch_laws.specs.Calm.{known_ports}
 use Rattle.batch_laws.specs.LinkTells.{KnownIn, table_rows, StandsWell, StandsIn}
 use Rattle.batch_laws.specs.laws.ReferenceLaws.{all-of, place-map, flat-one, none-waiting, waiting-silent}
@@ -40,9 +40,9 @@ use Rattle.batch_laws.specs.Tells.{OnlyOne}
 -- ---- Others stay
 
 module _ (d : ℕ) (s now : State) (k after : Knowledge) (facts : Facts s k) (only : OnlyOne d s now k after) where
-  other-shown : (e : ℕ) → e ≢ d → shown_switch after.views now e ≡ shown_switch k.views s e
+  other-shown : (e : ℕ) → e ≢ d → shown_switch (known_by after) now e ≡ shown_switch (known_by k) s e
   other-shown e other =
-      ap₂ (λ (rows : Option (List ViewRow)) o. option_map (owned_switch (flags_in (rows_or_none rows))) o) (only.rows e other) (only.switches e other)
+      ap₂ (λ (rows : Option (List ViewRow)) o. option_map (corrected_switch (correction_in (rows_or_none rows))) o) (only.rows e other) (only.switches e other)
 
   pub all-known : KnownIn (switch_of d now) (rows_at d after.views) (known_ports d after.ports) → (e : ℕ) → KnownIn (switch_of e now) (rows_at e after.views) (known_ports e after.ports)
   all-known here e =
@@ -64,8 +64,8 @@ module _ (d : ℕ) (s now : State) (k after : Knowledge) (facts : Facts s k) (on
       ]
 
   -- a change at the place of the one
-  pub place-of-one : (change : Place → Place) (y : Declared) → (y.dpid ≡ d → change (place_at (shown_switch k.views s) y) ≡ place_at (shown_switch after.views now) y)
-      → at_place d change (place_at (shown_switch k.views s) y) ≡ place_at (shown_switch after.views now) y
+  pub place-of-one : (change : Place → Place) (y : Declared) → (y.dpid ≡ d → change (place_at (shown_switch (known_by k) s) y) ≡ place_at (shown_switch (known_by after) now) y)
+      → at_place d change (place_at (shown_switch (known_by k) s) y) ≡ place_at (shown_switch (known_by after) now) y
   place-of-one change y here =
       elim (cases_Bool (y.dpid == d)) [
         | inl this ↦ rw this (here (eqb-true y.dpid d this))
@@ -140,21 +140,21 @@ ports-found d (k ∷ ks) ps is =
     ]
 
 -- the events of a switch that leaves
-leave-events : (d : ℕ) (s : State) (k : Knowledge) → Facts s k → is_declared d (declared_in s.links) ≡ true → events_after (Leave d) s.moment (shown_places (declared_in s.links) k.views s) ≡ left_of (shown_switch k.views s d)
+leave-events : (d : ℕ) (s : State) (k : Knowledge) → Facts s k → is_declared d (declared_in s.links) ≡ true → events_after (Leave d) s.moment (shown_places (declared_in s.links) (known_by k) s) ≡ left_of (shown_switch (known_by k) s d)
 unfolding shown_places events_after
 leave-events d s k facts declared =
-    flat-one d (λ p. left_of p.switch) (shown_switch k.views s) (left_of (shown_switch k.views s d)) 1 (declared_in s.links) facts.ascend declared
-    (all-of (λ (y : Declared). y.dpid ≡ d → left_of (shown_switch k.views s y.dpid) ≡ left_of (shown_switch k.views s d)) (λ y same. ap (λ (n : ℕ). left_of (shown_switch k.views s n)) same) (declared_in s.links))
+    flat-one d (λ p. left_of p.switch) (shown_switch (known_by k) s) (left_of (shown_switch (known_by k) s d)) 1 (declared_in s.links) facts.ascend declared
+    (all-of (λ (y : Declared). y.dpid ≡ d → left_of (shown_switch (known_by k) s y.dpid) ≡ left_of (shown_switch (known_by k) s d)) (λ y same. ap (λ (n : ℕ). left_of (shown_switch (known_by k) s n)) same) (declared_in s.links))
 
-leave-places : (d : ℕ) (s : State) (k after : Knowledge) → Facts s k → OnlyOne d s (after_stim (Leave d) s) k after → shown_places (declared_in s.links) after.views (after_stim (Leave d) s) ≡ places_after (Leave d) s.moment (shown_places (declared_in s.links) k.views s)
+leave-places : (d : ℕ) (s : State) (k after : Knowledge) → Facts s k → OnlyOne d s (after_stim (Leave d) s) k after → shown_places (declared_in s.links) (known_by after) (after_stim (Leave d) s) ≡ places_after (Leave d) s.moment (shown_places (declared_in s.links) (known_by k) s)
 unfolding shown_places places_after
 leave-places d s k after facts only =
     let now : State = after_stim (Leave d) s in
-    sym (place-map (at_place d out) (shown_switch k.views s) (shown_switch after.views now) (declared_in s.links)
-    (all-of (λ (y : Declared). at_place d out (place_at (shown_switch k.views s) y) ≡ place_at (shown_switch after.views now) y)
+    sym (place-map (at_place d out) (shown_switch (known_by k) s) (shown_switch (known_by after) now) (declared_in s.links)
+    (all-of (λ (y : Declared). at_place d out (place_at (shown_switch (known_by k) s) y) ≡ place_at (shown_switch (known_by after) now) y)
     (λ y. place-of-one d s now k after facts only out y (λ same.
     ap (λ (o : Option SwitchState). record { declared = y; switch = o })
-    (ap (option_map (owned_switch (flags_at y.dpid after.views))) (sym (ap (λ (n : ℕ). switch_of n now) same ∙ left-here d s))))) (declared_in s.links)))
+    (ap (option_map (corrected_switch (known_by after y.dpid))) (sym (ap (λ (n : ℕ). switch_of n now) same ∙ left-here d s))))) (declared_in s.links)))
 
 leave-by : (d : ℕ) (s : State) (k : Knowledge) → Facts s k → is_declared d (declared_in s.links) ≡ true → (o : Option SwitchState) → switch_of d s ≡ o → After (Leave d) s k (handled_all (if is_some o then Left d ∷ [] else []) k)
 unfolding after_stim handled
@@ -165,7 +165,7 @@ leave-by d s k facts declared None is =
     record {
       queue =
           sym (append-nil k.queue)
-          ∙ ap (λ (es : List Event). k.queue ++ es) (sym (leave-events d s k facts declared ∙ ap (λ (o : Option SwitchState). left_of (option_map (owned_switch (flags_at d k.views)) o)) is));
+          ∙ ap (λ (es : List Event). k.queue ++ es) (sym (leave-events d s k facts declared ∙ ap (λ (o : Option SwitchState). left_of (option_map (corrected_switch (known_by k d)) o)) is));
       places = leave-places d s k k facts only;
       known = all-known d s now k k facts only (subst (λ (o : Option SwitchState). KnownIn o (rows_at d k.views) (known_ports d k.ports)) (sym (left-here d s)) known);
       order = facts.order;
@@ -183,12 +183,12 @@ leave-by d s k facts declared (Some y) is =
       described = λ e other. gone-other d e k.ports other;
     } in
     let body : ports_text (ports_at d k.ports) ≡ ports_bytes (ports_of y) = ap ports_text (ports-found d k.ports (ports_of y) known.ports) ∙ text-bytes (ports_of y) in
-    let event : leave_event (owned_switch (flags_at d k.views) y) ≡ record { kind = kinds.Leave; dpid = d; body = ports_text (ports_at d k.ports) } =
+    let event : leave_event (corrected_switch (known_by k d) y) ≡ record { kind = kinds.Leave; dpid = d; body = ports_text (ports_at d k.ports) } =
     ap₂ (λ (n : ℕ) (bytes : List ℕ). record { kind = kinds.Leave; dpid = n; body = bytes }) stands.number (sym body) in
     subst (After (Leave d) s k) (sym (left-handled d k (known-some (rows_at d k.views) known.agrees))) (record {
       queue =
           ap (λ (e : Event). k.queue ++ e ∷ []) (sym event)
-          ∙ ap (λ (es : List Event). k.queue ++ es) (sym (leave-events d s k facts declared ∙ ap (λ (o : Option SwitchState). left_of (option_map (owned_switch (flags_at d k.views)) o)) is));
+          ∙ ap (λ (es : List Event). k.queue ++ es) (sym (leave-events d s k facts declared ∙ ap (λ (o : Option SwitchState). left_of (option_map (corrected_switch (known_by k d)) o)) is));
       places = leave-places d s k after facts only;
       known = all-known d s now k after facts only (subst (λ (o : Option SwitchState). KnownIn o (rows_at d after.views) (known_ports d after.ports)) (sym (left-here d s)) (record {
         agrees = ap (option_map rows_of_view) (rows-gone d k.views);

@@ -12,7 +12,7 @@ use Rattle.flow_table.specs.declared.view.ViewRow.{ViewRow}
 use Rattle.flow_table.specs.View.{TableView}
 use Rattle.flow_table.specs.Switch.{SwitchState}
 use Rattle.flow_table.specs.Step.{after_stimulus, sent_by_stimulus}
-use Rattle.undo_laws.specs.Owned.{owned_switch}
+use Rattle.undo_laws.specs.CorrectedSwitch.{corrected_switch}
 use Rattle.app_frames.specs.declared.frame.Event.{Event}
 use Rattle.lego_model.specs.Answers.{rows_of_view}
 use Rattle.lego_model.specs.Events.{events_of}
@@ -22,7 +22,7 @@ use Rattle.outside.specs.declared.step.WorldStep.TheVariants.{From}
 use Rattle.outside.specs.State.{Link, link_of, stimulus_sends, declared_in}
 use Rattle.outside.specs.Conforming.{AreDeclaredFrom}
 use Rattle.net_txn.specs.Views.{rows_at}
-use Rattle.switch_laws.specs.Shown.{flags_in, rows_or_none}
+use Rattle.switch_laws.specs.Shown.{rows_or_none, correction_in}
 use Rattle.batch_laws.specs.Knowledge.{Knowledge, handled, handled_all}
 use Rattle.batch_laws.specs.Calm.{known_ports}
 use Rattle.batch_laws.specs.Tells.{SwitchHandled, SwitchKnown}
@@ -73,14 +73,14 @@ switch-step d x (Some s) k known stands may =
       here = record {
         known = record { agrees = ap (option_map rows_of_view) h.views.here ∙ ap some h.agrees; ports = h.ports };
         shown =
-            ap (λ (o : Option (List ViewRow)). some (owned_switch (flags_in (rows_or_none o)) (after_stimulus x s))) h.views.here
+            ap (λ (o : Option (List ViewRow)). some (corrected_switch (correction_in (rows_or_none o)) (after_stimulus x s))) h.views.here
             ∙ ap some h.shown
-            ∙ ap (λ (o : Option (List ViewRow)). some (after_stimulus x (owned_switch (flags_in (rows_or_none o)) s))) (sym r.rows_is);
+            ∙ ap (λ (o : Option (List ViewRow)). some (after_stimulus x (corrected_switch (correction_in (rows_or_none o)) s))) (sym r.rows_is);
       };
       others = h.views.others;
       others_ports = h.others;
       order = h.views.order;
-      queue = h.queue ∙ ap (λ (o : Option (List ViewRow)). k.queue ++ events_of d (sent_by_stimulus x (owned_switch (flags_in (rows_or_none o)) s))) (sym r.rows_is);
+      queue = h.queue ∙ ap (λ (o : Option (List ViewRow)). k.queue ++ events_of d (sent_by_stimulus x (corrected_switch (correction_in (rows_or_none o)) s))) (sym r.rows_is);
       moment = h.moment;
     }
 
@@ -106,7 +106,7 @@ links-above P Q d least lt each (l ∷ ls) are h =
 events-alike : (x : Stimulus) (before now : List TableView) (ls : List Link) → AllByRecursion (λ l. rows_at l.declared.dpid now ≡ rows_at l.declared.dpid before) ls → flat_map (seen_events x now) ls ≡ flat_map (seen_events x before) ls
 events-alike x before now [] h = refl
 events-alike x before now (l ∷ ls) h =
-    ap₂ (λ (o : Option (List ViewRow)) es. sent_events x l.declared.dpid (option_map (owned_switch (flags_in (rows_or_none o))) l.switch) ++ es) h.0 (events-alike x before now ls h.1)
+    ap₂ (λ (o : Option (List ViewRow)) es. sent_events x l.declared.dpid (option_map (corrected_switch (correction_in (rows_or_none o))) l.switch) ++ es) h.0 (events-alike x before now ls h.1)
 
 all-links : (ls : List Link) → AllByRecursion (λ (l : Link). Unit {0}) ls
 all-links [] = tt

@@ -18,7 +18,7 @@ use Rattle.of_wire.specs.Reading.{reading_of}
 use Rattle.flow_table.specs.declared.view.ViewRow.{ViewRow}
 use Rattle.flow_table.specs.View.{TableView}
 use Rattle.flow_table.specs.Switch.{Declared, SwitchState}
-use Rattle.undo_laws.specs.Owned.{owned_switch}
+use Rattle.undo_laws.specs.CorrectedSwitch.{corrected_switch}
 use Rattle.app_frames.specs.declared.frame.Event.{Event}
 use Rattle.lego_model.specs.Answers.{rows_of_view}
 use Rattle.lego_model.specs.Controller.{left_of, left_at, places_after}
@@ -33,12 +33,12 @@ use Rattle.net_txn.specs.Net.{NetState}
 use Rattle.net_txn.specs.ChangeSteps.{Agrees}
 use Rattle.net_txn.specs.Views.{rows_at, ViewsAscend}
 use Rattle.net_txn.specs.laws.JoiningLaws.{rows_at-with_view-other}
-use Rattle.switch_laws.specs.Shown.{flags_in, rows_or_none, flags_at, shown_switch, places, shown_places}
+use Rattle.switch_laws.specs.Shown.{rows_or_none, shown_switch, places, shown_places, correction_in, corrections, shown_by}
 use Rattle.switch_laws.specs.Since.{ports_known}
 use Rattle.switch_laws.specs.Sound.{Sound}
-use Rattle.switch_laws.specs.laws.LossLaws.{rows-gone, rows-stay, known-gone, known-stay, left-known, known-owned}
+use Rattle.switch_laws.specs.laws.LossLaws.{rows-gone, rows-stay, known-gone, known-stay, left-known, known-shown}
 use Rattle.switch_laws.specs.laws.PlaceLaws.{switch_at-declared, with_place-places}
-use Rattle.batch_laws.specs.Knowledge.{Knowledge, knowledge_of, is_known, told_message, told_read, joined_by, joined_read, handled, handled_all, IsEcho, IsEchoRead, LosesAt, left_events, ports_lost, lost_by, known_lost}
+use Rattle.batch_laws.specs.Knowledge.{known_by, Knowledge, knowledge_of, is_known, told_message, told_read, joined_by, joined_read, handled, handled_all, IsEcho, IsEchoRead, LosesAt, left_events, ports_lost, lost_by, known_lost}
 use Rattle.batch_laws.specs.Batches.{Standing}
 use Rattle.batch_laws.specs.Calm.{Calm}
 use Rattle.batch_laws.specs.InBatch.{BatchLost}
@@ -64,12 +64,12 @@ record OutOf (d : ℕ) (s now : State) (k after : Knowledge) : Type 0 where
   moment : after.moment ≡ k.moment
 
 module _ (d : ℕ) (s now : State) (k after : Knowledge) (out : OutOf d s now k after) where
-  shown-out : shown_switch after.views now d ≡ None
-  shown-out = ap (option_map (owned_switch (flags_at d after.views))) out.switch
+  shown-out : shown_switch (known_by after) now d ≡ None
+  shown-out = ap (option_map (corrected_switch (known_by after d))) out.switch
 
-  shown-others : (e : ℕ) → e ≢ d → shown_switch after.views now e ≡ shown_switch k.views s e
+  shown-others : (e : ℕ) → e ≢ d → shown_switch (known_by after) now e ≡ shown_switch (known_by k) s e
   shown-others e other =
-      ap₂ (λ (rows : Option (List ViewRow)) o. option_map (owned_switch (flags_in (rows_or_none rows))) o) (out.others_rows e other) (out.others e other)
+      ap₂ (λ (rows : Option (List ViewRow)) o. option_map (corrected_switch (correction_in (rows_or_none rows))) o) (out.others_rows e other) (out.others e other)
 
   agrees-out : ((e : ℕ) → Agrees e k.views s) → (e : ℕ) → Agrees e after.views now
   agrees-out agrees e =
@@ -96,17 +96,17 @@ module _ (d : ℕ) (s now : State) (k after : Knowledge) (out : OutOf d s now k 
 
 -- what is so then, where it was so of the stimulus
 lost-by : {Own : Type 0} (x : WorldStim) (d : ℕ) (seen new : Seen Own) (net : NetState) (queue : List Event) (k after : Knowledge) → Conforming seen → is_declared d seen.given.declared ≡ true → StimulusHandled x seen net queue k
-    → OutOf d (after_stim x (state seen)) (state new) k after → after.queue ≡ queue ++ left_at x d (places_after x (state seen).moment (shown_places seen.given.declared net.views (state seen))) → StimulusLost x d seen new net queue after
+    → OutOf d (after_stim x (state seen)) (state new) k after → after.queue ≡ queue ++ left_at x d (places_after x (state seen).moment (shown_places seen.given.declared (shown_by net) (state seen))) → StimulusLost x d seen new net queue after
 unfolding shown_places
 lost-by x d seen new net queue k after keeps declared handled out queue_is =
     let s = after_stim x (state seen) in
     let now = state new in
     let ds = seen.given.declared in
     record {
-      after = places_after x (state seen).moment (places (shown_switch net.views (state seen)) ds);
+      after = places_after x (state seen).moment (places (shown_switch (shown_by net) (state seen)) ds);
       after_is = refl;
       queue_is = queue_is;
-      places = sym (with_place-places (shown_switch k.views s) (shown_switch after.views now) d (λ o. None) 1 ds keeps.declared declared (shown-out d s now k after out) (shown-others d s now k after out))
+      places = sym (with_place-places (shown_switch (known_by k) s) (shown_switch (known_by after) now) d (λ o. None) 1 ds keeps.declared declared (shown-out d s now k after out) (shown-others d s now k after out))
           ∙ ap (λ (ps : List Place). with_place d (λ o. None) ps) handled.places;
       agrees = agrees-out d s now k after out handled.agrees;
       known = known-out d s now k after out handled.known;
@@ -147,16 +147,16 @@ echo-fits (Err fault) is = absurd is
 
 -- the Leave event is that of the switch as its owners see it
 echo-left : (d : ℕ) (ds : List Declared) (views : List TableView) (s : State) (ports : List KnownPorts) → is_declared d ds ≡ true → ((y : SwitchState) → switch_of d s ≡ Some y → y.declared.dpid ≡ d) → ports_lost d ports ≡ ports_known d (switch_of d s)
-    → left_events (ports_lost d ports) ≡ left_of (switch_at d (shown_places ds views s))
+    → left_events (ports_lost d ports) ≡ left_of (switch_at d (shown_places ds (corrections views) s))
 unfolding shown_places
 echo-left d ds views s ports declared number known =
-    ap left_events (known ∙ sym (known-owned d (flags_at d views) (switch_of d s)))
-    ∙ left-known d (shown_switch views s d) (λ y is. owned-number (switch_of d s) y number is)
-    ∙ ap left_of (sym (switch_at-declared (shown_switch views s) d ds declared))
+    ap left_events (known ∙ sym (known-shown d (corrections views d) (switch_of d s)))
+    ∙ left-known d (shown_switch (corrections views) s d) (λ y is. number-shown (switch_of d s) y number is)
+    ∙ ap left_of (sym (switch_at-declared (shown_switch (corrections views) s) d ds declared))
   where
-    owned-number : (o : Option SwitchState) (y : SwitchState) → ((z : SwitchState) → o ≡ Some z → z.declared.dpid ≡ d) → option_map (owned_switch (flags_at d views)) o ≡ Some y → y.declared.dpid ≡ d
-    owned-number None y each is = absurd cc
-    owned-number (Some z) y each is = ap (λ (w : SwitchState). w.declared.dpid) (sym (same_Some (owned_switch (flags_at d views) z) y is)) ∙ each z refl
+    number-shown : (o : Option SwitchState) (y : SwitchState) → ((z : SwitchState) → o ≡ Some z → z.declared.dpid ≡ d) → option_map (corrected_switch (corrections views d)) o ≡ Some y → y.declared.dpid ≡ d
+    number-shown None y each is = absurd cc
+    number-shown (Some z) y each is = ap (λ (w : SwitchState). w.declared.dpid) (sym (same_Some (corrected_switch (corrections views d) z) y is)) ∙ each z refl
 
 -- ---- Either
 
@@ -197,7 +197,7 @@ echo-loss x d bytes first now l =
     let k = known_at_first first in
     let s = after_stim x (state first.seen) in
     let ds = first.seen.given.declared in
-    let after = places_after x (state first.seen).moment (shown_places ds first.net.views (state first.seen)) in
+    let after = places_after x (state first.seen).moment (shown_places ds (shown_by first.net) (state first.seen)) in
     let alone = echo-alone x (state first.seen) d bytes [] [] (silent x d (From d bytes) first now l) l.calm.none_due l.at.2 (sym l.alone) in
     let handled : StimulusHandled x first.seen first.net first.queue k =
     subst (λ (known : Knowledge). StimulusHandled x first.seen first.net first.queue known) (echo-handled d bytes k l.at.1 l.at.2)
@@ -258,7 +258,7 @@ join-loss x d bytes first now l =
     let k = known_at_first first in
     let s = after_stim x (state first.seen) in
     let ds = first.seen.given.declared in
-    let after = places_after x (state first.seen).moment (shown_places ds first.net.views (state first.seen)) in
+    let after = places_after x (state first.seen).moment (shown_places ds (shown_by first.net) (state first.seen)) in
     let alone = join-alone x (state first.seen) d bytes [] [] (silent x d (Joined d bytes) first now l) l.calm.none_due (sym l.alone) in
     let would = would-know x d (Joined d bytes) first now l tt in
     let only = joined-handled d bytes k l.at.1 in

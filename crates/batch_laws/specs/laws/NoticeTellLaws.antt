@@ -25,8 +25,8 @@ use Rattle.flow_table.specs.Change.{asks_notice}
 use Rattle.flow_table.specs.Expiry.{deadline, is_due, notice_at, by_deadline, expire, expiry_notices}
 use Rattle.flow_table.specs.Switch.{SwitchState}
 use Rattle.flow_table.specs.Step.{flow_removed, flow_removed_bytes, after_stimulus, sent_by_stimulus}
-use Rattle.undo_laws.specs.Owned.{owned, is_asked_for, AskAll}
-use Rattle.undo_laws.specs.laws.OwnedLaws.{stimulus-owned, expiry-owned}
+use Rattle.undo_laws.specs.CorrectedSwitch.{is_asked_for, AskAll}
+use Rattle.undo_laws.specs.laws.CorrectedSwitchLaws.{moment-shown}
 use Rattle.app_frames.specs.declared.frame.Event.{Event}
 use Rattle.lego_model.specs.Answers.{rows_of_table, rows_of_view}
 use Rattle.lego_model.specs.Events.{event_of_read, events_of}
@@ -34,7 +34,8 @@ use Rattle.outside.specs.declared.step.WorldStep.TheVariants.{From}
 use Rattle.net_txn.specs.Views.{rows_at, with_rows, ViewsAscend}
 use Rattle.net_txn.specs.laws.ViewLaws.{rows_at-same, rows_at-other}
 use Rattle.net_txn.specs.Arriving.{is_asked, without_key}
-use Rattle.switch_laws.specs.Shown.{flags_in}
+use Rattle.switch_laws.specs.Shown.{flags_in, correction_in}
+use Rattle.switch_laws.specs.laws.CorrectionLaws.{goes_along, go_together, notices-shown, shown-alike}
 use Rattle.switch_laws.specs.Sound.{SoundEntry, AllSound}
 use Rattle.switch_laws.specs.laws.SoundLaws.{notice-message}
 use Rattle.batch_laws.specs.Knowledge.{Knowledge, told_read, handled, handled_all}
@@ -175,11 +176,11 @@ bytes-by_fields [] = refl
 bytes-by_fields (n ∷ ns) = ap (λ xs. message_bytes 0 (FlowRemoved (flow_removed n)) ∷ xs) (bytes-by_fields ns)
 
 -- what the owners see is what they asked for
-seen-bytes : (flags : Key → ℕ) (t : ℕ) (es : List Entry) → AskAll es → map flow_removed_bytes (expiry_notices t (map (owned flags) es)) ≡ map flow_removed_bytes (filter (is_asked_for flags) (expiry_notices t es))
-seen-bytes flags t es asks =
-    bytes-by_fields (expiry_notices t (map (owned flags) es))
-    ∙ ap (map (λ (f : Removed). message_bytes 0 (FlowRemoved f))) (expiry-owned flags t es asks)
-    ∙ sym (bytes-by_fields (filter (is_asked_for flags) (expiry_notices t es)))
+seen-bytes : (rows : List ViewRow) (t : ℕ) (es : List Entry) → AskAll es → map flow_removed_bytes (expiry_notices t (map (correction_in rows) es)) ≡ map flow_removed_bytes (filter (is_asked_for (flags_in rows)) (expiry_notices t es))
+seen-bytes rows t es asks =
+    bytes-by_fields (expiry_notices t (map (correction_in rows) es))
+    ∙ ap (map (λ (f : Removed). message_bytes 0 (FlowRemoved f))) (notices-shown rows t es asks)
+    ∙ sym (bytes-by_fields (filter (is_asked_for (flags_in rows)) (expiry_notices t es)))
 
 abbrev goes : ℕ → Entry → Bool
 goes t e = is_due t e && asks_notice e.flags
@@ -195,10 +196,6 @@ gone-due : (t : ℕ) (es : List Entry) → IsTable es → AllSound es → AllByR
 gone-due t es is sound =
     all-both SoundEntry (λ e. has_place e.key (entry_keys (filter (goes t) es)) ≡ goes t e) (λ e. has_place e.key (entry_keys (going t es)) ≡ is_due t e)
     (λ e s has. has-by_deadline e.key (filter (goes t) es) ∙ has ∙ due-goes t e s) es sound (has-filter (goes t) 0 es is)
-
-owned-alike : (flags flags_now : Key → ℕ) (es : List Entry) → AllByRecursion (λ e. flags_now e.key ≡ flags e.key) es → map (owned flags_now) es ≡ map (owned flags) es
-owned-alike flags flags_now [] h = refl
-owned-alike flags flags_now (e ∷ es) h = ap₂ (λ (n : ℕ) xs. record e { flags = n } ∷ xs) h.0 (owned-alike flags flags_now es h.1)
 
 module _ (d t : ℕ) (s : SwitchState) (rows : List ViewRow) (k : Knowledge) (known : SwitchKnown d s rows k) (is : IsTable s.table.entries) (sound : AllSound s.table.entries) (within : t < 2 ^ 32) where
   abbrev entries : List Entry
@@ -249,9 +246,9 @@ module _ (d t : ℕ) (s : SwitchState) (rows : List ViewRow) (k : Knowledge) (kn
       all-filter (λ e. has_place e.key gone ≡ is_due t e) (λ e. flags_in rows_then e.key ≡ flags_in rows e.key) (λ e. not (is_due t e))
       (λ e has stays. flags-kept gone e.key rows (has ∙ not-true (is_due t e) stays)) entries (gone-due t entries is sound)
 
-  seen-here : map flow_removed_bytes (expiry_notices t (map (owned (flags_in rows)) entries)) ≡ map flow_removed_bytes (filter (is_asked_for (flags_in rows)) (map tells (going t entries)))
+  seen-here : map flow_removed_bytes (expiry_notices t (map (correction_in rows) entries)) ≡ map flow_removed_bytes (filter (is_asked_for (flags_in rows)) (map tells (going t entries)))
   unfolding expiry_notices
-  seen-here = seen-bytes (flags_in rows) t entries (ask-all entries sound)
+  seen-here = seen-bytes rows t entries (ask-all entries sound)
 
   advanced : SwitchHandled d (Advance t) s rows k (handled_all (map (From d) (map flow_removed_bytes (map tells (going t entries)))) k)
   unfolding after_stimulus sent_by_stimulus expire
@@ -261,8 +258,8 @@ module _ (d t : ℕ) (s : SwitchState) (rows : List ViewRow) (k : Knowledge) (kn
     queue = handled-so.queue ∙ ap (λ sent. k.queue ++ events_of d sent) (sym seen-here);
     agrees = agrees-then;
     shown =
-        ap (λ (es : List Entry). record s { moment = t; table = record s.table { entries = es } }) (owned-alike (flags_in rows) (flags_in rows_then) (filter (λ e. not (is_due t e)) entries) flags-then)
-        ∙ sym (stimulus-owned (flags_in rows) (Advance t) s);
+        ap (λ (es : List Entry). record s { moment = t; table = record s.table { entries = es } }) (shown-alike rows rows_then (filter (λ e. not (is_due t e)) entries) flags-then)
+        ∙ sym (moment-shown (correction_in rows) (goes_along rows) t s (go_together rows entries));
     ports = ap (known_ports d) handled-so.ports ∙ known.ports;
     others = λ e other. ap (known_ports e) handled-so.ports;
     moment = handled-so.moment;

@@ -23,14 +23,15 @@ use Rattle.flow_table.specs.declared.view.ViewRow.{ViewRow}
 use Rattle.flow_table.specs.Table.{TableState}
 use Rattle.flow_table.specs.Switch.{PortState, SwitchState, most_ports, new_port, port_at, insert_port, hw_addr, port_name, port_desc}
 use Rattle.flow_table.specs.Step.{port_status, set_link, same_bool, ports_after_link, sent_by_link, can_add, without_port, sent_by_deletion, after_port_change, sent_by_port_change, after_stimulus, sent_by_stimulus}
-use Rattle.undo_laws.specs.Owned.{owned_switch}
-use Rattle.undo_laws.specs.laws.OwnedLaws.{stimulus-owned, sent-owned}
+use Rattle.undo_laws.specs.CorrectedSwitch.{corrected_switch}
+use Rattle.undo_laws.specs.laws.CorrectedSwitchLaws.{stimulus-shown, sent-shown}
 use Rattle.lego_model.specs.Answers.{rows_of_table}
 use Rattle.lego_model.specs.Events.{ports_of, events_of}
 use Rattle.outside.specs.declared.step.WorldStep.TheVariants.{From}
 use Rattle.net_txn.specs.declared.ports.KnownPorts.{KnownPorts}
 use Rattle.net_txn.specs.Arriving.{ports_after, known_after, with_port as put_port}
-use Rattle.switch_laws.specs.Shown.{flags_in}
+use Rattle.switch_laws.specs.Shown.{correction_in}
+use Rattle.switch_laws.specs.laws.CorrectionLaws.{goes_along}
 use Rattle.batch_laws.specs.Knowledge.{Knowledge, handled_all}
 use Rattle.batch_laws.specs.Calm.{known_ports}
 use Rattle.batch_laws.specs.Lasting.{AscendPorts, Lasts}
@@ -318,13 +319,13 @@ port-by d n change s rows k sent known sent_is (inl silent) =
     let x = Port n change in
     let after : Knowledge = k in
     let nothing : handled_all (map (From d) sent) k ≡ k = ap (λ (bs : List (List ℕ)). handled_all (map (From d) bs) k) silent.none in
-    let reference : sent_by_stimulus x (owned_switch (flags_in rows) s) ≡ [] = sent-owned (flags_in rows) x s tt ∙ sym sent_is ∙ silent.none in
+    let reference : sent_by_stimulus x (corrected_switch (correction_in rows) s) ≡ [] = sent-shown (correction_in rows) (goes_along rows) x s tt ∙ sym sent_is ∙ silent.none in
     subst (SwitchHandled d x s rows k) (sym nothing) (record {
       rows_now = rows;
       views = view-kept d rows k.views known.rows_are;
       queue = sym (append-nil k.queue) ∙ ap (λ (bs : List (List ℕ)). k.queue ++ events_of d bs) (sym reference);
       agrees = known.agrees ∙ ap (λ (y : SwitchState). rows_of_table y.table.entries) (sym silent.same);
-      shown = sym (stimulus-owned (flags_in rows) x s);
+      shown = sym (stimulus-shown (correction_in rows) (goes_along rows) x s tt);
       ports = known.ports ∙ ap (λ (y : SwitchState). some_ports (ports_of y)) (sym silent.same);
       others = λ e other. refl;
       moment = refl;
@@ -335,13 +336,13 @@ port-by d n change s rows k sent known sent_is (inl silent) =
 port-by d n change s rows k sent known sent_is (inr told) =
     let x = Port n change in
     let done = ap (λ (bs : List (List ℕ)). handled_all (map (From d) bs) k) told.one ∙ status-handled d told.bytes told.status s rows k known told.read in
-    let reference : sent_by_stimulus x (owned_switch (flags_in rows) s) ≡ told.bytes ∷ [] = sent-owned (flags_in rows) x s tt ∙ sym sent_is ∙ told.one in
+    let reference : sent_by_stimulus x (corrected_switch (correction_in rows) s) ≡ told.bytes ∷ [] = sent-shown (correction_in rows) (goes_along rows) x s tt ∙ sym sent_is ∙ told.one in
     subst (SwitchHandled d x s rows k) (sym done) (record {
       rows_now = rows;
       views = view-kept d rows k.views known.rows_are;
       queue = ap (λ (bs : List (List ℕ)). k.queue ++ events_of d bs) (sym reference);
       agrees = known.agrees ∙ ap (λ (t : TableState). rows_of_table t.entries) (sym told.table);
-      shown = sym (stimulus-owned (flags_in rows) x s);
+      shown = sym (stimulus-shown (correction_in rows) (goes_along rows) x s tt);
       ports = known-here d told.status k.ports (ports_of s) known.ports ∙ ap some_ports (sym told.ports);
       others = λ e other. known-other d e told.status k.ports other;
       moment = refl;

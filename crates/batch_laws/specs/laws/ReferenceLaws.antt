@@ -8,7 +8,7 @@ use Rattle.std.proofs.lemmas.Option.{same_Some}
 use Rattle.of_types.specs.declared.journal.Stimulus.{Stimulus}
 use Rattle.flow_table.specs.View.{TableView}
 use Rattle.flow_table.specs.Switch.{Declared, SwitchState}
-use Rattle.undo_laws.specs.Owned.{owned_switch}
+use Rattle.undo_laws.specs.CorrectedSwitch.{corrected_switch}
 use Rattle.app_frames.specs.declared.frame.Event.{Event}
 use Rattle.lego_model.specs.Places.{Place}
 use Rattle.lego_model.specs.Controller.{events_at, sent_events}
@@ -17,7 +17,7 @@ use Rattle.outside.specs.declared.step.WorldStep.TheVariants.{From}
 use Rattle.outside.specs.Seen.{is_declared}
 use Rattle.outside.specs.State.{Link, link_of, switch_in, with_link, link_stimulated, stimulus_sends, declared_in}
 use Rattle.outside.specs.Conforming.{AreDeclaredFrom}
-use Rattle.switch_laws.specs.Shown.{flags_at, places}
+use Rattle.switch_laws.specs.Shown.{places, corrections}
 use Rattle.batch_laws.specs.LinkTells.{items_of, seen_events}
 use Rattle.batch_laws.specs.Waiting.{place_at, events_of_one, HasLink, waiting, NoneWait}
 use Rattle.net_txn.specs.laws.SaidLaws.{all_weaker}
@@ -58,7 +58,7 @@ flat-alike f h same [] = refl
 flat-alike f h same (p ∷ ps) = ap₂ (λ (xs : List Event) ys. xs ++ ys) (same p) (flat-alike f h same ps)
 
 -- of all switches
-pub events-links : (x : Stimulus) (g : ℕ → Option SwitchState) (views : List TableView) (ls : List Link) → AllByRecursion (λ l. g l.declared.dpid ≡ option_map (owned_switch (flags_at l.declared.dpid views)) l.switch) ls
+pub events-links : (x : Stimulus) (g : ℕ → Option SwitchState) (views : List TableView) (ls : List Link) → AllByRecursion (λ l. g l.declared.dpid ≡ option_map (corrected_switch (corrections views l.declared.dpid)) l.switch) ls
     → flat_map (events_at x) (places g (declared_in ls)) ≡ flat_map (seen_events x views) ls
 events-links x g views [] h = refl
 events-links x g views (l ∷ ls) h = ap₂ (λ (o : Option SwitchState) es. sent_events x l.declared.dpid o ++ es) h.0 (events-links x g views ls h.1)

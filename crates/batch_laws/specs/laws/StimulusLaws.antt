@@ -22,10 +22,10 @@ use Rattle.outside.specs.State.{Link, State, link_of, waits_in, waits_of, switch
 use Rattle.outside.specs.Conforming.{AreDeclaredFrom, IsWorldStim, Conforming}
 use Rattle.net_txn.specs.Net.{NetState}
 use Rattle.net_txn.specs.laws.SaidLaws.{all_weaker}
-use Rattle.switch_laws.specs.Shown.{shown_places}
+use Rattle.switch_laws.specs.Shown.{shown_places, shown_by}
 use Rattle.switch_laws.specs.Sound.{AllSound}
 use Rattle.switch_laws.specs.laws.StandLaws.{all-stand}
-use Rattle.batch_laws.specs.Knowledge.{Knowledge, knowledge_of, handled_all}
+use Rattle.batch_laws.specs.Knowledge.{known_by, Knowledge, knowledge_of, handled_all}
 use Rattle.batch_laws.specs.Calm.{Calm}
 use Rattle.batch_laws.specs.laws.HistoryLaws.{links-last, links-declared, switch-lasts}
 use Rattle.batch_laws.specs.Tells.{FitsMessage, FitsRead, FitsItem, StimulusHandled}
@@ -116,8 +116,8 @@ handled-by x seen net queue k once after =
     let s : State = state seen in
     let same = links-declared seen in
     record {
-      queue_is = subst (λ (ds : List Declared). k.queue ≡ queue ++ events_after x s.moment (shown_places ds net.views s)) same after.queue;
-      places = subst (λ (ds : List Declared). shown_places ds k.views (after_stim x s) ≡ places_after x s.moment (shown_places ds net.views s)) same after.places;
+      queue_is = subst (λ (ds : List Declared). k.queue ≡ queue ++ events_after x s.moment (shown_places ds (shown_by net) s)) same after.queue;
+      places = subst (λ (ds : List Declared). shown_places ds (known_by k) (after_stim x s) ≡ places_after x s.moment (shown_places ds (shown_by net) s)) same after.places;
       agrees = λ d. (after.known d).agrees;
       known = λ d. known-once d k (switch_of d (after_stim x s)) once (after.known d).ports;
       order = after.order;

@@ -10,7 +10,7 @@ use Rattle.of_stats.specs.declared.flow_row.FlowRow.{FlowRow}
 use Rattle.flow_table.specs.declared.view.ViewRow.{ViewRow}
 use Rattle.flow_table.specs.View.{TableView}
 use Rattle.flow_table.specs.Switch.{SwitchState}
-use Rattle.undo_laws.specs.Owned.{owned_switch}
+use Rattle.undo_laws.specs.CorrectedSwitch.{corrected_switch}
 use Rattle.lego_model.specs.Answers.{rows_of_table, rows_of_view}
 use Rattle.lego_model.specs.RunReport.{lost_line, flow_line, app_line, end_line, switch_text}
 use Rattle.run_laws.specs.Engine.{Application}
@@ -27,7 +27,7 @@ use Rattle.outside.specs.Seen.{Seen, Continues}
 use Rattle.outside.specs.State.{State, state, switch_of, waits_of}
 use Rattle.outside.specs.Conforming.{Conforming}
 use Rattle.outside.specs.laws.StateLaws.{Conforming-before}
-use Rattle.switch_laws.specs.Shown.{rows_or_none, flags_in, flags_at, shown_switch, shown_places}
+use Rattle.switch_laws.specs.Shown.{rows_or_none, shown_switch, shown_places, correction_in, corrections, shown_by}
 use Rattle.switch_laws.specs.Since.{ports_known, Ready}
 use Rattle.switch_laws.specs.laws.LossLaws.{lose_all-append, lose_all-xid, lose_all-moment, lose_all-rows, lose_all-rows_gone, lose_all-known, lose_all-known_gone, ready-joined}
 use Rattle.switch_laws.specs.Sound.{Sound}
@@ -177,7 +177,7 @@ pub some_is : (o : Option (List ViewRow)) → IsSome o → (vs : List ViewRow) �
 some_is None h = absurd cc
 some_is (Some vs) h = (vs, refl)
 
-shown_here : (views : List TableView) (s : State) (d : ℕ) (x : SwitchState) → switch_of d s ≡ Some x → shown_text [] views s d ≡ switch_text (Some (owned_switch (flags_at d views) x))
+shown_here : (views : List TableView) (s : State) (d : ℕ) (x : SwitchState) → switch_of d s ≡ Some x → shown_text [] views s d ≡ switch_text (Some (corrected_switch (corrections views d) x))
 shown_here views s d x is = rw is refl
 
 in_step_says : {Own : Type 0} (d : ℕ) (s : SwitchState) (old new : Seen Own) (r mid now_r : Core) (rows : List FlowRow) (text : List ℕ) → ((e : ℕ) → waits_of e (state old) ≡ []) → switch_of d (state old) ≡ Some s
@@ -327,9 +327,9 @@ flat_map-last f (y ∷ ys) x = ap (λ (text : List ℕ). f y ++ text) (flat_map-
 says_views : {Own : Type 0} {lost text : List ℕ} {old mid : Seen Own} {a b : Core} (d : ℕ) → is_among d lost ≡ false → Says lost text old mid a b → rows_at d b.net.views ≡ rows_at d a.net.views
 says_views {lost = lost} {a = a} {b = b} d here says = ap (λ (n : NetState). rows_at d n.views) says.net ∙ lose_all-rows lost d a.net here
 
-says_shown : {Own : Type 0} {lost text : List ℕ} {old mid : Seen Own} {a b : Core} (d : ℕ) → is_among d lost ≡ false → Says lost text old mid a b → shown_switch b.net.views (state mid) d ≡ shown_switch a.net.views (state old) d
+says_shown : {Own : Type 0} {lost text : List ℕ} {old mid : Seen Own} {a b : Core} (d : ℕ) → is_among d lost ≡ false → Says lost text old mid a b → shown_switch (shown_by b.net) (state mid) d ≡ shown_switch (shown_by a.net) (state old) d
 says_shown {lost = lost} {old = old} {mid = mid} {a = a} {b = b} d here says =
-    ap₂ (λ (o : Option (List ViewRow)) (x : Option SwitchState). option_map (owned_switch (flags_in (rows_or_none o))) x) (says_views d here says) (says.switches d ∙ left_in lost (state old) d here)
+    ap₂ (λ (o : Option (List ViewRow)) (x : Option SwitchState). option_map (corrected_switch (correction_in (rows_or_none o))) x) (says_views d here says) (says.switches d ∙ left_in lost (state old) d here)
 
 -- after what was said all is as ready and as sound
 pub says_ready : {Own : Type 0} {lost text : List ℕ} {old mid : Seen Own} {a b : Core} → Says lost text old mid a b → Ready old a.net → Ready mid b.net
@@ -398,12 +398,12 @@ module _ {Own : Type 0} (ds : List ℕ) (d : ℕ) (old mid new : Seen Own) (a b 
   last_same = among-append d one.lost two.lost ∙ ap (λ (b : Bool). b || is_among d two.lost) (one.among d none)
 
   text_before : (e : ℕ) → is_among e ds ≡ true → shown_text one.lost a.net.views (state old) e ≡ shown_text both_lost a.net.views (state old) e
-  text_before e is = ap (λ (b : Bool). if b then lost_line e else switch_text (shown_switch a.net.views (state old) e)) (sym (before_same e is))
+  text_before e is = ap (λ (b : Bool). if b then lost_line e else switch_text (shown_switch (shown_by a.net) (state old) e)) (sym (before_same e is))
 
   text_last : shown_text two.lost b.net.views (state mid) d ≡ shown_text both_lost a.net.views (state old) d
   text_last =
       ap (λ (o : Option SwitchState). if is_among d two.lost then lost_line d else switch_text o) (says_shown d (one.among d none) one.says)
-      ∙ ap (λ (b : Bool). if b then lost_line d else switch_text (shown_switch a.net.views (state old) d)) (sym last_same)
+      ∙ ap (λ (b : Bool). if b then lost_line d else switch_text (shown_switch (shown_by a.net) (state old) d)) (sym last_same)
 
   says_more : SaysOf (ds ++ d ∷ []) (λ lost. flat_map (shown_text lost a.net.views (state old)) (ds ++ d ∷ [])) old new a c
   unfolding both_lost
@@ -494,7 +494,7 @@ last_shown {Tells = Tells} {old = old} {new = new} r mid now_c apps continues ta
       let c = r.core in
       let one = tables.shown (distinct-views 0 c.net.views calm.order) told keeps calm.ready calm.sound in
       let before : Conforming old = Conforming-before told continues keeps in
-      let text : flat_map (shown_text one.lost c.net.views (state old)) (map (λ v. v.dpid) c.net.views) ≡ flat_map (place_lines one.lost) (shown_places old.given.declared c.net.views (state old)) =
+      let text : flat_map (shown_text one.lost c.net.views (state old)) (map (λ v. v.dpid) c.net.views) ≡ flat_map (place_lines one.lost) (shown_places old.given.declared (shown_by c.net) (state old)) =
       over_map (shown_text one.lost c.net.views (state old)) c.net.views
       ∙ places-shown one.lost old.given.declared c.net.views (state old) calm.order before.declared (all-stand old) calm.ready.agrees
       (λ d none. one.among d (none-among d c.net.views none))

@@ -23,7 +23,7 @@ use Rattle.outside.specs.State.{Mark, State, mark_of, after_stim, state, switch_
 use Rattle.outside.specs.Conforming.{Conforming}
 use Rattle.lego_model.specs.Packets.{nothing_held}
 use Rattle.net_txn.specs.Net.{NetState}
-use Rattle.switch_laws.specs.Shown.{shown_places}
+use Rattle.switch_laws.specs.Shown.{shown_places, shown_by}
 use Rattle.switch_laws.specs.Orderly.{OrderlySince}
 use Rattle.switch_laws.specs.Since.{ports_known}
 use Rattle.switch_laws.specs.Sound.{Sound}
@@ -117,7 +117,7 @@ marks-stand : {Own : Type 0} (x : WorldStim) (first now : Standing Own) (e : Eng
     → AgreeMarks (points_in now.seen) (r.marks ++ reference_mark None r.places ∷ [])
 marks-stand x first now e said later r keeps same_net stays s =
     let old = first.seen in
-    let before : r.places ≡ shown_places old.given.declared first.net.views (state old) = s.places ∙ ap (λ (n : NetState). shown_places old.given.declared n.views (state old)) same_net in
+    let before : r.places ≡ shown_places old.given.declared (shown_by first.net) (state old) = s.places ∙ ap (λ (n : NetState). shown_places old.given.declared (shown_by n) (state old)) same_net in
     subst (λ (ms : List Mark). AgreeMarks ms (r.marks ++ reference_mark None r.places ∷ [])) (sym (stays.marks ∙ marks-then x (state old)))
     (marks_more (state old).marks r.marks (mark_of None (state old)) (reference_mark None r.places) s.marks
     (subst (λ (ps : List Place). AgreeMark (mark_of None (state old)) (reference_mark None ps)) (sym before) (mark_alike None old.given.declared first.net.views (state old) (links-declared old) keeps.declared)))
@@ -158,13 +158,13 @@ happens-stands {Own} x first now e said later r same_net same_queue done keeps_o
     let old = first.seen in
     let new = now.seen in
     let declared : new.given.declared ≡ old.given.declared = ap (λ (g : Given Own). g.declared) done.given in
-    let before : r.places ≡ shown_places old.given.declared first.net.views (state old) = s.places ∙ ap (λ (n : NetState). shown_places old.given.declared n.views (state old)) same_net in
+    let before : r.places ≡ shown_places old.given.declared (shown_by first.net) (state old) = s.places ∙ ap (λ (n : NetState). shown_places old.given.declared (shown_by n) (state old)) same_net in
     subst (Stands new (engine_then e now.net now.queue) (behind told_none said) later) (sym (happen-by x r None (flag-so false later r x s.losses_is ∙ no_flag x))) (record {
       calm = calm-then x first now (subst (λ (n : NetState). n.held ≡ nothing_held) same_net s.calm.held) done h;
       moment = ap (moment_after x) s.moment ∙ sym (moment-then x (state old)) ∙ sym done.stays.moment;
       places = ap₂ (λ (m : ℕ) (ps : List Place). places_after x m ps) s.moment before ∙ sym h.places
           ∙ sym (shown-still old.given.declared now.net.views (after_stim x (state old)) (state new) done.switches)
-          ∙ ap (λ (ds : List Declared). shown_places ds now.net.views (state new)) (sym declared);
+          ∙ ap (λ (ds : List Declared). shown_places ds (shown_by now.net) (state new)) (sym declared);
       queue = ap₂ (λ (q : List Event) (more : List Event). q ++ more) (s.queue ∙ same_queue) (ap₂ (λ (m : ℕ) (ps : List Place). events_after x m ps) s.moment before) ∙ sym h.queue_is;
       events = s.events;
       apps = s.apps ∙ apps-same old new e.apps said done.acts;
@@ -182,12 +182,12 @@ lost-stands {Own} x first now e said later r same_net same_queue l keeps_old h s
     let new = now.seen in
     let d = l.dpid in
     let declared : new.given.declared ≡ old.given.declared = ap (λ (g : Given Own). g.declared) l.given in
-    let before : r.places ≡ shown_places old.given.declared first.net.views (state old) = s.places ∙ ap (λ (n : NetState). shown_places old.given.declared n.views (state old)) same_net in
+    let before : r.places ≡ shown_places old.given.declared (shown_by first.net) (state old) = s.places ∙ ap (λ (n : NetState). shown_places old.given.declared (shown_by n) (state old)) same_net in
     let after_is : places_after x r.moment r.places ≡ h.after = ap₂ (λ (m : ℕ) (ps : List Place). places_after x m ps) s.moment before ∙ sym h.after_is in
     subst (Stands new (engine_then e now.net now.queue) (behind told_none said) later) (sym (happen-by x r (Some d) (flag-so true later r x s.losses_is ∙ l.of_stimulus))) (record {
       calm = calm-lost x first now (subst (λ (n : NetState). n.held ≡ nothing_held) same_net s.calm.held) l h;
       moment = ap (moment_after x) s.moment ∙ sym (moment-then x (state old)) ∙ sym l.stays.moment;
-      places = ap (with_place d (λ o. None)) after_is ∙ sym h.places ∙ ap (λ (ds : List Declared). shown_places ds now.net.views (state new)) (sym declared);
+      places = ap (with_place d (λ o. None)) after_is ∙ sym h.places ∙ ap (λ (ds : List Declared). shown_places ds (shown_by now.net) (state new)) (sym declared);
       queue = ap₂ (λ (q : List Event) (ps : List Place). q ++ left_at x d ps) (s.queue ∙ same_queue) after_is ∙ sym h.queue_is;
       events = s.events;
       apps = s.apps ∙ apps-same old new e.apps said l.acts;
@@ -315,8 +315,8 @@ batch-over {Own} text first now e settled same_net same_queue over noted =
           calm = calm_now;
           moment = s.moment ∙ sym (ap (λ (t : State). t.moment) over.state_is);
           places = s.places
-              ∙ ap₂ (λ (n : NetState) (t : State). shown_places old.given.declared n.views t) (same_net ∙ sym over.net) (sym over.state_is)
-              ∙ ap (λ (g : Given Own). shown_places g.declared now_net.views (state new)) (sym over.given);
+              ∙ ap₂ (λ (n : NetState) (t : State). shown_places old.given.declared (shown_by n) t) (same_net ∙ sym over.net) (sym over.state_is)
+              ∙ ap (λ (g : Given Own). shown_places g.declared (shown_by now_net) (state new)) (sym over.given);
           queue = s.queue ∙ same_queue ∙ sym over.queue;
           events = s.events;
           apps = s.apps ∙ apps-same old new e.apps said own;

@@ -7,7 +7,7 @@ use Rattle.std.specs.List.{AllByRecursion}
 use Rattle.std.specs.Io.KnownBytes.{append_known}
 use Rattle.of_types.specs.declared.journal.WorldStim.{WorldStim}
 use Rattle.flow_table.specs.Switch.{Declared, SwitchState}
-use Rattle.undo_laws.specs.Owned.{owned_switch}
+use Rattle.undo_laws.specs.CorrectedSwitch.{corrected_switch}
 use Rattle.app_frames.specs.declared.frame.Event.{Event}
 use Rattle.crash_policy.specs.Policies.{AppValue}
 use Rattle.lego_model.specs.Journal.{Reply, Start}
@@ -21,7 +21,7 @@ use Rattle.outside.specs.Seen.{Given, Seen, journal}
 use Rattle.outside.specs.State.{Mark, State, switch_of, state}
 use Rattle.outside.specs.Conforming.{Conforming}
 use Rattle.flow_table.specs.View.{TableView}
-use Rattle.switch_laws.specs.Shown.{flags_at, shown_switch, places, shown_places}
+use Rattle.switch_laws.specs.Shown.{shown_switch, places, shown_places, corrections, shown_by}
 use Rattle.batch_laws.specs.laws.HistoryLaws.{links-declared}
 use Rattle.lego_model.specs.History.{given_in, stimuli_in, lost_of, points_in, last_point}
 use Rattle.lego_model.specs.AtOnce.{AtOnce}
@@ -59,10 +59,10 @@ pub given-from : {Own : Type 0} (i : ℕ) (last new : Seen Own) (apps : List App
 given-from i last new [] said same = tt
 given-from i last new (a ∷ more) said same = (sym (same i), given-from (i + 1) last new more said same)
 
-pub shown-still : (declared : List Declared) (views : List TableView) (s t : State) → ((d : ℕ) → switch_of d t ≡ switch_of d s) → shown_places declared views t ≡ shown_places declared views s
+pub shown-still : (declared : List Declared) (views : List TableView) (s t : State) → ((d : ℕ) → switch_of d t ≡ switch_of d s) → shown_places declared (corrections views) t ≡ shown_places declared (corrections views) s
 unfolding shown_places
 shown-still declared views s t same =
-    places-same (shown_switch views t) (shown_switch views s) (λ d. ap (λ (o : Option SwitchState). option_map (owned_switch (flags_at d views)) o) (same d)) declared
+    places-same (shown_switch (corrections views) t) (shown_switch (corrections views) s) (λ d. ap (λ (o : Option SwitchState). option_map (corrected_switch (corrections views d)) o) (same d)) declared
 
 -- some of them are out
 left-places : (lost : List ℕ) (f g : ℕ → Option SwitchState) (ds : List Declared) → ((d : ℕ) → g d ≡ (if is_among d lost then None else f d))
@@ -74,18 +74,18 @@ left-places lost f g (x ∷ xs) so =
       | inr here ↦ rw here (ap (λ (o : Option SwitchState). record { declared = x; switch = o }) (sym (so x.dpid ∙ rw here refl)))
     ]) (left-places lost f g xs so)
 
-shown_left : (lost : List ℕ) (views : List TableView) (s t : State) (d : ℕ) → switch_of d t ≡ switch_left lost s d → shown_switch views t d ≡ (if is_among d lost then None else shown_switch views s d)
+shown_left : (lost : List ℕ) (views : List TableView) (s t : State) (d : ℕ) → switch_of d t ≡ switch_left lost s d → shown_switch (corrections views) t d ≡ (if is_among d lost then None else shown_switch (corrections views) s d)
 shown_left lost views s t d same =
-    ap (option_map (owned_switch (flags_at d views))) same
+    ap (option_map (corrected_switch (corrections views d))) same
     ∙ elim (cases_Bool (is_among d lost)) [
       | inl gone ↦ rw gone refl
       | inr here ↦ rw here refl
     ]
 
 pub shown-left : (lost : List ℕ) (declared : List Declared) (views : List TableView) (s t : State) → ((d : ℕ) → switch_of d t ≡ switch_left lost s d)
-    → map (λ p. if is_among p.declared.dpid lost then out p else p) (shown_places declared views s) ≡ shown_places declared views t
+    → map (λ p. if is_among p.declared.dpid lost then out p else p) (shown_places declared (corrections views) s) ≡ shown_places declared (corrections views) t
 unfolding shown_places
-shown-left lost declared views s t same = left-places lost (shown_switch views s) (shown_switch views t) declared (λ d. shown_left lost views s t d (same d))
+shown-left lost declared views s t same = left-places lost (shown_switch (corrections views) s) (shown_switch (corrections views) t) declared (λ d. shown_left lost views s t d (same d))
 
 -- engine and reference controller ran alike, to the end, where switches were lost
 pub ends-so : {Own : Type 0} {number : ℕ} (lost : List ℕ) (last new : Seen Own) (e : Engine) (said : ℕ → Said) (r : Run) → Conforming new → Leaves number lost last new → Stands last e said (at_last lost) r → RunsAlike new (at_end r)
@@ -94,8 +94,8 @@ ends-so {Own} lost last new e said r keeps l s =
     let same_declared : declared ≡ last.given.declared = ap (λ (g : Given Own). g.declared) l.given in
     let ends : List Place = (at_end r).places in
     let last_is : r.losses.last ≡ lost = ap (λ (x : Losses). x.last) s.losses_is in
-    let here : ends ≡ shown_places declared e.net.views (state new) =
-    ap₂ (λ (ds : List ℕ) (ps : List Place). map (λ p. if is_among p.declared.dpid ds then out p else p) ps) last_is (s.places ∙ sym (ap (λ (ds : List Declared). shown_places ds e.net.views (state last)) same_declared))
+    let here : ends ≡ shown_places declared (shown_by e.net) (state new) =
+    ap₂ (λ (ds : List ℕ) (ps : List Place). map (λ p. if is_among p.declared.dpid ds then out p else p) ps) last_is (s.places ∙ sym (ap (λ (ds : List Declared). shown_places ds (shown_by e.net) (state last)) same_declared))
     ∙ shown-left lost declared e.net.views (state last) (state new) l.switches in
     let marks : AgreeMarks (points_in new) r.marks = subst (λ (ms : List Mark). AgreeMarks ms r.marks) (sym l.marks) s.marks in
     let end : AgreeMark (last_point new) (reference_mark None ends) =
@@ -112,8 +112,8 @@ pub runs-alike : {Own : Type 0} {number : ℕ} (last new : Seen Own) (e : Engine
 runs-alike {Own} last new e said later r keeps l s =
     let declared = new.given.declared in
     let same_declared : declared ≡ last.given.declared = ap (λ (g : Given Own). g.declared) l.given in
-    let here : r.places ≡ shown_places declared e.net.views (state new) =
-    s.places ∙ sym (ap (λ (ds : List Declared). shown_places ds e.net.views (state last)) same_declared) ∙ sym (shown-still declared e.net.views (state last) (state new) l.switches) in
+    let here : r.places ≡ shown_places declared (shown_by e.net) (state new) =
+    s.places ∙ sym (ap (λ (ds : List Declared). shown_places ds (shown_by e.net) (state last)) same_declared) ∙ sym (shown-still declared e.net.views (state last) (state new) l.switches) in
     let marks : AgreeMarks (points_in new) r.marks = subst (λ (ms : List Mark). AgreeMarks ms r.marks) (sym l.marks) s.marks in
     let end : AgreeMark (last_point new) (reference_mark None r.places) =
     subst (λ (ps : List Place). AgreeMark (last_point new) (reference_mark None ps)) (sym here) (mark_alike None declared e.net.views (state new) (links-declared new) keeps.declared) in

@@ -10,7 +10,7 @@ use Rattle.crash_policy.specs.Policies.{AppValue}
 use Rattle.of_types.specs.declared.journal.Act.{Act}
 use Rattle.lego_model.specs.Journal.{inputs, released, losses}
 use Rattle.lego_model.specs.Agreement.{AgreeMarks}
-use Rattle.undo_laws.specs.Owned.{owned_switch}
+use Rattle.undo_laws.specs.CorrectedSwitch.{corrected_switch}
 use Rattle.lego_model.specs.Answers.{rows_of_table}
 use Rattle.lego_model.specs.Places.{Place}
 use Rattle.lego_model.specs.Losses.{Losses}
@@ -19,7 +19,7 @@ use Rattle.outside.specs.declared.step.WorldStep.{WorldStep}
 use Rattle.outside.specs.Seen.{Seen, journal}
 use Rattle.outside.specs.State.{State, link_at_first, at_first, link_of, waits_in, switch_in, waits_of, switch_of, after_steps, after_step, state}
 use Rattle.lego_model.specs.OrderlySteps.{IsOrderly}
-use Rattle.switch_laws.specs.Shown.{flags_at, places, shown_switch, shown_places}
+use Rattle.switch_laws.specs.Shown.{places, shown_switch, shown_places, corrections}
 use Rattle.lego_model.specs.AtOnce.{at_first as nobody_yet, Dialogue}
 use Rattle.switch_laws.specs.Since.{ports_known}
 use Rattle.batch_laws.specs.Calm.{Calm}
@@ -138,7 +138,7 @@ unfolding shown_places at_first
 stands-first rules seen said losses is = record {
   calm = calm-first seen is;
   moment = sym (ap (λ (s : State). s.moment) (state-opened seen is));
-  places = sym (places-out (shown_switch [] (state seen)) seen.given.declared (λ d. ap (λ (o : Option SwitchState). option_map (owned_switch (flags_at d [])) o) (none-joined seen is d)));
+  places = sym (places-out (shown_switch (corrections []) (state seen)) seen.given.declared (λ d. ap (λ (o : Option SwitchState). option_map (corrected_switch (corrections [] d)) o) (none-joined seen is d)));
   queue = refl;
   events = refl;
   apps = sym (apps-first 0 rules seen said is);

@@ -21,7 +21,7 @@ use Rattle.flow_table.specs.View.{TableView}
 use Rattle.flow_table.specs.Table.{IsTable, AscendsFrom}
 use Rattle.flow_table.specs.Switch.{Declared, SwitchState}
 use Rattle.flow_table.specs.Statistics.{flow_row}
-use Rattle.undo_laws.specs.Owned.{owned, owned_switch}
+use Rattle.undo_laws.specs.CorrectedSwitch.{corrected_switch}
 use Rattle.lego_model.specs.Answers.{Rows, rows_of_table, rows_of_view}
 use Rattle.lego_model.specs.Controller.{Run}
 use Rattle.lego_model.specs.RunReport.{lost_line, switch_line, flow_line, app_line, end_line, entry_text, switch_text, apps_text, run_report}
@@ -31,7 +31,8 @@ use Rattle.outside.specs.Conforming.{AreDeclaredFrom, Conforming}
 use Rattle.net_txn.specs.Views.{rows_at, ViewsAscend}
 use Rattle.net_txn.specs.ChangeSteps.{Agrees}
 use Rattle.net_txn.specs.AskSteps.{own_rows}
-use Rattle.switch_laws.specs.Shown.{rows_or_none, flags_in, flags_at, shown_switch, places, shown_places, Stand}
+use Rattle.switch_laws.specs.Shown.{rows_or_none, flags_in, shown_switch, places, shown_places, Stand, corrections, shown_by, correction_in}
+use Rattle.switch_laws.specs.laws.CorrectionLaws.{flags-shown, row-shown}
 use Rattle.switch_laws.specs.laws.FlagLaws.{flags_in-here, flags_in-there}
 use Rattle.lego_model.specs.Losses.{Losses}
 use Rattle.lego_model.specs.Journal.{is_of, inputs, stimuli, released, losses}
@@ -82,26 +83,27 @@ keys-same moment (e ∷ es) [] h = absurd cc
 keys-same moment (e ∷ es) (v ∷ vs) h =
     (first_key v.key e.key v.actions e.actions (rows_of_view vs) (rows_of_table es) h, keys-same moment es vs (other_rows (v.key, v.actions) (e.key, e.actions) (rows_of_view vs) (rows_of_table es) h))
 
-lines-owned : (moment least : ℕ) (f : Key → ℕ) (es : List Entry) (vs : List ViewRow) → AscendsFrom least es → rows_of_view vs ≡ rows_of_table es → ((k : Key) → least ≤ key_number k → f k ≡ flags_in vs k)
-    → flow_lines (map (flow_row moment) es) vs ≡ flat_map (entry_text moment) (map (owned f) es)
-lines-owned moment least f [] [] up h flags = refl
-lines-owned moment least f [] (v ∷ vs) up h flags = refl
-lines-owned moment least f (e ∷ es) [] up h flags = absurd cc
-lines-owned moment least f (e ∷ es) (v ∷ vs) up h flags =
+lines-shown : (moment least : ℕ) (all : List ViewRow) (es : List Entry) (vs : List ViewRow) → AscendsFrom least es → rows_of_view vs ≡ rows_of_table es → ((k : Key) → least ≤ key_number k → flags_in all k ≡ flags_in vs k)
+    → flow_lines (map (flow_row moment) es) vs ≡ flat_map (entry_text moment) (map (correction_in all) es)
+lines-shown moment least all [] [] up h flags = refl
+lines-shown moment least all [] (v ∷ vs) up h flags = refl
+lines-shown moment least all (e ∷ es) [] up h flags = absurd cc
+lines-shown moment least all (e ∷ es) (v ∷ vs) up h flags =
     let key : v.key ≡ e.key = first_key v.key e.key v.actions e.actions (rows_of_view vs) (rows_of_table es) h in
     let there : key_number v.key ≡ key_number e.key = ap key_number key in
-    let own : f e.key ≡ v.flags = flags e.key up.0 ∙ flags_in-here v vs e.key there in
-    ap₂ (λ (n : ℕ) (text : List ℕ). flow_line (flow_row moment e) n ++ text) (sym own)
-    (lines-owned moment (key_number e.key + 1) f es vs up.1 (other_rows (v.key, v.actions) (e.key, e.actions) (rows_of_view vs) (rows_of_table es) h)
+    let own : (correction_in all e).flags ≡ v.flags = flags-shown all e ∙ flags e.key up.0 ∙ flags_in-here v vs e.key there in
+    ap₂ (λ (line text : List ℕ). line ++ text) (ap₂ (λ (r : FlowRow) (n : ℕ). flow_line r n) (sym (row-shown all moment e)) (sym own))
+    (lines-shown moment (key_number e.key + 1) all es vs up.1 (other_rows (v.key, v.actions) (e.key, e.actions) (rows_of_view vs) (rows_of_table es) h)
     (λ k above. flags k (omega (arith, above, up.0)) ∙ flags_in-there v vs k (λ same. omega (arith, above, there, same))))
 
 -- the lines of a switch's own rows, with the flags of its view, are those of the switch as its owner sees it
 pub table-shown : (d : ℕ) (views : List TableView) (vs : List ViewRow) (s : SwitchState) → rows_at d views ≡ Some vs → rows_of_view vs ≡ rows_of_table s.table.entries → IsTable s.table.entries → s.declared.dpid ≡ d
-    → table_lines d (own_rows s) vs ≡ switch_text (Some (owned_switch (flags_at d views) s))
+    → table_lines d (own_rows s) vs ≡ switch_text (Some (corrected_switch (corrections views d) s))
 table-shown d views vs s is same table number =
-    let count : length (own_rows s) ≡ length (map (owned (flags_at d views)) s.table.entries) = length-map s.table.entries (flow_row s.moment) ∙ sym (length-map s.table.entries (owned (flags_at d views))) in
-    let flags : (k : Key) → 0 ≤ key_number k → flags_at d views k ≡ flags_in vs k = λ k le. ap (λ (o : Option (List ViewRow)). flags_in (rows_or_none o) k) is in
-    ap₂ (λ (a b : List ℕ). a ++ b) (ap₂ switch_line (sym number) count) (lines-owned s.moment 0 (flags_at d views) s.table.entries vs table same flags)
+    let count : length (own_rows s) ≡ length (map (corrections views d) s.table.entries) = length-map s.table.entries (flow_row s.moment) ∙ sym (length-map s.table.entries (corrections views d)) in
+    let all : List ViewRow = rows_or_none (rows_at d views) in
+    let flags : (k : Key) → 0 ≤ key_number k → flags_in all k ≡ flags_in vs k = λ k le. ap (λ (o : Option (List ViewRow)). flags_in (rows_or_none o) k) is in
+    ap₂ (λ (a b : List ℕ). a ++ b) (ap₂ switch_line (sym number) count) (lines-shown s.moment 0 all s.table.entries vs table same flags)
 
 -- ---- All of them
 
@@ -201,16 +203,16 @@ places-text lost f (x ∷ xs) = ap (λ (text : List ℕ). place_text lost f x.dp
 
 -- what is lost is joined
 quiet_out : (lost : List ℕ) (views : List TableView) (s : State) (d : ℕ) → is_among d lost ≡ false → switch_of d s ≡ None → shown_text lost views s d ≡ []
-quiet_out lost views s d here none = rw here (ap (λ (o : Option SwitchState). switch_text (option_map (owned_switch (flags_at d views)) o)) none)
+quiet_out lost views s d here none = rw here (ap (λ (o : Option SwitchState). switch_text (option_map (corrected_switch (corrections views d)) o)) none)
 
 -- Over the views is over the places of the declared switches.
 pub places-shown : (lost : List ℕ) (declared : List Declared) (views : List TableView) (s : State) → ViewsAscend 0 views → AreDeclaredFrom 1 declared → Stand declared s → ((d : ℕ) → Agrees d views s)
-    → ((d : ℕ) → rows_at d views ≡ None → is_among d lost ≡ false) → flat_map (λ v. shown_text lost views s v.dpid) views ≡ flat_map (place_lines lost) (shown_places declared views s)
+    → ((d : ℕ) → rows_at d views ≡ None → is_among d lost ≡ false) → flat_map (λ v. shown_text lost views s v.dpid) views ≡ flat_map (place_lines lost) (shown_places declared (corrections views) s)
 unfolding shown_places
 places-shown lost declared views s up are stand agrees joined =
     over-views (shown_text lost views s) 0 1 views declared up are (λ d other. none-viewed d views s (agrees d) (stand.undeclared d other))
     (λ d le none. quiet_out lost views s d (joined d none) (out-with d views s (agrees d) none))
-    ∙ sym (places-text lost (shown_switch views s) declared)
+    ∙ sym (places-text lost (shown_switch (corrections views) s) declared)
 
 -- ---- The whole
 
@@ -234,7 +236,7 @@ pub last-shown : {Own : Type 0} (lost : List ℕ) (seen : Seen Own) (e : Engine)
 last-shown lost seen e said r stands =
     let last_is : r.losses.last ≡ lost = ap (λ (l : Losses). l.last) stands.losses_is in
     let moment : r.moment ≡ e.net.moment = stands.moment ∙ sym stands.calm.moment in
-    let first_text : List ℕ = flat_map (place_lines lost) (shown_places seen.given.declared e.net.views (state seen)) in
+    let first_text : List ℕ = flat_map (place_lines lost) (shown_places seen.given.declared (shown_by e.net) (state seen)) in
     rw (last_is, stands.places, stands.apps, moment, stands.events)
     (ap (λ (text : List ℕ). (first_text ++ text) ++ end_line e.net.moment e.events) (apps-shown 0 seen e.apps said)
     ∙ append_assoc first_text (app_lines e.apps) (end_line e.net.moment e.events))

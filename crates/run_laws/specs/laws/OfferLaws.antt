@@ -24,7 +24,7 @@ use Rattle.outside.specs.State.{Mark, state, marks_at_event}
 use Rattle.outside.specs.laws.SeenLaws.{Continues-refl, Continues-trans}
 use Rattle.outside.specs.laws.StateLaws.{Conforming-before}
 use Rattle.outside.specs.Conforming.{Conforming}
-use Rattle.switch_laws.specs.Shown.{shown_places}
+use Rattle.switch_laws.specs.Shown.{shown_places, shown_by}
 use Rattle.switch_laws.specs.Orderly.{OrderlySince}
 use Rattle.switch_laws.specs.laws.OrderlyLaws.{orderly-none, orderly-then}
 use Rattle.switch_laws.specs.laws.StandLaws.{state-links}
@@ -227,7 +227,7 @@ module _ {Own : Type 0} (allows : List Place → Bool) (event : Event) (number i
       ∙ ap (λ (ps : List Place). turn allows number from.net.moment event t.losses ps x) s.places
       ∙ t.alike.turned said_starts said later_replies starts_is fronts.0
 
-  marks-so : Conforming from.seen → (r : Run) → r.events ≡ number → r.places ≡ shown_places from.seen.given.declared from.net.views (state from.seen) → AgreeMarks (points_in from.seen) r.marks
+  marks-so : Conforming from.seen → (r : Run) → r.events ≡ number → r.places ≡ shown_places from.seen.given.declared (shown_by from.net) (state from.seen) → AgreeMarks (points_in from.seen) r.marks
       → AgreeMarks (points_in mid.seen) (marked t.alike.given r.events r.places r.marks)
   marks-so keeps r events places marks =
       subst (λ (ms : List Mark). AgreeMarks ms (marked t.alike.given r.events r.places r.marks)) (sym t.alike.marks)
@@ -240,7 +240,7 @@ module _ {Own : Type 0} (allows : List Place → Bool) (event : Event) (number i
   shares-so keeps later_starts later_replies turns later r s = record {
     calm = t.alike.calm;
     moment = s.moment ∙ sym t.alike.moment;
-    places = t.alike.places ∙ ap (λ (g : Given Own). shown_places g.declared mid.net.views (state mid.seen)) (sym t.tells.given);
+    places = t.alike.places ∙ ap (λ (g : Given Own). shown_places g.declared (shown_by mid.net) (state mid.seen)) (sym t.tells.given);
     queue_is = ap (λ (waiting : List Event). waiting ++ (t.alike.release.events ++ t.alike.left)) s.queue_is ∙ sym t.alike.queue;
     events_is = s.events_is;
     released = ap (λ (packets : List Held). packets ++ t.alike.release.packets) s.released ∙ sym t.alike.released;

@@ -19,7 +19,7 @@ use Rattle.outside.specs.State.{Mark, state}
 use Rattle.lego_model.specs.History.{own_acts, stimuli_in, given_in, released_of, lost_of}
 use Rattle.net_txn.specs.Net.{NetState}
 use Rattle.switch_laws.specs.Orderly.{OrderlySince}
-use Rattle.switch_laws.specs.Shown.{shown_places}
+use Rattle.switch_laws.specs.Shown.{shown_places, shown_by}
 use Rattle.switch_laws.specs.laws.OrderlyLaws.{orderly-none, orderly-then, orderly-whole}
 use Rattle.batch_laws.specs.Calm.{Calm}
 use Rattle.run_laws.specs.Engine.{Application, Engine, EachFrom, focus, app_with, apps_from, nothing, both_told, told_then, left_behind, behind, Stands, rules_of}
@@ -62,7 +62,7 @@ record StartMoves {Own : Type 0} (i : ℕ) (apps now_apps : List Application) (t
   rules : map (λ a. a.rule) now_apps ≡ map (λ a. a.rule) apps
   calm : Calm old net → Calm new net
   keeps : TriesKeep (state old) (state new)
-  places : (declared : List Declared) → shown_places declared net.views (state new) ≡ shown_places declared net.views (state old)
+  places : (declared : List Declared) → shown_places declared (shown_by net) (state new) ≡ shown_places declared (shown_by net) (state old)
   released : released_of new ≡ released_of old
   lost : lost_of new ≡ lost_of old
   still : (j : ℕ) → (i ≤ j → j < i + length apps → ⊥) → Silent j old new
@@ -210,7 +210,7 @@ start-shown {Own} Tells text old new e now_e starts = record {
                 calm = calm t.calm;
                 moment = t.moment ∙ sym m.keeps.rests.moment;
                 places = t.places ∙ sym (m.places old.given.declared)
-                    ∙ ap₂ (λ (g : Given Own) (net : NetState). shown_places g.declared net.views (state new)) (sym m.given) (sym starts.net);
+                    ∙ ap₂ (λ (g : Given Own) (net : NetState). shown_places g.declared (shown_by net) (state new)) (sym m.given) (sym starts.net);
                 queue = t.queue ∙ sym starts.queue;
                 events = t.events ∙ sym starts.events;
                 apps = refl;

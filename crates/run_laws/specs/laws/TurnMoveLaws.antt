@@ -38,7 +38,7 @@ use Rattle.app_visor.specs.Talks.{give_act}
 use Rattle.app_visor.specs.Beats.{Beat, Talk, acts_in}
 use Rattle.app_visor.specs.laws.BeatLaws.{Chain-continues}
 use Rattle.app_visor.specs.Turns.{IsEnd, handed, reply_by, Turns, played_on}
-use Rattle.switch_laws.specs.Shown.{shown_places}
+use Rattle.switch_laws.specs.Shown.{shown_places, shown_by}
 use Rattle.switch_laws.specs.Lost.{LeavesBy}
 use Rattle.switch_laws.specs.Since.{Ready, Goes}
 use Rattle.switch_laws.specs.laws.SinceLaws.{begun}
@@ -80,7 +80,7 @@ abbrev marks_by : Bool → ℕ → State → List Mark
 marks_by given n s = if given then marks_at_event (Some n) s else s.marks
 
 abbrev places_at : {Own : Type 0} → Seen Own → Seen Own → NetState → List Place
-places_at first now net = shown_places first.given.declared net.views (state now)
+places_at first now net = shown_places first.given.declared (shown_by net) (state now)
 
 record AtEnd {Own : Type 0} (allows : List Place → Bool) (event : Event) (old mid : Seen Own) (e : Focus) (mid_net : NetState) (given : Bool) (reply : Reply) (answers : List Answer) (outcome : Outcome) : Type 0 where
   messages : List Bool
@@ -119,7 +119,7 @@ at_end Tells accepts allows event old mid e mid_net end unread told keeps judges
     let first : Goes (length e.net.log) [] old old e.net e.net = record { since = begun old e.net; ready = calm.ready } in
     let given_is : mid.given ≡ old.given = (Chain-continues Tells e.index whole old mid e.net mid_net t.chain).given in
     let judged : allows (places_at old mid mid_net) ≡ accepts mid_net.views =
-    subst (λ (g : Given _). allows (shown_places g.declared mid_net.views (state mid)) ≡ accepts mid_net.views) given_is (judges.alike mid mid_net) in
+    subst (λ (g : Given _). allows (shown_places g.declared (shown_by mid_net) (state mid)) ≡ accepts mid_net.views) given_is (judges.alike mid mid_net) in
     let shown = turn-shown Tells accepts allows e.index e.rule.budget e.rest frame old mid e.net mid_net end unread told keeps calm.ready t judged in
     record {
       messages = shown.messages;
@@ -197,8 +197,8 @@ released_since : {Own : Type 0} (old mid new : Seen Own) (start : ℕ) (sent : L
 released_since {Own} old mid new start sent mid_net net queue now_queue given shown =
     let declared : mid.given.declared ≡ old.given.declared = ap (λ (g : Given Own). g.declared) given in
     record {
-      is = shown.is ∙ ap (λ (ds : List Declared). release shown.losing (shown_places ds mid_net.views (state mid)) mid_net.held) declared;
-      places = sym shown.places ∙ ap (λ (ds : List Declared). shown_places ds net.views (state new)) declared;
+      is = shown.is ∙ ap (λ (ds : List Declared). release shown.losing (shown_places ds (shown_by mid_net) (state mid)) mid_net.held) declared;
+      places = sym shown.places ∙ ap (λ (ds : List Declared). shown_places ds (shown_by net) (state new)) declared;
     }
 
 done_alike : {Own : Type 0} (Tells : Type 0) (allows : List Place → Bool) (event : Event) (stop : Bool) (unread text : List ℕ) (old mid new : Seen Own) (e : Focus) (mid_net net : NetState) (queue : List Event) (sent : List (ℕ × ℕ)) (given : Bool) (trace : List (Beat Own)) (answers : List Answer) (outcome : Outcome)
@@ -294,7 +294,7 @@ failed_alike {Own} Tells allows event cause unread text later_text old mid undon
     let declared : mid.given.declared ≡ old.given.declared = ap (λ (g : Given Own). g.declared) given_stays in
     let after : List Place × List Event = undoing gone (places_at old old e.net) (places_at old mid mid_net) in
     let after_is : after ≡ (places_at old undone undone_net, shown.left) =
-    subst (λ (ds : List Declared). undoing gone (shown_places ds e.net.views (state old)) (shown_places ds mid_net.views (state mid)) ≡ (shown_places ds undone_net.views (state undone), shown.left)) declared shown.undoing_is in
+    subst (λ (ds : List Declared). undoing gone (shown_places ds (shown_by e.net) (state old)) (shown_places ds (shown_by mid_net) (state mid)) ≡ (shown_places ds (shown_by undone_net) (state undone), shown.left)) declared shown.undoing_is in
     let all = all_left old mid undone e.net mid_net mid_net undone_net at.left shown.left calm.left at.leaves refl shown.leaves in
     let left : List Event = at.left ++ shown.left in
     record {

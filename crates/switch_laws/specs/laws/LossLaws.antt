@@ -9,9 +9,10 @@ use Rattle.of_types.specs.declared.port_desc.PortDesc.{PortDesc}
 use Rattle.of_match.specs.declared.key.Key.{Key}
 use Rattle.of_wire.specs.Spelling.{ports_bytes}
 use Rattle.flow_table.specs.declared.view.ViewRow.{ViewRow}
+use Rattle.flow_table.specs.declared.entry.Entry.{Entry}
 use Rattle.flow_table.specs.View.{TableView}
 use Rattle.flow_table.specs.Switch.{Declared, SwitchState}
-use Rattle.undo_laws.specs.Owned.{owned_switch}
+use Rattle.undo_laws.specs.CorrectedSwitch.{corrected_switch}
 use Rattle.app_frames.specs.declared.frame.Event.{Event}
 use Rattle.app_frames.specs.declared.frame.EventKind.TheVariants as kinds
 use Rattle.lego_model.specs.Answers.{rows_of_table, rows_of_view}
@@ -41,7 +42,7 @@ use Rattle.net_txn.specs.laws.ViewLaws.{with_rows-none}
 use Rattle.net_txn.specs.laws.LostLaws.{losses_two, losses_then}
 use Rattle.switch_laws.specs.Lost.{LeavesBy}
 use Rattle.switch_laws.specs.Released.{lost_by, LosesNone}
-use Rattle.switch_laws.specs.Shown.{rows_or_none, flags_in, flags_at, shown_switch, places}
+use Rattle.switch_laws.specs.Shown.{rows_or_none, correction_in, shown_by, shown_switch, places}
 use Rattle.switch_laws.specs.Since.{ports_known, Ready}
 use Rattle.switch_laws.specs.laws.PlaceLaws.{places-same, switch_at-declared, switch_at-undeclared, with_place-places}
 
@@ -241,10 +242,10 @@ left-known d None numbered = refl
 left-known d (Some s) numbered =
     ap₂ (λ (n : ℕ) (bytes : List ℕ). record { kind = kinds.Leave; dpid = n; body = bytes } ∷ []) (sym (numbered s refl)) (text-bytes (ports_of s))
 
--- with the flags of the owners it is known by the same ports
-pub known-owned : (d : ℕ) (flags : Key → ℕ) (o : Option SwitchState) → ports_known d (option_map (owned_switch flags) o) ≡ ports_known d o
-known-owned d flags None = refl
-known-owned d flags (Some s) = refl
+-- as it is shown it is known by the same ports
+pub known-shown : (d : ℕ) (shown : Entry → Entry) (o : Option SwitchState) → ports_known d (option_map (corrected_switch shown) o) ≡ ports_known d o
+known-shown d shown None = refl
+known-shown d shown (Some s) = refl
 
 -- ---- The reference controller's switches where some are lost
 
@@ -399,13 +400,13 @@ module _ {Own : Type 0} (d : ℕ) (packets : List Held) (s : SwitchState) (old n
   lost-views : now_net.views ≡ filter (λ v. not (v.dpid == d)) net.views
   lost-views = ap (λ (n : NetState). n.views) net_is
 
-  lost-here : shown_switch now_net.views (state new) d ≡ None
-  lost-here = ap (option_map (owned_switch (flags_at d now_net.views))) out.out
+  lost-here : shown_switch (shown_by now_net) (state new) d ≡ None
+  lost-here = ap (option_map (corrected_switch (shown_by now_net d))) out.out
 
-  pub lost-others : (e : ℕ) → e ≢ d → shown_switch now_net.views (state new) e ≡ shown_switch net.views (state old) e
+  pub lost-others : (e : ℕ) → e ≢ d → shown_switch (shown_by now_net) (state new) e ≡ shown_switch (shown_by net) (state old) e
   lost-others e other =
-      ap₂ (λ (f : Key → ℕ) (o : Option SwitchState). option_map (owned_switch f) o)
-      (ap (λ (o : Option (List ViewRow)). flags_in (rows_or_none o)) (ap (rows_at e) lost-views ∙ rows-stay d e other net.views)) (out.others e other)
+      ap₂ (λ (f : Entry → Entry) (o : Option SwitchState). option_map (corrected_switch f) o)
+      (ap (λ (o : Option (List ViewRow)). correction_in (rows_or_none o)) (ap (rows_at e) lost-views ∙ rows-stay d e other net.views)) (out.others e other)
 
   pub lost-ready : Ready old net → Ready new now_net
   lost-ready ready = record {
@@ -426,14 +427,14 @@ module _ {Own : Type 0} (d : ℕ) (packets : List Held) (s : SwitchState) (old n
   }
 
   -- its Leave event
-  pub lost-leaves : (flags : Key → ℕ) → s.declared.dpid ≡ d → Ready old net → LeavesBy old new net now_net (leave_event (owned_switch flags s) ∷ [])
-  lost-leaves flags number ready = record {
+  pub lost-leaves : (shown : Entry → Entry) → s.declared.dpid ≡ d → Ready old net → LeavesBy old new net now_net (leave_event (corrected_switch shown s) ∷ [])
+  lost-leaves shown number ready = record {
     gone = ports_known d (Some s);
     left_is = ap (λ (n : NetState). n.left) net_is ∙ ap (λ (ks : List KnownPorts). net.left ++ ks) (ready.known d ∙ ap (ports_known d) is);
     events_is = left-known d (Some s) (λ t same. ap (λ (x : SwitchState). x.declared.dpid) (sym (same_Some s t same)) ∙ number);
     lost_is = losses_then old new out.steps out.history ∙ ap (λ (ds : List ℕ). lost_of old ++ ds) (out.lost ∙ ap (λ (n : ℕ). n ∷ []) (sym number));
   }
 
-  pub lost-places : (declared : List Declared) → AreDeclaredFrom 1 declared → is_declared d declared ≡ true → with_place d (λ o. None) (places (shown_switch net.views (state old)) declared) ≡ places (shown_switch now_net.views (state new)) declared
+  pub lost-places : (declared : List Declared) → AreDeclaredFrom 1 declared → is_declared d declared ≡ true → with_place d (λ o. None) (places (shown_switch (shown_by net) (state old)) declared) ≡ places (shown_switch (shown_by now_net) (state new)) declared
   lost-places declared are there =
-      with_place-places (shown_switch net.views (state old)) (shown_switch now_net.views (state new)) d (λ o. None) 1 declared are there lost-here lost-others
+      with_place-places (shown_switch (shown_by net) (state old)) (shown_switch (shown_by now_net) (state new)) d (λ o. None) 1 declared are there lost-here lost-others

@@ -1,5 +1,5 @@
 -- What follows about a release: each switch moved by the packets that were sent to it, or was lost, and the history released them. In a world
--- that keeps its word the switches stand then, with the flags of the owners, as the reference controller's do that releases the same packets
+-- that keeps its word the switches stand then, as they are shown, as the reference controller's do that releases the same packets
 -- and loses the same of their switches; and where a release stopped, memory was wanting, or a packet made its switch send too many messages.
 use Rattle.std.proofs.Common.{◌≡◌, ◌≢◌, ◌==◌, ◌⊎◌, ℕ, Bool, true, false, List, [], ◌∷◌, ◌++◌, filter, fold, Option, Some, None, Result, Ok, Err, if◌then◌else◌, refl, sym, ap, ap₂, ◌∙◌, subst, append_assoc, inl, inr, true≢false}
 use Rattle.std.proofs.lemmas.Bool.{cases_eq, eq-eqb, ne_eqb}
@@ -9,18 +9,18 @@ use Rattle.std.proofs.lemmas.List.Sums.{fold-append}
 use Rattle.std.specs.Option.{is_some, option_map}
 use Rattle.std.proofs.lemmas.Option.{same_Some}
 use Rattle.of_types.specs.declared.journal.Act.TheVariants.{Sent}
-use Rattle.of_match.specs.declared.key.Key.{Key}
 use Rattle.of_wire.specs.declared.message.Envelope.{Envelope}
 use Rattle.of_wire.specs.declared.message.Message.TheVariants.{PacketOut}
 use Rattle.of_wire.specs.declared.fault.WireFault.{WireFault}
 use Rattle.of_wire.specs.Reading.{reading_of}
 use Rattle.of_wire.specs.Spelling.{message_bytes}
 use Rattle.flow_table.specs.declared.view.ViewRow.{ViewRow}
+use Rattle.flow_table.specs.declared.entry.Entry.{Entry}
 use Rattle.flow_table.specs.View.{TableView}
 use Rattle.flow_table.specs.Switch.{Declared, SwitchState}
 use Rattle.flow_table.specs.Step.{after_message, sent_by_message}
-use Rattle.undo_laws.specs.Owned.{owned_switch}
-use Rattle.undo_laws.specs.laws.OwnedLaws.{packet-owned, packet_sent-owned}
+use Rattle.undo_laws.specs.CorrectedSwitch.{corrected_switch}
+use Rattle.undo_laws.specs.laws.CorrectedSwitchLaws.{packet-shown, packet_sent-shown}
 use Rattle.app_frames.specs.declared.frame.Event.{Event}
 use Rattle.lego_model.specs.declared.fault.TxnFault.{TxnFault}
 use Rattle.lego_model.specs.declared.fault.TxnFault.TheVariants.{SwitchBroke, Diverged, Flooded, NoMemory}
@@ -54,7 +54,8 @@ use Rattle.net_txn.specs.laws.AgreeLaws.{viewed as viewed_rows}
 use Rattle.net_txn.specs.laws.LostLaws.{released_two}
 use Rattle.switch_laws.specs.Lost.{LeavesBy}
 use Rattle.switch_laws.specs.Released.{MovesOrLoses, ReleaseShown, StopsFor}
-use Rattle.switch_laws.specs.Shown.{flags_at, shown_switch, places, shown_places, Stand}
+use Rattle.switch_laws.specs.Shown.{rows_or_none, corrections, shown_by, shown_switch, places, shown_places, Stand}
+use Rattle.switch_laws.specs.laws.CorrectionLaws.{goes_along}
 use Rattle.switch_laws.specs.Since.{ports_known, Ready}
 use Rattle.switch_laws.specs.Sound.{AllSound, Sound}
 use Rattle.switch_laws.specs.laws.ClockLaws.{switch-in_time}
@@ -297,20 +298,20 @@ module _ {Own : Type 0} (h : Held) (s : SwitchState) (old new : Seen Own) (net n
 
   -- how the reference controller's switches stand then
   step-places : (declared : List Declared) → AreDeclaredFrom 1 declared → Stand declared (state old)
-      → with_place h.0 (λ o. Some (after_message (PacketOut h.1) (owned_switch (flags_at h.0 net.views) s))) (places (shown_switch net.views (state old)) declared) ≡ places (shown_switch now_net.views (state new)) declared
+      → with_place h.0 (λ o. Some (after_message (PacketOut h.1) (corrected_switch (shown_by net h.0) s))) (places (shown_switch (shown_by net) (state old)) declared) ≡ places (shown_switch (shown_by now_net) (state new)) declared
   step-places declared are stand =
-      let flags : Key → ℕ = flags_at h.0 net.views in
-      let here : shown_switch now_net.views (state new) h.0 ≡ Some (after_message (PacketOut h.1) (owned_switch flags s)) =
-      ap₂ (λ (vs : List TableView) (o : Option SwitchState). option_map (owned_switch (flags_at h.0 vs)) o) views-so step.moved ∙ ap some_switch (sym (packet-owned flags h.1 s)) in
-      let others : (e : ℕ) → e ≢ h.0 → shown_switch now_net.views (state new) e ≡ shown_switch net.views (state old) e =
-      λ e other. ap₂ (λ (vs : List TableView) (o : Option SwitchState). option_map (owned_switch (flags_at e vs)) o) views-so (step.others e other) in
-      with_place-places (shown_switch net.views (state old)) (shown_switch now_net.views (state new)) h.0 (λ o. Some (after_message (PacketOut h.1) (owned_switch flags s))) 1 declared are (declared_of h.0 declared (state old) stand s is) here others
+      let mine : Entry → Entry = shown_by net h.0 in
+      let here : shown_switch (shown_by now_net) (state new) h.0 ≡ Some (after_message (PacketOut h.1) (corrected_switch mine s)) =
+      ap₂ (λ (vs : List TableView) (o : Option SwitchState). option_map (corrected_switch (corrections vs h.0)) o) views-so step.moved ∙ ap some_switch (sym (packet-shown mine (goes_along (rows_or_none (rows_at h.0 net.views))) h.1 s)) in
+      let others : (e : ℕ) → e ≢ h.0 → shown_switch (shown_by now_net) (state new) e ≡ shown_switch (shown_by net) (state old) e =
+      λ e other. ap₂ (λ (vs : List TableView) (o : Option SwitchState). option_map (corrected_switch (corrections vs e)) o) views-so (step.others e other) in
+      with_place-places (shown_switch (shown_by net) (state old)) (shown_switch (shown_by now_net) (state new)) h.0 (λ o. Some (after_message (PacketOut h.1) (corrected_switch mine s))) 1 declared are (declared_of h.0 declared (state old) stand s is) here others
 
 -- ---- From one state of the release to another one
 
 -- So the release of the reference controller goes on, behind these events: its packets are these.
 record GoesOn {Own : Type 0} (declared : List Declared) (packets : List Held) (base : List Event) (old new : Seen Own) (net now_net : NetState) (now_queue : List Event) (r next : Release) : Type 0 where
-  places_is : next.places ≡ shown_places declared now_net.views (state new)
+  places_is : next.places ≡ shown_places declared (shown_by now_net) (state new)
   events_is : now_queue ≡ base ++ next.events
   packets_is : next.packets ≡ r.packets ++ packets
   left : List Event
@@ -323,7 +324,7 @@ record GoesOn {Own : Type 0} (declared : List Declared) (packets : List Held) (b
 -- where it stands before
 record Stands {Own : Type 0} (declared : List Declared) (base : List Event) (old : Seen Own) (net : NetState) (queue : List Event) (r : Release) : Type 0 where
   given : declared ≡ old.given.declared
-  places_is : r.places ≡ shown_places declared net.views (state old)
+  places_is : r.places ≡ shown_places declared (shown_by net) (state old)
   events_is : queue ≡ base ++ r.events
   ready : Ready old net
   sound : Sound (state old)
@@ -332,7 +333,7 @@ stand-of : {Own : Type 0} (declared : List Declared) (seen : Seen Own) → decla
 stand-of declared seen same = subst (λ (ds : List Declared). Stand ds (state seen)) (sym same) (all-stand seen)
 
 -- nothing was done
-stays-on : {Own : Type 0} (declared : List Declared) (base : List Event) (old : Seen Own) (net : NetState) (queue : List Event) (r : Release) → queue ≡ base ++ r.events → r.places ≡ shown_places declared net.views (state old) → Ready old net → Sound (state old)
+stays-on : {Own : Type 0} (declared : List Declared) (base : List Event) (old : Seen Own) (net : NetState) (queue : List Event) (r : Release) → queue ≡ base ++ r.events → r.places ≡ shown_places declared (shown_by net) (state old) → Ready old net → Sound (state old)
     → GoesOn declared [] base old old net net queue r r
 stays-on declared base old net queue r events_is places_is ready sound = record {
   places_is = places_is;
@@ -359,19 +360,19 @@ losing-kept (Some s) AfterSent r h losing = refl
 
 module _ {Own : Type 0} (h : Held) (declared : List Declared) (base : List Event) (old : Seen Own) (net : NetState) (queue : List Event) (r : Release) (at : Stands declared base old net queue r) where
   -- the switch there
-  at-shown : switch_at h.0 r.places ≡ shown_switch net.views (state old) h.0
+  at-shown : switch_at h.0 r.places ≡ shown_switch (shown_by net) (state old) h.0
   unfolding shown_places
   at-shown = ap (switch_at h.0) at.places_is ∙ switch_at-shown declared net.views (state old) h.0 (stand-of declared old at.given)
 
-  at-joined : (loss : PacketLoss) (s : SwitchState) → switch_of h.0 (state old) ≡ Some s → next_release loss r h ≡ release_at (Some (owned_switch (flags_at h.0 net.views) s)) loss r h
-  at-joined loss s is = ap (λ (o : Option SwitchState). release_at o loss r h) (at-shown ∙ ap (option_map (owned_switch (flags_at h.0 net.views))) is)
+  at-joined : (loss : PacketLoss) (s : SwitchState) → switch_of h.0 (state old) ≡ Some s → next_release loss r h ≡ release_at (Some (corrected_switch (shown_by net h.0) s)) loss r h
+  at-joined loss s is = ap (λ (o : Option SwitchState). release_at o loss r h) (at-shown ∙ ap (option_map (corrected_switch (shown_by net h.0))) is)
 
   module _ (new : Seen Own) (now_net : NetState) (now_queue : List Event) (are : AreDeclaredFrom 1 declared) where
     sent-places : (s : SwitchState) → switch_of h.0 (state old) ≡ Some s → PacketInStep h.0 h.1 s old new net now_net queue now_queue
-        → with_place h.0 (λ o. Some (after_message (PacketOut h.1) (owned_switch (flags_at h.0 net.views) s))) r.places ≡ shown_places declared now_net.views (state new)
+        → with_place h.0 (λ o. Some (after_message (PacketOut h.1) (corrected_switch (shown_by net h.0) s))) r.places ≡ shown_places declared (shown_by now_net) (state new)
     unfolding shown_places
     sent-places s is step =
-        ap (with_place h.0 (λ o. Some (after_message (PacketOut h.1) (owned_switch (flags_at h.0 net.views) s)))) at.places_is
+        ap (with_place h.0 (λ o. Some (after_message (PacketOut h.1) (corrected_switch (shown_by net h.0) s)))) at.places_is
         ∙ step-places h s old new net now_net queue now_queue is step declared are (stand-of declared old at.given)
 
     sent-on : (s : SwitchState) → switch_of h.0 (state old) ≡ Some s → lost_of new ≡ lost_of old → PacketInStep h.0 h.1 s old new net now_net queue now_queue
@@ -381,7 +382,7 @@ module _ {Own : Type 0} (h : Held) (declared : List Declared) (base : List Event
           places_is = sent-places s is step;
           events_is = step.queue_is ∙ ap (λ (q : List Event). q ++ events_of h.0 (sent_by_message 0 (PacketOut h.1) s)) at.events_is
               ∙ append_assoc base r.events (events_of h.0 (sent_by_message 0 (PacketOut h.1) s))
-              ∙ ap (λ (sent : List (List ℕ)). base ++ (r.events ++ events_of h.0 sent)) (sym (packet_sent-owned (flags_at h.0 net.views) 0 h.1 s));
+              ∙ ap (λ (sent : List (List ℕ)). base ++ (r.events ++ events_of h.0 sent)) (sym (packet_sent-shown (shown_by net h.0) (goes_along (rows_or_none (rows_at h.0 net.views))) 0 h.1 s));
           packets_is = refl;
           left = [];
           left_is = sym (append-nil r.left);
@@ -393,7 +394,7 @@ module _ {Own : Type 0} (h : Held) (declared : List Declared) (base : List Event
 
     -- its switch goes out, whether or not it was sent
     lost-away : (packets : List Held) (s : SwitchState) → switch_of h.0 (state old) ≡ Some s → GoesOut h.0 packets old new → now_net ≡ record (lost_net h.0 net) { xid = now_net.xid }
-        → with_place h.0 (λ o. None) r.places ≡ shown_places declared now_net.views (state new)
+        → with_place h.0 (λ o. None) r.places ≡ shown_places declared (shown_by now_net) (state new)
     unfolding shown_places
     lost-away packets s is out net_is =
         ap (with_place h.0 (λ o. None)) at.places_is
@@ -401,16 +402,16 @@ module _ {Own : Type 0} (h : Held) (declared : List Declared) (base : List Event
 
     out-on : (packets : List Held) (s : SwitchState) → switch_of h.0 (state old) ≡ Some s → s.declared.dpid ≡ h.0 → GoesOut h.0 packets old new → now_net ≡ record (lost_net h.0 net) { xid = now_net.xid } → now_queue ≡ queue
         → (q : Release) → q.places ≡ r.places → q.events ≡ r.events → q.left ≡ r.left → q.packets ≡ r.packets ++ packets
-        → GoesOn declared packets base old new net now_net now_queue r (went_out h.0 (owned_switch (flags_at h.0 net.views) s) q)
+        → GoesOn declared packets base old new net now_net now_queue r (went_out h.0 (corrected_switch (shown_by net h.0) s) q)
     out-on packets s is number out net_is queue_is q places_is events_is left_is packets_is =
-        let gone : List Event = leave_event (owned_switch (flags_at h.0 net.views) s) ∷ [] in
+        let gone : List Event = leave_event (corrected_switch (shown_by net h.0) s) ∷ [] in
         record {
           places_is = ap (with_place h.0 (λ o. None)) places_is ∙ lost-away packets s is out net_is;
           events_is = queue_is ∙ at.events_is ∙ ap (λ (es : List Event). base ++ es) (sym events_is);
           packets_is = packets_is;
           left = gone;
           left_is = ap (λ (es : List Event). es ++ gone) left_is;
-          leaves = lost-leaves h.0 packets s old new net now_net is out net_is (flags_at h.0 net.views) number at.ready;
+          leaves = lost-leaves h.0 packets s old new net now_net is out net_is (shown_by net h.0) number at.ready;
           ready = lost-ready h.0 packets s old new net now_net is out net_is at.ready;
           sound = lost-sound h.0 packets old new out at.sound;
           net_is = net_is ∙ ap (λ (n : ℕ). record (lost_net n net) { xid = now_net.xid }) (sym number);
@@ -420,7 +421,7 @@ passed-on : {Own : Type 0} (h : Held) (declared : List Declared) (base : List Ev
     → GoesOn declared [] base old new net now_net now_queue r (next_release Stays r h)
 passed-on h declared base old new net now_net queue now_queue r passes at =
     let out : switch_of h.0 (state old) ≡ None = unviewed-out h.0 net.views (state old) (at.ready.agrees h.0) passes.unviewed (switch_of h.0 (state old)) refl in
-    let there : switch_at h.0 r.places ≡ None = at-shown h declared base old net queue r at ∙ ap (option_map (owned_switch (flags_at h.0 net.views))) out in
+    let there : switch_at h.0 r.places ≡ None = at-shown h declared base old net queue r at ∙ ap (option_map (corrected_switch (shown_by net h.0))) out in
     let one : next_release Stays r h ≡ r = ap (λ (o : Option SwitchState). release_at o Stays r h) there in
     subst (λ (next : Release). GoesOn declared [] base old new net now_net now_queue r next) (sym one)
     (subst (λ (w : Seen _). GoesOn declared [] base old w net now_net now_queue r r) (sym passes.seen)
@@ -443,7 +444,7 @@ module _ {Own : Type 0} (Tells : Type 0) (h : Held) (sent : List Held) (declared
       let out = loses.is_lost.out told (ready-joined old net at.ready h.0 loses.viewed) in
       let number = (switch-in_time old (Conforming-before told loses.continues keeps) h.0 s.switch s.stands).number in
       subst (λ (next : Release). GoesOn declared packets base old new net now_net now_queue r next)
-      (sym (at-joined h declared base old net queue r at loss s.switch s.stands ∙ by (owned_switch (flags_at h.0 net.views) s.switch)))
+      (sym (at-joined h declared base old net queue r at loss s.switch s.stands ∙ by (corrected_switch (shown_by net h.0) s.switch)))
       (out-on h declared base old net queue r at new now_net now_queue are packets s.switch s.stands number out loses.net_is loses.queue_is q places_is events_is left_is packets_is)
 
   one-on : ReleasesOne Tells h sent old new net now_net queue now_queue → OneOn h declared sent base old new net now_net now_queue r
@@ -531,7 +532,7 @@ all-on Tells (h ∷ more) sent declared base old new net now_net queue now_queue
 -- ---- The whole
 
 begins : {Own : Type 0} (old : Seen Own) (net : NetState) (queue notices : List Event) (losing : List PacketLoss) → Ready old net → Sound (state old)
-    → Stands old.given.declared queue old net (queue ++ notices) (none_released losing (shown_places old.given.declared net.views (state old)) notices)
+    → Stands old.given.declared queue old net (queue ++ notices) (none_released losing (shown_places old.given.declared (shown_by net) (state old)) notices)
 begins old net queue notices losing ready sound = record { given = refl; places_is = refl; events_is = refl; ready = ready; sound = sound }
 
 -- A release: the reference controller releases the same and loses the same, and its switches stand then as the world's do.
@@ -543,7 +544,7 @@ release-shown Tells held sent old new net now_net queue now_queue told keeps all
     let from = queue ++ held.notices in
     let later = releases-continue Tells held.packets sent old new net now_net from now_queue all in
     let are : AreDeclaredFrom 1 declared = subst (λ (g : Given _). AreDeclaredFrom 1 g.declared) later.given keeps.declared in
-    let r = none_released [] (shown_places declared net.views (state old)) held.notices in
+    let r = none_released [] (shown_places declared (shown_by net) (state old)) held.notices in
     let whole = all-on Tells held.packets sent declared queue old new net now_net from now_queue r told keeps are all (begins old net queue held.notices [] ready sound) in
     let moves = release-moves Tells held.packets sent old new net now_net from now_queue told (ready-joined old net ready) all in
     record {

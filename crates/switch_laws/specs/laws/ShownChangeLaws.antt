@@ -1,9 +1,8 @@
--- What follows where a change that the host let pass reaches a switch: with the flags of the owners, the switch refuses, and goes through,
--- what the application asked for.
+-- What follows where a change that the host let pass reaches a switch: the switch as it is shown refuses, and goes
+-- through, what the application asked for.
 use Rattle.std.proofs.Common.{◌≡◌, ◌==◌, ℕ, ◌+◌, ◌/◌, ◌*◌, ◌%◌, Bool, true, false, not, List, Option, Some, None, Ok, nat_lt, if◌then◌else◌, refl, sym, ap, ap₂, ◌∙◌, arith, inl, inr, true≢false}
 use Rattle.std.proofs.lemmas.Bool.{cases_Bool, eqb-true}
 use Rattle.of_types.specs.declared.errors.OfError.{OfError}
-use Rattle.of_match.specs.declared.key.Key.{Key}
 use Rattle.of_wire.specs.declared.bodies.FlowMod.{FlowMod as Change}
 use Rattle.of_wire.specs.declared.message.Message.TheVariants.{FlowMod}
 use Rattle.of_wire.specs.Reading.{reading_of}
@@ -11,20 +10,19 @@ use Rattle.of_wire.specs.Grammar.{enveloped}
 use Rattle.flow_table.specs.declared.entry.Entry.{Entry}
 use Rattle.flow_table.specs.declared.view.ViewRow.{ViewRow}
 use Rattle.flow_table.specs.Table.{TableState, IsTable}
-use Rattle.flow_table.specs.Change.{key_in, is_delete, describes, checks_overlap, adds, new_entry, changed}
+use Rattle.flow_table.specs.Change.{is_delete, describes, checks_overlap, adds, changed}
 use Rattle.flow_table.specs.Switch.{SwitchState}
 use Rattle.flow_table.specs.Refusals.{or_else, no_buffer, is_emergency, flow_actions_refusal, flow_refusal, message_refusal}
 use Rattle.flow_table.specs.Step.{after_taken, after_message}
 use Rattle.flow_table.specs.laws.RefusalLaws.{first_none}
-use Rattle.undo_laws.specs.Corrected.{AgreeBut, corrected, AsksTheSame}
+use Rattle.undo_laws.specs.Corrected.{IsCorrection, corrected, AsksTheSame}
 use Rattle.undo_laws.specs.laws.CorrectedLaws.{refusal-corrected, refusal-asked, kept-corrected, addition-corrected}
-use Rattle.undo_laws.specs.Owned.{owned, owned_switch}
-use Rattle.undo_laws.specs.laws.OwnedLaws.{owned-corrects}
+use Rattle.undo_laws.specs.CorrectedSwitch.{corrected_switch}
 use Rattle.lego_model.specs.Answers.{Rows, rows_of_table, would_touch, addition_refused, flow_mod_refused, not_yet, refused_or, host_refusal, host_answer, with_notice, as_sent}
 use Rattle.net_txn.specs.Views.{with_row, row_in, rows_after}
 use Rattle.net_txn.specs.laws.RowLaws.{sent, sent_adds, known_command}
-use Rattle.switch_laws.specs.Shown.{flags_in, flags_after, Passes}
-use Rattle.switch_laws.specs.laws.FlagLaws.{flags_in-added, flags_in-kept}
+use Rattle.switch_laws.specs.Shown.{correction_in, correction_after, Passes}
+use Rattle.switch_laws.specs.laws.CorrectionLaws.{goes_along, shown-but, new-shown}
 
 -- ---- The flags that are sent: CHECK_OVERLAP and EMERG are the application's own.
 
@@ -83,23 +81,13 @@ flow-sent had m h =
       | inr other ↦ rw (emergency-sent m.flags, other, actions-sent had m (no_buffer_asked m h other)) refl
     ]
 
-pub refusal-shown : (flags : Key → ℕ) (m : Change) (s : SwitchState) → flow_mod_refused m ≡ None → message_refusal (owned_switch flags s) (FlowMod m) ≡ message_refusal s (as_sent (FlowMod m))
+pub refusal-shown : (shown : Entry → Entry) → IsCorrection shown → (m : Change) (s : SwitchState) → flow_mod_refused m ≡ None → message_refusal (corrected_switch shown s) (FlowMod m) ≡ message_refusal s (as_sent (FlowMod m))
 unfolding message_refusal
-refusal-shown flags m s h =
+refusal-shown shown corrects m s h =
     ap₂ (λ (a b : Option OfError). or_else a b) (sym (flow-sent s.had m h))
-    (refusal-corrected (owned flags) (owned-corrects flags) s.declared.cap m s.table.entries ∙ sym (refusal-asked s.declared.cap (sent m) m s.table.entries (asks_the_same m)))
+    (refusal-corrected shown corrects s.declared.cap m s.table.entries ∙ sym (refusal-asked s.declared.cap (sent m) m s.table.entries (asks_the_same m)))
 
 -- ---- The table then
-
-agree_but : (m : Change) (rows : List ViewRow) → AgreeBut (key_in m) (owned (flags_in rows)) (owned (flags_in (with_row (row_in m) rows)))
-agree_but m rows e other =
-    ap (λ (n : ℕ). record e { flags = n }) (flags_in-kept (row_in m) rows e.key (λ same. other (sym same)))
-
-new-shown : (now serial : ℕ) (m : Change) (rows : List ViewRow) → owned (flags_in (with_row (row_in m) rows)) (new_entry now serial (sent m)) ≡ new_entry now serial m
-unfolding new_entry
-new-shown now serial m rows =
-    ap (λ (n : ℕ). record { key = key_in m; actions = m.actions; cookie = m.cookie; idle = m.idle; hard = m.hard; flags = n; installed = now; used = now; packets = 0; bytes = 0; serial = serial })
-    (flags_in-added (row_in m) rows (key_in m) refl)
 
 adds-unsent : (m : Change) (es : List Entry) → adds m es ≡ adds (sent m) es
 unfolding adds describes
@@ -118,33 +106,33 @@ never_adds m es is =
     ]
 
 pub table-shown : (now : ℕ) (m : Change) (rows : List ViewRow) (t : TableState) → IsTable t.entries → Passes m (rows_of_table t.entries)
-    → corrected (owned (flags_after m rows)) (changed now (sent m) t) ≡ changed now m (corrected (owned (flags_in rows)) t)
+    → corrected (correction_after m rows) (changed now (sent m) t) ≡ changed now m (corrected (correction_in rows) t)
 unfolding rows_after
 table-shown now m rows t is p =
     elim (cases_Bool (is_delete m)) [
       | inl deletes ↦
           rw deletes
-          (kept-corrected now (owned (flags_in rows)) (sent m) m t (owned-corrects (flags_in rows)) (asks_the_same m) (never_adds m t.entries deletes))
+          (kept-corrected now (correction_in rows) (sent m) m t (goes_along rows).corrects (asks_the_same m) (never_adds m t.entries deletes))
       | inr other ↦
           rw other
-          (addition-corrected now (owned (flags_in rows)) (owned (flags_in (with_row (row_in m) rows))) (sent m) m t is (owned-corrects (flags_in rows)) (owned-corrects (flags_in (with_row (row_in m) rows)))
-          (agree_but m rows) (asks_the_same m) (adds-unsent m t.entries ∙ sent_adds m t.entries other (known_command m p.unrefused) p.untouched) (new-shown now t.next m rows))
+          (addition-corrected now (correction_in rows) (correction_in (with_row (row_in m) rows)) (sent m) m t is (goes_along rows).corrects (goes_along (with_row (row_in m) rows)).corrects
+          (shown-but m rows) (asks_the_same m) (adds-unsent m t.entries ∙ sent_adds m t.entries other (known_command m p.unrefused) p.untouched) (new-shown now t.next m rows))
     ]
 
 -- ---- The switch then
 
 -- of a change that was not refused
 pub taken-shown : (m : Change) (rows : List ViewRow) (s : SwitchState) → IsTable s.table.entries → Passes m (rows_of_table s.table.entries) → message_refusal s (as_sent (FlowMod m)) ≡ None
-    → after_message (FlowMod m) (owned_switch (flags_in rows) s) ≡ owned_switch (flags_after m rows) (after_message (as_sent (FlowMod m)) s)
+    → after_message (FlowMod m) (corrected_switch (correction_in rows) s) ≡ corrected_switch (correction_after m rows) (after_message (as_sent (FlowMod m)) s)
 unfolding after_message after_taken
 taken-shown m rows s is p none =
-    let also : message_refusal (owned_switch (flags_in rows) s) (FlowMod m) ≡ None = refusal-shown (flags_in rows) m s p.unrefused ∙ none in
+    let also : message_refusal (corrected_switch (correction_in rows) s) (FlowMod m) ≡ None = refusal-shown (correction_in rows) (goes_along rows).corrects m s p.unrefused ∙ none in
     rw (also, none) (ap (λ (t : TableState). record s { table = t }) (sym (table-shown s.moment m rows s.table is p)))
 
 -- of one that was refused
 pub refused-shown : (m : Change) (rows : List ViewRow) (s : SwitchState) (e : OfError) → Passes m (rows_of_table s.table.entries) → message_refusal s (as_sent (FlowMod m)) ≡ Some e
-    → after_message (FlowMod m) (owned_switch (flags_in rows) s) ≡ owned_switch (flags_in rows) (after_message (as_sent (FlowMod m)) s)
+    → after_message (FlowMod m) (corrected_switch (correction_in rows) s) ≡ corrected_switch (correction_in rows) (after_message (as_sent (FlowMod m)) s)
 unfolding after_message
 refused-shown m rows s e p some =
-    let also : message_refusal (owned_switch (flags_in rows) s) (FlowMod m) ≡ Some e = refusal-shown (flags_in rows) m s p.unrefused ∙ some in
+    let also : message_refusal (corrected_switch (correction_in rows) s) (FlowMod m) ≡ Some e = refusal-shown (correction_in rows) (goes_along rows).corrects m s p.unrefused ∙ some in
     rw (also, some) refl

@@ -1,11 +1,12 @@
 -- What follows where an application's message was answered in a world that keeps its word: the reference controller answers the same and
--- loses its switch there or not, and its switches move as the world's do, with the flags of the owners.
+-- loses its switch there or not, and its switches move as the world's do, as they are shown.
 use Rattle.std.proofs.Common.{◌≡◌, ◌≢◌, ℕ, Bool, true, false, List, [], ◌∷◌, ◌++◌, map, Option, Some, None, Result, Ok, refl, sym, ap, ap₂, ◌∙◌, subst, inl, inr}
 use Rattle.std.proofs.lemmas.Bool.{cases_Bool}
 use Rattle.std.proofs.lemmas.List.{append-nil}
 use Rattle.std.specs.Option.{option_map}
 use Rattle.of_types.specs.declared.errors.OfError.{OfError}
 use Rattle.of_match.specs.declared.key.Key.{Key}
+use Rattle.of_action.specs.declared.action.Action.{Action}
 use Rattle.of_wire.specs.declared.bodies.FlowMod.{FlowMod as Change}
 use Rattle.of_wire.specs.declared.message.Message.TheVariants.{FlowMod}
 use Rattle.of_wire.specs.Reading.{reading_of}
@@ -18,7 +19,8 @@ use Rattle.flow_table.specs.Switch.{Declared, SwitchState}
 use Rattle.flow_table.specs.Change.{notices_of, describes}
 use Rattle.flow_table.specs.Refusals.{message_refusal}
 use Rattle.flow_table.specs.Step.{after_message}
-use Rattle.undo_laws.specs.Owned.{owned, owned_switch}
+use Rattle.undo_laws.specs.Corrected.{IsCorrection}
+use Rattle.undo_laws.specs.CorrectedSwitch.{corrected_switch}
 use Rattle.app_frames.specs.declared.frame.Answer.{Answer}
 use Rattle.app_frames.specs.declared.frame.Answer.TheVariants.{Unknown}
 use Rattle.app_frames.specs.declared.frame.Event.{Event}
@@ -40,7 +42,8 @@ use Rattle.net_txn.specs.ChangeSteps.{Agrees, InStep}
 use Rattle.net_txn.specs.Losing.{lost_net, GoesOut}
 use Rattle.net_txn.specs.laws.RowLaws.{no_notices}
 use Rattle.net_txn.specs.laws.ViewLaws.{rows_at-same, rows_at-other}
-use Rattle.switch_laws.specs.Shown.{rows_or_none, flags_in, flags_at, shown_switch, places, shown_places, Stand, Passes, Known}
+use Rattle.switch_laws.specs.Shown.{rows_or_none, correction_in, corrections, shown_by, shown_switch, places, shown_places, Stand, Passes, Known}
+use Rattle.switch_laws.specs.laws.CorrectionLaws.{goes_along}
 use Rattle.switch_laws.specs.Lost.{shown_play, ExchangeShown}
 use Rattle.switch_laws.specs.Since.{Ready}
 use Rattle.switch_laws.specs.laws.ClockLaws.{switch-in_time}
@@ -52,22 +55,23 @@ use Rattle.switch_laws.specs.laws.AskedLaws.{asked}
 
 -- ---- What the host knows
 
-rows-owned : (flags : Key → ℕ) (es : List Entry) → rows_of_table (map (owned flags) es) ≡ rows_of_table es
-rows-owned flags [] = refl
-rows-owned flags (e ∷ es) = ap (λ (rows : Rows). (e.key, e.actions) ∷ rows) (rows-owned flags es)
+rows_of-shown : (shown : Entry → Entry) → IsCorrection shown → (es : List Entry) → rows_of_table (map shown es) ≡ rows_of_table es
+rows_of-shown shown corrects [] = refl
+rows_of-shown shown corrects (e ∷ es) =
+    ap₂ (λ (row : Key × List Action) (rows : Rows). row ∷ rows) (ap₂ (λ (k : Key) (actions : List Action). (k, actions)) (corrects.key e) (corrects.actions e)) (rows_of-shown shown corrects es)
 
-rows_in-shown : (flags : Key → ℕ) (o : Option SwitchState) → rows_in (option_map (owned_switch flags) o) ≡ option_map (λ x. rows_of_table x.table.entries) o
-rows_in-shown flags None = refl
-rows_in-shown flags (Some s) = ap (λ (rows : Rows). some rows) (rows-owned flags s.table.entries)
+rows_in-shown : (shown : Entry → Entry) → IsCorrection shown → (o : Option SwitchState) → rows_in (option_map (corrected_switch shown) o) ≡ option_map (λ x. rows_of_table x.table.entries) o
+rows_in-shown shown corrects None = refl
+rows_in-shown shown corrects (Some s) = ap (λ (rows : Rows). some rows) (rows_of-shown shown corrects s.table.entries)
   where
     some : Rows → Option Rows
     some rows = Some rows
 
-pub switch_at-shown : (declared : List Declared) (views : List TableView) (s : State) (d : ℕ) → Stand declared s → switch_at d (places (shown_switch views s) declared) ≡ shown_switch views s d
+pub switch_at-shown : (declared : List Declared) (views : List TableView) (s : State) (d : ℕ) → Stand declared s → switch_at d (places (shown_switch (corrections views) s) declared) ≡ shown_switch (corrections views) s d
 switch_at-shown declared views s d stand =
     elim (cases_Bool (is_declared d declared)) [
-      | inl is ↦ switch_at-declared (shown_switch views s) d declared is
-      | inr other ↦ switch_at-undeclared (shown_switch views s) d declared other ∙ sym (ap (option_map (owned_switch (flags_at d views))) (stand.undeclared d other))
+      | inl is ↦ switch_at-declared (shown_switch (corrections views) s) d declared is
+      | inr other ↦ switch_at-undeclared (shown_switch (corrections views) s) d declared other ∙ sym (ap (option_map (corrected_switch (corrections views d))) (stand.undeclared d other))
     ]
 
 -- ---- Answers
@@ -78,9 +82,9 @@ answer_by-one None (Some y) e = absurd cc
 answer_by-one (Some x) None e = absurd cc
 answer_by-one (Some x) (Some y) e = cc
 
-pub answer-shown : (flags : Key → ℕ) (m : Change) (s : SwitchState) (rows : Rows) → Passes m rows → switch_answer (owned_switch flags s) (FlowMod m) ≡ switch_answer s (as_sent (FlowMod m))
+pub answer-shown : (shown : Entry → Entry) → IsCorrection shown → (m : Change) (s : SwitchState) (rows : Rows) → Passes m rows → switch_answer (corrected_switch shown s) (FlowMod m) ≡ switch_answer s (as_sent (FlowMod m))
 unfolding switch_answer
-answer-shown flags m s rows p = ap answer_by (refusal-shown flags m s p.unrefused)
+answer-shown shown corrects m s rows p = ap answer_by (refusal-shown shown corrects m s p.unrefused)
 
 -- ---- What a change that removes nothing holds
 
@@ -92,10 +96,10 @@ quiet-by : (o : Option OfError) (d : ℕ) (m : Change) (s : SwitchState) → not
 quiet-by None d m s none = ap (map (notice_event d)) none
 quiet-by (Some e) d m s none = refl
 
-quiet-change : (d : ℕ) (flags : Key → ℕ) (m : Change) (s : SwitchState) → Passes m (rows_of_table s.table.entries) → notices_by d (FlowMod m) (owned_switch flags s) ≡ []
-quiet-change d flags m s p =
-    let mine = owned_switch flags s in
-    quiet-by (message_refusal mine (FlowMod m)) d m mine (no-notices m mine.table.entries mine.moment (ap (would_touch m) (rows-owned flags s.table.entries) ∙ p.untouched))
+quiet-change : (d : ℕ) (shown : Entry → Entry) → IsCorrection shown → (m : Change) (s : SwitchState) → Passes m (rows_of_table s.table.entries) → notices_by d (FlowMod m) (corrected_switch shown s) ≡ []
+quiet-change d shown corrects m s p =
+    let mine = corrected_switch shown s in
+    quiet-by (message_refusal mine (FlowMod m)) d m mine (no-notices m mine.table.entries mine.moment (ap (would_touch m) (rows_of-shown shown corrects s.table.entries) ∙ p.untouched))
 
 -- ---- The declared switches are those at first
 
@@ -108,13 +112,13 @@ abbrev rows_by : Option Refusal → Change → List ViewRow → List ViewRow
 rows_by None m rows = rows_after m rows
 rows_by (Some r) m rows = rows
 
-flags-here : (refusal : Option Refusal) (d : ℕ) (m : Change) (views : List TableView) (rows : List ViewRow) → rows_at d views ≡ Some rows → flags_at d (views_by refusal d m views) ≡ flags_in (rows_by refusal m rows)
-flags-here None d m views rows is = ap (λ (o : Option (List ViewRow)). flags_in (rows_or_none o)) (rows_at-same d (rows_after m) views rows is)
-flags-here (Some r) d m views rows is = ap (λ (o : Option (List ViewRow)). flags_in (rows_or_none o)) is
+shown-here : (refusal : Option Refusal) (d : ℕ) (m : Change) (views : List TableView) (rows : List ViewRow) → rows_at d views ≡ Some rows → corrections (views_by refusal d m views) d ≡ correction_in (rows_by refusal m rows)
+shown-here None d m views rows is = ap (λ (o : Option (List ViewRow)). correction_in (rows_or_none o)) (rows_at-same d (rows_after m) views rows is)
+shown-here (Some r) d m views rows is = ap (λ (o : Option (List ViewRow)). correction_in (rows_or_none o)) is
 
-flags-elsewhere : (refusal : Option Refusal) (d e : ℕ) (m : Change) (views : List TableView) → e ≢ d → flags_at e (views_by refusal d m views) ≡ flags_at e views
-flags-elsewhere None d e m views other = ap (λ (o : Option (List ViewRow)). flags_in (rows_or_none o)) (rows_at-other d e (rows_after m) views other)
-flags-elsewhere (Some r) d e m views other = refl
+shown-elsewhere : (refusal : Option Refusal) (d e : ℕ) (m : Change) (views : List TableView) → e ≢ d → corrections (views_by refusal d m views) e ≡ corrections views e
+shown-elsewhere None d e m views other = ap (λ (o : Option (List ViewRow)). correction_in (rows_or_none o)) (rows_at-other d e (rows_after m) views other)
+shown-elsewhere (Some r) d e m views other = refl
 
 pub declared_of : (d : ℕ) (declared : List Declared) (s : State) → Stand declared s → (x : SwitchState) → switch_of d s ≡ Some x → is_declared d declared ≡ true
 declared_of d declared s stand x is =
@@ -126,7 +130,7 @@ declared_of d declared s stand x is =
 -- ---- The switch then
 
 moved-shown : (refusal : Option Refusal) (m : Change) (rows : List ViewRow) (s : SwitchState) → IsTable s.table.entries → Passes m (rows_of_table s.table.entries) → error_in refusal ≡ message_refusal s (as_sent (FlowMod m))
-    → after_message (FlowMod m) (owned_switch (flags_in rows) s) ≡ owned_switch (flags_in (rows_by refusal m rows)) (after_message (as_sent (FlowMod m)) s)
+    → after_message (FlowMod m) (corrected_switch (correction_in rows) s) ≡ corrected_switch (correction_in (rows_by refusal m rows)) (after_message (as_sent (FlowMod m)) s)
 moved-shown None m rows s is p refused = taken-shown m rows s is p (sym refused)
 moved-shown (Some r) m rows s is p refused = refused-shown m rows s r.error p (sym refused)
 
@@ -162,41 +166,41 @@ module _ {Own : Type 0} (Tells : Type 0) (d : ℕ) (old new : Seen Own) (net now
   -- the switches of the reference controller after the change
   places-then : (declared : List Declared) → AreDeclaredFrom 1 declared → Stand declared (state old) → (k : Known d m net.views (state old)) → InStep d (as_sent (FlowMod m)) old new net now_net given → (refusal : Option Refusal)
       → now_net.views ≡ views_by refusal d m net.views → error_in refusal ≡ message_refusal k.switch (as_sent (FlowMod m))
-      → with_place d (λ o. Some (after_message (FlowMod m) (owned_switch (flags_in k.rows) k.switch))) (places (shown_switch net.views (state old)) declared) ≡ places (shown_switch now_net.views (state new)) declared
+      → with_place d (λ o. Some (after_message (FlowMod m) (corrected_switch (correction_in k.rows) k.switch))) (places (shown_switch (shown_by net) (state old)) declared) ≡ places (shown_switch (shown_by now_net) (state new)) declared
   places-then declared are stand k step refusal views_is refused =
       let is : is_declared d declared ≡ true = declared_of d declared (state old) stand k.switch k.switch_is in
       let after : SwitchState = after_message (as_sent (FlowMod m)) k.switch in
       let moved : switch_of d (state new) ≡ Some after = step.moved ∙ ap (option_map (after_message (as_sent (FlowMod m)))) k.switch_is in
-      let flags : flags_at d now_net.views ≡ flags_in (rows_by refusal m k.rows) = ap (flags_at d) views_is ∙ flags-here refusal d m net.views k.rows k.rows_are in
-      let shown : after_message (FlowMod m) (owned_switch (flags_in k.rows) k.switch) ≡ owned_switch (flags_in (rows_by refusal m k.rows)) after = moved-shown refusal m k.rows k.switch (stand.table d k.switch k.switch_is) k.passes refused in
-      let here : shown_switch now_net.views (state new) d ≡ Some (after_message (FlowMod m) (owned_switch (flags_in k.rows) k.switch)) =
-      ap₂ (λ (f : Key → ℕ) (o : Option SwitchState). option_map (owned_switch f) o) flags moved ∙ ap some_switch (sym shown) in
-      let others : (e : ℕ) → e ≢ d → shown_switch now_net.views (state new) e ≡ shown_switch net.views (state old) e =
-      λ e other. ap₂ (λ (f : Key → ℕ) (o : Option SwitchState). option_map (owned_switch f) o) (ap (flags_at e) views_is ∙ flags-elsewhere refusal d e m net.views other) (step.others e other) in
-      with_place-places (shown_switch net.views (state old)) (shown_switch now_net.views (state new)) d (λ o. Some (after_message (FlowMod m) (owned_switch (flags_in k.rows) k.switch))) 1 declared are is here others
+      let mine : shown_by now_net d ≡ correction_in (rows_by refusal m k.rows) = ap (λ (vs : List TableView). corrections vs d) views_is ∙ shown-here refusal d m net.views k.rows k.rows_are in
+      let shown : after_message (FlowMod m) (corrected_switch (correction_in k.rows) k.switch) ≡ corrected_switch (correction_in (rows_by refusal m k.rows)) after = moved-shown refusal m k.rows k.switch (stand.table d k.switch k.switch_is) k.passes refused in
+      let here : shown_switch (shown_by now_net) (state new) d ≡ Some (after_message (FlowMod m) (corrected_switch (correction_in k.rows) k.switch)) =
+      ap₂ (λ (f : Entry → Entry) (o : Option SwitchState). option_map (corrected_switch f) o) mine moved ∙ ap some_switch (sym shown) in
+      let others : (e : ℕ) → e ≢ d → shown_switch (shown_by now_net) (state new) e ≡ shown_switch (shown_by net) (state old) e =
+      λ e other. ap₂ (λ (f : Entry → Entry) (o : Option SwitchState). option_map (corrected_switch f) o) (ap (λ (vs : List TableView). corrections vs e) views_is ∙ shown-elsewhere refusal d e m net.views other) (step.others e other) in
+      with_place-places (shown_switch (shown_by net) (state old)) (shown_switch (shown_by now_net) (state new)) d (λ o. Some (after_message (FlowMod m) (corrected_switch (correction_in k.rows) k.switch))) 1 declared are is here others
 
   by_switch-shown : (declared : List Declared) → AreDeclaredFrom 1 declared → Stand declared (state old) → (bytes : List ℕ) (xid : ℕ) → reading_of bytes ≡ Ok (enveloped xid (FlowMod m)) → (k : Known d m net.views (state old))
       → Asked Tells d m old new net now_net given → InStep d (as_sent (FlowMod m)) old new net now_net given
-      → by_switch d (reading_of bytes) (switch_at d (places (shown_switch net.views (state old)) declared)) (places (shown_switch net.views (state old)) declared) ≡ (given, places (shown_switch now_net.views (state new)) declared)
+      → by_switch d (reading_of bytes) (switch_at d (places (shown_switch (shown_by net) (state old)) declared)) (places (shown_switch (shown_by net) (state old)) declared) ≡ (given, places (shown_switch (shown_by now_net) (state new)) declared)
   by_switch-shown declared are stand bytes xid read k asks step =
-      let at : switch_at d (places (shown_switch net.views (state old)) declared) ≡ Some (owned_switch (flags_in k.rows) k.switch) =
+      let at : switch_at d (places (shown_switch (shown_by net) (state old)) declared) ≡ Some (corrected_switch (correction_in k.rows) k.switch) =
       switch_at-shown declared net.views (state old) d stand
-      ∙ ap₂ (λ (f : Key → ℕ) (o : Option SwitchState). option_map (owned_switch f) o) (ap (λ (o : Option (List ViewRow)). flags_in (rows_or_none o)) k.rows_are) k.switch_is in
+      ∙ ap₂ (λ (f : Entry → Entry) (o : Option SwitchState). option_map (corrected_switch f) o) (ap (λ (o : Option (List ViewRow)). correction_in (rows_or_none o)) k.rows_are) k.switch_is in
       let refused = judged k asks step asks.refusal asks.views asks.answer_is in
       let answered : given ≡ switch_answer k.switch (as_sent (FlowMod m)) = rw k.switch_is at step.answer_is in
       rw (read, at)
-      (ap₂ (λ (a : Answer) (ps : List Place). (a, ps)) (answer-shown (flags_in k.rows) m k.switch (rows_of_table k.switch.table.entries) k.passes ∙ sym answered)
+      (ap₂ (λ (a : Answer) (ps : List Place). (a, ps)) (answer-shown (correction_in k.rows) (goes_along k.rows).corrects m k.switch (rows_of_table k.switch.table.entries) k.passes ∙ sym answered)
       (places-then declared are stand k step asks.refusal asks.views refused))
 
 module _ {Own : Type 0} (Tells : Type 0) (d : ℕ) (bytes : List ℕ) (old new : Seen Own) (net now_net : NetState) (given : Answer) where
   answered-by : Tells → Conforming new → new.given ≡ old.given → ChangesJoined Tells d bytes old new net now_net (Ok given) → waits_of d (state old) ≡ [] → Agrees d net.views (state old) → Stand old.given.declared (state old)
       → (o : Option Answer) → answer_of_host d bytes net ≡ o
-      → by_host o d bytes (places (shown_switch net.views (state old)) old.given.declared) ≡ (given, places (shown_switch now_net.views (state new)) old.given.declared)
+      → by_host o d bytes (places (shown_switch (shown_by net) (state old)) old.given.declared) ≡ (given, places (shown_switch (shown_by now_net) (state new)) old.given.declared)
   answered-by told keeps same_given changes waits agrees stand (Some a) host =
       let by = changes.by_host a host in
       let same : given ≡ a = by.answers in
       ap₂ (λ (x : Answer) (ps : List Place). (x, ps)) (sym same)
-      (ap₂ (λ (n : NetState) (w : Seen _). places (shown_switch n.views (state w)) old.given.declared) (sym by.stays) (sym by.world))
+      (ap₂ (λ (n : NetState) (w : Seen _). places (shown_switch (shown_by n) (state w)) old.given.declared) (sym by.stays) (sym by.world))
   answered-by told keeps same_given changes waits agrees stand None host =
       let read = asked (known_rows d net.views) bytes host in
       let k = known d bytes read.change read.xid net (state old) agrees host read.read in
@@ -205,23 +209,23 @@ module _ {Own : Type 0} (Tells : Type 0) (d : ℕ) (bytes : List ℕ) (old new :
       by_switch-shown Tells d old new net now_net read.change given old.given.declared (declared_before old new same_given keeps) stand bytes read.xid read.read k asks step
 
   -- the host knows what the reference controller's switches show
-  rows-shown : Agrees d net.views (state old) → rows_in (switch_at d (places (shown_switch net.views (state old)) old.given.declared)) ≡ known_rows d net.views
+  rows-shown : Agrees d net.views (state old) → rows_in (switch_at d (places (shown_switch (shown_by net) (state old)) old.given.declared)) ≡ known_rows d net.views
   rows-shown agrees =
-      ap rows_in (switch_at-shown old.given.declared net.views (state old) d (all-stand old)) ∙ rows_in-shown (flags_at d net.views) (switch_of d (state old)) ∙ sym agrees
+      ap rows_in (switch_at-shown old.given.declared net.views (state old) d (all-stand old)) ∙ rows_in-shown (shown_by net d) (goes_along (rows_or_none (rows_at d net.views))).corrects (switch_of d (state old)) ∙ sym agrees
 
   -- A message that was answered, whose switch was not lost: the reference controller answers the same, and its switches stand then as the
   -- world's do.
   answered-shown : Tells → Conforming new → new.given ≡ old.given → ChangesJoined Tells d bytes old new net now_net (Ok given) → Ready old net
-      → answer (shown_places old.given.declared net.views (state old)) d bytes ≡ (given, shown_places old.given.declared now_net.views (state new))
+      → answer (shown_places old.given.declared (shown_by net) (state old)) d bytes ≡ (given, shown_places old.given.declared (shown_by now_net) (state new))
   unfolding answer shown_places
   answered-shown told keeps same_given changes ready =
-      let ps : List Place = places (shown_switch net.views (state old)) old.given.declared in
+      let ps : List Place = places (shown_switch (shown_by net) (state old)) old.given.declared in
       let host : host_answer (rows_in (switch_at d ps)) bytes ≡ answer_of_host d bytes net = ap (λ (k : Option Rows). host_answer k bytes) (rows-shown (ready.agrees d)) in
       ap (λ (o : Option Answer). by_host o d bytes ps) host ∙ answered-by told keeps same_given changes (ready.waits d) (ready.agrees d) (all-stand old) (answer_of_host d bytes net) refl
 
   -- What is held then is what the reference controller holds.
   held-by : Tells → Conforming new → ChangesJoined Tells d bytes old new net now_net (Ok given) → waits_of d (state old) ≡ [] → Agrees d net.views (state old) → Stand old.given.declared (state old)
-      → (o : Option Answer) → answer_of_host d bytes net ≡ o → with_held net.held (holds d bytes given) (notices_past o d (reading_of bytes) (switch_at d (places (shown_switch net.views (state old)) old.given.declared))) ≡ now_net.held
+      → (o : Option Answer) → answer_of_host d bytes net ≡ o → with_held net.held (holds d bytes given) (notices_past o d (reading_of bytes) (switch_at d (places (shown_switch (shown_by net) (state old)) old.given.declared))) ≡ now_net.held
   held-by told keeps changes waits agrees stand (Some a) host =
       let by = changes.by_host a host in
       ap (λ (notices : List Event). record { packets = net.held.packets ++ holds d bytes given; notices = notices }) (append-nil net.held.notices) ∙ sym (ap (λ (n : NetState). n.held) by.stays)
@@ -229,18 +233,18 @@ module _ {Own : Type 0} (Tells : Type 0) (d : ℕ) (bytes : List ℕ) (old new :
       let read = asked (known_rows d net.views) bytes host in
       let k = known d bytes read.change read.xid net (state old) agrees host read.read in
       let step = changes.in_step read.xid read.change told host read.read keeps waits agrees in
-      let at : switch_at d (places (shown_switch net.views (state old)) old.given.declared) ≡ Some (owned_switch (flags_in k.rows) k.switch) =
+      let at : switch_at d (places (shown_switch (shown_by net) (state old)) old.given.declared) ≡ Some (corrected_switch (correction_in k.rows) k.switch) =
       switch_at-shown old.given.declared net.views (state old) d stand
-      ∙ ap₂ (λ (f : Key → ℕ) (o : Option SwitchState). option_map (owned_switch f) o) (ap (λ (o : Option (List ViewRow)). flags_in (rows_or_none o)) k.rows_are) k.switch_is in
+      ∙ ap₂ (λ (f : Entry → Entry) (o : Option SwitchState). option_map (corrected_switch f) o) (ap (λ (o : Option (List ViewRow)). correction_in (rows_or_none o)) k.rows_are) k.switch_is in
       rw (read.read, at)
       (ap₂ (λ (packets : List Held) (notices : List Event). record { packets = packets; notices = notices }) (sym changes.held)
-      (ap (λ (more : List Event). net.held.notices ++ more) (quiet-change d (flags_in k.rows) read.change k.switch k.passes) ∙ append-nil net.held.notices ∙ sym (ap (λ (h : HeldBack). h.notices) step.held)))
+      (ap (λ (more : List Event). net.held.notices ++ more) (quiet-change d (correction_in k.rows) (goes_along k.rows).corrects read.change k.switch k.passes) ∙ append-nil net.held.notices ∙ sym (ap (λ (h : HeldBack). h.notices) step.held)))
 
   held-shown : Tells → Conforming new → ChangesJoined Tells d bytes old new net now_net (Ok given) → Ready old net
-      → with_held net.held (holds d bytes given) (notices_at (switch_at d (shown_places old.given.declared net.views (state old))) d bytes) ≡ now_net.held
+      → with_held net.held (holds d bytes given) (notices_at (switch_at d (shown_places old.given.declared (shown_by net) (state old))) d bytes) ≡ now_net.held
   unfolding notices_at shown_places
   held-shown told keeps changes ready =
-      let s = switch_at d (places (shown_switch net.views (state old)) old.given.declared) in
+      let s = switch_at d (places (shown_switch (shown_by net) (state old)) old.given.declared) in
       let host : host_answer (rows_in s) bytes ≡ answer_of_host d bytes net = ap (λ (k : Option Rows). host_answer k bytes) (rows-shown (ready.agrees d)) in
       ap (λ (o : Option Answer). with_held net.held (holds d bytes given) (notices_past o d (reading_of bytes) s)) host
       ∙ held-by told keeps changes (ready.waits d) (ready.agrees d) (all-stand old) (answer_of_host d bytes net) refl
@@ -254,22 +258,22 @@ module _ {Own : Type 0} (Tells : Type 0) (d : ℕ) (bytes : List ℕ) (old new :
     left = [];
     leaves = leaves-none old new net now_net changes.left (changes.losses told);
     played = λ losing before.
-        ap (λ (p : Answer × List Place). (p.0, record { places = p.1; held = with_held net.held (holds d bytes p.0) (notices_at (switch_at d (shown_places old.given.declared net.views (state old))) d bytes); losing = losing; inner = []; left = before }))
+        ap (λ (p : Answer × List Place). (p.0, record { places = p.1; held = with_held net.held (holds d bytes p.0) (notices_at (switch_at d (shown_places old.given.declared (shown_by net) (state old))) d bytes); losing = losing; inner = []; left = before }))
         (answered-shown told keeps same_given changes ready)
-        ∙ ap₂ (λ (held : HeldBack) (left : List Event). (given, record { places = shown_places old.given.declared now_net.views (state new); held = held; losing = losing; inner = []; left = left }))
+        ∙ ap₂ (λ (held : HeldBack) (left : List Event). (given, record { places = shown_places old.given.declared (shown_by now_net) (state new); held = held; losing = losing; inner = []; left = left }))
         (held-shown told keeps changes ready) (sym (append-nil before));
   }
 
   lost-played : (s : SwitchState) → switch_of d (state old) ≡ Some s → is_declared d old.given.declared ≡ true → AreDeclaredFrom 1 old.given.declared → GoesOut d [] old new → now_net ≡ record (lost_net d net) { xid = now_net.xid } → (losing : List Bool) (before : List Event)
-      → play (shown_play old.given.declared old net (true ∷ losing) before) d bytes ≡ (Unknown, shown_play old.given.declared new now_net losing (before ++ leave_event (owned_switch (flags_at d net.views) s) ∷ []))
+      → play (shown_play old.given.declared old net (true ∷ losing) before) d bytes ≡ (Unknown, shown_play old.given.declared new now_net losing (before ++ leave_event (corrected_switch (shown_by net d) s) ∷ []))
   unfolding play shown_places
   lost-played s is there are out net_is losing before =
       let declared = old.given.declared in
-      let owned = owned_switch (flags_at d net.views) s in
-      let ps = places (shown_switch net.views (state old)) declared in
-      let at : switch_at d ps ≡ Some owned = switch_at-shown declared net.views (state old) d (all-stand old) ∙ ap (option_map (owned_switch (flags_at d net.views))) is in
+      let mine = corrected_switch (shown_by net d) s in
+      let ps = places (shown_switch (shown_by net) (state old)) declared in
+      let at : switch_at d ps ≡ Some mine = switch_at-shown declared net.views (state old) d (all-stand old) ∙ ap (option_map (corrected_switch (shown_by net d))) is in
       ap (λ (o : Option SwitchState). playing true o (record { places = ps; held = net.held; losing = losing; inner = []; left = before }) d bytes) at
-      ∙ ap₂ (λ (qs : List Place) (held : HeldBack). (Unknown, record { places = qs; held = held; losing = losing; inner = []; left = before ++ leave_event owned ∷ [] }))
+      ∙ ap₂ (λ (qs : List Place) (held : HeldBack). (Unknown, record { places = qs; held = held; losing = losing; inner = []; left = before ++ leave_event mine ∷ [] }))
       (lost-places d [] s old new net now_net is out net_is declared are there) (sym (ap (λ (n : NetState). n.held) net_is))
 
   lost-shown : Tells → Conforming new → Continues Tells old new → ChangesLost Tells d old new net now_net → given ≡ Unknown → Ready old net → ExchangeShown old.given.declared d bytes old new net now_net given
@@ -281,11 +285,11 @@ module _ {Own : Type 0} (Tells : Type 0) (d : ℕ) (bytes : List ℕ) (old new :
       let declared = declared_of d old.given.declared (state old) (all-stand old) s there.stands in
       record {
         lost = true;
-        left = leave_event (owned_switch (flags_at d net.views) s) ∷ [];
-        leaves = lost-leaves d [] s old new net now_net there.stands out changes.net_is (flags_at d net.views) number ready;
+        left = leave_event (corrected_switch (shown_by net d) s) ∷ [];
+        leaves = lost-leaves d [] s old new net now_net there.stands out changes.net_is (shown_by net d) number ready;
         played = λ losing before.
             lost-played s there.stands declared (declared_before old new later.given keeps) out changes.net_is losing before
-            ∙ ap (λ (a : Answer). (a, shown_play old.given.declared new now_net losing (before ++ leave_event (owned_switch (flags_at d net.views) s) ∷ []))) (sym unknown);
+            ∙ ap (λ (a : Answer). (a, shown_play old.given.declared new now_net losing (before ++ leave_event (corrected_switch (shown_by net d) s) ∷ []))) (sym unknown);
       }
 
   -- A message that was answered: the reference controller answers the same and loses its switch there or not, and its switches stand then as

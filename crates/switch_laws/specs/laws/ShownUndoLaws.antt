@@ -1,19 +1,18 @@
--- What follows where an open transaction was undone in a world that keeps its word: the switches stand, with the flags of the owners, as
+-- What follows where an open transaction was undone in a world that keeps its word: the switches stand, as they are shown, as
 -- the reference controller's do that gets the earlier tables back and loses the same switches in it.
-use Rattle.std.proofs.Common.{◌≡◌, ◌==◌, ℕ, Bool, true, false, List, [], ◌∷◌, ◌++◌, map, filter, fold, Option, Some, None, Ok, if◌then◌else◌, refl, sym, ap, ap₂, ◌∙◌, subst, inl, inr, true≢false}
+use Rattle.std.proofs.Common.{◌≡◌, ◌==◌, ℕ, Bool, true, false, List, [], ◌∷◌, ◌++◌, filter, fold, Option, Some, None, Ok, refl, sym, ap, ap₂, ◌∙◌, subst, inl, inr, true≢false}
 use Rattle.std.proofs.lemmas.Bool.{cases_Bool}
 use Rattle.std.specs.Option.{option_map}
 use Rattle.std.proofs.lemmas.Option.{none-some, same_Some}
-use Rattle.of_match.specs.declared.key.Key.{Key}
 use Rattle.flow_table.specs.declared.entry.Entry.{Entry}
 use Rattle.flow_table.specs.declared.view.ViewRow.{ViewRow}
 use Rattle.flow_table.specs.View.{TableView}
 use Rattle.flow_table.specs.Table.{TableState}
 use Rattle.flow_table.specs.Switch.{Declared, SwitchState}
-use Rattle.flow_table.specs.Undone.{used_or, restored, undone}
-use Rattle.undo_laws.specs.Corrected.{corrected}
-use Rattle.undo_laws.specs.Owned.{owned, owned_switch}
-use Rattle.lego_model.specs.Answers.{Rows, rows_of_table, rows_of_view}
+use Rattle.flow_table.specs.Undone.{undone}
+use Rattle.undo_laws.specs.CorrectedSwitch.{corrected_switch}
+use Rattle.undo_laws.specs.laws.CorrectedSwitchLaws.{undone-shown}
+use Rattle.lego_model.specs.Answers.{rows_of_table, rows_of_view}
 use Rattle.lego_model.specs.Packets.{lose, undoing}
 use Rattle.lego_model.specs.History.{lost_of}
 use Rattle.lego_model.specs.Places.{Place, switch_undone, undone_places}
@@ -29,27 +28,13 @@ use Rattle.net_txn.specs.Losing.{lose_all, is_among}
 use Rattle.net_txn.specs.Undos.{parts_of, is_stuck, lost_parts, keys_of, Undoes}
 use Rattle.net_txn.specs.laws.LostPartLaws.{free-among, lost-distinct}
 use Rattle.switch_laws.specs.Lost.{UndoShown}
-use Rattle.switch_laws.specs.Shown.{rows_or_none, flags_in, flags_at, shown_switch, places, shown_places}
+use Rattle.switch_laws.specs.Shown.{rows_or_none, correction_in, shown_by, shown_switch, places, shown_places}
+use Rattle.switch_laws.specs.laws.CorrectionLaws.{goes_along}
 use Rattle.switch_laws.specs.Since.{ports_known, Ready, logged_since, JoinedSince, Since}
 use Rattle.switch_laws.specs.laws.ClockLaws.{switch-in_time}
-use Rattle.switch_laws.specs.laws.LossLaws.{lose_all-views, lose_all-rows, lose_all-rows_gone, lose_all-known, lose_all-known_gone, ports_lost, lose_all-left, ports_lost-same, known-owned, out_all, lost_events, out_all-stays, out_all-gone, Losable, events-lost, lose-shown, Stays, leavers-lost, ready-joined, joined-stays}
+use Rattle.switch_laws.specs.laws.LossLaws.{lose_all-views, lose_all-rows, lose_all-rows_gone, lose_all-known, lose_all-known_gone, ports_lost, lose_all-left, ports_lost-same, known-shown, out_all, lost_events, out_all-stays, out_all-gone, Losable, events-lost, lose-shown, Stays, leavers-lost, ready-joined, joined-stays}
 use Rattle.switch_laws.specs.laws.StandLaws.{table-serialed, all-stand}
 use Rattle.switch_laws.specs.laws.PlaceLaws.{places-same}
-
--- ---- A restored table, with the flags of the owners
-
-used-owned : (flags : Key → ℕ) (now serial : ℕ) (es : List Entry) → used_or now serial (map (owned flags) es) ≡ used_or now serial es
-used-owned flags now serial [] = refl
-used-owned flags now serial (e ∷ es) = ap (λ (n : ℕ). if e.serial == serial then e.used else n) (used-owned flags now serial es)
-
-restored-owned : (f g : Key → ℕ) (now : ℕ) (before after : List Entry) → map (restored now (map (owned g) after)) (map (owned f) before) ≡ map (owned f) (map (restored now after) before)
-restored-owned f g now [] after = refl
-restored-owned f g now (e ∷ es) after =
-    ap₂ (λ (n : ℕ) (xs : List Entry). record (owned f e) { used = n } ∷ xs) (used-owned g now e.serial after) (restored-owned f g now es after)
-
-undone-owned : (f g : Key → ℕ) (before after : TableState) (now : ℕ) → undone (corrected (owned f) before) (corrected (owned g) after) now ≡ corrected (owned f) (undone before after now)
-unfolding undone
-undone-owned f g before after now = ap (λ (es : List Entry). record { entries = es; next = after.next }) (restored-owned f g now before.entries after.entries)
 
 -- ---- Places that are undone
 
@@ -123,45 +108,46 @@ module _ {Own : Type 0} (Tells : Type 0) (start : ℕ) (lost : List ℕ) (first 
 
   -- what stands where the tables are given back and none is lost
   abbrev pub given_back : ℕ → Option SwitchState
-  given_back d = switch_undone (shown_switch net0.views (state first) d) (shown_switch net.views (state old) d)
+  given_back d = switch_undone (shown_switch (shown_by net0) (state first) d) (shown_switch (shown_by net) (state old) d)
 
   -- where it is out
   back-out : (d : ℕ) → switch_of d (state old) ≡ None → given_back d ≡ None
   back-out d out =
-      ap (λ (o : Option SwitchState). switch_undone (shown_switch net0.views (state first) d) (option_map (owned_switch (flags_at d net.views)) o)) out ∙ undone-out (shown_switch net0.views (state first) d)
+      ap (λ (o : Option SwitchState). switch_undone (shown_switch (shown_by net0) (state first) d) (option_map (corrected_switch (shown_by net d)) o)) out ∙ undone-out (shown_switch (shown_by net0) (state first) d)
 
   -- where it is joined
   back-there : (d : ℕ) (s0 : SwitchState) → switch_of d (state first) ≡ Some s0 → (j : JoinedSince (keys_of d (logged_since start net)) s0 (switch_of d (state old)))
-      → given_back d ≡ Some (owned_switch (flags_at d net0.views) (record s0 { table = undone s0.table j.switch.table j.switch.moment }))
+      → given_back d ≡ Some (corrected_switch (shown_by net0 d) (record s0 { table = undone s0.table j.switch.table j.switch.moment }))
   back-there d s0 is j =
-      let f : Key → ℕ = flags_at d net0.views in
-      let g : Key → ℕ = flags_at d net.views in
-      ap₂ (λ (a b : Option SwitchState). switch_undone (option_map (owned_switch f) a) (option_map (owned_switch g) b)) is j.stands
-      ∙ ap (λ (t : TableState). Some (record s0 { table = t })) (undone-owned f g s0.table j.switch.table j.switch.moment)
+      let f : Entry → Entry = shown_by net0 d in
+      let g : Entry → Entry = shown_by net d in
+      ap₂ (λ (a b : Option SwitchState). switch_undone (option_map (corrected_switch f) a) (option_map (corrected_switch g) b)) is j.stands
+      ∙ ap (λ (t : TableState). Some (record s0 { table = t }))
+      (undone-shown f g (goes_along (rows_or_none (rows_at d net0.views))) (goes_along (rows_or_none (rows_at d net.views))) s0.table j.switch.table j.switch.moment)
 
   -- the views, too
   views-again : Since start lost first old net0 net → (u : Undoes Tells start old new net now_net (Ok tt)) → now_net.views ≡ (lose_all (lost_parts u.parts) (lose_all lost net0)).views
   views-again since u = ap (λ (n : NetState). n.views) u.net_is ∙ lose_all-views (lost_parts u.parts) _ (lose_all lost net0) since.views
 
-  flags-again : Since start lost first old net0 net → (u : Undoes Tells start old new net now_net (Ok tt)) → (d : ℕ) → is_among d lost ≡ false → is_among d (lost_parts u.parts) ≡ false → flags_at d now_net.views ≡ flags_at d net0.views
-  flags-again since u d stays_there stays_here =
-      ap (λ (o : Option (List ViewRow)). flags_in (rows_or_none o))
+  same-again : Since start lost first old net0 net → (u : Undoes Tells start old new net now_net (Ok tt)) → (d : ℕ) → is_among d lost ≡ false → is_among d (lost_parts u.parts) ≡ false → shown_by now_net d ≡ shown_by net0 d
+  same-again since u d stays_there stays_here =
+      ap (λ (o : Option (List ViewRow)). correction_in (rows_or_none o))
       (ap (rows_at d) (views-again since u) ∙ lose_all-rows (lost_parts u.parts) d (lose_all lost net0) stays_here ∙ lose_all-rows lost d net0 stays_there)
 
   -- a switch that is not lost in the undo
   shown-again : Tells → Conforming new → Since start lost first old net0 net → Ready old net → (u : Undoes Tells start old new net now_net (Ok tt)) → (d : ℕ) → is_among d (lost_parts u.parts) ≡ false
-      → (o : Option SwitchState) → switch_of d (state first) ≡ o → (gone : Bool) → is_among d lost ≡ gone → given_back d ≡ shown_switch now_net.views (state new) d
+      → (o : Option SwitchState) → switch_of d (state first) ≡ o → (gone : Bool) → is_among d lost ≡ gone → given_back d ≡ shown_switch (shown_by now_net) (state new) d
   shown-again told keeps since ready u d here None is gone lost_is =
       let out : switch_of d (state old) ≡ None = since.out d is in
-      back-out d out ∙ sym (ap (option_map (owned_switch (flags_at d now_net.views))) (out-again told ready u d out))
+      back-out d out ∙ sym (ap (option_map (corrected_switch (shown_by now_net d))) (out-again told ready u d out))
   shown-again told keeps since ready u d here (Some s0) is true lost_is =
       let out : switch_of d (state old) ≡ None = since.lost_out d lost_is in
-      back-out d out ∙ sym (ap (option_map (owned_switch (flags_at d now_net.views))) (out-again told ready u d out))
+      back-out d out ∙ sym (ap (option_map (corrected_switch (shown_by now_net d))) (out-again told ready u d out))
   shown-again told keeps since ready u d here (Some s0) is false lost_is =
       let j = since.joined d s0 lost_is is in
       let stands = again told keeps ready u d s0 is (u.none_failed refl d ∙ here) j in
       back-there d s0 is j
-      ∙ sym (ap₂ (λ (h : Key → ℕ) (o : Option SwitchState). option_map (owned_switch h) o) (flags-again since u d lost_is here) stands)
+      ∙ sym (ap₂ (λ (h : Entry → Entry) (o : Option SwitchState). option_map (corrected_switch h) o) (same-again since u d lost_is here) stands)
 
   -- a switch given back is the one that was joined before the undo
   back-numbered : Conforming old → Since start lost first old net0 net → (d : ℕ) (s : SwitchState) → given_back d ≡ Some s → (o : Option SwitchState) → switch_of d (state first) ≡ o → (gone : Bool) → is_among d lost ≡ gone → s.declared.dpid ≡ d
@@ -193,20 +179,20 @@ module _ {Own : Type 0} (Tells : Type 0) (start : ℕ) (lost : List ℕ) (first 
       elim (cases_Bool (is_viewed d net.views)) [
         | inl there ↦
             let x = joined-stays (switch_of d (state old)) (ready-joined old net ready d there) in
-            subst (λ (o : Option SwitchState). Stays (switch_undone (shown_switch net0.views (state first) d) (option_map (owned_switch (flags_at d net.views)) o))) (sym x.stands)
-            (undone-there (shown_switch net0.views (state first) d) (owned_switch (flags_at d net.views) x.switch))
+            subst (λ (o : Option SwitchState). Stays (switch_undone (shown_switch (shown_by net0) (state first) d) (option_map (corrected_switch (shown_by net d)) o))) (sym x.stands)
+            (undone-there (shown_switch (shown_by net0) (state first) d) (corrected_switch (shown_by net d) x.switch))
         | inr never ↦
             let none = (u.each d).unknown never in
             absurd (true≢false (sym among ∙ free-among old.counts new.counts d u.parts (u.each d).run (ap is_stuck none)))
       ]
 
   -- how each switch stands then
-  shown-then : Tells → Conforming new → Since start lost first old net0 net → Ready old net → (u : Undoes Tells start old new net now_net (Ok tt)) → (d : ℕ) → out_all (lost_parts u.parts) given_back d ≡ shown_switch now_net.views (state new) d
+  shown-then : Tells → Conforming new → Since start lost first old net0 net → Ready old net → (u : Undoes Tells start old new net now_net (Ok tt)) → (d : ℕ) → out_all (lost_parts u.parts) given_back d ≡ shown_switch (shown_by now_net) (state new) d
   shown-then told keeps since ready u d =
       elim (cases_Bool (is_among d (lost_parts u.parts))) [
         | inl gone ↦
             out_all-gone (lost_parts u.parts) given_back d gone
-            ∙ sym (ap (option_map (owned_switch (flags_at d now_net.views))) (u.lost_out d told (ready-joined old net ready) gone).0)
+            ∙ sym (ap (option_map (corrected_switch (shown_by now_net d))) (u.lost_out d told (ready-joined old net ready) gone).0)
         | inr here ↦
             out_all-stays (lost_parts u.parts) given_back d here
             ∙ shown-again told keeps since ready u d here (switch_of d (state first)) refl (is_among d lost) refl
@@ -230,9 +216,9 @@ module _ {Own : Type 0} (Tells : Type 0) (start : ℕ) (lost : List ℕ) (first 
           lost_is = u.losses told (ready-joined old net ready) ∙ ap (λ (es : List ℕ). lost_of old ++ es) (sym leavers_is);
         };
         leavers_is = leavers_is;
-        undoing_is = ap (λ (ps : List Place). fold lose (ps, []) ds) (undone-all (shown_switch net0.views (state first)) (shown_switch net.views (state old)) declared)
+        undoing_is = ap (λ (ps : List Place). fold lose (ps, []) ds) (undone-all (shown_switch (shown_by net0) (state first)) (shown_switch (shown_by net) (state old)) declared)
             ∙ lose-shown declared before.declared ds given_back net.ports [] can
-            ∙ ap (λ (ps : List Place). (ps, lost_events ds given_back)) (places-same (out_all ds given_back) (shown_switch now_net.views (state new)) (shown-then told keeps since ready u) declared);
+            ∙ ap (λ (ps : List Place). (ps, lost_events ds given_back)) (places-same (out_all ds given_back) (shown_switch (shown_by now_net) (state new)) (shown-then told keeps since ready u) declared);
       }
 
   -- and all is ready again
@@ -256,6 +242,6 @@ module _ {Own : Type 0} (Tells : Type 0) (start : ℕ) (lost : List ℕ) (first 
           ∙ ready.known d
           ∙ back-known since d (switch_of d (state first)) refl (is_among d lost) refl
           ∙ ap (ports_known d) (shown-again told keeps since ready u d here (switch_of d (state first)) refl (is_among d lost) refl)
-          ∙ known-owned d (flags_at d now_net.views) (switch_of d (state new))
+          ∙ known-shown d (shown_by now_net d) (switch_of d (state new))
     ];
   }

@@ -7,7 +7,7 @@ use Rattle.of_types.specs.declared.journal.Act.{Act}
 use Rattle.of_types.specs.declared.journal.Act.TheVariants.{Stim, Started, Gave, Gone, Took, Ended, Sent, Got, Lost}
 use Rattle.flow_table.specs.View.{TableView}
 use Rattle.flow_table.specs.Switch.{Declared, SwitchState}
-use Rattle.undo_laws.specs.Owned.{owned_switch}
+use Rattle.undo_laws.specs.CorrectedSwitch.{corrected_switch}
 use Rattle.app_frames.specs.declared.frame.Answer.{Answer}
 use Rattle.app_frames.specs.declared.frame.Event.{Event}
 use Rattle.lego_model.specs.History.{lost_of}
@@ -17,7 +17,7 @@ use Rattle.lego_model.specs.Places.{Place}
 use Rattle.lego_model.specs.Packets.{Play, play}
 use Rattle.lego_model.specs.Controller.{leavers, table_of}
 use Rattle.outside.specs.Seen.{Given, Seen}
-use Rattle.outside.specs.State.{Link, State, link_of, switch_in, waits_in, state, switch_of, waits_of, after_act, after_step}
+use Rattle.outside.specs.State.{State, state, after_act, after_step}
 use Rattle.outside.specs.laws.StateLaws.{state-append, Conforming-before}
 use Rattle.outside.specs.Conforming.{Conforming}
 use Rattle.net_txn.specs.Net.{NetState}
@@ -29,7 +29,7 @@ use Rattle.app_visor.specs.Beats.{Exchange, IsExchange, Beat, Talk, Asks, Chain,
 use Rattle.app_visor.specs.laws.BeatLaws.{Chain-continues}
 use Rattle.app_visor.specs.Turns.{reply_by, Turns, Agrees as AnswersSo}
 use Rattle.app_visor.specs.laws.TableLaws.{turn_alike}
-use Rattle.switch_laws.specs.Shown.{flags_at, shown_switch, shown_places}
+use Rattle.switch_laws.specs.Shown.{shown_switch, shown_places, corrections, shown_by}
 use Rattle.switch_laws.specs.laws.ShownExchangeLaws.{exchange-shown}
 use Rattle.switch_laws.specs.Lost.{LeavesBy, shown_play}
 use Rattle.switch_laws.specs.Released.{LosesNone}
@@ -74,14 +74,14 @@ links-then Tells app act old new told is t =
     ap (λ (s : State). s.links) (state-append old new (step_of act ∷ []) t.continues.given (t.history told)) ∙ talk-links app act is (state old)
 
 -- the reference controller's switches stay where links do
-pub shown-same : (declared : List Declared) (views : List TableView) (s t : State) → t.links ≡ s.links → shown_places declared views t ≡ shown_places declared views s
+pub shown-same : (declared : List Declared) (views : List TableView) (s t : State) → t.links ≡ s.links → shown_places declared (corrections views) t ≡ shown_places declared (corrections views) s
 unfolding shown_places
 shown-same declared views s t same =
-    places-same (shown_switch views t) (shown_switch views s)
-    (λ d. ap (λ (o : Option SwitchState). option_map_owned views d o) (links_switch d s t same)) declared
+    places-same (shown_switch (corrections views) t) (shown_switch (corrections views) s)
+    (λ d. ap (λ (o : Option SwitchState). option_map_shown views d o) (links_switch d s t same)) declared
   where
-    option_map_owned : List TableView → ℕ → Option SwitchState → Option SwitchState
-    option_map_owned vs d o = option_map (owned_switch (flags_at d vs)) o
+    option_map_shown : List TableView → ℕ → Option SwitchState → Option SwitchState
+    option_map_shown vs d o = option_map (corrected_switch (corrections vs d)) o
 
 agrees-same : (d : ℕ) (views : List TableView) (s t : State) → t.links ≡ s.links → Agrees d views s → Agrees d views t
 agrees-same d views s t same agrees = subst (λ (o : Option SwitchState). known_rows d views ≡ option_map (λ x. rows_of_table x.table.entries) o) (sym (links_switch d s t same)) agrees
@@ -185,7 +185,7 @@ chain-shown {Own} Tells app allows start lost first net0 (Asks x ∷ trace) old 
 -- ---- A turn
 
 pub turn-shown : {Own : Type 0} (Tells : Type 0) (accepts : List TableView → Bool) (allows : List Place → Bool) (app budget : ℕ) (rest frame : List ℕ) (old new : Seen Own) (net now_net : NetState) (end : TurnEnd) (unread : List ℕ) → Tells → Conforming new → Ready old net
-    → (t : Turns Tells accepts app budget rest frame old new net now_net end unread) → allows (shown_places old.given.declared now_net.views (state new)) ≡ accepts now_net.views
+    → (t : Turns Tells accepts app budget rest frame old new net now_net end unread) → allows (shown_places old.given.declared (shown_by now_net) (state new)) ≡ accepts now_net.views
     → PlayedAlike allows budget rest (reply_by t.given t.trace) old new net now_net t.answers t.outcome
 turn-shown Tells accepts allows app budget rest frame old new net now_net end unread told keeps ready t judges =
     let first : Goes (length net.log) [] old old net net = record { since = begun old net; ready = ready } in

@@ -1,5 +1,5 @@
 use Rattle.switch_laws.specs.laws.FlagLaws.{flags_in-added, flags_in-kept}
-use Rattle.switch_laws.proofs.flags.flags_are_kept.Goals as goal
+use Rattle.switch_laws.proofs.corrections.flags_are_kept.Goals as goal
 
 pub returns-clause-added : goal.returns-clause-added
 returns-clause-added c = flags_in-added
