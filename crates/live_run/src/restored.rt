@@ -6,14 +6,14 @@ use crate::talk_trouble::TalkTrouble;
 use app_frames::{Event, EventKind, HostFrame};
 use hex::ToHex;
 use live_stage::{SteadyClock, own_words};
-use live_world::LiveWorld;
+use live_world::{Clock, LiveWorld};
 use of_types::{ByteList, flows};
 use of_wire::{Message, PacketIn, encode};
 use outside::World;
 use std::alloc::{AllocError, Global};
 use std::net::Net;
 use std::process::{Processes, SystemProcess};
-use std::rt::{Clock, Env};
+use std::rt::{Clock as TimeSource, Env};
 
 /// One row: at switch 1, 02:00:00:00:00:01 is reached by port 1.
 const CHECKPOINT: [u8; 16] = [0, 0, 0, 0, 0, 0, 0, 1, 2, 0, 0, 0, 0, 1, 0, 1];
@@ -47,24 +47,41 @@ fn arrival(alloc: Global) -> Result<HostFrame, AllocError> {
     })
 }
 
-/// Starts the child `learn`, restores it, gives it the event, ends it, and answers in hex what it gave.
-pub(crate) fn show_restored<
-    R: Net + Processes<Started = SystemProcess> + Env + Clock + AllocGlobal + Clone + Drop,
->(rt: &R) -> Result<String, TalkTrouble> {
-    let alloc = rt.alloc();
-    let mut clock = SteadyClock::new(rt.clone()?).map_err(|_| TalkTrouble::NoClock)?;
-    let mut world = LiveWorld::new(
-        rt.clone()?,
-        alloc,
-        SteadyClock::new(rt.clone()?).map_err(|_| TalkTrouble::NoClock)?,
-    )?;
+/// Starts the child `learn`, restores it, gives it the event, and answers what it gave.
+fn learn<W: World, C: Clock>(
+    alloc: Global,
+    world: &mut W,
+    clock: &mut C,
+) -> Result<Vec<u8>, TalkTrouble> {
     world
         .start(APP, &own_words(alloc, "learn")?)
         .map_err(|_| TalkTrouble::NotStarted)?;
-    give(alloc, &mut world, &restore(alloc)?)?;
-    take_until(alloc, &mut world, &mut clock, Awaited::Ready)?;
-    give(alloc, &mut world, &arrival(alloc)?)?;
-    let taken = take_until(alloc, &mut world, &mut clock, Awaited::Done)?;
+    give(alloc, world, &restore(alloc)?)?;
+    take_until(alloc, world, clock, Awaited::Ready)?;
+    give(alloc, world, &arrival(alloc)?)?;
+    take_until(alloc, world, clock, Awaited::Done)
+}
+
+/// Does so in a world of its own, in which the child is ended. The world ends here, and nowhere else: each place at which it could
+/// end is proved by itself.
+fn learnt_in<W: World + Drop, C: Clock + Drop>(
+    alloc: Global,
+    mut world: W,
+    mut clock: C,
+) -> Result<Vec<u8>, TalkTrouble> {
+    let taken = learn(alloc, &mut world, &mut clock);
     world.end(APP);
+    taken
+}
+
+/// Starts the child `learn`, restores it, gives it the event, ends it, and answers in hex what it gave.
+pub(crate) fn show_restored<
+    R: Net + Processes<Started = SystemProcess> + Env + TimeSource + AllocGlobal + Clone + Drop,
+>(rt: &R) -> Result<String, TalkTrouble> {
+    let alloc = rt.alloc();
+    let clock = SteadyClock::new(rt.clone()?).map_err(|_| TalkTrouble::NoClock)?;
+    let other = SteadyClock::new(rt.clone()?).map_err(|_| TalkTrouble::NoClock)?;
+    let world = LiveWorld::new(rt.clone()?, alloc, other)?;
+    let taken = learnt_in(alloc, world, clock)?;
     Ok(hex::encode(alloc, &taken)?)
 }

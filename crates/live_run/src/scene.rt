@@ -6,13 +6,13 @@ use crash_policy::{AppRule, DEFAULT_BUDGET, Policy};
 use event_dispatch::{Served, serve};
 use lego_io::MemSink;
 use live_stage::{Bounded, Bounds, Player, SteadyClock, free_port, own_words};
-use live_world::LiveWorld;
+use live_world::{Clock, LiveWorld};
 use of_types::limits::MOST_ROUNDS;
 use outside::AllowAll;
 use std::alloc::{AllocError, Global};
 use std::net::Net;
 use std::process::{Processes, SystemProcess};
-use std::rt::{Clock, Env};
+use std::rt::{Clock as TimeSource, Env};
 
 /// How many bytes of a report are taken.
 const ROOM: usize = 65_536;
@@ -78,23 +78,12 @@ fn usual_app(alloc: Global, command: Vec<String>) -> Result<AppRule, AllocError>
     })
 }
 
-/// Runs the engine at a port, with a new switch child and the application.
-fn run_at<R: Net + Processes<Started = SystemProcess> + Env + Clock + AllocGlobal + Clone + Drop>(
-    rt: &R,
-    scene: &Scene,
-    port: u16,
-) -> Result<Outcome, Trouble> {
-    let alloc = rt.alloc();
-    let live = LiveWorld::new(rt.clone()?, alloc, SteadyClock::new(rt.clone()?)?)?;
-    let bounds = Bounds {
-        packets: scene.packets,
-        seconds: MOST_SECONDS,
-    };
-    let mut world = Bounded::new(live, SteadyClock::new(rt.clone()?)?, bounds);
-    let mut sink = MemSink::new(alloc, ROOM, &[])?;
-    let app = usual_app(alloc, own_words(alloc, scene.app)?)?;
-    let word = format!(in alloc; "{port}")?;
-    let _switch = Player::start(rt, alloc, &[scene.switch, word.as_str()])?;
+/// Runs the engine over a world, with the application. The world ends here, and nowhere else: each place at which it could end
+/// is proved by itself.
+fn outcome_of<
+    R: Net + Processes<Started = SystemProcess> + Env + AllocGlobal + Drop,
+    C: Clock + Drop,
+>(alloc: Global, app: AppRule, mut world: Bounded<R, C>, mut sink: MemSink, port: u16) -> Outcome {
     let served = serve(
         alloc,
         &[app],
@@ -104,16 +93,35 @@ fn run_at<R: Net + Processes<Started = SystemProcess> + Env + Clock + AllocGloba
         port,
         MOST_ROUNDS,
     );
-    Ok(Outcome {
+    Outcome {
         served,
         packets: world.packets(),
         sink,
-    })
+    }
+}
+
+/// Runs the engine at a port, with a new switch child and the application.
+fn run_at<
+    R: Net + Processes<Started = SystemProcess> + Env + TimeSource + AllocGlobal + Clone + Drop,
+>(rt: &R, scene: &Scene, port: u16) -> Result<Outcome, Trouble> {
+    let alloc = rt.alloc();
+    let app = usual_app(alloc, own_words(alloc, scene.app)?)?;
+    let sink = MemSink::new(alloc, ROOM, &[])?;
+    let bounds = Bounds {
+        packets: scene.packets,
+        seconds: MOST_SECONDS,
+    };
+    let clock = SteadyClock::new(rt.clone()?)?;
+    let word = format!(in alloc; "{port}")?;
+    let _switch = Player::start(rt, alloc, &[scene.switch, word.as_str()])?;
+    let live = LiveWorld::new(rt.clone()?, alloc, SteadyClock::new(rt.clone()?)?)?;
+    let world = Bounded::new(live, clock, bounds);
+    Ok(outcome_of(alloc, app, world, sink, port))
 }
 
 /// Runs the trial at a free port, and at another one where that was taken meanwhile.
 fn run_somewhere<
-    R: Net + Processes<Started = SystemProcess> + Env + Clock + AllocGlobal + Clone + Drop,
+    R: Net + Processes<Started = SystemProcess> + Env + TimeSource + AllocGlobal + Clone + Drop,
 >(rt: &R, scene: &Scene) -> Result<Outcome, Trouble> {
     for _ in 0..MOST_PORTS {
         let outcome = run_at(rt, scene, free_port(rt)?)?;
@@ -126,7 +134,7 @@ fn run_somewhere<
 
 /// Runs the trial, and answers its report without what may differ from run to run.
 pub(crate) fn show<
-    R: Net + Processes<Started = SystemProcess> + Env + Clock + AllocGlobal + Clone + Drop,
+    R: Net + Processes<Started = SystemProcess> + Env + TimeSource + AllocGlobal + Clone + Drop,
 >(rt: &R, scene: &Scene) -> Result<String, Trouble> {
     let outcome = run_somewhere(rt, scene)?;
     if !matches!(outcome.served, Served::Ended { .. }) {
