@@ -7,14 +7,14 @@ use Rattle.of_wire.specs.declared.fault.WireFault.TheVariants.{NoMemory}
 use Rattle.outside.specs.declared.item.Item.{Item}
 use Rattle.outside.specs.declared.item.Item.TheVariants as items
 use Rattle.outside.specs.declared.step.WorldStep.{WorldStep}
-use Rattle.outside.specs.declared.step.WorldStep.TheVariants.{From}
 use Rattle.outside.specs.Seen.{Seen}
 use Rattle.outside.specs.Conforming.{Conforming}
 use Rattle.batch_laws.specs.Calm.{Calm}
-use Rattle.batch_laws.specs.Knowledge.{knowledge_of, handled_all, HandledTo}
+use Rattle.batch_laws.specs.Knowledge.{knowledge_of, handled_all}
 use Rattle.batch_laws.specs.Batches.{Standing}
 use Rattle.batch_laws.specs.Items.{Enters, Handles, TakesNext}
 use Rattle.batch_laws.specs.InBatch.{BatchEnds, BatchOver, SoFar}
+use Rattle.run_laws.specs.Course.{as_told}
 use Rattle.event_dispatch.specs.declared.batch.Rest.{Rest}
 use Rattle.event_dispatch.specs.declared.batch.Rest.TheVariants as rests
 use Rattle.event_dispatch.specs.declared.engine_core.Core.{Core}
@@ -58,10 +58,6 @@ pub record NextTaken {Own : Type 0} (Tells : Type 0) (rest : Option Rest) (old n
 
 -- ---- The messages that were kept
 
--- messages, as if they were told now
-abbrev pub as_told : List (ℕ × List ℕ) → List WorldStep
-as_told messages = map (λ m. From m.0 m.1) messages
-
 -- In every world: these were taken, oldest first, and the others are kept still. None of them is an ECHO_REQUEST, so that no switch is lost.
 pub record TakesFirst (taken : List (ℕ × List ℕ)) (run now_run : Core) : Type 0 where
   pub kept_is : run.net.kept ≡ taken ++ now_run.net.kept
@@ -85,16 +81,6 @@ pub record TakesKept {Own : Type 0} (left : ℕ) (old new : Seen Own) (run now_r
   pub first : TakesFirst taken run now_run
   pub all : (now_run.net.kept ≡ []) ⊎ ((1000000 ≤ length taken) × (left ≡ 0))
   pub none : run.net.kept ≡ [] → (left ≡ 1000000) × IsAsBefore old new run now_run
-
--- In every world: a batch begins with the messages that were kept, oldest first, and then come the items that are told, at each of which its
--- switch may be lost. Only where more were kept than a batch can have items are some of them not taken.
-pub record KeptComesFirst (run now_run : Core) : Type 0 where
-  pub taken : List (ℕ × List ℕ)
-  pub others : List (ℕ × List ℕ)
-  pub told : List WorldStep
-  pub kept_is : run.net.kept ≡ taken ++ others
-  pub all : (others ≡ []) ⊎ (1000000 ≤ length taken)
-  pub handled : HandledTo told (handled_all (as_told taken) (knowledge_of run.net run.queue)) (knowledge_of now_run.net now_run.queue)
 
 -- ---- A batch, after so many items
 

@@ -31,7 +31,8 @@ use Rattle.event_dispatch.specs.declared.run.Run.{Run}
 use Rattle.event_dispatch.specs.declared.served.Served.{Served}
 use Rattle.event_dispatch.specs.declared.served.Served.TheVariants as served
 use Rattle.event_dispatch.specs.Why.{served_by}
-use Rattle.event_dispatch.specs.Shows.{application_of, engine_with, engine_of}
+use Rattle.run_laws.specs.Course.{StandsStill, IsPart, PartByPart}
+use Rattle.event_dispatch.specs.Shows.{application_of, engine_with, engine_of, stage_of}
 use Rattle.event_dispatch.specs.Talking.{KeepsTalking, GoesOnTalking}
 use Rattle.event_dispatch.specs.Steady.{Reads, NoPoint, AtMostThisPoint, NoneMoves}
 use Rattle.event_dispatch.specs.Undone.{IsShort, DispatchLeft}
@@ -53,6 +54,7 @@ pub record EventPart {Own : Type 0} (Tells : Type 0) (accepts : List TableView �
   pub shown : Shown Tells accepts [] dispatch_next more old new e now_engine
   pub reads : Reads Tells old new e.net now_engine.net
   pub part : TookPart contents now_contents more
+  pub behind : IsPart Tells accepts (record { seen = old; engine = e; written = contents }) (record { seen = new; engine = now_engine; written = append_known contents more })
 
 -- what is wrong with the outside ends the dispatch of an event only where an application has a turn at it
 abbrev pub IsOfTurn : Fault → Bool → Type 0
@@ -144,11 +146,12 @@ pub record CutBehind {Own : Type 0} (Tells : Type 0) (accepts : List TableView �
   pub batch : IsBatch Tells rest noted old mid (engine_of r) (engine_of mid_run)
   pub written : held ≡ append_known contents noted
   pub reads : Reads Tells old mid r.core.net mid_run.core.net
+  pub course : PartByPart Tells accepts (stage_of old contents r) (stage_of mid held mid_run)
   pub later : Continues Tells mid new
   pub some : CutSome Tells accepts fault held now_contents mid new mid_run
 
 -- the batch was done, and the sink took a part of its lines
-pub record LossPart {Own : Type 0} (Tells : Type 0) (contents now_contents : Option (List ℕ)) (old new : Seen Own) (r : Run) : Type 0 where
+pub record LossPart {Own : Type 0} (Tells : Type 0) (accepts : List TableView → Bool) (contents now_contents : Option (List ℕ)) (old new : Seen Own) (r : Run) : Type 0 where
   pub rest : Rest
   pub noted : List ℕ
   pub now_run : Run
@@ -156,10 +159,11 @@ pub record LossPart {Own : Type 0} (Tells : Type 0) (contents now_contents : Opt
   pub some : noted ≡ [] → ⊥
   pub reads : Reads Tells old new r.core.net now_run.core.net
   pub part : TookPart contents now_contents noted
+  pub behind : IsPart Tells accepts (stage_of old contents r) (stage_of new (append_known contents noted) now_run)
 
-abbrev pub CutNoted : {Own : Type 0} → Type 0 → Fault → Option (List ℕ) → Option (List ℕ) → Seen Own → Seen Own → Run → Type 0
-CutNoted Tells faults.Write contents now_contents old new r = LossPart Tells contents now_contents old new r
-CutNoted Tells other contents now_contents old new r = ⊥
+abbrev pub CutNoted : {Own : Type 0} → Type 0 → (List TableView → Bool) → Fault → Option (List ℕ) → Option (List ℕ) → Seen Own → Seen Own → Run → Type 0
+CutNoted Tells accepts faults.Write contents now_contents old new r = LossPart Tells accepts contents now_contents old new r
+CutNoted Tells accepts other contents now_contents old new r = ⊥
 
 -- it ended the batch, where no quiescent point lies behind, if nothing was kept before it
 pub record StopsBatch {Own : Type 0} (Tells : Type 0) (number : ℕ) (old new : Seen Own) (net : NetState) : Type 0 where
@@ -168,7 +172,7 @@ pub record StopsBatch {Own : Type 0} (Tells : Type 0) (number : ℕ) (old new : 
 
 -- the one or the other, or the sink failed at what the batch noted
 abbrev pub CutRound : {Own : Type 0} → Type 0 → (List TableView → Bool) → Fault → Option (List ℕ) → Option (List ℕ) → Seen Own → Seen Own → Run → Type 0
-CutRound Tells accepts fault contents now_contents old new r = (IsStill fault contents now_contents × KeepsTalking Tells old new × StopsBatch Tells (length r.core.store) old new r.core.net) ⊎ CutBehind Tells accepts fault contents now_contents old new r ⊎ CutNoted Tells fault contents now_contents old new r
+CutRound Tells accepts fault contents now_contents old new r = (IsStill fault contents now_contents × KeepsTalking Tells old new × StopsBatch Tells (length r.core.store) old new r.core.net) ⊎ CutBehind Tells accepts fault contents now_contents old new r ⊎ CutNoted Tells accepts fault contents now_contents old new r
 
 -- so many rounds were gone before it
 pub record CutRounds {Own : Type 0} (Tells : Type 0) (accepts : List TableView → Bool) (fault : Fault) (contents now_contents : Option (List ℕ)) (old new : Seen Own) (r : Run) : Type 0 where
@@ -191,6 +195,7 @@ pub record StartPart {Own : Type 0} (Tells : Type 0) (contents now_contents : Op
   pub shown : ShownStart Tells more old new e now_engine
   pub reads : Reads Tells old new e.net now_engine.net
   pub part : TookPart contents now_contents more
+  pub still : StandsStill e now_engine
 
 abbrev pub CutStart : {Own : Type 0} → Type 0 → Fault → Option (List ℕ) → Option (List ℕ) → Seen Own → Seen Own → Engine → Type 0
 CutStart Tells faults.Write contents now_contents old new e = StartPart Tells contents now_contents old new e
@@ -238,6 +243,7 @@ pub record CutGoing {Own : Type 0} (Tells : Type 0) (accepts : List TableView �
   pub starts : ShownStart Tells text old begun e (engine_of begun_run)
   pub starts_read : Reads Tells old begun e.net begun_run.core.net
   pub writes : Writes text contents held begun_run.core
+  pub still : StandsStill e (engine_of begun_run)
   pub later : Continues Tells begun new
   pub rounds : CutRounds Tells accepts fault held now_contents begun new begun_run
 
@@ -263,6 +269,7 @@ pub record CutEnding {Own : Type 0} (Tells : Type 0) (accepts : List TableView �
   pub starts : ShownStart Tells text old begun e (engine_of begun_run)
   pub starts_read : Reads Tells old begun e.net begun_run.core.net
   pub writes : Writes text contents held begun_run.core
+  pub still : StandsStill e (engine_of begun_run)
   pub on : Continues Tells begun last
   pub rounds : GoesToEnd Tells accepts most held last_held begun last begun_run last_run
   pub rounds_read : Reads Tells begun last begun_run.core.net last_run.core.net

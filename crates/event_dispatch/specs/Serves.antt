@@ -30,6 +30,7 @@ use Rattle.run_laws.specs.Facts.{turn_word, out_text, all_told, StartsAgain, Goe
 use Rattle.run_laws.specs.Moves.{AtRest, Shown, ShownIdle, ShownOver, ShownRounds, ShownToEnd}
 use Rattle.lego_model.specs.ReferenceRun.{dispatch_next, times}
 use Rattle.run_laws.specs.First.{engine_at_first}
+use Rattle.run_laws.specs.Course.{Stage, StandsStill, PartByPart, RunsOn, WritesPart, first_stage}
 use Rattle.run_laws.specs.Endings.{ShownStart, ShownFinish, RanOut, RanFull}
 use Rattle.lego_model.specs.WholeRun.{TookFirst, is_spent, EndsAlike, LeavesAlike}
 use Rattle.run_laws.specs.Cut.{CutAlike, CutWithLines, CutWriting}
@@ -42,7 +43,7 @@ use Rattle.event_dispatch.specs.declared.run.Managed.{Managed}
 use Rattle.event_dispatch.specs.declared.run.Run.{Run}
 use Rattle.event_dispatch.specs.declared.served.Served.{Served}
 use Rattle.event_dispatch.specs.declared.served.Served.TheVariants as served
-use Rattle.event_dispatch.specs.Shows.{application_of, focus_of, engine_of, name_of, Stays}
+use Rattle.event_dispatch.specs.Shows.{application_of, focus_of, engine_of, stage_of, name_of, Stays}
 use Rattle.lego_model.specs.CutRun.{NothingDone}
 
 -- text was noted behind what waits to be written
@@ -144,18 +145,22 @@ pub record DispatchesOldest {Own : Type 0} (Tells : Type 0) (accepts : List Tabl
   pub shown : Shown Tells accepts [] dispatch_next text old new (engine_of r) (engine_of now_r)
   pub writes : Writes text contents now_contents now_r.core
   pub none : found ≡ false → now_r.core.queue ≡ []
+  -- In every world: it was given to the applications that have a turn at it.
+  pub course : PartByPart Tells accepts (stage_of old contents r) (stage_of new now_contents now_r)
 
 -- so many times
 pub record DispatchesSome {Own : Type 0} (Tells : Type 0) (accepts : List TableView → Bool) (n : ℕ) (contents now_contents : Option (List ℕ)) (old new : Seen Own) (r now_r : Run) : Type 0 where
   pub text : List ℕ
   pub shown : Shown Tells accepts [] (λ allows q. times n (dispatch_next allows) q) text old new (engine_of r) (engine_of now_r)
   pub writes : Writes text contents now_contents now_r.core
+  pub course : PartByPart Tells accepts (stage_of old contents r) (stage_of new now_contents now_r)
 
 -- up to 1,000 of them
 pub record DispatchesWaiting {Own : Type 0} (Tells : Type 0) (accepts : List TableView → Bool) (contents now_contents : Option (List ℕ)) (old new : Seen Own) (r now_r : Run) : Type 0 where
   pub text : List ℕ
   pub shown : Shown Tells accepts [] settle text old new (engine_of r) (engine_of now_r)
   pub writes : Writes text contents now_contents now_r.core
+  pub course : PartByPart Tells accepts (stage_of old contents r) (stage_of new now_contents now_r)
 
 -- ---- Rounds
 
@@ -181,12 +186,15 @@ pub record GoesRound {Own : Type 0} (Tells : Type 0) (accepts : List TableView �
   pub written : held ≡ append_known contents noted
   pub later : Continues Tells mid new
   pub dispatches : DispatchesWaiting Tells accepts held now_contents mid new mid_run now_r
+  -- In every world: the messages that were kept came first in it, and then events, oldest first.
+  pub course : PartByPart Tells accepts (stage_of old contents r) (stage_of new now_contents now_r)
 
 -- so many rounds
 pub record GoesRounds {Own : Type 0} (Tells : Type 0) (accepts : List TableView → Bool) (number : ℕ) (contents now_contents : Option (List ℕ)) (old new : Seen Own) (r now_r : Run) : Type 0 where
   pub text : List ℕ
   pub shown : ShownRounds Tells accepts number text old new (engine_of r) (engine_of now_r)
   pub writes : Writes text contents now_contents now_r.core
+  pub course : PartByPart Tells accepts (stage_of old contents r) (stage_of new now_contents now_r)
 
 -- in a world that keeps its word no stimulus is to come, where they are fewer than this number of rounds
 pub record NoneToCome {Own : Type 0} (Tells : Type 0) (accepts : List TableView → Bool) (most : ℕ) (old new : Seen Own) (e : Engine) : Type 0 where
@@ -198,6 +206,7 @@ pub record GoesToEnd {Own : Type 0} (Tells : Type 0) (accepts : List TableView �
   pub shown : ShownToEnd Tells accepts most text old new (engine_of r) (engine_of now_r)
   pub none_to_come : NoneToCome Tells accepts most old new (engine_of r)
   pub writes : Writes text contents now_contents now_r.core
+  pub course : PartByPart Tells accepts (stage_of old contents r) (stage_of new now_contents now_r)
 
 -- ---- The start, and the end
 
@@ -212,10 +221,13 @@ pub record Begins {Own : Type 0} (Tells : Type 0) (contents now_contents : Optio
   pub text : List ℕ
   pub shown : ShownStart Tells text old new (engine_of r) (engine_of now_r)
   pub writes : Writes text contents now_contents now_r.core
+  pub still : StandsStill (engine_of r) (engine_of now_r)
 
 pub record EndsReport {Own : Type 0} (Tells : Type 0) (contents now_contents : Option (List ℕ)) (last new : Seen Own) (r now_r : Run) : Type 0 where
   pub finish : ShownFinish Tells contents now_contents last new (engine_of r)
   pub events : now_r.core.events ≡ r.core.events
+  pub text : List ℕ
+  pub written : now_contents ≡ append_known contents text
 
 -- The end of the report was written, where no event is left; else nothing was done.
 abbrev pub Finishes : {Own : Type 0} → Type 0 → Result (Unit {0}) Served → Option (List ℕ) → Option (List ℕ) → Seen Own → Seen Own → Run → Run → Type 0
@@ -233,12 +245,16 @@ pub record RunsOut {Own : Type 0} (Tells : Type 0) (accepts : List TableView →
   pub number : length last.apps ≡ length e.apps
   pub events_is : events ≡ last.events
   pub none_to_come : NoneToCome Tells accepts most old new e
+  pub held : Option (List ℕ)
+  pub course : RunsOn Tells accepts (record { seen = old; engine = e; written = contents }) (record { seen = out.last; engine = last; written = held }) new
+  pub written : (text : List ℕ) × (now_contents ≡ append_known held text)
 
 -- so many were left
 pub record RunsFull {Own : Type 0} (Tells : Type 0) (accepts : List TableView → Bool) (most left : ℕ) (contents now_contents : Option (List ℕ)) (old new : Seen Own) (e : Engine) : Type 0 where
   pub full : RanFull Tells accepts most left contents now_contents old new e
   pub number : length full.now_engine.apps ≡ length e.apps
   pub none_to_come : NoneToCome Tells accepts most old new e
+  pub course : RunsOn Tells accepts (record { seen = old; engine = e; written = contents }) (record { seen = full.last; engine = full.now_engine; written = now_contents }) new
 
 abbrev pub GoesAs : {Own : Type 0} → Type 0 → (List TableView → Bool) → ℕ → Result (Unit {0}) Served → Option (List ℕ) → Option (List ℕ) → Seen Own → Seen Own → Run → Run → Type 0
 GoesAs Tells accepts most (Ok x) contents now_contents old new r now_r = RunsOut Tells accepts most now_r.core.events contents now_contents old new (engine_of r)
@@ -269,6 +285,22 @@ pub record IsWhole {Own : Type 0} (rules : List AppValue) (allows : List Place �
 pub record IsPart {Own : Type 0} (rules : List AppValue) (allows : List Place → Bool) (rounds : ℕ) (seen : Seen Own) (contents now_contents : Option (List ℕ)) (left : ℕ) : Type 0 where
   pub alike : LeavesAlike rules allows (is_spent rounds seen) seen contents now_contents left
   pub took_first : TookFirst rounds seen
+
+-- How a run stands behind its last whole part. At the end of the report no event waits, and as many were given as are said to be; or as many are
+-- left as are said to be. Where the sink failed it took a part of what was done last. Behind any other fault nothing more was written.
+abbrev pub EndsAt : {Own : Type 0} → Type 0 → (List TableView → Bool) → Served → Option (List ℕ) → Stage Own → Type 0
+EndsAt Tells accepts (served.Ended events) contents last = (last.engine.queue ≡ []) × (events ≡ last.engine.events) × (text : List ℕ) × (contents ≡ append_known last.written text)
+EndsAt Tells accepts (served.EventsLeft left) contents last = (left ≡ length last.engine.queue) × (contents ≡ last.written)
+EndsAt Tells accepts served.WriteFault contents last = WritesPart Tells accepts last contents
+EndsAt Tells accepts other contents last = contents ≡ last.written
+
+-- Of any world: the run goes from part to part, in each batch with the messages first that were kept, up to its end or a fault.
+pub record GoesItsCourse {Own : Type 0} (rules : List AppValue) (Tells : Type 0) (accepts : List TableView → Bool) (old new : Seen Own) (contents now_contents : Option (List ℕ)) (end : Served) : Type 0 where
+  pub opened : Seen Own
+  pub first : Continues Tells old opened
+  pub last : Stage Own
+  pub runs : RunsOn Tells accepts (first_stage rules opened contents) last new
+  pub ends : EndsAt Tells accepts end now_contents last
 
 -- Of a world that tells, on which no call was made before: where a fault ends the run, it is the reference controller's up to a point, if
 -- the world kept its word as far as there, and so is what was written. No line is missing of the start and of all events before where what

@@ -1,7 +1,9 @@
 -- What the engine does, in the words of what is seen and kept: the text that it notes, and how the run stands then. All of this is our own.
-use Rattle.std.specs.Prelude.{◌≡◌, ℕ, List, [], ◌++◌, map, string_bytes}
+use Rattle.std.specs.Prelude.{◌≡◌, ℕ, List, [], ◌++◌, map, string_bytes, Option}
 use Rattle.batch_laws.specs.Knowledge.{left_events, lost_text}
+use Rattle.outside.specs.Seen.{Seen}
 use Rattle.run_laws.specs.Engine.{Application, Engine, Focus, focus}
+use Rattle.run_laws.specs.Course.{Stage}
 use Rattle.event_dispatch.specs.declared.engine_core.Core.{Core}
 use Rattle.event_dispatch.specs.declared.run.Managed.{Managed}
 use Rattle.event_dispatch.specs.declared.run.Run.{Run}
@@ -31,6 +33,10 @@ engine_with c apps = record { net = c.net; queue = c.queue; events = c.events; a
 
 abbrev pub engine_of : Run → Engine
 engine_of r = engine_with r.core r.apps.items
+
+-- how a run stands, with what was written so far
+abbrev pub stage_of : {Own : Type 0} → Seen Own → Option (List ℕ) → Run → Stage Own
+stage_of seen contents r = record { seen = seen; engine = engine_of r; written = contents }
 
 -- the name of an application
 abbrev pub name_of : Managed → List ℕ

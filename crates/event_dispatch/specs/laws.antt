@@ -35,3 +35,4 @@ pub mod TurnPartLaws
 pub mod OfferLaws
 pub mod BeginLaws
 pub mod JoinLaws
+pub mod EndCourseLaws

@@ -16,7 +16,7 @@ ghost use Rattle.lego_model.specs.Places.{Place};
 ghost use Rattle.run_laws.specs.First.{net_at_first, engine_at_first};
 ghost use Rattle.run_laws.specs.Promise.{PremiseSoFar, Premise};
 ghost use Rattle.event_dispatch.specs.Cut.{IsReadServed};
-ghost use Rattle.event_dispatch.specs.Serves.{EndsReport, IsCut, IsAlike};
+ghost use Rattle.event_dispatch.specs.Serves.{EndsReport, IsCut, IsAlike, GoesItsCourse};
 ghost use Rattle.event_dispatch.specs.Passes.{PassesQuietly};
 ghost use Rattle.event_dispatch.specs.Parts.{PassesOn, PassesRound, PassesServed, PassesEnded, WritesNoted, StartedAll, BeginDone, BeginFails};
 ghost use Rattle.event_dispatch.specs.Parts.{RoundDone, RoundFails, RoundsDone, RoundsFail, ReportFails, FinishesSo, GoesSo, RunsSo, Opens, EndsOne, EndsAll};
@@ -314,6 +314,11 @@ pub fn serve<W: World, J: Judge, K: Sink>(
     ensures own_ids_ascend { W.Tells → (W.seen world.old).history ≡ [] → InOrder (W.seen world.new) → IsShortRun (W.seen world.new) → OwnIdsAscend (W.seen world.new) }
     // However the run ends, each application that was started is ended: where no call was made before, none runs.
     ensures every_application_ended { W.Tells → (W.seen world.old).history ≡ [] → (state (W.seen world.new)).running ≡ [] }
+    // In any world, whatever its switches send: the messages that were kept while something else was awaited come first in the next batch, oldest first,
+    // and none of them is lost; the events that they make are given behind those that waited, and printed. So the run goes from part to part, up to
+    // its end or a fault.
+    ensures kept_messages_come_first { GoesItsCourse (map app_value rules.now) W.Tells (J.accepts judge.now) (W.seen world.old) (W.seen world.new)
+        (K.contents sink.old) (K.contents sink.new) result }
 {
     if let Err(served) = open(world, port) {
         return served;

@@ -8,6 +8,7 @@ pub mod Readings
 pub mod Cut
 pub mod LinkSteps
 pub mod First
+pub mod Course
 pub mod ReferenceTurn
 pub mod EventMoves
 pub mod Whole

@@ -29,3 +29,4 @@ pub mod StartShownLaws
 pub mod OrderlyRunLaws
 pub mod CutLaws
 pub mod EchoLaws
+pub mod CourseLaws

@@ -373,11 +373,11 @@ some_speaks {rules = rules} p g h next keeps i few =
     f.within.talks.talks p.told (some_partly p g h next keeps).rest.each i (subst (λ (n : ℕ). i < n) (sym (count-of rules f.mid_engine (fails_rules p g h next keeps))) few)
 
 -- a fault that is not the sink's ends no lines of a batch
-noted_none : {Own : Type 0} (Tells : Type 0) (fault : Fault) (a b : Option (List ℕ)) (old new : Seen Own) (r : Run) → NotWrite fault → CutNoted Tells fault a b old new r → ⊥
-noted_none Tells faults.Write a b old new r other cut = absurd other
-noted_none Tells faults.Next a b old new r other cut = cut
-noted_none Tells (faults.Txn fault) a b old new r other cut = cut
-noted_none Tells faults.NoMemory a b old new r other cut = cut
+noted_none : {Own : Type 0} (Tells : Type 0) (accepts : List TableView → Bool) (fault : Fault) (a b : Option (List ℕ)) (old new : Seen Own) (r : Run) → NotWrite fault → CutNoted Tells accepts fault a b old new r → ⊥
+noted_none Tells accepts faults.Write a b old new r other cut = absurd other
+noted_none Tells accepts faults.Next a b old new r other cut = cut
+noted_none Tells accepts (faults.Txn fault) a b old new r other cut = cut
+noted_none Tells accepts faults.NoMemory a b old new r other cut = cut
 
 round_alike : {Own : Type 0} {rules : List AppValue} {Tells : Type 0} {accepts : List TableView → Bool} {allows : List Place → Bool} {fault : Fault} {a b : Option (List ℕ)} {first stop seen : Seen Own} (p : Supposed rules Tells accepts allows first stop seen) (g : CutGoing Tells accepts fault a b first stop (engine_at_first rules)) → NotWrite fault → CutRound Tells accepts fault g.rounds.held b g.rounds.mid stop g.rounds.mid_run → CutAlike rules allows seen a b
 round_alike {rules = rules} {allows = allows} {fault = fault} {a = a} {b = b} {first = first} {stop = stop} {seen = seen} p g other (inl still) =
@@ -390,7 +390,7 @@ round_alike {rules = rules} {Tells = Tells} {accepts = accepts} {allows = allows
     cut_at rules (λ (last : Seen _). CutForMemory rules allows seen last a b) first stop seen p next.fails.mid (some_stop p g h next (may_be_short fault)) (some_speaks p g h next) (λ keeps.
     some-so rules allows h.some.number (some_partly p g h next keeps).given (((g.text ++ g.rounds.rounds.text) ++ h.noted) ++ h.some.some.text) a b first next.fails.mid seen (some_partly p g h next keeps).now_engine p.opened (some_within p g h next keeps) (omega (arith, h.some.few)) keeps
     (one_held Tells accepts fault h.some.held b h.some.mid stop (engine_of h.some.mid_run) other h.some.one ∙ some_held p g h))
-round_alike {Tells = Tells} {fault = fault} {b = b} {stop = stop} p g other (inr (inr noted)) = absurd (noted_none Tells fault g.rounds.held b g.rounds.mid stop g.rounds.mid_run other noted)
+round_alike {Tells = Tells} {fault = fault} {b = b} {stop = stop} p g other (inr (inr noted)) = absurd (noted_none Tells _ fault g.rounds.held b g.rounds.mid stop g.rounds.mid_run other noted)
 
 round_lines : {Own : Type 0} {rules : List AppValue} {Tells : Type 0} {accepts : List TableView → Bool} {allows : List Place → Bool} {fault : Fault} {a b : Option (List ℕ)} {first stop seen : Seen Own} (p : Supposed rules Tells accepts allows first stop seen) (g : CutGoing Tells accepts fault a b first stop (engine_at_first rules)) → IsOutside fault → CutRound Tells accepts fault g.rounds.held b g.rounds.mid stop g.rounds.mid_run → CutWithLines rules allows seen a b
 round_lines {rules = rules} {allows = allows} {fault = fault} {a = a} {b = b} {first = first} {stop = stop} {seen = seen} p g out (inl still) =
@@ -405,7 +405,7 @@ round_lines {rules = rules} {Tells = Tells} {accepts = accepts} {allows = allows
     lines-so rules allows h.some.number (some_partly p g h next keeps).given (((g.text ++ g.rounds.rounds.text) ++ h.noted) ++ h.some.some.text) a b first next.fails.mid (some_partly p g h next keeps).now_engine p.opened (some_within p g h next keeps) (omega (arith, h.some.few))
     (inr (inr (next_takes Tells accepts fault h.some.mid stop (engine_of h.some.mid_run) out next))) keeps
     (one_held Tells accepts fault h.some.held b h.some.mid stop (engine_of h.some.mid_run) other h.some.one ∙ some_held p g h))
-round_lines {Tells = Tells} {fault = fault} {b = b} {stop = stop} p g out (inr (inr noted)) = absurd (noted_none Tells fault g.rounds.held b g.rounds.mid stop g.rounds.mid_run (not_write fault out) noted)
+round_lines {Tells = Tells} {fault = fault} {b = b} {stop = stop} p g out (inr (inr noted)) = absurd (noted_none Tells _ fault g.rounds.held b g.rounds.mid stop g.rounds.mid_run (not_write fault out) noted)
 
 -- the sink failed at what a batch noted: it had a stimulus, since the last one notes nothing
 noted_lines : {Own : Type 0} {rules : List AppValue} {Tells : Type 0} {accepts : List TableView → Bool} {allows : List Place → Bool} {a b : Option (List ℕ)} {first stop seen : Seen Own} (p : Supposed rules Tells accepts allows first stop seen) (g : CutGoing Tells accepts faults.Write a b first stop (engine_at_first rules)) (rest : Rest) (noted : List ℕ) (e : Engine) → IsBatch Tells rest noted g.rounds.mid stop (engine_of g.rounds.mid_run) e

@@ -31,7 +31,8 @@ use Rattle.event_dispatch.specs.declared.batch.Rest.TheVariants as rests
 use Rattle.event_dispatch.specs.declared.engine_core.Core.{Core}
 use Rattle.event_dispatch.specs.Runs.{AreRead}
 use Rattle.event_dispatch.specs.Shows.{TellsLost}
-use Rattle.event_dispatch.specs.Batch.{of_memory, standing_of, rest_by, as_told, TakesItem, TakesJoin, TakesFirst, KeptSoFar, TakesKept, KeptComesFirst, NextTaken, BatchGoes, BatchShown}
+use Rattle.run_laws.specs.Course.{as_told, KeptComesFirst}
+use Rattle.event_dispatch.specs.Batch.{of_memory, standing_of, rest_by, TakesItem, TakesJoin, TakesFirst, KeptSoFar, TakesKept, NextTaken, BatchGoes, BatchShown}
 use Rattle.run_laws.specs.laws.EchoLaws.{no-echo}
 use Rattle.of_types.specs.Fields.{IsBytes, number_at}
 use Rattle.net_txn.specs.Arriving.{Arrives}
@@ -144,7 +145,7 @@ item_handled : {Own Tells : Type 0} {item : WorldStep} {text : List ℕ} {old ne
 item_handled (inl still) = inl still.knowledge
 item_handled (inr lost) = inr (lost.dpid, lost.at, lost.knowledge)
 
-pub then_told : {Own Tells : Type 0} (rest : Option Rest) (now new : Seen Own) (run mid later : Core) → KeptComesFirst run mid → NextTaken Tells rest now new mid later → KeptComesFirst run later
+pub then_told : {Own Tells : Type 0} (rest : Option Rest) (now new : Seen Own) (run mid later : Core) → KeptComesFirst run.net mid.net run.queue mid.queue → NextTaken Tells rest now new mid later → KeptComesFirst run.net later.net run.queue later.queue
 then_told rest now new run mid later first next =
     let item = item_step next.item next.takes.buf in
     record {

@@ -31,7 +31,9 @@ use Rattle.event_dispatch.specs.declared.served.Served.TheVariants as served
 use Rattle.event_dispatch.specs.Why.{IsReason, served_by}
 use Rattle.event_dispatch.specs.Runs.{Going, Waits}
 use Rattle.event_dispatch.specs.Batch.{BatchShown}
-use Rattle.event_dispatch.specs.Shows.{Stays, engine_of, queued_run}
+use Rattle.checkpoint_store.specs.Slots.{Slot}
+use Rattle.run_laws.specs.Course.{KeptComesFirst}
+use Rattle.event_dispatch.specs.Shows.{Stays, application_of, engine_of, queued_run}
 use Rattle.event_dispatch.specs.ReportEnd.{LastShown}
 use Rattle.run_laws.specs.laws.LeaveLaws.{asked-leaves}
 use Rattle.event_dispatch.specs.Talking.{KeepsTalking}
@@ -40,7 +42,7 @@ use Rattle.event_dispatch.specs.laws.SteadyLaws.{quietly_none, quietly_then, non
 use Rattle.event_dispatch.specs.laws.TalkingLaws.{keeps_none, keeps_then}
 use Rattle.event_dispatch.specs.Serves.{Writes, AllStarted, IsDispatched, Begins}
 use Rattle.event_dispatch.specs.laws.ReadLaws.{reads_engine}
-use Rattle.event_dispatch.specs.laws.RoundLaws.{first_event, number_is, batch_is, batch_written, all_begun}
+use Rattle.event_dispatch.specs.laws.RoundLaws.{first_event, number_is, batch_is, batch_written, batch_follows, all_begun}
 use Rattle.event_dispatch.specs.Cut.{IsStill, FailsIn, FailsNext, CutOne, CutSome, CutRound, CutRounds, CutStart, CutEnd, CutFinish, CutFinishAs, WentToEnd, CutGoes, CutRun, CutAs}
 
 -- what a `?` answers is the fault
@@ -132,14 +134,22 @@ one_unwritten Tells accepts event contents now_contents old new r queue mid cont
   shown = next-shown Tells accepts event queue is.text old new (engine_of r) (engine_of mid) continues (omega (arith, few)) (first_event r.core.queue event waits ∙ ap (λ (q : List Event). event ∷ q) (sym left)) is.dispatches;
   reads = reads;
   part = subst (λ (text : List ℕ). TookPart contents now_contents text) (is.notes ∙ ap (λ (xs : List ℕ). xs ++ is.text) none) part;
+  behind = inr (inl (record {
+    event = event;
+    later = queue;
+    waits = first_event r.core.queue event waits ∙ ap (λ (q : List Event). event ∷ q) (sym left);
+    text = is.text;
+    dispatches = is.dispatches;
+    written = refl;
+  }));
 }
 
 -- ---- Rounds
 
 -- a batch was done, and a fault ended what came behind it
 pub round_behind : {Own : Type 0} (Tells : Type 0) (accepts : List TableView → Bool) (rest : Rest) (fault : Fault) (contents held now_contents : Option (List ℕ)) (old mid new : Seen Own) (r : Run) (then_c mid_c : Core) → Continues Tells old mid → r.core.lines.items ≡ [] → Waits r.core then_c
-    → BatchShown Tells rest old mid r.core then_c → Reads Tells old mid r.core.net then_c.net → Stays then_c mid_c → Writes then_c.lines.items contents held mid_c → Continues Tells mid new → CutSome Tells accepts fault held now_contents mid new (record r { core = mid_c }) → CutRound Tells accepts fault contents now_contents old new r
-round_behind Tells accepts rest fault contents held now_contents old mid new r then_c mid_c first none waits batch reads same writes later some = inr (inl (record {
+    → BatchShown Tells rest old mid r.core then_c → KeptComesFirst r.core.net then_c.net r.core.queue then_c.queue → Reads Tells old mid r.core.net then_c.net → Stays then_c mid_c → Writes then_c.lines.items contents held mid_c → Continues Tells mid new → CutSome Tells accepts fault held now_contents mid new (record r { core = mid_c }) → CutRound Tells accepts fault contents now_contents old new r
+round_behind Tells accepts rest fault contents held now_contents old mid new r then_c mid_c first none waits batch kept reads same writes later some = inr (inl (record {
   rest = rest;
   mid = mid;
   mid_run = record r { core = mid_c };
@@ -149,14 +159,15 @@ round_behind Tells accepts rest fault contents held now_contents old mid new r t
   batch = batch_written Tells rest old mid r then_c mid_c first none waits batch same;
   written = writes.written;
   reads = reads_engine old mid then_c mid_c same reads;
+  course = batch_follows Tells accepts contents held old mid r then_c mid_c first kept waits same writes;
   later = later;
   some = some;
 }))
 
 -- or the sink failed at what it noted
 pub round_unwritten : {Own : Type 0} (Tells : Type 0) (accepts : List TableView → Bool) (rest : Rest) (contents now_contents : Option (List ℕ)) (old new : Seen Own) (r : Run) (then_c : Core) → Continues Tells old new → r.core.lines.items ≡ [] → Waits r.core then_c
-    → BatchShown Tells rest old new r.core then_c → Reads Tells old new r.core.net then_c.net → (then_c.lines.items ≡ [] → ⊥) → TookPart contents now_contents then_c.lines.items → CutRound Tells accepts faults.Write contents now_contents old new r
-round_unwritten Tells accepts rest contents now_contents old new r then_c first none waits batch reads some part = inr (inr (record {
+    → BatchShown Tells rest old new r.core then_c → KeptComesFirst r.core.net then_c.net r.core.queue then_c.queue → Reads Tells old new r.core.net then_c.net → (then_c.lines.items ≡ [] → ⊥) → TookPart contents now_contents then_c.lines.items → CutRound Tells accepts faults.Write contents now_contents old new r
+round_unwritten Tells accepts rest contents now_contents old new r then_c first none waits batch kept reads some part = inr (inr (record {
   rest = rest;
   noted = then_c.lines.items;
   now_run = record r { core = then_c };
@@ -164,6 +175,13 @@ round_unwritten Tells accepts rest contents now_contents old new r then_c first 
   some = some;
   reads = reads;
   part = part;
+  behind = inl (record {
+    first = kept;
+    events = waits.events;
+    apps = ap (λ (slots : List Slot). map (application_of slots) r.apps.items) waits.store;
+    noted = then_c.lines.items;
+    written = refl;
+  });
 }))
 
 -- ---- The start, and the end
@@ -180,6 +198,7 @@ start_unwritten Tells contents now_contents old new r mid none starts reads part
   shown = all_begun Tells old new r mid starts;
   reads = reads;
   part = subst (λ (text : List ℕ). TookPart contents now_contents text) (starts.notes ∙ ap (λ (xs : List ℕ). xs ++ starts.text) none) part;
+  still = record { net = starts.stays.net; queue = starts.stays.queue; events = starts.stays.events };
 }
 
 end_still : {Own : Type 0} (Tells : Type 0) (fault : Fault) (contents now_contents : Option (List ℕ)) (last new : Seen Own) (e : Engine) → IsStill fault contents now_contents → KeepsTalking Tells last new → NoPoint Tells (length e.apps) last new → CutEnd Tells fault contents now_contents last new e
@@ -231,6 +250,7 @@ rounds_cut Tells accepts most fault a b c old begun new r begun_r first begins r
   starts = begins.shown;
   starts_read = reads;
   writes = begins.writes;
+  still = begins.still;
   later = later;
   rounds = rounds;
 })))
@@ -251,6 +271,7 @@ end_cut Tells accepts most end a b c d old begun last new r r1 r2 w later cut =
       starts = w.begins.shown;
       starts_read = w.starts_read;
       writes = w.begins.writes;
+      still = w.begins.still;
       on = w.on;
       rounds = w.rounds;
       rounds_read = w.rounds_read;

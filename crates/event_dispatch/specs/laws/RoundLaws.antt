@@ -1,5 +1,5 @@
 -- Laws of a whole run: events one after the other, batches, the start and the end, and what a run of them promises.
-use Rattle.std.proofs.Common.{◌≡◌, ℕ, ◌+◌, ◌-◌, ◌^◌, ◌<◌, ◌≤◌, Bool, true, false, List, [], ◌∷◌, ◌++◌, length, map, drop, Option, Some, None, refl, sym, ap, ap₂, ◌∙◌, subst, arith}
+use Rattle.std.proofs.Common.{◌≡◌, ℕ, ◌+◌, ◌-◌, ◌^◌, ◌<◌, ◌≤◌, Bool, true, false, List, [], ◌∷◌, ◌++◌, length, map, drop, Option, Some, None, refl, sym, ap, ap₂, ◌∙◌, subst, arith, inl, inr}
 use Rattle.std.specs.Prelude.{slice_get}
 use Rattle.std.specs.Io.KnownBytes.{append_known}
 use Rattle.std.specs.List.{AllByRecursion}
@@ -34,7 +34,10 @@ use Rattle.event_dispatch.specs.declared.engine_core.Core.{Core}
 use Rattle.event_dispatch.specs.declared.run.Run.{Run}
 use Rattle.event_dispatch.specs.Runs.{AreRead, StoreRests, IsCountedTo, Going, Waits}
 use Rattle.event_dispatch.specs.Batch.{standing_of, BatchShown}
-use Rattle.event_dispatch.specs.Shows.{Stays, application_of, engine_of, queued_run}
+use Rattle.run_laws.specs.Facts.{Dispatches}
+use Rattle.run_laws.specs.Course.{KeptComesFirst, PartByPart}
+use Rattle.run_laws.specs.laws.CourseLaws.{follows-none, follows-one, follows-then}
+use Rattle.event_dispatch.specs.Shows.{Stays, application_of, engine_of, stage_of, queued_run}
 use Rattle.checkpoint_store.specs.Slots.{Slot}
 use Rattle.lego_model.specs.Application.{names}
 use Rattle.event_dispatch.specs.Serves.{Notes, Writes, AllStarted, IsDispatched, DispatchesOldest, DispatchesSome, DispatchesWaiting, IsBatch, GoesRound, GoesRounds, GoesToEnd, Begins}
@@ -87,6 +90,17 @@ one_settled Tells accepts event contents now_contents old new r queue mid now_c 
       (next-shown Tells accepts event queue is.text old new (engine_of r) (engine_of mid) continues (omega (arith, few)) (first_event r.core.queue event waits ∙ ap (λ (q : List Event). event ∷ q) (sym left)) is.dispatches);
   writes = all_noted contents now_contents is.text r.core mid.core now_c none is.notes writes;
   none = λ h. absurd cc;
+  course = follows-one Tells accepts (stage_of old contents r) (stage_of new now_contents (record mid { core = now_c })) (record {
+    continues = continues;
+    part = inr (inl (record {
+      event = event;
+      later = queue;
+      waits = first_event r.core.queue event waits ∙ ap (λ (q : List Event). event ∷ q) (sym left);
+      text = is.text;
+      dispatches = subst (λ (e : Engine). Dispatches Tells accepts event is.text old new (engine_of (queued_run queue r)) e) (sym (stays_engine mid mid.core now_c same)) is.dispatches;
+      written = (all_noted contents now_contents is.text r.core mid.core now_c none is.notes writes).written;
+    }));
+  });
 }
 
 pub none_settled : {Own : Type 0} (Tells : Type 0) (accepts : List TableView → Bool) (contents : Option (List ℕ)) (seen : Seen Own) (r : Run) (queue : List Event) → queue ≡ drop 1 r.core.queue → None ≡ slice_get r.core.queue 0 → r.core.lines.items ≡ []
@@ -99,12 +113,14 @@ none_settled Tells accepts contents seen r queue left waits none =
       shown = subst (λ (q : List Event). Shown Tells accepts [] dispatch_next [] seen seen (engine_of r) (record (engine_of r) { queue = q })) (sym same) (rest-shown Tells accepts seen (engine_of r) empty);
       writes = record { written = nothing_written contents; none_waits = none };
       none = λ h. same ∙ empty;
+      course = subst (λ (q : List Event). PartByPart Tells accepts (stage_of seen contents r) (stage_of seen contents (queued_run q r))) (sym same)
+          (follows-none Tells accepts (stage_of seen contents r));
     }
 
 -- ---- Events, one after the other
 
 pub some_none : {Own : Type 0} (Tells : Type 0) (accepts : List TableView → Bool) (contents : Option (List ℕ)) (seen : Seen Own) (r : Run) → r.core.lines.items ≡ [] → DispatchesSome Tells accepts 0 contents contents seen seen r r
-some_none Tells accepts contents seen r none = record { text = []; shown = shown-none Tells accepts seen (engine_of r); writes = writes_none contents r.core none }
+some_none Tells accepts contents seen r none = record { text = []; shown = shown-none Tells accepts seen (engine_of r); writes = writes_none contents r.core none; course = follows-none Tells accepts (stage_of seen contents r) }
 
 pub some_more : {Own : Type 0} (Tells : Type 0) (accepts : List TableView → Bool) (n : ℕ) (found : Bool) (a b c : Option (List ℕ)) (old mid new : Seen Own) (r then_r now_r : Run) → Continues Tells mid new → DispatchesSome Tells accepts n a b old mid r then_r
     → DispatchesOldest Tells accepts found b c mid new then_r now_r → DispatchesSome Tells accepts (n + 1) a c old new r now_r
@@ -114,6 +130,7 @@ some_more Tells accepts n found a b c old mid new r then_r now_r continues some 
       (λ allows q is. sym (times-more n 1 (dispatch_next allows) q))
       (shown-then Tells accepts [] [] (λ allows q. times n (dispatch_next allows) q) dispatch_next some.text one.text old mid new (engine_of r) (engine_of then_r) (engine_of now_r) continues some.shown one.shown);
   writes = writes_then some.text one.text a b c then_r.core now_r.core some.writes one.writes;
+  course = follows-then Tells accepts (stage_of old a r) (stage_of mid b then_r) (stage_of new c now_r) some.course one.course;
 }
 
 -- where none is left after so many, all were dispatched
@@ -149,7 +166,7 @@ settled_early {Own} Tells accepts n m text old new e now_e sum none shown = reco
 pub settles_early : {Own : Type 0} (Tells : Type 0) (accepts : List TableView → Bool) (n : ℕ) (a b : Option (List ℕ)) (old new : Seen Own) (r now_r : Run) → n ≤ 1000 → now_r.core.queue ≡ [] → DispatchesSome Tells accepts n a b old new r now_r → DispatchesWaiting Tells accepts a b old new r now_r
 settles_early Tells accepts n a b old new r now_r few none some =
     let rest : (m : ℕ) × (n + m ≡ 1000) = (1000 - n, omega (arith, few)) in
-    record { text = some.text; shown = settled_early Tells accepts n rest.0 some.text old new (engine_of r) (engine_of now_r) rest.1 none some.shown; writes = some.writes }
+    record { text = some.text; shown = settled_early Tells accepts n rest.0 some.text old new (engine_of r) (engine_of now_r) rest.1 none some.shown; writes = some.writes; course = some.course }
 
 pub settles_all : {Own : Type 0} (Tells : Type 0) (accepts : List TableView → Bool) (n : ℕ) (a b : Option (List ℕ)) (old new : Seen Own) (r now_r : Run) → n ≡ 1000 → DispatchesSome Tells accepts n a b old new r now_r → DispatchesWaiting Tells accepts a b old new r now_r
 settles_all Tells accepts n a b old new r now_r all some = record {
@@ -157,6 +174,7 @@ settles_all Tells accepts n a b old new r now_r all some = record {
   shown = shown-as Tells accepts [] (λ allows q. times n (dispatch_next allows) q) settle some.text old new (engine_of r) (engine_of now_r)
       (λ allows q is. ap (λ (k : ℕ). times k (dispatch_next allows) q) all ∙ settle-times allows q) some.shown;
   writes = some.writes;
+  course = some.course;
 }
 
 -- ---- Rounds
@@ -191,10 +209,24 @@ pub batch_written : {Own : Type 0} (Tells : Type 0) (rest : Rest) (old new : See
 batch_written Tells rest old new r then_c mid_c continues none waits shown same =
     subst (λ (e : Engine). IsBatch Tells rest then_c.lines.items old new (engine_of r) e) (sym (stays_engine r then_c mid_c same)) (batch_is Tells rest old new r then_c continues none waits shown)
 
+-- In every world the messages that were kept came first in it.
+pub batch_follows : {Own : Type 0} (Tells : Type 0) (accepts : List TableView → Bool) (contents held : Option (List ℕ)) (old mid : Seen Own) (r : Run) (then_c mid_c : Core) → Continues Tells old mid → KeptComesFirst r.core.net then_c.net r.core.queue then_c.queue
+    → Waits r.core then_c → Stays then_c mid_c → Writes then_c.lines.items contents held mid_c → PartByPart Tells accepts (stage_of old contents r) (stage_of mid held (record r { core = mid_c }))
+batch_follows Tells accepts contents held old mid r then_c mid_c first kept waits same writes = follows-one Tells accepts (stage_of old contents r) (stage_of mid held (record r { core = mid_c })) (record {
+  continues = first;
+  part = inl (record {
+    first = subst (λ (n : NetState). KeptComesFirst r.core.net n r.core.queue mid_c.queue) (sym same.net) (subst (λ (q : List Event). KeptComesFirst r.core.net then_c.net r.core.queue q) (sym same.queue) kept);
+    events = same.events ∙ waits.events;
+    apps = ap (λ (slots : List Slot). map (application_of slots) r.apps.items) (same.store ∙ waits.store);
+    noted = then_c.lines.items;
+    written = writes.written;
+  });
+})
+
 -- and were written
 pub round_is : {Own : Type 0} {Tells : Type 0} {accepts : List TableView → Bool} {rest : Rest} {contents held now_contents : Option (List ℕ)} {old mid new : Seen Own} {r now_r : Run} {then_c mid_c : Core} → Continues Tells old mid → r.core.lines.items ≡ [] → Waits r.core then_c
-    → BatchShown Tells rest old mid r.core then_c → Stays then_c mid_c → Writes then_c.lines.items contents held mid_c → Continues Tells mid new → DispatchesWaiting Tells accepts held now_contents mid new (record r { core = mid_c }) now_r → GoesRound Tells accepts rest contents now_contents old new r now_r
-round_is {Tells = Tells} {rest = rest} {held = held} {old = old} {mid = mid} {r = r} {then_c = then_c} {mid_c = mid_c} first none waits batch same writes later dispatches = record {
+    → BatchShown Tells rest old mid r.core then_c → KeptComesFirst r.core.net then_c.net r.core.queue then_c.queue → Stays then_c mid_c → Writes then_c.lines.items contents held mid_c → Continues Tells mid new → DispatchesWaiting Tells accepts held now_contents mid new (record r { core = mid_c }) now_r → GoesRound Tells accepts rest contents now_contents old new r now_r
+round_is {Tells = Tells} {accepts = accepts} {rest = rest} {contents = contents} {held = held} {now_contents = now_contents} {old = old} {mid = mid} {new = new} {r = r} {now_r = now_r} {then_c = then_c} {mid_c = mid_c} first none waits batch kept same writes later dispatches = record {
   mid = mid;
   mid_run = record r { core = mid_c };
   first = first;
@@ -204,6 +236,8 @@ round_is {Tells = Tells} {rest = rest} {held = held} {old = old} {mid = mid} {r 
   written = writes.written;
   later = later;
   dispatches = dispatches;
+  course = follows-then Tells accepts (stage_of old contents r) (stage_of mid held (record r { core = mid_c })) (stage_of new now_contents now_r)
+      (batch_follows Tells accepts contents held old mid r then_c mid_c first kept waits same writes) dispatches.course;
 }
 
 -- and the run goes on
@@ -228,7 +262,7 @@ round_written first noted second a b held c r later one written two = record {
 }
 
 pub rounds_none : {Own : Type 0} (Tells : Type 0) (accepts : List TableView → Bool) (contents : Option (List ℕ)) (seen : Seen Own) (r : Run) → r.core.lines.items ≡ [] → GoesRounds Tells accepts 0 contents contents seen seen r r
-rounds_none Tells accepts contents seen r none = record { text = []; shown = rounds-none Tells accepts seen (engine_of r); writes = writes_none contents r.core none }
+rounds_none Tells accepts contents seen r none = record { text = []; shown = rounds-none Tells accepts seen (engine_of r); writes = writes_none contents r.core none; course = follows-none Tells accepts (stage_of seen contents r) }
 
 pub rounds_next : {Own : Type 0} (Tells : Type 0) (accepts : List TableView → Bool) (n : ℕ) (a b c : Option (List ℕ)) (old mid new : Seen Own) (r then_r now_r : Run) → GoesRounds Tells accepts n a b old mid r then_r → GoesRound Tells accepts rests.Idle b c mid new then_r now_r
     → GoesRounds Tells accepts (n + 1) a c old new r now_r
@@ -236,6 +270,7 @@ rounds_next Tells accepts n a b c old mid new r then_r now_r rounds one = record
   text = (rounds.text ++ one.noted) ++ one.dispatches.text;
   shown = rounds-more Tells accepts n rounds.text one.noted one.dispatches.text old mid one.mid new (engine_of r) (engine_of then_r) (engine_of one.mid_run) (engine_of now_r) one.first one.later rounds.shown one.batch one.dispatches.shown;
   writes = round_written rounds.text one.noted one.dispatches.text a b one.held c then_r.core now_r.core rounds.writes one.written one.dispatches.writes;
+  course = follows-then Tells accepts (stage_of old a r) (stage_of mid b then_r) (stage_of new c now_r) rounds.course one.course;
 }
 
 pub rounds_last : {Own : Type 0} (Tells : Type 0) (accepts : List TableView → Bool) (most n : ℕ) (a b c : Option (List ℕ)) (old mid new : Seen Own) (r then_r now_r : Run) → n < most → GoesRounds Tells accepts n a b old mid r then_r → GoesRound Tells accepts rests.End b c mid new then_r now_r
@@ -250,6 +285,7 @@ rounds_last Tells accepts most n a b c old mid new r then_r now_r few rounds one
         none-later Tells mid new told (Continues-trans Tells mid one.mid new one.first one.later) keeps (one.batch.none_to_come told keeps_mid then_settled);
   };
   writes = round_written rounds.text one.noted one.dispatches.text a b one.held c then_r.core now_r.core rounds.writes one.written one.dispatches.writes;
+  course = follows-then Tells accepts (stage_of old a r) (stage_of mid b then_r) (stage_of new c now_r) rounds.course one.course;
 }
 
 -- all of them, each with a stimulus
@@ -259,6 +295,7 @@ rounds_out {Own} Tells accepts most n a b old new r now_r many rounds = record {
   shown = rounds-spent Tells accepts n most rounds.text old new (engine_of r) (engine_of now_r) many rounds.shown;
   none_to_come = record { none = λ allows told keeps judges settled few. absurd (never allows told keeps judges settled few) };
   writes = rounds.writes;
+  course = rounds.course;
 }
   where
     never : (allows : List Place → Bool) → Tells → Conforming new → JudgesAlike Own allows accepts → AtRest old (engine_of r) → length (stimuli_in new) < most → ⊥
@@ -280,6 +317,11 @@ begins_is Tells contents now_contents old new r mid now_c none starts same write
   text = starts.text;
   shown = subst (λ (e : Engine). ShownStart Tells starts.text old new (engine_of r) e) (sym (stays_engine mid mid.core now_c same)) (all_begun Tells old new r mid starts);
   writes = all_noted contents now_contents starts.text r.core mid.core now_c none starts.notes writes;
+  still = record {
+    net = same.net ∙ starts.stays.net;
+    queue = same.queue ∙ starts.stays.queue;
+    events = same.events ∙ starts.stays.events;
+  };
 }
 
 -- the same run, with its lines written

@@ -20,7 +20,8 @@ use Rattle.net_txn.specs.Arriving.{Arrives}
 use Rattle.event_dispatch.specs.declared.batch.Rest.{Rest}
 use Rattle.event_dispatch.specs.declared.engine_core.Core.{Core}
 use Rattle.event_dispatch.specs.Runs.{Waits}
-use Rattle.event_dispatch.specs.Batch.{standing_of, rest_by, IsAsBefore, TakesKept, KeptComesFirst, BatchGoes}
+use Rattle.run_laws.specs.Course.{KeptComesFirst}
+use Rattle.event_dispatch.specs.Batch.{standing_of, rest_by, IsAsBefore, TakesKept, BatchGoes}
 use Rattle.event_dispatch.specs.Steady.{Reads}
 use Rattle.event_dispatch.specs.Told.{BatchPoint}
 use Rattle.event_dispatch.specs.Taking.{PassesOnLinks, OnLinksSoFar, UsesLinksAt, UsesLinksOf, AsksNext, PassesNext, ItemDone, HandledNext}
@@ -241,7 +242,7 @@ all_taken : {A B C : Type 0} → A ⊎ (B × C) → A ⊎ B
 all_taken (inl none) = inl none
 all_taken (inr most) = inr most.0
 
-pub kept_comes_first : {Own : Type 0} {left : ℕ} {old new : Seen Own} (run now_run : Core) → TakesKept left old new run now_run → KeptComesFirst run now_run
+pub kept_comes_first : {Own : Type 0} {left : ℕ} {old new : Seen Own} (run now_run : Core) → TakesKept left old new run now_run → KeptComesFirst run.net now_run.net run.queue now_run.queue
 kept_comes_first run now_run kept = record {
   taken = kept.taken;
   others = now_run.net.kept;

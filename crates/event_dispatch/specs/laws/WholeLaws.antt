@@ -35,7 +35,9 @@ use Rattle.event_dispatch.specs.declared.run.Run.{Run}
 use Rattle.event_dispatch.specs.declared.served.Served.{Served}
 use Rattle.event_dispatch.specs.declared.served.Served.TheVariants as served
 use Rattle.event_dispatch.specs.Why.{served_by}
-use Rattle.event_dispatch.specs.Shows.{Stays, application_of, engine_of}
+use Rattle.run_laws.specs.Course.{PartByPart}
+use Rattle.run_laws.specs.laws.CourseLaws.{follows-one, follows-then, runs-later}
+use Rattle.event_dispatch.specs.Shows.{Stays, application_of, engine_of, stage_of}
 use Rattle.event_dispatch.specs.Steady.{NoPoint, IsEnded}
 use Rattle.event_dispatch.specs.ReportEnd.{LastShown}
 use Rattle.event_dispatch.specs.Runs.{Going}
@@ -59,6 +61,8 @@ ends_is Tells contents now_contents last new r mid now_c none shown counted writ
         };
   };
   events = same.events ∙ counted;
+  text = mid.core.lines.items;
+  written = writes.written;
 }
 
 -- events are left, where the queue is not empty
@@ -67,6 +71,14 @@ some_left [] left empty is none same = absurd (true≢false (sym (is.1 refl) ∙
 some_left (event ∷ queue) left empty is none same = omega (arith, same)
 
 -- ---- From the start to the end
+
+-- the parts of the run up to there
+went_course : {Own : Type 0} (Tells : Type 0) (accepts : List TableView → Bool) (most : ℕ) (a b c : Option (List ℕ)) (old begun last : Seen Own) (r r1 r2 : Run) → Continues Tells old begun → Begins Tells a b old begun r r1 → GoesToEnd Tells accepts most b c begun last r1 r2
+    → PartByPart Tells accepts (stage_of old a r) (stage_of last c r2)
+went_course Tells accepts most a b c old begun last r r1 r2 first begins rounds =
+    follows-then Tells accepts (stage_of old a r) (stage_of begun b r1) (stage_of last c r2)
+    (follows-one Tells accepts (stage_of old a r) (stage_of begun b r1) (record { continues = first; part = inr (inr (record { still = begins.still; text = begins.text; written = begins.writes.written })) }))
+    rounds.course
 
 none_then : {Own : Type 0} {text : List ℕ} (Tells : Type 0) (accepts : List TableView → Bool) (most : ℕ) (old begun last new : Seen Own) (e : Engine) (b c : Option (List ℕ)) (r1 r2 : Run) → Continues Tells begun last → Continues Tells last new → ShownStart Tells text old begun e (engine_of r1)
     → GoesToEnd Tells accepts most b c begun last r1 r2 → NoneToCome Tells accepts most old new e
@@ -77,9 +89,9 @@ none_then Tells accepts most old begun last new e b c r1 r2 on later begins roun
       none-later Tells last new told later keeps (rounds.none_to_come.none allows told keeps_last judges one.settled (fewer-before Tells last new told later few));
 }
 
-pub went_out : {Own : Type 0} (Tells : Type 0) (accepts : List TableView → Bool) (most : ℕ) (a b c d : Option (List ℕ)) (old begun last new : Seen Own) (r r1 r2 now_r : Run) → Continues Tells begun last → Continues Tells last new → length (engine_of r2).apps ≡ length (engine_of r).apps → Begins Tells a b old begun r r1
+pub went_out : {Own : Type 0} (Tells : Type 0) (accepts : List TableView → Bool) (most : ℕ) (a b c d : Option (List ℕ)) (old begun last new : Seen Own) (r r1 r2 now_r : Run) → Continues Tells old begun → Continues Tells begun last → Continues Tells last new → length (engine_of r2).apps ≡ length (engine_of r).apps → Begins Tells a b old begun r r1
     → GoesToEnd Tells accepts most b c begun last r1 r2 → Finishes Tells (Ok tt) c d last new r2 now_r → RunsOut Tells accepts most now_r.core.events a d old new (engine_of r)
-went_out Tells accepts most a b c d old begun last new r r1 r2 now_r on later number begins rounds ends = record {
+went_out Tells accepts most a b c d old begun last new r r1 r2 now_r first on later number begins rounds ends = record {
   last = engine_of r2;
   out = record {
     last = last;
@@ -92,11 +104,17 @@ went_out Tells accepts most a b c d old begun last new r r1 r2 now_r on later nu
   number = number;
   events_is = ends.1.events;
   none_to_come = none_then Tells accepts most old begun last new (engine_of r) b c r1 r2 on later begins.shown rounds;
+  held = c;
+  course = record {
+    course = went_course Tells accepts most a b c old begun last r r1 r2 first begins rounds;
+    later = later;
+  };
+  written = (ends.1.text, ends.1.written);
 }
 
-pub went_full : {Own : Type 0} (Tells : Type 0) (accepts : List TableView → Bool) (most left : ℕ) (a b c d : Option (List ℕ)) (old begun last new : Seen Own) (r r1 r2 now_r : Run) → Continues Tells begun last → Continues Tells last new → length (engine_of r2).apps ≡ length (engine_of r).apps → Begins Tells a b old begun r r1
+pub went_full : {Own : Type 0} (Tells : Type 0) (accepts : List TableView → Bool) (most left : ℕ) (a b c d : Option (List ℕ)) (old begun last new : Seen Own) (r r1 r2 now_r : Run) → Continues Tells old begun → Continues Tells begun last → Continues Tells last new → length (engine_of r2).apps ≡ length (engine_of r).apps → Begins Tells a b old begun r r1
     → GoesToEnd Tells accepts most b c begun last r1 r2 → Finishes Tells (Err (served.EventsLeft left)) c d last new r2 now_r → RunsFull Tells accepts most left a d old new (engine_of r)
-went_full {Own} Tells accepts most left a b c d old begun last new r r1 r2 now_r on later number begins rounds ends = record {
+went_full {Own} Tells accepts most left a b c d old begun last new r r1 r2 now_r first on later number begins rounds ends = record {
   full = record {
     last = last;
     now_engine = engine_of r2;
@@ -109,6 +127,10 @@ went_full {Own} Tells accepts most left a b c d old begun last new r r1 r2 now_r
   };
   number = number;
   none_to_come = none_then Tells accepts most old begun last new (engine_of r) b c r1 r2 on later begins.shown rounds;
+  course = record {
+    course = subst (λ (o : Option (List ℕ)). PartByPart Tells accepts (stage_of old a r) (stage_of last o r2)) (sym ends.1) (went_course Tells accepts most a b c old begun last r r1 r2 first begins rounds);
+    later = later;
+  };
 }
   where
     leaves-nothing : (n : ℕ) (seen : Seen Own) → Leaves n [] seen seen
@@ -128,16 +150,16 @@ went_full {Own} Tells accepts most left a b c d old begun last new r r1 r2 now_r
 pub number_then : (r r2 : Run) → Going r → Going r2 → length r2.core.store ≡ length r.core.store → length (engine_of r2).apps ≡ length (engine_of r).apps
 number_then r r2 going going_then same = sym (number_is r2 going_then) ∙ same ∙ number_is r going
 
-pub went_as : {Own : Type 0} (Tells : Type 0) (accepts : List TableView → Bool) (most : ℕ) (result : Result (Unit {0}) Served) (a b c d : Option (List ℕ)) (old begun last new : Seen Own) (r r1 r2 now_r : Run) → Continues Tells begun last → Continues Tells last new → length (engine_of r2).apps ≡ length (engine_of r).apps → Begins Tells a b old begun r r1
+pub went_as : {Own : Type 0} (Tells : Type 0) (accepts : List TableView → Bool) (most : ℕ) (result : Result (Unit {0}) Served) (a b c d : Option (List ℕ)) (old begun last new : Seen Own) (r r1 r2 now_r : Run) → Continues Tells old begun → Continues Tells begun last → Continues Tells last new → length (engine_of r2).apps ≡ length (engine_of r).apps → Begins Tells a b old begun r r1
     → GoesToEnd Tells accepts most b c begun last r1 r2 → Finishes Tells result c d last new r2 now_r → GoesAs Tells accepts most result a d old new r now_r
-went_as Tells accepts most (Ok x) a b c d old begun last new r r1 r2 now_r on later number begins rounds ends = went_out Tells accepts most a b c d old begun last new r r1 r2 now_r on later number begins rounds ends
-went_as Tells accepts most (Err (served.EventsLeft left)) a b c d old begun last new r r1 r2 now_r on later number begins rounds ends = went_full Tells accepts most left a b c d old begun last new r r1 r2 now_r on later number begins rounds ends
-went_as Tells accepts most (Err (served.Ended events)) a b c d old begun last new r r1 r2 now_r on later number begins rounds ends = absurd ends
-went_as Tells accepts most (Err served.WriteFault) a b c d old begun last new r r1 r2 now_r on later number begins rounds ends = tt
-went_as Tells accepts most (Err served.Shut) a b c d old begun last new r r1 r2 now_r on later number begins rounds ends = tt
-went_as Tells accepts most (Err served.NextFault) a b c d old begun last new r r1 r2 now_r on later number begins rounds ends = tt
-went_as Tells accepts most (Err (served.Txn fault)) a b c d old begun last new r r1 r2 now_r on later number begins rounds ends = tt
-went_as Tells accepts most (Err served.NoMemory) a b c d old begun last new r r1 r2 now_r on later number begins rounds ends = tt
+went_as Tells accepts most (Ok x) a b c d old begun last new r r1 r2 now_r first on later number begins rounds ends = went_out Tells accepts most a b c d old begun last new r r1 r2 now_r first on later number begins rounds ends
+went_as Tells accepts most (Err (served.EventsLeft left)) a b c d old begun last new r r1 r2 now_r first on later number begins rounds ends = went_full Tells accepts most left a b c d old begun last new r r1 r2 now_r first on later number begins rounds ends
+went_as Tells accepts most (Err (served.Ended events)) a b c d old begun last new r r1 r2 now_r first on later number begins rounds ends = absurd ends
+went_as Tells accepts most (Err served.WriteFault) a b c d old begun last new r r1 r2 now_r first on later number begins rounds ends = tt
+went_as Tells accepts most (Err served.Shut) a b c d old begun last new r r1 r2 now_r first on later number begins rounds ends = tt
+went_as Tells accepts most (Err served.NextFault) a b c d old begun last new r r1 r2 now_r first on later number begins rounds ends = tt
+went_as Tells accepts most (Err (served.Txn fault)) a b c d old begun last new r r1 r2 now_r first on later number begins rounds ends = tt
+went_as Tells accepts most (Err served.NoMemory) a b c d old begun last new r r1 r2 now_r first on later number begins rounds ends = tt
 
 -- ---- The applications are ended at last
 
@@ -164,6 +186,9 @@ out_then Tells accepts most events a b old mid new e later leaves runs = record 
   number = runs.number;
   events_is = runs.events_is;
   none_to_come = none_later_then Tells accepts most old mid new e later runs.none_to_come;
+  held = runs.held;
+  course = runs-later Tells accepts (record { seen = old; engine = e; written = a }) (record { seen = runs.out.last; engine = runs.last; written = runs.held }) mid new later runs.course;
+  written = runs.written;
 }
 
 full_then : {Own : Type 0} (Tells : Type 0) (accepts : List TableView → Bool) (most left : ℕ) (a b : Option (List ℕ)) (old mid new : Seen Own) (e : Engine) → Continues Tells mid new → ShownLeaves Tells (length e.apps) mid new → RunsFull Tells accepts most left a b old mid e
@@ -184,6 +209,7 @@ full_then Tells accepts most left a b old mid new e later leaves runs = record {
   };
   number = runs.number;
   none_to_come = none_later_then Tells accepts most old mid new e later runs.none_to_come;
+  course = runs-later Tells accepts (record { seen = old; engine = e; written = a }) (record { seen = runs.full.last; engine = runs.full.now_engine; written = b }) mid new later runs.course;
 }
 
 pub goes_then : {Own : Type 0} (Tells : Type 0) (accepts : List TableView → Bool) (most : ℕ) (result : Result (Unit {0}) Served) (a b : Option (List ℕ)) (old mid new : Seen Own) (r now_r : Run) → Continues Tells mid new → ShownLeaves Tells (length (engine_of r).apps) mid new → GoesAs Tells accepts most result a b old mid r now_r

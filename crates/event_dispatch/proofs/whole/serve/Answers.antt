@@ -6,6 +6,7 @@ use Rattle.event_dispatch.specs.laws.ReadLaws.{unopened_places, opened_places, u
 use Rattle.run_laws.specs.First.{net_at_first}
 use Rattle.event_dispatch.specs.laws.EndedLaws.{unopened_ended, opened_ended}
 use Rattle.event_dispatch.specs.laws.NumberLaws.{unopened_ids, opened_ids}
+use Rattle.event_dispatch.specs.laws.EndCourseLaws.{course_unopened, course_done, course_failed}
 use Rattle.event_dispatch.specs.laws.WhyLaws.{continues_then, why_sink, why_behind, same_fell}
 use Rattle.event_dispatch.proofs.whole.serve.Goals as goal
 
@@ -148,3 +149,20 @@ pub returns-in-Err-run-clause-own_ids_ascend : goal.returns-in-Err-run-clause-ow
 returns-in-Err-run-clause-own_ids_ascend g c =
     opened_ids g.W.World.Tells (g.W.World.seen c.args.world.now) (g.W.World.seen c.open.new.world) (g.W.World.seen c.run.new.world)
     c.in_default.ensures.opened c.in-Err-run.ensures.passes.numbers
+
+pub returns-in-Err-clause-kept_messages_come_first : goal.returns-in-Err-clause-kept_messages_come_first
+returns-in-Err-clause-kept_messages_come_first g c =
+    course_unopened (map app_value c.args.rules.now) g.W.World.Tells (g.J.Judge.accepts c.args.judge.now) (g.K.Sink.contents c.args.sink.now)
+    (g.W.World.seen c.args.world.now) (g.W.World.seen c.open.new.world) c.in-Err.served c.open.ensures.continues c.in-Err.ensures.unopened
+
+pub returns-in-Ok-clause-kept_messages_come_first : goal.returns-in-Ok-clause-kept_messages_come_first
+returns-in-Ok-clause-kept_messages_come_first g c =
+    course_done (map app_value c.args.rules.now) g.W.World.Tells (g.J.Judge.accepts c.args.judge.now) c.args.rounds c.in-Ok.events
+    (g.K.Sink.contents c.args.sink.now) (g.K.Sink.contents c.run.new.sink) (g.W.World.seen c.args.world.now) (g.W.World.seen c.open.new.world)
+    (g.W.World.seen c.run.new.world) c.open.ensures.continues c.in-Ok.ensures.done.runs
+
+pub returns-in-Err-run-clause-kept_messages_come_first : goal.returns-in-Err-run-clause-kept_messages_come_first
+returns-in-Err-run-clause-kept_messages_come_first g c =
+    course_failed (map app_value c.args.rules.now) g.W.World.Tells (g.J.Judge.accepts c.args.judge.now) c.args.rounds c.in-Err-run.served
+    (g.K.Sink.contents c.args.sink.now) (g.K.Sink.contents c.run.new.sink) (g.W.World.seen c.args.world.now) (g.W.World.seen c.open.new.world)
+    (g.W.World.seen c.run.new.world) c.open.ensures.continues c.in-Err-run.ensures.done.runs c.in-Err-run.ensures.done.fails.cut

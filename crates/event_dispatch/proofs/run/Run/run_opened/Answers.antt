@@ -62,7 +62,7 @@ returns g c =
             (g.K.Sink.contents c.begin.new.sink) (g.K.Sink.contents c.run_rounds.new.sink) (g.K.Sink.contents c.finish.new.sink)
             (g.W.World.seen c.args.world.now) (g.W.World.seen c.begin.new.world) (g.W.World.seen c.run_rounds.new.world) (g.W.World.seen c.finish.new.world)
             c.args.self.now c.begin.new.self c.run_rounds.new.self c.finish.new.self
-            rounds.passes.passes.continues last.passes.continues (number_then c.args.self.now c.run_rounds.new.self
+            first.passes.passes.continues rounds.passes.passes.continues last.passes.continues (number_then c.args.self.now c.run_rounds.new.self
             c.requires.going rounds.done.going number) first.done.begins rounds.done.to_end last.done.finishes;
         fails = went_fails (g.J.Judge.accepts c.args.judge.now) c.args.rounds (g.K.Sink.contents c.args.sink.now) (g.K.Sink.contents c.begin.new.sink)
             (g.K.Sink.contents c.run_rounds.new.sink) (g.K.Sink.contents c.finish.new.sink) (g.K.Sink.faults c.args.sink.now)

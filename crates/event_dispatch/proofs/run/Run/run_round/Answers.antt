@@ -46,7 +46,7 @@ returns-in_err-write_noted g c =
       done = at_fault _ _ faults.Write c.from_residual-in_err-write_noted.result c.from_residual-in_err-write_noted.ensures.1 (record {
         cut = round_unwritten g.W.World.Tells (g.J.Judge.accepts c.args.judge.now) c.in_ok-rest.rest (g.K.Sink.contents c.args.sink.now)
             (g.K.Sink.contents c.write_noted.new.sink) (g.W.World.seen c.args.world.now) (g.W.World.seen c.take_batch.new.world) c.args.self.now
-            c.take_batch.new.self batch.passes.continues c.requires.none_waits batch.done.waits batch.done.batch batch.passes.reads
+            c.take_batch.new.self batch.passes.continues c.requires.none_waits batch.done.waits batch.done.batch batch.done.first batch.passes.reads
             c.in_err-write_noted.ensures.some c.in_err-write_noted.ensures.lines.part;
         why = c.in_err-write_noted.ensures.lines.rose;
         plain = run_anyway (g.W.World.seen c.args.world.now) (g.W.World.seen c.take_batch.new.world) (engine_of c.args.self.now) (served_by faults.Write) tt;
@@ -72,7 +72,7 @@ returns-in_err-dispatch_waiting g c =
         cut = round_behind g.W.World.Tells (g.J.Judge.accepts c.args.judge.now) c.in_ok-rest.rest fault (g.K.Sink.contents c.args.sink.now)
             (g.K.Sink.contents c.write_noted.new.sink) (g.K.Sink.contents c.dispatch_waiting.new.sink) (g.W.World.seen c.args.world.now)
             (g.W.World.seen c.take_batch.new.world) (g.W.World.seen c.dispatch_waiting.new.world) c.args.self.now c.take_batch.new.self c.write_noted.new.self
-            batch.passes.continues c.requires.none_waits batch.done.waits batch.done.batch batch.passes.reads c.write_noted.ensures.lines.stays
+            batch.passes.continues c.requires.none_waits batch.done.waits batch.done.batch batch.done.first batch.passes.reads c.write_noted.ensures.lines.stays
             c.in_ok-write_noted.ensures.lines.writes later fails.cut;
         why = why_behind (g.W.World.seen c.args.world.now) (g.W.World.seen c.take_batch.new.world) (g.W.World.seen c.dispatch_waiting.new.world)
             (g.K.Sink.faults c.args.sink.now) (g.K.Sink.faults c.write_noted.new.sink) (g.K.Sink.faults c.dispatch_waiting.new.sink)
@@ -97,7 +97,7 @@ returns g c =
         buffer = c.take_batch.ensures.buffer;
       };
       done = record {
-        round = round_is batch.passes.continues c.requires.none_waits batch.done.waits batch.done.batch c.write_noted.ensures.lines.stays
+        round = round_is batch.passes.continues c.requires.none_waits batch.done.waits batch.done.batch batch.done.first c.write_noted.ensures.lines.stays
             c.in_ok-write_noted.ensures.lines.writes waiting.passes.continues waiting.done.dispatches;
         going = waiting.done.going;
         number = waiting.done.number ∙ (ap (λ (slots : List Slot). length slots) (c.in_ok-write_noted.ensures.lines.waits.store ∙ batch.done.waits.store));
