@@ -5,7 +5,8 @@
 //! (`reference_run_until_fault`). Each end has its cause (`end_has_cause`); no switch ends such a run, but by a flood
 //! (`no_switch_at_fault`); no call of a link is stray (`no_stray_call`); no transaction id is used twice (`own_ids_ascend`);
 //! what came was messages (`all_bytes_are_messages`); each application that was started is ended
-//! (`every_application_ended`); the world is only called as its calls allow (`continues`, `never_fell`).
+//! (`every_application_ended`); the world is only called as its calls allow (`continues`, `never_fell`). In any world the
+//! messages that were kept come first in the next batch (`kept_messages_come_first`).
 #![tactic(auto)]
 
 mod batch;

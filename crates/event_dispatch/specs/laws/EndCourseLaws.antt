@@ -1,5 +1,5 @@
 -- What follows about the course of a run that a fault ended, or that came to its end: up to there it went from part to part.
-use Rattle.std.proofs.Common.{◌≡◌, ℕ, Bool, List, [], length, Option, Ok, Err, refl, sym, subst, inl, inr}
+use Rattle.std.proofs.Common.{◌≡◌, ℕ, Bool, List, [], Option, Ok, Err, refl, sym, subst, inl, inr}
 use Rattle.std.specs.Io.KnownBytes.{append_known}
 use Rattle.flow_table.specs.View.{TableView}
 use Rattle.crash_policy.specs.Policies.{AppValue}
@@ -17,7 +17,7 @@ use Rattle.event_dispatch.specs.declared.served.Served.TheVariants as served
 use Rattle.event_dispatch.specs.Why.{served_by}
 use Rattle.event_dispatch.specs.Shows.{engine_of, stage_of}
 use Rattle.event_dispatch.specs.Serves.{RunsAs, IsUnopened, EndsAt, GoesItsCourse}
-use Rattle.event_dispatch.specs.Cut.{IsStill, CutOne, CutSome, CutBehind, CutNoted, CutRound, CutRounds, CutStart, CutGoing, CutEnd, CutEnding, CutGoes, CutRun, CutAs}
+use Rattle.event_dispatch.specs.Cut.{IsStill, CutOne, CutSome, CutNoted, CutRound, CutRounds, CutStart, CutEnd, CutGoes, CutRun, CutAs}
 
 -- what was written behind the last whole part
 abbrev EndsBy : {Own : Type 0} → Type 0 → (List TableView → Bool) → Fault → Option (List ℕ) → Stage Own → Type 0

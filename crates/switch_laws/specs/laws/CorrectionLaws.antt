@@ -1,15 +1,14 @@
 -- What follows about entries as their owners see them, by what the host keeps: all that laws above need of it.
-use Rattle.std.proofs.Common.{◌≡◌, ◌==◌, ℕ, Bool, true, false, List, [], ◌∷◌, map, filter, Option, Some, None, if◌then◌else◌, refl, sym, ap, ap₂, ◌∙◌, inl, inr}
+use Rattle.std.proofs.Common.{◌≡◌, ◌==◌, ℕ, List, [], ◌∷◌, map, filter, refl, sym, ap, ap₂, ◌∙◌, inl, inr}
 use Rattle.std.proofs.lemmas.Bool.{cases_Bool}
 use Rattle.std.specs.List.{AllByRecursion}
 use Rattle.of_match.specs.declared.key.Key.{Key}
 use Rattle.of_match.specs.Key.{key_number}
 use Rattle.of_wire.specs.declared.bodies.FlowMod.{FlowMod as Change}
 use Rattle.flow_table.specs.declared.entry.Entry.{Entry}
-use Rattle.flow_table.specs.declared.notice.Notice.{Notice}
 use Rattle.flow_table.specs.declared.view.ViewRow.{ViewRow}
 use Rattle.flow_table.specs.Change.{key_in, asks_notice, new_entry}
-use Rattle.flow_table.specs.Corrected.{row_at, shown_entry}
+use Rattle.flow_table.specs.Corrected.{shown_entry}
 use Rattle.flow_table.specs.Expiry.{expiry_notices}
 use Rattle.flow_table.specs.Step.{flow_removed}
 use Rattle.flow_table.specs.Statistics.{flow_row}
