@@ -1,6 +1,6 @@
 -- What the engine knows of its network, and what each item that the outside tells makes of it: the events that wait then, and what is known
 -- of tables, ports and the moment (OpenFlow 1.0.0, 5.4 Asynchronous Messages). All of this is our own.
-use Rattle.std.specs.Prelude.{◌≡◌, ◌⊎◌, ◌==◌, ℕ, Bool, true, false, not, List, [], ◌∷◌, ◌++◌, filter, map, Option, Some, None, Result, Ok, Err, is_some, if◌then◌else◌}
+use Rattle.std.specs.Prelude.{◌≡◌, ◌==◌, ℕ, Bool, true, false, not, List, [], ◌∷◌, ◌++◌, filter, map, Option, Some, None, Result, Ok, Err, is_some, if◌then◌else◌}
 use Rattle.std.specs.List.{flat_map}
 use Rattle.lego_model.specs.RunReport.{lost_line}
 use Rattle.of_wire.specs.declared.message.Message.{Message}
@@ -146,9 +146,3 @@ known_lost d other k = k
 abbrev pub text_lost : ℕ → WorldStep → Knowledge → List ℕ
 text_lost d (From e bytes) k = lost_text (ports_lost d k.ports)
 text_lost d other k = lost_line d
-
--- items, one after the other, at each of which a switch may be lost
-abbrev pub HandledTo : List WorldStep → Knowledge → Knowledge → Type 0
-HandledTo [] k now = now ≡ k
-HandledTo (item ∷ items) k now =
-    (mid : Knowledge) × (((mid ≡ handled item k) ⊎ ((d : ℕ) × LosesAt d item k × (mid ≡ known_lost d item k))) × HandledTo items mid now)

@@ -18,7 +18,8 @@ use Rattle.event_dispatch.specs.declared.batch.Rest.{Rest}
 use Rattle.event_dispatch.specs.declared.engine_core.Core.{Core}
 use Rattle.event_dispatch.specs.declared.fault.Fault.{Fault}
 use Rattle.event_dispatch.specs.Runs.{AreRead, Waits}
-use Rattle.run_laws.specs.Course.{KeptComesFirst}
+use Rattle.run_laws.specs.Course.{BatchTaken}
+use Rattle.event_dispatch.specs.Serves.{stand}
 use Rattle.event_dispatch.specs.Batch.{TakesItem, TakesJoin, TakesKept, NextTaken, BatchShown}
 use Rattle.event_dispatch.specs.Why.{IsReason, served_by}
 use Rattle.event_dispatch.specs.Talking.{KeepsTalking}
@@ -131,7 +132,7 @@ pub record BatchDone {Own : Type 0} (Tells : Type 0) (rest : Rest) (old new : Se
   pub waits : Waits run now_run
   pub read : AreRead now_run.net.kept
   -- In every world the messages that were kept come first, oldest first, and then what is told, where switches may be lost.
-  pub first : KeptComesFirst run.net now_run.net run.queue now_run.queue
+  pub first : BatchTaken Tells (stand old run) (stand new now_run)
   -- Where the world keeps its word and all was calm, one stimulus was begun, and its items were told and taken, or its switch was lost at one.
   pub batch : BatchShown Tells rest old new run now_run
 

@@ -7,13 +7,15 @@ use Rattle.lego_io.specs.Sink.{TookPart}
 use Rattle.flow_table.specs.View.{TableView}
 use Rattle.crash_policy.specs.Policies.{AppValue}
 use Rattle.app_frames.specs.declared.frame.Event.{Event}
+use Rattle.outside.specs.declared.item.Item.{Item}
 use Rattle.outside.specs.declared.step.WorldStep.{WorldStep}
 use Rattle.outside.specs.declared.step.WorldStep.TheVariants.{From}
 use Rattle.outside.specs.Seen.{Seen, Continues}
 use Rattle.net_txn.specs.Net.{NetState}
-use Rattle.batch_laws.specs.Knowledge.{knowledge_of, handled_all, HandledTo}
+use Rattle.batch_laws.specs.Knowledge.{knowledge_of, handled_all}
+use Rattle.batch_laws.specs.Items.{TakesNext}
 use Rattle.run_laws.specs.Engine.{Engine}
-use Rattle.run_laws.specs.Facts.{Dispatches}
+use Rattle.run_laws.specs.Facts.{Between, between, Dispatches}
 use Rattle.run_laws.specs.First.{engine_at_first}
 
 -- ---- The messages that were kept
@@ -22,15 +24,25 @@ use Rattle.run_laws.specs.First.{engine_at_first}
 abbrev pub as_told : List (ℕ × List ℕ) → List WorldStep
 as_told messages = map (λ m. From m.0 m.1) messages
 
--- A batch begins with the messages that were kept, oldest first, and then come the items that are told, at each of which its switch may be lost.
--- Only where more were kept than a batch can have items are some of them not taken.
+-- They were taken, oldest first: all of them, or as many as a batch can have items. The others are kept still.
 pub record KeptComesFirst (net now_net : NetState) (queue now_queue : List Event) : Type 0 where
   pub taken : List (ℕ × List ℕ)
-  pub others : List (ℕ × List ℕ)
-  pub told : List WorldStep
-  pub kept_is : net.kept ≡ taken ++ others
-  pub all : (others ≡ []) ⊎ (1000000 ≤ length taken)
-  pub handled : HandledTo told (handled_all (as_told taken) (knowledge_of net queue)) (knowledge_of now_net now_queue)
+  pub kept_is : net.kept ≡ taken ++ now_net.kept
+  pub all : (now_net.kept ≡ []) ⊎ (1000000 ≤ length taken)
+  pub knowledge : knowledge_of now_net now_queue ≡ handled_all (as_told taken) (knowledge_of net queue)
+
+-- Items were told, the last of them first here, and each was taken: what is known behind it, which events wait, and what is kept, is said there.
+abbrev pub TakesItems : {Own : Type 0} → Type 0 → List Item → Between Own → Between Own → Type 0
+TakesItems Tells [] from to = to ≡ from
+TakesItems Tells (item ∷ before) from to =
+    (mid : Between _) × TakesItems Tells before from mid × ((text : List ℕ) × TakesNext Tells item text mid.seen to.seen mid.net to.net mid.queue to.queue)
+
+-- A batch: the messages that were kept come first, and then the items that are told.
+pub record BatchTaken {Own : Type 0} (Tells : Type 0) (from to : Between Own) : Type 0 where
+  pub mid : Between Own
+  pub first : KeptComesFirst from.net mid.net from.queue mid.queue
+  pub items : List Item
+  pub told : TakesItems Tells items mid to
 
 -- ---- Parts of a run
 
@@ -41,8 +53,8 @@ pub record Stage (Own : Type 0) : Type 0 where
   pub written : Option (List ℕ)
 
 -- a batch was taken, and its lines were written
-pub record TakesBatch {Own : Type 0} (from to : Stage Own) : Type 0 where
-  pub first : KeptComesFirst from.engine.net to.engine.net from.engine.queue to.engine.queue
+pub record TakesBatch {Own : Type 0} (Tells : Type 0) (from to : Stage Own) : Type 0 where
+  pub taken : BatchTaken Tells (between from.seen from.engine) (between to.seen to.engine)
   pub events : to.engine.events ≡ from.engine.events
   pub apps : to.engine.apps ≡ from.engine.apps
   pub noted : List ℕ
@@ -70,7 +82,7 @@ pub record Starts {Own : Type 0} (from to : Stage Own) : Type 0 where
   pub written : to.written ≡ append_known from.written text
 
 abbrev pub IsPart : {Own : Type 0} → Type 0 → (List TableView → Bool) → Stage Own → Stage Own → Type 0
-IsPart Tells accepts from to = TakesBatch from to ⊎ GivesOldest Tells accepts from to ⊎ Starts from to
+IsPart Tells accepts from to = TakesBatch Tells from to ⊎ GivesOldest Tells accepts from to ⊎ Starts from to
 
 pub record Part {Own : Type 0} (Tells : Type 0) (accepts : List TableView → Bool) (from to : Stage Own) : Type 0 where
   pub continues : Continues Tells from.seen to.seen

@@ -19,7 +19,7 @@ use Rattle.outside.specs.Calls.{item_step}
 use Rattle.outside.specs.Conforming.{Conforming}
 use Rattle.net_txn.specs.Net.{NetState}
 use Rattle.batch_laws.specs.Calm.{Calm}
-use Rattle.batch_laws.specs.Knowledge.{Knowledge, knowledge_of, handled, handled_all, HandledTo, LosesAt, known_lost, with_event, lost_text}
+use Rattle.batch_laws.specs.Knowledge.{knowledge_of, handled, handled_all, with_event, lost_text}
 use Rattle.batch_laws.specs.laws.LinkTellLaws.{handled_all-append}
 use Rattle.batch_laws.specs.Items.{DoesFrom, Departs, Handles, HandlesStill, HandlesLost, TakesNext}
 use Rattle.net_txn.specs.Views.{rows_at}
@@ -31,7 +31,8 @@ use Rattle.event_dispatch.specs.declared.batch.Rest.TheVariants as rests
 use Rattle.event_dispatch.specs.declared.engine_core.Core.{Core}
 use Rattle.event_dispatch.specs.Runs.{AreRead}
 use Rattle.event_dispatch.specs.Shows.{TellsLost}
-use Rattle.run_laws.specs.Course.{as_told, KeptComesFirst}
+use Rattle.run_laws.specs.Course.{as_told, BatchTaken}
+use Rattle.event_dispatch.specs.Serves.{stand}
 use Rattle.event_dispatch.specs.Batch.{of_memory, standing_of, rest_by, TakesItem, TakesJoin, TakesFirst, KeptSoFar, TakesKept, NextTaken, BatchGoes, BatchShown}
 use Rattle.run_laws.specs.laws.EchoLaws.{no-echo}
 use Rattle.of_types.specs.Fields.{IsBytes, number_at}
@@ -133,29 +134,13 @@ kept_all n old now run mid many so_far = record {
 -- ---- Which come first in a batch
 
 -- an item more is told
-abbrev ItemHandled : WorldStep → Knowledge → Knowledge → Type 0
-ItemHandled item k now = (now ≡ handled item k) ⊎ ((d : ℕ) × LosesAt d item k × (now ≡ known_lost d item k))
-
-handled_then : (items : List WorldStep) (item : WorldStep) (k mid now : Knowledge) → HandledTo items k mid → ItemHandled item mid now → HandledTo (items ++ item ∷ []) k now
-handled_then [] item k mid now is one = (now, (subst (λ (x : Knowledge). ItemHandled item x now) is one, refl))
-handled_then (x ∷ items) item k mid now is one = (is.0, (is.1.0, handled_then items item is.0 mid now is.1.1 one))
-
-item_handled : {Own Tells : Type 0} {item : WorldStep} {text : List ℕ} {old new : Seen Own} {net now_net : NetState} {queue now_queue : List Event} → HandlesStill Tells item text old new net now_net queue now_queue ⊎ HandlesLost Tells item text old new net now_net queue now_queue
-    → ItemHandled item (knowledge_of net queue) (knowledge_of now_net now_queue)
-item_handled (inl still) = inl still.knowledge
-item_handled (inr lost) = inr (lost.dpid, lost.at, lost.knowledge)
-
-pub then_told : {Own Tells : Type 0} (rest : Option Rest) (now new : Seen Own) (run mid later : Core) → KeptComesFirst run.net mid.net run.queue mid.queue → NextTaken Tells rest now new mid later → KeptComesFirst run.net later.net run.queue later.queue
-then_told rest now new run mid later first next =
-    let item = item_step next.item next.takes.buf in
-    record {
-      taken = first.taken;
-      others = first.others;
-      told = first.told ++ item ∷ [];
-      kept_is = first.kept_is;
-      all = first.all;
-      handled = handled_then first.told item (handled_all (as_told first.taken) (knowledge_of run.net run.queue)) (knowledge_of mid.net mid.queue) (knowledge_of later.net later.queue) first.handled (item_handled next.takes.handles.went);
-    }
+pub then_told : {Own : Type 0} (Tells : Type 0) (rest : Option Rest) (old now new : Seen Own) (run mid later : Core) → BatchTaken Tells (stand old run) (stand now mid) → NextTaken Tells rest now new mid later → BatchTaken Tells (stand old run) (stand new later)
+then_told Tells rest old now new run mid later before next = record {
+  mid = before.mid;
+  first = before.first;
+  items = next.item ∷ before.items;
+  told = (stand now mid, before.told, (next.text, next.takes));
+}
 
 -- ---- What was told
 

@@ -32,7 +32,7 @@ use Rattle.event_dispatch.specs.Why.{IsReason, served_by}
 use Rattle.event_dispatch.specs.Runs.{Going, Waits}
 use Rattle.event_dispatch.specs.Batch.{BatchShown}
 use Rattle.checkpoint_store.specs.Slots.{Slot}
-use Rattle.run_laws.specs.Course.{KeptComesFirst}
+use Rattle.run_laws.specs.Course.{BatchTaken}
 use Rattle.event_dispatch.specs.Shows.{Stays, application_of, engine_of, queued_run}
 use Rattle.event_dispatch.specs.ReportEnd.{LastShown}
 use Rattle.run_laws.specs.laws.LeaveLaws.{asked-leaves}
@@ -40,7 +40,7 @@ use Rattle.event_dispatch.specs.Talking.{KeepsTalking}
 use Rattle.event_dispatch.specs.Steady.{Reads, NoPoint, NoneMoves}
 use Rattle.event_dispatch.specs.laws.SteadyLaws.{quietly_none, quietly_then, none_move, none_move_then}
 use Rattle.event_dispatch.specs.laws.TalkingLaws.{keeps_none, keeps_then}
-use Rattle.event_dispatch.specs.Serves.{Writes, AllStarted, IsDispatched, Begins}
+use Rattle.event_dispatch.specs.Serves.{stand, Writes, AllStarted, IsDispatched, Begins}
 use Rattle.event_dispatch.specs.laws.ReadLaws.{reads_engine}
 use Rattle.event_dispatch.specs.laws.RoundLaws.{first_event, number_is, batch_is, batch_written, batch_follows, all_begun}
 use Rattle.event_dispatch.specs.Cut.{IsStill, FailsIn, FailsNext, CutOne, CutSome, CutRound, CutRounds, CutStart, CutEnd, CutFinish, CutFinishAs, WentToEnd, CutGoes, CutRun, CutAs}
@@ -148,7 +148,7 @@ one_unwritten Tells accepts event contents now_contents old new r queue mid cont
 
 -- a batch was done, and a fault ended what came behind it
 pub round_behind : {Own : Type 0} (Tells : Type 0) (accepts : List TableView → Bool) (rest : Rest) (fault : Fault) (contents held now_contents : Option (List ℕ)) (old mid new : Seen Own) (r : Run) (then_c mid_c : Core) → Continues Tells old mid → r.core.lines.items ≡ [] → Waits r.core then_c
-    → BatchShown Tells rest old mid r.core then_c → KeptComesFirst r.core.net then_c.net r.core.queue then_c.queue → Reads Tells old mid r.core.net then_c.net → Stays then_c mid_c → Writes then_c.lines.items contents held mid_c → Continues Tells mid new → CutSome Tells accepts fault held now_contents mid new (record r { core = mid_c }) → CutRound Tells accepts fault contents now_contents old new r
+    → BatchShown Tells rest old mid r.core then_c → BatchTaken Tells (stand old r.core) (stand mid then_c) → Reads Tells old mid r.core.net then_c.net → Stays then_c mid_c → Writes then_c.lines.items contents held mid_c → Continues Tells mid new → CutSome Tells accepts fault held now_contents mid new (record r { core = mid_c }) → CutRound Tells accepts fault contents now_contents old new r
 round_behind Tells accepts rest fault contents held now_contents old mid new r then_c mid_c first none waits batch kept reads same writes later some = inr (inl (record {
   rest = rest;
   mid = mid;
@@ -166,7 +166,7 @@ round_behind Tells accepts rest fault contents held now_contents old mid new r t
 
 -- or the sink failed at what it noted
 pub round_unwritten : {Own : Type 0} (Tells : Type 0) (accepts : List TableView → Bool) (rest : Rest) (contents now_contents : Option (List ℕ)) (old new : Seen Own) (r : Run) (then_c : Core) → Continues Tells old new → r.core.lines.items ≡ [] → Waits r.core then_c
-    → BatchShown Tells rest old new r.core then_c → KeptComesFirst r.core.net then_c.net r.core.queue then_c.queue → Reads Tells old new r.core.net then_c.net → (then_c.lines.items ≡ [] → ⊥) → TookPart contents now_contents then_c.lines.items → CutRound Tells accepts faults.Write contents now_contents old new r
+    → BatchShown Tells rest old new r.core then_c → BatchTaken Tells (stand old r.core) (stand new then_c) → Reads Tells old new r.core.net then_c.net → (then_c.lines.items ≡ [] → ⊥) → TookPart contents now_contents then_c.lines.items → CutRound Tells accepts faults.Write contents now_contents old new r
 round_unwritten Tells accepts rest contents now_contents old new r then_c first none waits batch kept reads some part = inr (inr (record {
   rest = rest;
   noted = then_c.lines.items;
@@ -176,7 +176,7 @@ round_unwritten Tells accepts rest contents now_contents old new r then_c first 
   reads = reads;
   part = part;
   behind = inl (record {
-    first = kept;
+    taken = kept;
     events = waits.events;
     apps = ap (λ (slots : List Slot). map (application_of slots) r.apps.items) waits.store;
     noted = then_c.lines.items;

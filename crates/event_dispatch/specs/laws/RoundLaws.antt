@@ -35,12 +35,12 @@ use Rattle.event_dispatch.specs.declared.run.Run.{Run}
 use Rattle.event_dispatch.specs.Runs.{AreRead, StoreRests, IsCountedTo, Going, Waits}
 use Rattle.event_dispatch.specs.Batch.{standing_of, BatchShown}
 use Rattle.run_laws.specs.Facts.{Dispatches}
-use Rattle.run_laws.specs.Course.{KeptComesFirst, PartByPart}
+use Rattle.run_laws.specs.Course.{BatchTaken, PartByPart}
 use Rattle.run_laws.specs.laws.CourseLaws.{follows-none, follows-one, follows-then}
 use Rattle.event_dispatch.specs.Shows.{Stays, application_of, engine_of, stage_of, queued_run}
 use Rattle.checkpoint_store.specs.Slots.{Slot}
 use Rattle.lego_model.specs.Application.{names}
-use Rattle.event_dispatch.specs.Serves.{Notes, Writes, AllStarted, IsDispatched, DispatchesOldest, DispatchesSome, DispatchesWaiting, IsBatch, GoesRound, GoesRounds, GoesToEnd, Begins}
+use Rattle.event_dispatch.specs.Serves.{stand, Notes, Writes, AllStarted, IsDispatched, DispatchesOldest, DispatchesSome, DispatchesWaiting, IsBatch, GoesRound, GoesRounds, GoesToEnd, Begins}
 use Rattle.run_laws.specs.laws.EndingLaws.{known-append}
 
 -- ---- What is written
@@ -210,12 +210,13 @@ batch_written Tells rest old new r then_c mid_c continues none waits shown same 
     subst (λ (e : Engine). IsBatch Tells rest then_c.lines.items old new (engine_of r) e) (sym (stays_engine r then_c mid_c same)) (batch_is Tells rest old new r then_c continues none waits shown)
 
 -- In every world the messages that were kept came first in it.
-pub batch_follows : {Own : Type 0} (Tells : Type 0) (accepts : List TableView → Bool) (contents held : Option (List ℕ)) (old mid : Seen Own) (r : Run) (then_c mid_c : Core) → Continues Tells old mid → KeptComesFirst r.core.net then_c.net r.core.queue then_c.queue
+pub batch_follows : {Own : Type 0} (Tells : Type 0) (accepts : List TableView → Bool) (contents held : Option (List ℕ)) (old mid : Seen Own) (r : Run) (then_c mid_c : Core) → Continues Tells old mid → BatchTaken Tells (stand old r.core) (stand mid then_c)
     → Waits r.core then_c → Stays then_c mid_c → Writes then_c.lines.items contents held mid_c → PartByPart Tells accepts (stage_of old contents r) (stage_of mid held (record r { core = mid_c }))
 batch_follows Tells accepts contents held old mid r then_c mid_c first kept waits same writes = follows-one Tells accepts (stage_of old contents r) (stage_of mid held (record r { core = mid_c })) (record {
   continues = first;
   part = inl (record {
-    first = subst (λ (n : NetState). KeptComesFirst r.core.net n r.core.queue mid_c.queue) (sym same.net) (subst (λ (q : List Event). KeptComesFirst r.core.net then_c.net r.core.queue q) (sym same.queue) kept);
+    taken = subst (λ (n : NetState). BatchTaken Tells (stand old r.core) (record { seen = mid; net = n; queue = mid_c.queue })) (sym same.net)
+        (subst (λ (q : List Event). BatchTaken Tells (stand old r.core) (record { seen = mid; net = then_c.net; queue = q })) (sym same.queue) kept);
     events = same.events ∙ waits.events;
     apps = ap (λ (slots : List Slot). map (application_of slots) r.apps.items) (same.store ∙ waits.store);
     noted = then_c.lines.items;
@@ -225,7 +226,7 @@ batch_follows Tells accepts contents held old mid r then_c mid_c first kept wait
 
 -- and were written
 pub round_is : {Own : Type 0} {Tells : Type 0} {accepts : List TableView → Bool} {rest : Rest} {contents held now_contents : Option (List ℕ)} {old mid new : Seen Own} {r now_r : Run} {then_c mid_c : Core} → Continues Tells old mid → r.core.lines.items ≡ [] → Waits r.core then_c
-    → BatchShown Tells rest old mid r.core then_c → KeptComesFirst r.core.net then_c.net r.core.queue then_c.queue → Stays then_c mid_c → Writes then_c.lines.items contents held mid_c → Continues Tells mid new → DispatchesWaiting Tells accepts held now_contents mid new (record r { core = mid_c }) now_r → GoesRound Tells accepts rest contents now_contents old new r now_r
+    → BatchShown Tells rest old mid r.core then_c → BatchTaken Tells (stand old r.core) (stand mid then_c) → Stays then_c mid_c → Writes then_c.lines.items contents held mid_c → Continues Tells mid new → DispatchesWaiting Tells accepts held now_contents mid new (record r { core = mid_c }) now_r → GoesRound Tells accepts rest contents now_contents old new r now_r
 round_is {Tells = Tells} {accepts = accepts} {rest = rest} {contents = contents} {held = held} {now_contents = now_contents} {old = old} {mid = mid} {new = new} {r = r} {now_r = now_r} {then_c = then_c} {mid_c = mid_c} first none waits batch kept same writes later dispatches = record {
   mid = mid;
   mid_run = record r { core = mid_c };

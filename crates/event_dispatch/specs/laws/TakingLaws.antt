@@ -20,7 +20,8 @@ use Rattle.net_txn.specs.Arriving.{Arrives}
 use Rattle.event_dispatch.specs.declared.batch.Rest.{Rest}
 use Rattle.event_dispatch.specs.declared.engine_core.Core.{Core}
 use Rattle.event_dispatch.specs.Runs.{Waits}
-use Rattle.run_laws.specs.Course.{KeptComesFirst}
+use Rattle.run_laws.specs.Course.{BatchTaken}
+use Rattle.event_dispatch.specs.Serves.{stand}
 use Rattle.event_dispatch.specs.Batch.{standing_of, rest_by, IsAsBefore, TakesKept, BatchGoes}
 use Rattle.event_dispatch.specs.Steady.{Reads}
 use Rattle.event_dispatch.specs.Told.{BatchPoint}
@@ -242,14 +243,12 @@ all_taken : {A B C : Type 0} → A ⊎ (B × C) → A ⊎ B
 all_taken (inl none) = inl none
 all_taken (inr most) = inr most.0
 
-pub kept_comes_first : {Own : Type 0} {left : ℕ} {old new : Seen Own} (run now_run : Core) → TakesKept left old new run now_run → KeptComesFirst run.net now_run.net run.queue now_run.queue
-kept_comes_first run now_run kept = record {
-  taken = kept.taken;
-  others = now_run.net.kept;
-  told = [];
-  kept_is = kept.first.kept_is;
-  all = all_taken kept.all;
-  handled = kept.first.knowledge;
+pub kept_comes_first : {Own : Type 0} {left : ℕ} (Tells : Type 0) (old new : Seen Own) (run now_run : Core) → TakesKept left old new run now_run → BatchTaken Tells (stand old run) (stand new now_run)
+kept_comes_first Tells old new run now_run kept = record {
+  mid = stand new now_run;
+  first = record { taken = kept.taken; kept_is = kept.first.kept_is; all = all_taken kept.all; knowledge = kept.first.knowledge };
+  items = [];
+  told = refl;
 }
 
 pub point_at_first : {Own Tells : Type 0} {left number : ℕ} {old new : Seen Own} (run now_run : Core) → OnLinks Tells old new → TakesKept left old new run now_run

@@ -22,7 +22,7 @@ loop-item-init g c =
       left = first.done.waits.left c.requires.none_left;
       read = first.done.read;
       goes = goes_at_first (g.W.World.seen c.args.world.now) (g.W.World.seen c.take_kept.new.world) c.args.self.now c.take_kept.new.self first.done.kept;
-      first = kept_comes_first c.args.self.now c.take_kept.new.self first.done.kept;
+      first = kept_comes_first g.W.World.Tells (g.W.World.seen c.args.world.now) (g.W.World.seen c.take_kept.new.world) c.args.self.now c.take_kept.new.self first.done.kept;
       buffer = refl;
       passes = so_far first.passes.passes;
       talks = first.passes.talks;
@@ -40,7 +40,7 @@ loop-item-preserved g c =
       left = next.done.waits.left before.left;
       read = next.done.read before.read;
       goes = batch_goes c.loop-item._item (g.W.World.seen c.args.world.now) (g.W.World.seen c.loop-item.world) (g.W.World.seen c.take_next.new.world) c.args.self.now c.loop-item.self c.take_next.new.self before.goes taken;
-      first = then_told _ (g.W.World.seen c.loop-item.world) (g.W.World.seen c.take_next.new.world) c.args.self.now c.loop-item.self c.take_next.new.self before.first next.done.taken;
+      first = then_told g.W.World.Tells _ (g.W.World.seen c.args.world.now) (g.W.World.seen c.loop-item.world) (g.W.World.seen c.take_next.new.world) c.args.self.now c.loop-item.self c.take_next.new.self before.first next.done.taken;
       buffer = next.passes.buffer ∙ before.buffer;
       passes = so_far_then before.passes (passes_waits before.waits next.passes.passes);
       talks = keeps_then g.W.World.Tells (g.W.World.seen c.args.world.now) (g.W.World.seen c.loop-item.world) (g.W.World.seen c.take_next.new.world) before.talks next.passes.talks;
@@ -91,7 +91,7 @@ returns-in-Some g c =
       done = record {
         waits = waits_then c.args.self.now c.loop-item.self c.take_next.new.self before.waits next.done.waits;
         read = next.done.read before.read;
-        first = then_told _ (g.W.World.seen c.loop-item.world) (g.W.World.seen c.take_next.new.world) c.args.self.now c.loop-item.self c.take_next.new.self before.first next.done.taken;
+        first = then_told g.W.World.Tells _ (g.W.World.seen c.args.world.now) (g.W.World.seen c.loop-item.world) (g.W.World.seen c.take_next.new.world) c.args.self.now c.loop-item.self c.take_next.new.self before.first next.done.taken;
         batch = batch_ends c.loop-item._item c.in-Some.rest (g.W.World.seen c.args.world.now) (g.W.World.seen c.loop-item.world) (g.W.World.seen c.take_next.new.world) c.args.self.now c.loop-item.self c.take_next.new.self before.goes
             (subst (λ (rest : Option Rest). NextTaken g.W.World.Tells rest (g.W.World.seen c.loop-item.world) (g.W.World.seen c.take_next.new.world) c.loop-item.self c.take_next.new.self) c.in-Some.is next.done.taken);
       };
