@@ -58,10 +58,12 @@ pub record NextTaken {Own : Type 0} (Tells : Type 0) (rest : Option Rest) (old n
 
 -- ---- The messages that were kept
 
--- In every world: these were taken, oldest first, and the others are kept still. None of them is an ECHO_REQUEST, so that no switch is lost.
-pub record TakesFirst (taken : List (ℕ × List ℕ)) (run now_run : Core) : Type 0 where
+-- In every world: these were taken, oldest first, and the others are kept still. None of them is an ECHO_REQUEST, so that nothing is called, and
+-- no switch is lost.
+pub record TakesFirst {Own : Type 0} (Tells : Type 0) (taken : List (ℕ × List ℕ)) (old new : Seen Own) (run now_run : Core) : Type 0 where
   pub kept_is : run.net.kept ≡ taken ++ now_run.net.kept
   pub knowledge : knowledge_of now_run.net now_run.queue ≡ handled_all (as_told taken) (knowledge_of run.net run.queue)
+  pub told : Tells → new.history ≡ old.history
 
 -- where there is none, nothing is done
 
@@ -69,16 +71,16 @@ abbrev pub IsAsBefore : {Own : Type 0} → Seen Own → Seen Own → Core → Co
 IsAsBefore old new run now_run = (new ≡ old) × (now_run.net ≡ run.net) × (now_run.queue ≡ run.queue) × (now_run.lines.items ≡ run.lines.items)
 
 -- after so many of them
-pub record KeptSoFar {Own : Type 0} (n : ℕ) (old new : Seen Own) (run now_run : Core) : Type 0 where
+pub record KeptSoFar {Own : Type 0} (Tells : Type 0) (n : ℕ) (old new : Seen Own) (run now_run : Core) : Type 0 where
   pub taken : List (ℕ × List ℕ)
   pub number_is : length taken ≡ n
-  pub first : TakesFirst taken run now_run
+  pub first : TakesFirst Tells taken old new run now_run
   pub none : run.net.kept ≡ [] → (n ≡ 0) × IsAsBefore old new run now_run
 
 -- and then, with how many items the batch can still have: all of them, or as many as a batch can have
-pub record TakesKept {Own : Type 0} (left : ℕ) (old new : Seen Own) (run now_run : Core) : Type 0 where
+pub record TakesKept {Own : Type 0} (Tells : Type 0) (left : ℕ) (old new : Seen Own) (run now_run : Core) : Type 0 where
   pub taken : List (ℕ × List ℕ)
-  pub first : TakesFirst taken run now_run
+  pub first : TakesFirst Tells taken old new run now_run
   pub all : (now_run.net.kept ≡ []) ⊎ ((1000000 ≤ length taken) × (left ≡ 0))
   pub none : run.net.kept ≡ [] → (left ≡ 1000000) × IsAsBefore old new run now_run
 

@@ -17,7 +17,7 @@ use Rattle.lego_model.specs.AtOnce.{AtOnce}
 use Rattle.lego_model.specs.AfterFault.{TablesLeft}
 use Rattle.batch_laws.specs.Calm.{Calm}
 use Rattle.run_laws.specs.Engine.{Engine}
-use Rattle.run_laws.specs.Facts.{is_taking, Offers, DispatchesTo}
+use Rattle.run_laws.specs.Facts.{is_taking, Offers, DispatchesTo, StartsAll}
 use Rattle.run_laws.specs.Moves.{IsAtRest, Shown}
 use Rattle.lego_model.specs.ReferenceRun.{dispatch_next}
 use Rattle.run_laws.specs.Endings.{Leaves as LeavesAsBefore, ShownStart}
@@ -31,7 +31,7 @@ use Rattle.event_dispatch.specs.declared.run.Run.{Run}
 use Rattle.event_dispatch.specs.declared.served.Served.{Served}
 use Rattle.event_dispatch.specs.declared.served.Served.TheVariants as served
 use Rattle.event_dispatch.specs.Why.{served_by}
-use Rattle.run_laws.specs.Course.{StandsStill, IsPart, PartByPart}
+use Rattle.run_laws.specs.Course.{IsPart, PartByPart}
 use Rattle.event_dispatch.specs.Shows.{application_of, engine_with, engine_of, stage_of}
 use Rattle.event_dispatch.specs.Talking.{KeepsTalking, GoesOnTalking}
 use Rattle.event_dispatch.specs.Steady.{Reads, NoPoint, AtMostThisPoint, NoneMoves}
@@ -195,7 +195,7 @@ pub record StartPart {Own : Type 0} (Tells : Type 0) (contents now_contents : Op
   pub shown : ShownStart Tells more old new e now_engine
   pub reads : Reads Tells old new e.net now_engine.net
   pub part : TookPart contents now_contents more
-  pub still : StandsStill e now_engine
+  pub all : StartsAll Tells more old new e now_engine
 
 abbrev pub CutStart : {Own : Type 0} → Type 0 → Fault → Option (List ℕ) → Option (List ℕ) → Seen Own → Seen Own → Engine → Type 0
 CutStart Tells faults.Write contents now_contents old new e = StartPart Tells contents now_contents old new e
@@ -243,7 +243,7 @@ pub record CutGoing {Own : Type 0} (Tells : Type 0) (accepts : List TableView �
   pub starts : ShownStart Tells text old begun e (engine_of begun_run)
   pub starts_read : Reads Tells old begun e.net begun_run.core.net
   pub writes : Writes text contents held begun_run.core
-  pub still : StandsStill e (engine_of begun_run)
+  pub all : StartsAll Tells text old begun e (engine_of begun_run)
   pub later : Continues Tells begun new
   pub rounds : CutRounds Tells accepts fault held now_contents begun new begun_run
 
@@ -269,7 +269,7 @@ pub record CutEnding {Own : Type 0} (Tells : Type 0) (accepts : List TableView �
   pub starts : ShownStart Tells text old begun e (engine_of begun_run)
   pub starts_read : Reads Tells old begun e.net begun_run.core.net
   pub writes : Writes text contents held begun_run.core
-  pub still : StandsStill e (engine_of begun_run)
+  pub all : StartsAll Tells text old begun e (engine_of begun_run)
   pub on : Continues Tells begun last
   pub rounds : GoesToEnd Tells accepts most held last_held begun last begun_run last_run
   pub rounds_read : Reads Tells begun last begun_run.core.net last_run.core.net

@@ -26,11 +26,12 @@ use Rattle.batch_laws.specs.Knowledge.{lost_text}
 use Rattle.run_laws.specs.Engine.{Engine}
 use Rattle.lego_model.specs.History.{stimuli_in}
 use Rattle.run_laws.specs.Readings.{JudgesAlike}
-use Rattle.run_laws.specs.Facts.{turn_word, out_text, all_told, StartsAgain, GoesAway, Follows, TakesTurn, is_taking, says_stop, Between, IsOffered, Offers, Dispatches, StartsFrom}
+use Rattle.run_laws.specs.Facts.{turn_word, out_text, all_told, StartsAgain, GoesAway, Follows, TakesTurn, is_taking, says_stop, Between, IsOffered, Offers, Dispatches, StartsFrom, StartsAll}
 use Rattle.run_laws.specs.Moves.{AtRest, Shown, ShownIdle, ShownOver, ShownRounds, ShownToEnd}
 use Rattle.lego_model.specs.ReferenceRun.{dispatch_next, times}
 use Rattle.run_laws.specs.First.{engine_at_first}
-use Rattle.run_laws.specs.Course.{Stage, StandsStill, PartByPart, RunsOn, WritesPart, first_stage}
+use Rattle.run_course.specs.Messages.{GotNone}
+use Rattle.run_laws.specs.Course.{Stage, PartByPart, RunsOn, WritesPart, first_stage}
 use Rattle.run_laws.specs.Endings.{ShownStart, ShownFinish, RanOut, RanFull}
 use Rattle.lego_model.specs.WholeRun.{TookFirst, is_spent, EndsAlike, LeavesAlike}
 use Rattle.run_laws.specs.Cut.{CutAlike, CutWithLines, CutWriting}
@@ -221,7 +222,7 @@ pub record Begins {Own : Type 0} (Tells : Type 0) (contents now_contents : Optio
   pub text : List ℕ
   pub shown : ShownStart Tells text old new (engine_of r) (engine_of now_r)
   pub writes : Writes text contents now_contents now_r.core
-  pub still : StandsStill (engine_of r) (engine_of now_r)
+  pub all : StartsAll Tells text old new (engine_of r) (engine_of now_r)
 
 pub record EndsReport {Own : Type 0} (Tells : Type 0) (contents now_contents : Option (List ℕ)) (last new : Seen Own) (r now_r : Run) : Type 0 where
   pub finish : ShownFinish Tells contents now_contents last new (engine_of r)
@@ -298,6 +299,7 @@ EndsAt Tells accepts other contents last = contents ≡ last.written
 pub record GoesItsCourse {Own : Type 0} (rules : List AppValue) (Tells : Type 0) (accepts : List TableView → Bool) (old new : Seen Own) (contents now_contents : Option (List ℕ)) (end : Served) : Type 0 where
   pub opened : Seen Own
   pub first : Continues Tells old opened
+  pub opening : Tells → GotNone old.history opened.history
   pub last : Stage Own
   pub runs : RunsOn Tells accepts (first_stage rules opened contents) last new
   pub ends : EndsAt Tells accepts end now_contents last

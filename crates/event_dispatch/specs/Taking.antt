@@ -115,11 +115,11 @@ pub record Announces {T E : Type 0} (d : ℕ) (m : Message) (run now_run : Core)
   pub queue : OnOk result (now_run.queue ≡ run.queue ++ record { kind = kinds.Join; dpid = d; body = message_bytes 0 m } ∷ [])
   pub net : now_run.net ≡ run.net
 
-pub record KeptDone {Own : Type 0} (left : ℕ) (old new : Seen Own) (run now_run : Core) : Type 0 where
+pub record KeptDone {Own : Type 0} (Tells : Type 0) (left : ℕ) (old new : Seen Own) (run now_run : Core) : Type 0 where
   pub waits : Waits run now_run
   pub lines : now_run.lines.items ≡ run.lines.items
   pub read : AreRead now_run.net.kept
-  pub kept : TakesKept left old new run now_run
+  pub kept : TakesKept Tells left old new run now_run
 
 pub record HandledNext {Own : Type 0} (Tells : Type 0) (rest : Option Rest) (old new : Seen Own) (run now_run : Core) : Type 0 where
   pub waits : Waits run now_run

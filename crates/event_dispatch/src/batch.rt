@@ -202,7 +202,7 @@ impl Core {
         requires read { AreRead self.old.net.kept }
         requires none_left { self.old.net.left ≡ [] }
         ensures passes { PassesOnLinks W.Tells (length self.old.store) (W.seen world.old) (W.seen world.new) self.old.net self.new.net result }
-        ensures done { MatchResult result (λ left. KeptDone left (W.seen world.old) (W.seen world.new) self.old self.new)
+        ensures done { MatchResult result (λ left. KeptDone W.Tells left (W.seen world.old) (W.seen world.new) self.old self.new)
             (λ fault. Fails (IsReason W.Tells (W.seen world.old) (W.seen world.new) 0 0 fault) (PlainKept self.old.net fault)) }
     {
         for taken in 0..MOST_ITEMS {

@@ -267,8 +267,9 @@ fn run<W: World, J: Judge, K: Sink>(
 /// a failed turn where its policy for events of that kind says so; under `none` it is gone then. Each is given events of the kinds
 /// that it is to be given, in the order of the policy, until one that was done says that the event goes no further; and has a turn
 /// of at most so many frames, as the policy says, at each. At most so many rounds are run; one is a batch and the events that wait
-/// then. The lines of an event are written when its dispatch has ended. However the run ends, all applications are ended. A switch whose link fails is lost: it leaves, and the run goes on. What else is wrong with the outside, the sink or a
-/// switch ends the run, and so do events that are left after the last batch.
+/// then. The lines of an event are written when its dispatch has ended. However the run ends, all applications are ended. A switch whose link fails
+/// is lost: it leaves, and the run goes on. Any other fault of a switch ends the run, and so does a fault of the sink, or of what comes next, and
+/// so do events that are left after the last batch.
 ///
 /// Each stimulus takes a round, and so does the end of the stimuli, at which the events that are left have one batch more. So
 /// where as many stimuli come as there are rounds, or more, the run takes the first of them, and has no batch more. No clause
@@ -314,9 +315,9 @@ pub fn serve<W: World, J: Judge, K: Sink>(
     ensures own_ids_ascend { W.Tells → (W.seen world.old).history ≡ [] → InOrder (W.seen world.new) → IsShortRun (W.seen world.new) → OwnIdsAscend (W.seen world.new) }
     // However the run ends, each application that was started is ended: where no call was made before, none runs.
     ensures every_application_ended { W.Tells → (W.seen world.old).history ≡ [] → (state (W.seen world.new)).running ≡ [] }
-    // In any world, whatever its switches send: the messages that were kept while something else was awaited come first in the next batch, oldest first,
-    // and none of them is lost; the events that they make are given behind those that waited, and printed. So the run goes from part to part, up to
-    // its end or a fault.
+    // In any world, whatever its switches send: the messages that were kept while something else was awaited come first in the next batch, oldest first.
+    // None of them is lost but with its switch, where that leaves or is lost; an undo keeps a message only where there is room. The events that
+    // they make are given behind those that waited, and printed. So the run goes from part to part, up to its end or a fault.
     ensures kept_messages_come_first { GoesItsCourse (map app_value rules.now) W.Tells (J.accepts judge.now) (W.seen world.old) (W.seen world.new)
         (K.contents sink.old) (K.contents sink.new) result }
 {

@@ -11,4 +11,5 @@ mod Served
 mod Said
 mod CutRuns
 mod Runs
+mod Courses
 mod Serving

@@ -15,9 +15,11 @@ use Rattle.legosdn.specs.declared.stop.Stop.TheVariants.{Usage, Refused, ReadFau
 use Rattle.legosdn.specs.Input.{run_policy}
 use Rattle.legosdn.specs.Stops.{stop_status, stop_line, refusal_line}
 use Rattle.legosdn.specs.Headline.{NoneFloods, faults_of, IsReplay, IsRun, IsNoSession, IsNoPolicy, IsReadCause, IsRunCause, IsEarly, IsLate, SpellsPolicy, OfInput, KeepsLines, Wrote, NotBegun, Replays}
-use Rattle.legosdn.specs.Live.{Taken, IsTaken, TellsInOrder, NoneStray, ServesWhole, ServesUntil, ServesAs, ServesCut, TakenAs, ServesTaken, Serves}
+use Rattle.legosdn.specs.Live.{Taken, IsTaken, TellsInOrder, NoneStray, ServesWhole, ServesUntil, ServesAs, ServesCut, StandsAt, TakenAs, ServesTaken, Serves}
 use Rattle.legosdn.proofs.Causes.{ran_causes, unread_causes, no_both}
 use Rattle.legosdn.proofs.Loads.{unread_as}
+use Rattle.run_course.specs.Parts.{TakesCourse}
+use Rattle.legosdn.proofs.Courses.{unread_course}
 use Rattle.legosdn.proofs.Places.{idle_in_place}
 use Rattle.legosdn.proofs.Runs.{by_read, stops_by_read, runs_by_read, lines_by_read, not_begun}
 use Rattle.legosdn.proofs.Statuses.{is_broken, is_diverged, is_memory, not_late, not_before}
@@ -57,6 +59,7 @@ serves_unread Tells rounds told left i j k seen contents Stays stop result is ca
   no_other = inr stays;
   runs = λ tells. inr (stops_by_read IsNoPolicy told i j seen contents stop result is tells.untouched cause);
   strays = λ tells. idle_in_place seen tells.untouched;
+  course = λ tells. unread_course IsNoPolicy told i j seen contents stop result is cause;
   why = unread_causes Tells IsNoPolicy told i j k k seen seen stop result is cause;
   early = stays_early Stays result stays;
 }
@@ -95,13 +98,14 @@ none_early Stays Tells k l old new (Ok x) cause = tt
 none_early Stays Tells k l old new (Err stop) cause = not_early Stays Tells k l old new stop cause
 
 pub serves_taken : {Own T : Type 0} (Tells : Type 0) (rounds : ℕ) (told left : Option (List ℕ)) (i j k l : ℕ) (old new : Seen Own) (a b : Option (List ℕ)) (Stays : Type 0) (result : Result T Stop) (apps : List AppValue) → Taken apps told left
-    → (TellsInOrder Tells old new → ServesAs apps rounds result new a b) → (TellsInOrder Tells old new → NoneStray new) → IfErr result (IsRunCause Tells k l old new)
+    → (TellsInOrder Tells old new → ServesAs apps rounds result new a b) → (TellsInOrder Tells old new → NoneStray new) → (Tells → TakesCourse old new a (StandsAt result b)) → IfErr result (IsRunCause Tells k l old new)
     → Serves Tells rounds result told left (faults_of i k old) (faults_of j l new) a b Stays
-serves_taken Tells rounds told left i j k l old new a b Stays result apps taken runs strays why = record {
+serves_taken Tells rounds told left i j k l old new a b Stays result apps taken runs strays course why = record {
   taken = taken_as told left result (apps, taken);
   no_other = inl (apps, taken);
   runs = λ tells. inl (apps, taken, runs tells);
   strays = strays;
+  course = course;
   why = ran_causes Tells IsNoPolicy told i j k l old new result why;
   early = none_early Stays Tells k l old new result why;
 }

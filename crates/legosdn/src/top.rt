@@ -22,7 +22,7 @@ ghost use Rattle.lego_model.specs.Application.{names};
 ghost use Rattle.legosdn.specs.Said.{reference_of_session, WithEnough};
 ghost use Rattle.legosdn.specs.Stops.{stop_status, stop_line, refusal_line};
 ghost use Rattle.legosdn.specs.Headline.{IsReplay, IsRun, IsNoSession, IsNoPolicy, faults_of, IsReadCause, IsRunCause, IsCause, NoneFailed, NoneFloods, IsEarly, IsLate, SpellsSession, SpellsPolicy, OfInput, Loaded, IsLoaded, RunsNoOther, LosesByFaults, LoadedAs, NeverRuns, RunsWhole, RunsAs, RunsLoaded, KeepsLines, LeftAs, CutShort, NotBegun, SomeRefused, Wrote, WroteLast, Stopped, Replays};
-ghost use Rattle.legosdn.specs.Live.{IsTaken, TellsInOrder, NoneStray, ServesWhole, ServesCut, Serves};
+ghost use Rattle.legosdn.specs.Live.{IsTaken, TellsInOrder, NoneStray, ServesWhole, ServesCut, CourseTo, Serves};
 
 use crate::input::{cut, read_input};
 use crate::live::run_live;
@@ -279,6 +279,12 @@ pub fn legosdn<S: Source, K: Sink, E: Sink + Drop, W: World>(
         → Contains (5 ∷ 6 ∷ 8 ∷ 9 ∷ 10 ∷ 12 ∷ []) result
         → OfInput SpellsPolicy (S.remaining source.old) (λ apps. ServesCut apps rounds result (W.seen live.new) (K.contents sink.old) (K.contents sink.new) (K.faults sink.old) (K.faults sink.new))
         ⊎ NotBegun result (W.seen live.new) (K.contents sink.old) (K.contents sink.new) (K.faults sink.old) (K.faults sink.new) }
+    // Over any world that tells, whatever its switches send, and at every status: the messages that were kept while something else was awaited come
+    // first in the next batch, oldest first. None of them is lost but with its switch, where that leaves or is lost; an undo keeps a message only where
+    // there is room. The events that they make are given behind those that waited, each with its number, and printed. So the run goes from part to part,
+    // as far as it goes, and what was written is the lines of these parts.
+    ensures live_kept_messages_come_first { (port rounds : ℕ) → IsRun (map string_bytes words.now) port rounds → W.Tells
+        → CourseTo result (W.seen live.old) (W.seen live.new) (K.contents sink.old) (K.contents sink.new) (K.faults sink.old) (K.faults sink.new) }
     // No call of it was a stray one.
     ensures live_no_stray_call { (port rounds : ℕ) → IsRun (map string_bytes words.now) port rounds → TellsInOrder W.Tells (W.seen live.old) (W.seen live.new)
         → NoneStray (W.seen live.new) }

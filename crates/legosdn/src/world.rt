@@ -8,7 +8,8 @@ ghost use Rattle.outside.specs.State.{state};
 ghost use Rattle.outside.specs.InOrder.{InOrder};
 ghost use Rattle.lego_model.specs.OwnIds.{IsShortRun, OwnIdsAscend};
 ghost use Rattle.legosdn.specs.Headline.{IsRunCause};
-ghost use Rattle.legosdn.specs.Live.{TellsInOrder, ServesAs, NoneStray};
+ghost use Rattle.run_course.specs.Parts.{TakesCourse};
+ghost use Rattle.legosdn.specs.Live.{TellsInOrder, ServesAs, NoneStray, StandsAt};
 
 use crate::stop::Stop;
 use crash_policy::AppRule;
@@ -33,6 +34,7 @@ pub fn run_world<K: Sink, W: World>(
     ensures runs { TellsInOrder W.Tells (W.seen world.old) (W.seen world.new)
         → ServesAs (map app_value apps.now) rounds result (W.seen world.new) (K.contents sink.old) (K.contents sink.new) }
     ensures strays { TellsInOrder W.Tells (W.seen world.old) (W.seen world.new) → NoneStray (W.seen world.new) }
+    ensures course { W.Tells → TakesCourse (W.seen world.old) (W.seen world.new) (K.contents sink.old) (StandsAt result (K.contents sink.new)) }
     ensures why { IfErr result (IsRunCause W.Tells (K.faults sink.old) (K.faults sink.new) (W.seen world.old) (W.seen world.new)) }
     ensures continues { Continues W.Tells (W.seen world.old) (W.seen world.new) }
     ensures ended { W.Tells → (W.seen world.old).history ≡ [] → (state (W.seen world.new)).running ≡ [] }

@@ -15,7 +15,7 @@ use Rattle.net_txn.specs.Net.{NetState}
 use Rattle.batch_laws.specs.Knowledge.{knowledge_of, handled_all}
 use Rattle.batch_laws.specs.Items.{TakesNext}
 use Rattle.run_laws.specs.Engine.{Engine}
-use Rattle.run_laws.specs.Facts.{Between, between, Dispatches}
+use Rattle.run_laws.specs.Facts.{Between, between, Dispatches, StartsAll}
 use Rattle.run_laws.specs.First.{engine_at_first}
 
 -- ---- The messages that were kept
@@ -24,12 +24,13 @@ use Rattle.run_laws.specs.First.{engine_at_first}
 abbrev pub as_told : List (ℕ × List ℕ) → List WorldStep
 as_told messages = map (λ m. From m.0 m.1) messages
 
--- They were taken, oldest first: all of them, or as many as a batch can have items. The others are kept still.
-pub record KeptComesFirst (net now_net : NetState) (queue now_queue : List Event) : Type 0 where
+-- They were taken, oldest first: all of them, or as many as a batch can have items. The others are kept still, and nothing was called.
+pub record KeptComesFirst {Own : Type 0} (Tells : Type 0) (old new : Seen Own) (net now_net : NetState) (queue now_queue : List Event) : Type 0 where
   pub taken : List (ℕ × List ℕ)
   pub kept_is : net.kept ≡ taken ++ now_net.kept
   pub all : (now_net.kept ≡ []) ⊎ (1000000 ≤ length taken)
   pub knowledge : knowledge_of now_net now_queue ≡ handled_all (as_told taken) (knowledge_of net queue)
+  pub told : Tells → new.history ≡ old.history
 
 -- Items were told, the last of them first here, and each was taken: what is known behind it, which events wait, and what is kept, is said there.
 abbrev pub TakesItems : {Own : Type 0} → Type 0 → List Item → Between Own → Between Own → Type 0
@@ -40,7 +41,7 @@ TakesItems Tells (item ∷ before) from to =
 -- A batch: the messages that were kept come first, and then the items that are told.
 pub record BatchTaken {Own : Type 0} (Tells : Type 0) (from to : Between Own) : Type 0 where
   pub mid : Between Own
-  pub first : KeptComesFirst from.net mid.net from.queue mid.queue
+  pub first : KeptComesFirst Tells from.seen mid.seen from.net mid.net from.queue mid.queue
   pub items : List Item
   pub told : TakesItems Tells items mid to
 
@@ -70,19 +71,14 @@ pub record GivesOldest {Own : Type 0} (Tells : Type 0) (accepts : List TableView
   pub dispatches : Dispatches Tells accepts event text from.seen to.seen (record from.engine { queue = later }) to.engine
   pub written : to.written ≡ append_known from.written text
 
--- applications were started, and nothing was taken or given
-pub record StandsStill (e now_e : Engine) : Type 0 where
-  pub net : now_e.net ≡ e.net
-  pub queue : now_e.queue ≡ e.queue
-  pub events : now_e.events ≡ e.events
-
-pub record Starts {Own : Type 0} (from to : Stage Own) : Type 0 where
-  pub still : StandsStill from.engine to.engine
+-- applications were started, and their lines were written; nothing was taken or given
+pub record Starts {Own : Type 0} (Tells : Type 0) (from to : Stage Own) : Type 0 where
   pub text : List ℕ
+  pub all : StartsAll Tells text from.seen to.seen from.engine to.engine
   pub written : to.written ≡ append_known from.written text
 
 abbrev pub IsPart : {Own : Type 0} → Type 0 → (List TableView → Bool) → Stage Own → Stage Own → Type 0
-IsPart Tells accepts from to = TakesBatch Tells from to ⊎ GivesOldest Tells accepts from to ⊎ Starts from to
+IsPart Tells accepts from to = TakesBatch Tells from to ⊎ GivesOldest Tells accepts from to ⊎ Starts Tells from to
 
 pub record Part {Own : Type 0} (Tells : Type 0) (accepts : List TableView → Bool) (from to : Stage Own) : Type 0 where
   pub continues : Continues Tells from.seen to.seen

@@ -30,3 +30,9 @@ pub mod OrderlyRunLaws
 pub mod CutLaws
 pub mod EchoLaws
 pub mod CourseLaws
+pub mod MadeEventLaws
+pub mod HoldingLaws
+pub mod UndoHoldingLaws
+pub mod ItemHoldingLaws
+pub mod TurnHoldingLaws
+pub mod PartHoldingLaws

@@ -114,7 +114,7 @@ ready-once seen net queue ready d = by (switch_of d (state seen)) (ready.known d
 
 -- ---- Each item keeps it so
 
-views_stay : (d e : ℕ) (m : Message) (k : Knowledge) → is_known e (told_message d m k) ≡ is_known e k
+pub views_stay : (d e : ℕ) (m : Message) (k : Knowledge) → is_known e (told_message d m k) ≡ is_known e k
 views_stay d e (FlowRemoved f) k = rows_at-stays d e (without_key (key_removed f)) k.views
 views_stay d e (Hello payload) k = refl
 views_stay d e (Error kind code payload) k = refl

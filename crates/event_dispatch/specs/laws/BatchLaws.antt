@@ -34,15 +34,15 @@ use Rattle.event_dispatch.specs.Shows.{TellsLost}
 use Rattle.run_laws.specs.Course.{as_told, BatchTaken}
 use Rattle.event_dispatch.specs.Serves.{stand}
 use Rattle.event_dispatch.specs.Batch.{of_memory, standing_of, rest_by, TakesItem, TakesJoin, TakesFirst, KeptSoFar, TakesKept, NextTaken, BatchGoes, BatchShown}
-use Rattle.run_laws.specs.laws.EchoLaws.{no-echo}
+use Rattle.run_laws.specs.laws.EchoLaws.{no-echo, no-answer}
 use Rattle.of_types.specs.Fields.{IsBytes, number_at}
 use Rattle.net_txn.specs.Arriving.{Arrives}
 use Rattle.net_txn.specs.LinkSteps.{OnLinks, AsksWithoutStrays}
 
 -- ---- What was kept
 
-pub kept_at_first : {Own : Type 0} (seen : Seen Own) (run : Core) → KeptSoFar 0 seen seen run run
-kept_at_first seen run = record { taken = []; number_is = refl; first = record { kept_is = refl; knowledge = refl }; none = λ is. (refl, (refl, refl, refl, refl)) }
+pub kept_at_first : {Own : Type 0} (Tells : Type 0) (seen : Seen Own) (run : Core) → KeptSoFar Tells 0 seen seen run run
+kept_at_first Tells seen run = record { taken = []; number_is = refl; first = record { kept_is = refl; knowledge = refl; told = λ told. refl }; none = λ is. (refl, (refl, refl, refl, refl)) }
 
 pub some_kept : (m : ℕ × List ℕ) (kept : List (ℕ × List ℕ)) → Some m ≡ slice_get kept 0 → kept ≡ [] → ⊥
 some_kept m kept is none = let h : Some m ≡ None = is ∙ ap (λ (xs : List (ℕ × List ℕ)). slice_get xs 0) none in absurd cc
@@ -64,6 +64,11 @@ from_kept : {Own : Type 0} (Tells : Type 0) (d : ℕ) (bytes : List ℕ) (now ne
 from_kept Tells d bytes now new net now_net true does = does.kept
 from_kept Tells d bytes now new net now_net false does = does.kept
 
+-- and one that is no ECHO_REQUEST calls nothing
+from_told : {Own : Type 0} (Tells : Type 0) (d : ℕ) (bytes : List ℕ) (now new : Seen Own) (net now_net : NetState) (known : Bool) → (number_at 1 1 bytes == 2) ≡ false → Tells → DoesFrom Tells d bytes known now new net now_net → new.history ≡ now.history
+from_told Tells d bytes now new net now_net true other told does = does.told told ∙ ap (λ (steps : List WorldStep). now.history ++ steps) (no-answer d bytes other) ∙ append-nil now.history
+from_told Tells d bytes now new net now_net false other told does = ap (λ (s : Seen _). s.history) does.seen
+
 -- the oldest one is no ECHO_REQUEST
 first_other : (m : ℕ × List ℕ) (kept : List (ℕ × List ℕ)) → AreRead kept → Some m ≡ slice_get kept 0 → (number_at 1 1 m.1 == 2) ≡ false
 first_other m [] read is = absurd cc
@@ -76,21 +81,22 @@ still_one bytes other (inl still) = still
 still_one bytes other (inr lost) = absurd (no-echo bytes other lost.at.2)
 
 -- the oldest of those that are kept is taken, as if it were told now
-takes_next : {Own : Type 0} (Tells : Type 0) (taken : List (ℕ × List ℕ)) (m : ℕ × List ℕ) (text : List ℕ) (now new : Seen Own) (run mid later : Core) (taken_net : NetState) → TakesFirst taken run mid → Some m ≡ slice_get mid.net.kept 0 → taken_net ≡ record mid.net { kept = drop 1 mid.net.kept }
-    → HandlesStill Tells (From m.0 m.1) text now new taken_net later.net mid.queue later.queue → TakesFirst (taken ++ m ∷ []) run later
-takes_next Tells taken m text now new run mid later taken_net first is without handles = record {
+takes_next : {Own : Type 0} (Tells : Type 0) (taken : List (ℕ × List ℕ)) (m : ℕ × List ℕ) (text : List ℕ) (old now new : Seen Own) (run mid later : Core) (taken_net : NetState) → (number_at 1 1 m.1 == 2) ≡ false → TakesFirst Tells taken old now run mid → Some m ≡ slice_get mid.net.kept 0 → taken_net ≡ record mid.net { kept = drop 1 mid.net.kept }
+    → HandlesStill Tells (From m.0 m.1) text now new taken_net later.net mid.queue later.queue → TakesFirst Tells (taken ++ m ∷ []) old new run later
+takes_next Tells taken m text old now new run mid later taken_net other first is without handles = record {
   kept_is = first.kept_is ∙ ap (λ (xs : List (ℕ × List ℕ)). taken ++ xs) (one_first m mid.net.kept is) ∙ sym (append_assoc taken (m ∷ []) (drop 1 mid.net.kept))
       ∙ ap (λ (xs : List (ℕ × List ℕ)). (taken ++ m ∷ []) ++ xs) (sym (from_kept Tells m.0 m.1 now new taken_net later.net (is_some (rows_at m.0 taken_net.views)) handles.does ∙ ap (λ (s : NetState). s.kept) without));
   knowledge = handles.knowledge ∙ ap (λ (s : NetState). handled (From m.0 m.1) (knowledge_of s mid.queue)) without ∙ ap (handled (From m.0 m.1)) first.knowledge
       ∙ sym (handled_all-append (as_told taken) (From m.0 m.1 ∷ []) (knowledge_of run.net run.queue)) ∙ ap (λ (items : List WorldStep). handled_all items (knowledge_of run.net run.queue)) (sym (told_append taken (m ∷ [])));
+  told = λ told. from_told Tells m.0 m.1 now new taken_net later.net (is_some (rows_at m.0 taken_net.views)) other told handles.does ∙ first.told told;
 }
 
-pub kept_one_more : {Own : Type 0} {Tells : Type 0} (n d : ℕ) (bytes frame : List ℕ) (old now new : Seen Own) (run mid later : Core) (taken_net : NetState) → KeptSoFar n old now run mid → AreRead mid.net.kept → Some (d, bytes) ≡ slice_get mid.net.kept 0 → frame ≡ bytes
-    → taken_net ≡ record mid.net { kept = drop 1 mid.net.kept } → TakesItem Tells (From d frame) now new (record mid { net = taken_net }) later → KeptSoFar (n + 1) old new run later
+pub kept_one_more : {Own : Type 0} {Tells : Type 0} (n d : ℕ) (bytes frame : List ℕ) (old now new : Seen Own) (run mid later : Core) (taken_net : NetState) → KeptSoFar Tells n old now run mid → AreRead mid.net.kept → Some (d, bytes) ≡ slice_get mid.net.kept 0 → frame ≡ bytes
+    → taken_net ≡ record mid.net { kept = drop 1 mid.net.kept } → TakesItem Tells (From d frame) now new (record mid { net = taken_net }) later → KeptSoFar Tells (n + 1) old new run later
 kept_one_more {Tells = Tells} n d bytes frame old now new run mid later taken_net so_far read is same without takes = record {
   taken = so_far.taken ++ (d, bytes) ∷ [];
   number_is = length-append so_far.taken ((d, bytes) ∷ []) ∙ ap (λ (k : ℕ). k + 1) so_far.number_is;
-  first = takes_next Tells so_far.taken (d, bytes) takes.text now new run mid later taken_net so_far.first is without (still_one bytes (first_other (d, bytes) mid.net.kept read is)
+  first = takes_next Tells so_far.taken (d, bytes) takes.text old now new run mid later taken_net (first_other (d, bytes) mid.net.kept read is) so_far.first is without (still_one bytes (first_other (d, bytes) mid.net.kept read is)
       (subst (λ (b : List ℕ). HandlesStill Tells (From d b) takes.text now new taken_net later.net mid.queue later.queue ⊎ HandlesLost Tells (From d b) takes.text now new taken_net later.net mid.queue later.queue) same takes.handles.went));
   none = λ none. absurd (some_kept (d, bytes) mid.net.kept is (ap (λ (s : NetState). s.kept) (so_far.none none).1.1 ∙ none));
 }
@@ -109,12 +115,13 @@ without_first net none = ap (λ (xs : List (ℕ × List ℕ)). record net { kept
 none_left : (mid later : NetState) → later ≡ record mid { kept = drop 1 mid.kept } → None ≡ slice_get mid.kept 0 → later.kept ≡ []
 none_left mid later without none = ap (λ (s : NetState). s.kept) without ∙ ap (drop 1) (none_first mid.kept none)
 
-pub kept_ends : {Own : Type 0} (n : ℕ) (old now : Seen Own) (run mid later : Core) → KeptSoFar n old now run mid → later.net ≡ record mid.net { kept = drop 1 mid.net.kept } → None ≡ slice_get mid.net.kept 0 → later.queue ≡ mid.queue → later.lines.items ≡ mid.lines.items → TakesKept (1000000 - n) old now run later
+pub kept_ends : {Own Tells : Type 0} (n : ℕ) (old now : Seen Own) (run mid later : Core) → KeptSoFar Tells n old now run mid → later.net ≡ record mid.net { kept = drop 1 mid.net.kept } → None ≡ slice_get mid.net.kept 0 → later.queue ≡ mid.queue → later.lines.items ≡ mid.lines.items → TakesKept Tells (1000000 - n) old now run later
 kept_ends n old now run mid later so_far net no_more queue lines = record {
   taken = so_far.taken;
   first = record {
     kept_is = so_far.first.kept_is ∙ ap (λ (xs : List (ℕ × List ℕ)). so_far.taken ++ xs) (none_first mid.net.kept no_more ∙ sym (none_left mid.net later.net net no_more));
     knowledge = ap₂ (λ (s : NetState) (q : List Event). knowledge_of s q) net queue ∙ so_far.first.knowledge;
+    told = so_far.first.told;
   };
   all = inl (none_left mid.net later.net net no_more);
   none = λ none.
@@ -123,7 +130,7 @@ kept_ends n old now run mid later so_far net no_more queue lines = record {
       (ap (λ (k : ℕ). 1000000 - k) is.0, (is.1.0, net ∙ without_first mid.net kept ∙ is.1.1, queue ∙ is.1.2, lines ∙ is.1.3));
 }
 
-pub kept_all : {Own : Type 0} (n : ℕ) (old now : Seen Own) (run mid : Core) → 1000000 ≤ n → KeptSoFar n old now run mid → TakesKept 0 old now run mid
+pub kept_all : {Own Tells : Type 0} (n : ℕ) (old now : Seen Own) (run mid : Core) → 1000000 ≤ n → KeptSoFar Tells n old now run mid → TakesKept Tells 0 old now run mid
 kept_all n old now run mid many so_far = record {
   taken = so_far.taken;
   first = so_far.first;
@@ -186,7 +193,7 @@ pub batch_ends : {Own : Type 0} {Tells : Type 0} (n : ℕ) (rest : Rest) (first 
 batch_ends n rest first now new run mid later goes taken = shown_by later rest taken.item goes (record { text = taken.text; takes = taken.takes; lines = taken.lines }) taken.rest_is
 
 -- a batch ends before so many items
-pub batch_too_long : {Own : Type 0} {Tells : Type 0} (n left : ℕ) (old first now : Seen Own) (run begun mid : Core) → left ≤ n → Continues Tells old now → TakesKept left old first run begun → BatchGoes Tells n old now run mid → BatchShown Tells rests.Idle old now run mid
+pub batch_too_long : {Own : Type 0} {Tells : Type 0} (n left : ℕ) (old first now : Seen Own) (run begun mid : Core) → left ≤ n → Continues Tells old now → TakesKept Tells left old first run begun → BatchGoes Tells n old now run mid → BatchShown Tells rests.Idle old now run mid
 batch_too_long n left old first now run begun mid many continues kept goes = record { shown = λ told keeps calm. absurd (by (kept.none calm.kept).0 (Conforming-before told continues keeps) calm (goes.so_far told keeps calm)) }
   where
     by : left ≡ 1000000 → Conforming old → Calm old run.net → SoFar n (standing_of old run) (standing_of now mid) → ⊥

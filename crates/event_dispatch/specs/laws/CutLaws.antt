@@ -42,7 +42,7 @@ use Rattle.event_dispatch.specs.laws.SteadyLaws.{quietly_none, quietly_then, non
 use Rattle.event_dispatch.specs.laws.TalkingLaws.{keeps_none, keeps_then}
 use Rattle.event_dispatch.specs.Serves.{stand, Writes, AllStarted, IsDispatched, Begins}
 use Rattle.event_dispatch.specs.laws.ReadLaws.{reads_engine}
-use Rattle.event_dispatch.specs.laws.RoundLaws.{first_event, number_is, batch_is, batch_written, batch_follows, all_begun}
+use Rattle.event_dispatch.specs.laws.RoundLaws.{first_event, number_is, batch_is, batch_written, batch_follows, started_all, all_begun}
 use Rattle.event_dispatch.specs.Cut.{IsStill, FailsIn, FailsNext, CutOne, CutSome, CutRound, CutRounds, CutStart, CutEnd, CutFinish, CutFinishAs, WentToEnd, CutGoes, CutRun, CutAs}
 
 -- what a `?` answers is the fault
@@ -198,7 +198,7 @@ start_unwritten Tells contents now_contents old new r mid none starts reads part
   shown = all_begun Tells old new r mid starts;
   reads = reads;
   part = subst (λ (text : List ℕ). TookPart contents now_contents text) (starts.notes ∙ ap (λ (xs : List ℕ). xs ++ starts.text) none) part;
-  still = record { net = starts.stays.net; queue = starts.stays.queue; events = starts.stays.events };
+  all = started_all Tells old new r mid starts;
 }
 
 end_still : {Own : Type 0} (Tells : Type 0) (fault : Fault) (contents now_contents : Option (List ℕ)) (last new : Seen Own) (e : Engine) → IsStill fault contents now_contents → KeepsTalking Tells last new → NoPoint Tells (length e.apps) last new → CutEnd Tells fault contents now_contents last new e
@@ -250,7 +250,7 @@ rounds_cut Tells accepts most fault a b c old begun new r begun_r first begins r
   starts = begins.shown;
   starts_read = reads;
   writes = begins.writes;
-  still = begins.still;
+  all = begins.all;
   later = later;
   rounds = rounds;
 })))
@@ -271,7 +271,7 @@ end_cut Tells accepts most end a b c d old begun last new r r1 r2 w later cut =
       starts = w.begins.shown;
       starts_read = w.starts_read;
       writes = w.begins.writes;
-      still = w.begins.still;
+      all = w.begins.all;
       on = w.on;
       rounds = w.rounds;
       rounds_read = w.rounds_read;

@@ -1,13 +1,17 @@
 -- What follows about the course of a run that a fault ended, or that came to its end: up to there it went from part to part.
-use Rattle.std.proofs.Common.{◌≡◌, ℕ, Bool, List, [], Option, Ok, Err, refl, sym, subst, inl, inr}
+use Rattle.std.proofs.Common.{◌≡◌, ℕ, Bool, List, [], ◌∷◌, ◌++◌, Option, Ok, Err, refl, sym, subst, inl, inr}
 use Rattle.std.specs.Io.KnownBytes.{append_known}
 use Rattle.flow_table.specs.View.{TableView}
 use Rattle.crash_policy.specs.Policies.{AppValue}
+use Rattle.outside.specs.declared.step.WorldStep.{WorldStep}
+use Rattle.outside.specs.declared.step.WorldStep.TheVariants.{Opened, NotOpened}
 use Rattle.outside.specs.Seen.{Seen, Continues}
 use Rattle.outside.specs.laws.SeenLaws.{Continues-refl}
 use Rattle.run_laws.specs.Engine.{Engine}
 use Rattle.run_laws.specs.First.{engine_at_first}
 use Rattle.run_laws.specs.Course.{Stage, PartByPart, RunsOn, WritesPart, first_stage}
+use Rattle.run_course.specs.Messages.{got_in, GotNone}
+use Rattle.run_laws.specs.laws.HoldingLaws.{none_got_as, none_got_by}
 use Rattle.run_laws.specs.laws.CourseLaws.{follows-one, runs-on, runs-later, runs-still}
 use Rattle.event_dispatch.specs.declared.fault.Fault.{Fault}
 use Rattle.event_dispatch.specs.declared.fault.Fault.TheVariants as faults
@@ -86,7 +90,7 @@ module _ {Own : Type 0} (Tells : Type 0) (accepts : List TableView → Bool) whe
 
   start-up : (fault : Fault) (contents now_contents : Option (List ℕ)) (old new : Seen Own) (e : Engine) → Continues Tells old new → CutStart Tells fault contents now_contents old new e → UpTo Tells accepts fault (at old e contents) new now_contents
   start-up faults.Write contents now_contents old new e later cut = up-still faults.Write (at old e contents) new now_contents later
-      (record { text = cut.more; whole = inl (at new cut.now_engine (append_known contents cut.more), inr (inr (record { still = cut.still; text = cut.more; written = refl })), refl); part = cut.part })
+      (record { text = cut.more; whole = inl (at new cut.now_engine (append_known contents cut.more), inr (inr (record { text = cut.more; all = cut.all; written = refl })), refl); part = cut.part })
   start-up faults.NoMemory contents now_contents old new e later cut = up-still faults.NoMemory (at old e contents) new now_contents later cut.0
   start-up faults.Next contents now_contents old new e later cut = absurd cut
   start-up (faults.Txn fault) contents now_contents old new e later cut = absurd cut
@@ -101,11 +105,11 @@ module _ {Own : Type 0} (Tells : Type 0) (accepts : List TableView → Bool) whe
   goes-up most fault contents now_contents old new e later (inl start) = start-up fault contents now_contents old new e later start
   goes-up most fault contents now_contents old new e later (inr (inl g)) =
       up-then fault (at old e contents) (stage_of g.begun g.held g.begun_run) new now_contents
-      (follows-one Tells accepts (at old e contents) (stage_of g.begun g.held g.begun_run) (record { continues = g.first; part = inr (inr (record { still = g.still; text = g.text; written = g.writes.written })) }))
+      (follows-one Tells accepts (at old e contents) (stage_of g.begun g.held g.begun_run) (record { continues = g.first; part = inr (inr (record { text = g.text; all = g.all; written = g.writes.written })) }))
       (rounds-up fault g.held now_contents g.begun new g.begun_run g.rounds)
   goes-up most fault contents now_contents old new e later (inr (inr h)) =
       up-then fault (at old e contents) (stage_of h.begun h.held h.begun_run) new now_contents
-      (follows-one Tells accepts (at old e contents) (stage_of h.begun h.held h.begun_run) (record { continues = h.first; part = inr (inr (record { still = h.still; text = h.text; written = h.writes.written })) }))
+      (follows-one Tells accepts (at old e contents) (stage_of h.begun h.held h.begun_run) (record { continues = h.first; part = inr (inr (record { text = h.text; all = h.all; written = h.writes.written })) }))
       (up-then fault (stage_of h.begun h.held h.begun_run) (stage_of h.last h.last_held h.last_run) new now_contents h.rounds.course
       (end-up fault h.last_held now_contents h.last new h.last_run h.later h.none_left h.ends))
 
@@ -118,11 +122,15 @@ ends-at Tells accepts faults.NoMemory written last ends = ends
 
 -- ---- The whole call
 
+-- opening a world brings no message
+opened_none : {Own : Type 0} (old new : Seen Own) (step : WorldStep) → got_in (step ∷ []) ≡ [] → new.history ≡ old.history ++ step ∷ [] → GotNone old.history new.history
+opened_none old new step none is = none_got_by old.history new.history (step ∷ []) is none
+
 -- the world was not opened
 pub course_unopened : {Own : Type 0} (rules : List AppValue) (Tells : Type 0) (accepts : List TableView → Bool) (contents : Option (List ℕ)) (old new : Seen Own) (end : Served) → Continues Tells old new → IsUnopened Tells old new end
     → GoesItsCourse rules Tells accepts old new contents contents end
-course_unopened rules Tells accepts contents old new served.Shut first left = record { opened = new; first = first; last = first_stage rules new contents; runs = runs-still Tells accepts (first_stage rules new contents) new (Continues-refl Tells new); ends = refl }
-course_unopened rules Tells accepts contents old new served.NoMemory first left = record { opened = new; first = first; last = first_stage rules new contents; runs = runs-still Tells accepts (first_stage rules new contents) new (Continues-refl Tells new); ends = refl }
+course_unopened rules Tells accepts contents old new served.Shut first left = record { opened = new; first = first; opening = λ told. opened_none old new NotOpened refl (left told); last = first_stage rules new contents; runs = runs-still Tells accepts (first_stage rules new contents) new (Continues-refl Tells new); ends = refl }
+course_unopened rules Tells accepts contents old new served.NoMemory first left = record { opened = new; first = first; opening = λ told. none_got_as old.history new.history (left told); last = first_stage rules new contents; runs = runs-still Tells accepts (first_stage rules new contents) new (Continues-refl Tells new); ends = refl }
 course_unopened rules Tells accepts contents old new (served.EventsLeft n) first left = absurd left
 course_unopened rules Tells accepts contents old new (served.Ended events) first left = absurd left
 course_unopened rules Tells accepts contents old new served.WriteFault first left = absurd left
@@ -130,42 +138,45 @@ course_unopened rules Tells accepts contents old new served.NextFault first left
 course_unopened rules Tells accepts contents old new (served.Txn fault) first left = absurd left
 
 -- all was done
-pub course_done : {Own : Type 0} (rules : List AppValue) (Tells : Type 0) (accepts : List TableView → Bool) (most events : ℕ) (a b : Option (List ℕ)) (old mid new : Seen Own) → Continues Tells old mid → RunsAs rules Tells accepts most (Ok events) a b mid new
+pub course_done : {Own : Type 0} (rules : List AppValue) (Tells : Type 0) (accepts : List TableView → Bool) (most events : ℕ) (a b : Option (List ℕ)) (old mid new : Seen Own) → Continues Tells old mid → (Tells → mid.history ≡ old.history ++ Opened ∷ []) → RunsAs rules Tells accepts most (Ok events) a b mid new
     → GoesItsCourse rules Tells accepts old new a b (served.Ended events)
-course_done rules Tells accepts most events a b old mid new first runs = record {
+course_done rules Tells accepts most events a b old mid new first opened runs = record {
   opened = mid;
   first = first;
+  opening = λ told. opened_none old mid Opened refl (opened told);
   last = record { seen = runs.out.last; engine = runs.last; written = runs.held };
   runs = runs.course;
   ends = (runs.out.none_left, runs.events_is, runs.written.0, runs.written.1);
 }
 
 -- a fault ended it
-course_cut : {Own : Type 0} (rules : List AppValue) (Tells : Type 0) (accepts : List TableView → Bool) (most : ℕ) (end : Served) (a b : Option (List ℕ)) (old mid new : Seen Own) → Continues Tells old mid → CutRun Tells accepts most end a b mid new (engine_at_first rules)
+course_cut : {Own : Type 0} (rules : List AppValue) (Tells : Type 0) (accepts : List TableView → Bool) (most : ℕ) (end : Served) (a b : Option (List ℕ)) (old mid new : Seen Own) → Continues Tells old mid → (Tells → mid.history ≡ old.history ++ Opened ∷ []) → CutRun Tells accepts most end a b mid new (engine_at_first rules)
     → GoesItsCourse rules Tells accepts old new a b end
-course_cut rules Tells accepts most end a b old mid new first cut =
+course_cut rules Tells accepts most end a b old mid new first opened cut =
     let up = goes-up Tells accepts most cut.fault a b mid cut.stop (engine_at_first rules) cut.before cut.goes in
     record {
       opened = mid;
       first = first;
+      opening = λ told. opened_none old mid Opened refl (opened told);
       last = up.last;
       runs = runs-later Tells accepts (first_stage rules mid a) up.last cut.stop new cut.later up.runs;
       ends = subst (λ (s : Served). EndsAt Tells accepts s b up.last) (sym cut.end_is) (ends-at Tells accepts cut.fault b up.last up.ends);
     }
 
 -- or events were left
-pub course_failed : {Own : Type 0} (rules : List AppValue) (Tells : Type 0) (accepts : List TableView → Bool) (most : ℕ) (end : Served) (a b : Option (List ℕ)) (old mid new : Seen Own) → Continues Tells old mid → RunsAs rules Tells accepts most (Err end) a b mid new
+pub course_failed : {Own : Type 0} (rules : List AppValue) (Tells : Type 0) (accepts : List TableView → Bool) (most : ℕ) (end : Served) (a b : Option (List ℕ)) (old mid new : Seen Own) → Continues Tells old mid → (Tells → mid.history ≡ old.history ++ Opened ∷ []) → RunsAs rules Tells accepts most (Err end) a b mid new
     → CutAs Tells accepts most end a b mid new (engine_at_first rules) → GoesItsCourse rules Tells accepts old new a b end
-course_failed rules Tells accepts most (served.EventsLeft left) a b old mid new first runs cut = record {
+course_failed rules Tells accepts most (served.EventsLeft left) a b old mid new first opened runs cut = record {
   opened = mid;
   first = first;
+  opening = λ told. opened_none old mid Opened refl (opened told);
   last = record { seen = runs.full.last; engine = runs.full.now_engine; written = b };
   runs = runs.course;
   ends = (runs.full.left_is, refl);
 }
-course_failed rules Tells accepts most (served.Ended events) a b old mid new first runs cut = absurd runs
-course_failed rules Tells accepts most served.WriteFault a b old mid new first runs cut = course_cut rules Tells accepts most served.WriteFault a b old mid new first cut
-course_failed rules Tells accepts most served.Shut a b old mid new first runs cut = course_cut rules Tells accepts most served.Shut a b old mid new first cut
-course_failed rules Tells accepts most served.NextFault a b old mid new first runs cut = course_cut rules Tells accepts most served.NextFault a b old mid new first cut
-course_failed rules Tells accepts most (served.Txn fault) a b old mid new first runs cut = course_cut rules Tells accepts most (served.Txn fault) a b old mid new first cut
-course_failed rules Tells accepts most served.NoMemory a b old mid new first runs cut = course_cut rules Tells accepts most served.NoMemory a b old mid new first cut
+course_failed rules Tells accepts most (served.Ended events) a b old mid new first opened runs cut = absurd runs
+course_failed rules Tells accepts most served.WriteFault a b old mid new first opened runs cut = course_cut rules Tells accepts most served.WriteFault a b old mid new first opened cut
+course_failed rules Tells accepts most served.Shut a b old mid new first opened runs cut = course_cut rules Tells accepts most served.Shut a b old mid new first opened cut
+course_failed rules Tells accepts most served.NextFault a b old mid new first opened runs cut = course_cut rules Tells accepts most served.NextFault a b old mid new first opened cut
+course_failed rules Tells accepts most (served.Txn fault) a b old mid new first opened runs cut = course_cut rules Tells accepts most (served.Txn fault) a b old mid new first opened cut
+course_failed rules Tells accepts most served.NoMemory a b old mid new first opened runs cut = course_cut rules Tells accepts most served.NoMemory a b old mid new first opened cut

@@ -150,7 +150,7 @@ next_taken item buf old mid new fault call later taken = record { plain = λ tol
 pub kept_memory : (net : NetState) → PlainKept net faults.NoMemory
 kept_memory net = record { plain = λ none. tt }
 
-pub kept_none : {Own : Type 0} {n : ℕ} {old now : Seen Own} (run mid : Core) (m : ℕ × List ℕ) (fault : Fault) → KeptSoFar n old now run mid → Some m ≡ slice_get mid.net.kept 0 → PlainKept run.net fault
+pub kept_none : {Own Tells : Type 0} {n : ℕ} {old now : Seen Own} (run mid : Core) (m : ℕ × List ℕ) (fault : Fault) → KeptSoFar Tells n old now run mid → Some m ≡ slice_get mid.net.kept 0 → PlainKept run.net fault
 kept_none run mid m fault so_far is = record { plain = λ none. absurd (some_kept m mid.net.kept is (ap (λ (s : NetState). s.kept) (so_far.none none).1.1 ∙ none)) }
 
 -- a batch

@@ -34,7 +34,7 @@ use Rattle.event_dispatch.specs.declared.engine_core.Core.{Core}
 use Rattle.event_dispatch.specs.declared.run.Run.{Run}
 use Rattle.event_dispatch.specs.Runs.{AreRead, StoreRests, IsCountedTo, Going, Waits}
 use Rattle.event_dispatch.specs.Batch.{standing_of, BatchShown}
-use Rattle.run_laws.specs.Facts.{Dispatches}
+use Rattle.run_laws.specs.Facts.{Dispatches, StartsAll}
 use Rattle.run_laws.specs.Course.{BatchTaken, PartByPart}
 use Rattle.run_laws.specs.laws.CourseLaws.{follows-none, follows-one, follows-then}
 use Rattle.event_dispatch.specs.Shows.{Stays, application_of, engine_of, stage_of, queued_run}
@@ -309,8 +309,11 @@ rounds_out {Own} Tells accepts most n a b old new r now_r many rounds = record {
 -- ---- The start
 
 -- all were started
+pub started_all : {Own : Type 0} (Tells : Type 0) (old new : Seen Own) (r : Run) (mid : Run) → (s : AllStarted Tells old new r.core mid.core r.apps.items mid.apps.items) → StartsAll Tells s.text old new (engine_of r) (engine_of mid)
+started_all Tells old new r mid s = record { all = s.started; net = s.stays.net; queue = s.stays.queue; events = s.stays.events }
+
 pub all_begun : {Own : Type 0} (Tells : Type 0) (old new : Seen Own) (r : Run) (mid : Run) → (s : AllStarted Tells old new r.core mid.core r.apps.items mid.apps.items) → ShownStart Tells s.text old new (engine_of r) (engine_of mid)
-all_begun Tells old new r mid s = start-shown Tells s.text old new (engine_of r) (engine_of mid) (record { all = s.started; net = s.stays.net; queue = s.stays.queue; events = s.stays.events })
+all_begun Tells old new r mid s = start-shown Tells s.text old new (engine_of r) (engine_of mid) (started_all Tells old new r mid s)
 
 pub begins_is : {Own : Type 0} (Tells : Type 0) (contents now_contents : Option (List ℕ)) (old new : Seen Own) (r mid : Run) (now_c : Core) → r.core.lines.items ≡ [] → AllStarted Tells old new r.core mid.core r.apps.items mid.apps.items → Stays mid.core now_c → Writes mid.core.lines.items contents now_contents now_c
     → Begins Tells contents now_contents old new r (record mid { core = now_c })
@@ -318,11 +321,7 @@ begins_is Tells contents now_contents old new r mid now_c none starts same write
   text = starts.text;
   shown = subst (λ (e : Engine). ShownStart Tells starts.text old new (engine_of r) e) (sym (stays_engine mid mid.core now_c same)) (all_begun Tells old new r mid starts);
   writes = all_noted contents now_contents starts.text r.core mid.core now_c none starts.notes writes;
-  still = record {
-    net = same.net ∙ starts.stays.net;
-    queue = same.queue ∙ starts.stays.queue;
-    events = same.events ∙ starts.stays.events;
-  };
+  all = subst (λ (e : Engine). StartsAll Tells starts.text old new (engine_of r) e) (sym (stays_engine mid mid.core now_c same)) (started_all Tells old new r mid starts);
 }
 
 -- the same run, with its lines written

@@ -228,7 +228,7 @@ from_ascends now_net result item d n buf is all = rw is (λ told order at short 
 
 -- ---- A batch begins: the messages that were kept were taken
 
-pub goes_at_first : {Own Tells : Type 0} {left : ℕ} (old new : Seen Own) (run now_run : Core) → TakesKept left old new run now_run
+pub goes_at_first : {Own Tells : Type 0} {left : ℕ} (old new : Seen Own) (run now_run : Core) → TakesKept Tells left old new run now_run
     → BatchGoes Tells 0 old new run now_run
 goes_at_first {Own = Own} old new run now_run kept = record { so_far = λ told keeps calm. inl (refl, as_before (kept.none calm.kept).1) }
   where
@@ -243,14 +243,14 @@ all_taken : {A B C : Type 0} → A ⊎ (B × C) → A ⊎ B
 all_taken (inl none) = inl none
 all_taken (inr most) = inr most.0
 
-pub kept_comes_first : {Own : Type 0} {left : ℕ} (Tells : Type 0) (old new : Seen Own) (run now_run : Core) → TakesKept left old new run now_run → BatchTaken Tells (stand old run) (stand new now_run)
+pub kept_comes_first : {Own : Type 0} {left : ℕ} (Tells : Type 0) (old new : Seen Own) (run now_run : Core) → TakesKept Tells left old new run now_run → BatchTaken Tells (stand old run) (stand new now_run)
 kept_comes_first Tells old new run now_run kept = record {
   mid = stand new now_run;
-  first = record { taken = kept.taken; kept_is = kept.first.kept_is; all = all_taken kept.all; knowledge = kept.first.knowledge };
+  first = record { taken = kept.taken; kept_is = kept.first.kept_is; all = all_taken kept.all; knowledge = kept.first.knowledge; told = kept.first.told };
   items = [];
   told = refl;
 }
 
-pub point_at_first : {Own Tells : Type 0} {left number : ℕ} {old new : Seen Own} (run now_run : Core) → OnLinks Tells old new → TakesKept left old new run now_run
+pub point_at_first : {Own Tells : Type 0} {left number : ℕ} {old new : Seen Own} (run now_run : Core) → OnLinks Tells old new → TakesKept Tells left old new run now_run
     → BatchPoint Tells number old new run.net
 point_at_first {old = old} {new = new} run now_run links kept = record { here = λ told order rest none. inl (kept.none none).1.0; own = (here_kept old new links).own }

@@ -77,7 +77,7 @@ went_course : {Own : Type 0} (Tells : Type 0) (accepts : List TableView → Bool
     → PartByPart Tells accepts (stage_of old a r) (stage_of last c r2)
 went_course Tells accepts most a b c old begun last r r1 r2 first begins rounds =
     follows-then Tells accepts (stage_of old a r) (stage_of begun b r1) (stage_of last c r2)
-    (follows-one Tells accepts (stage_of old a r) (stage_of begun b r1) (record { continues = first; part = inr (inr (record { still = begins.still; text = begins.text; written = begins.writes.written })) }))
+    (follows-one Tells accepts (stage_of old a r) (stage_of begun b r1) (record { continues = first; part = inr (inr (record { text = begins.text; all = begins.all; written = begins.writes.written })) }))
     rounds.course
 
 none_then : {Own : Type 0} {text : List ℕ} (Tells : Type 0) (accepts : List TableView → Bool) (most : ℕ) (old begun last new : Seen Own) (e : Engine) (b c : Option (List ℕ)) (r1 r2 : Run) → Continues Tells begun last → Continues Tells last new → ShownStart Tells text old begun e (engine_of r1)

@@ -1,5 +1,5 @@
 -- Bytes with another type than ECHO_REQUEST (2) are read as none (OpenFlow 1.0.0, 5.1 OpenFlow Header).
-use Rattle.std.specs.Prelude.{◌≡◌, ◌==◌, ◌+◌, ℕ, Bool, true, false, nat_lt, List, length, drop, if◌then◌else◌, Option, Some, None, Result, Ok, Err}
+use Rattle.std.specs.Prelude.{◌≡◌, ◌==◌, ◌+◌, ℕ, Bool, true, false, nat_lt, List, [], length, drop, if◌then◌else◌, Option, Some, None, Result, Ok, Err}
 use Rattle.std.proofs.Common.{refl, inl, inr, true≢false}
 use Rattle.std.proofs.lemmas.Bool.{cases_Bool}
 use Rattle.of_types.specs.Fields.{number_at, piece}
@@ -15,7 +15,9 @@ use Rattle.of_wire.specs.declared.message.Envelope.{Envelope}
 use Rattle.of_wire.specs.declared.fault.WireFault.{WireFault}
 use Rattle.of_wire.specs.Kinds.{kind_of_number}
 use Rattle.of_wire.specs.Reading.{has_length, if_sized, front_of, body_of, packet_out_of, flow_mod_of, of_actions, reading_of}
-use Rattle.batch_laws.specs.Knowledge.{IsEchoRead}
+use Rattle.net_txn.specs.Arriving.{arrival_steps}
+use Rattle.batch_laws.specs.Knowledge.{IsEcho, IsEchoRead}
+use Rattle.batch_laws.specs.Items.{answers}
 
 -- ---- The type
 
@@ -122,3 +124,36 @@ read_other xid (Err fault) bytes not is = is
 pub no-echo : (bytes : List ℕ) → (number_at 1 1 bytes == 2) ≡ false → IsEchoRead (reading_of bytes) → ⊥
 unfolding reading_of
 no-echo bytes not is = read_other (number_at 4 4 bytes) (front_of bytes) bytes (front_other bytes not) is
+
+-- ---- So nothing is sent for it.
+
+sent_none : (d xid : ℕ) (m : Message) → (IsEcho m → ⊥) → arrival_steps d xid m ≡ []
+sent_none d xid (messages.EchoRequest payload) other = absurd (other tt)
+sent_none d xid (messages.Hello payload) other = refl
+sent_none d xid (messages.Error kind code payload) other = refl
+sent_none d xid (messages.EchoReply payload) other = refl
+sent_none d xid (messages.Vendor payload) other = refl
+sent_none d xid messages.FeaturesRequest other = refl
+sent_none d xid (messages.FeaturesReply features) other = refl
+sent_none d xid messages.GetConfigRequest other = refl
+sent_none d xid (messages.GetConfigReply config) other = refl
+sent_none d xid (messages.SetConfig config) other = refl
+sent_none d xid (messages.PacketIn packet) other = refl
+sent_none d xid (messages.FlowRemoved flow) other = refl
+sent_none d xid (messages.PortStatus status) other = refl
+sent_none d xid (messages.PacketOut packet) other = refl
+sent_none d xid (messages.FlowMod m) other = refl
+sent_none d xid (messages.PortMod port) other = refl
+sent_none d xid (messages.StatsRequest m) other = refl
+sent_none d xid (messages.StatsReply m) other = refl
+sent_none d xid messages.BarrierRequest other = refl
+sent_none d xid messages.BarrierReply other = refl
+sent_none d xid (messages.QueueGetConfigRequest payload) other = refl
+sent_none d xid (messages.QueueGetConfigReply payload) other = refl
+
+answers_none : (d : ℕ) (r : Result Envelope WireFault) → (IsEchoRead r → ⊥) → answers d r ≡ []
+answers_none d (Ok e) other = sent_none d e.xid e.message other
+answers_none d (Err fault) other = refl
+
+pub no-answer : (d : ℕ) (bytes : List ℕ) → (number_at 1 1 bytes == 2) ≡ false → answers d (reading_of bytes) ≡ []
+no-answer d bytes other = answers_none d (reading_of bytes) (no-echo bytes other)

@@ -159,10 +159,10 @@ pub returns-in-Ok-clause-kept_messages_come_first : goal.returns-in-Ok-clause-ke
 returns-in-Ok-clause-kept_messages_come_first g c =
     course_done (map app_value c.args.rules.now) g.W.World.Tells (g.J.Judge.accepts c.args.judge.now) c.args.rounds c.in-Ok.events
     (g.K.Sink.contents c.args.sink.now) (g.K.Sink.contents c.run.new.sink) (g.W.World.seen c.args.world.now) (g.W.World.seen c.open.new.world)
-    (g.W.World.seen c.run.new.world) c.open.ensures.continues c.in-Ok.ensures.done.runs
+    (g.W.World.seen c.run.new.world) c.open.ensures.continues c.in_default.ensures.opened c.in-Ok.ensures.done.runs
 
 pub returns-in-Err-run-clause-kept_messages_come_first : goal.returns-in-Err-run-clause-kept_messages_come_first
 returns-in-Err-run-clause-kept_messages_come_first g c =
     course_failed (map app_value c.args.rules.now) g.W.World.Tells (g.J.Judge.accepts c.args.judge.now) c.args.rounds c.in-Err-run.served
     (g.K.Sink.contents c.args.sink.now) (g.K.Sink.contents c.run.new.sink) (g.W.World.seen c.args.world.now) (g.W.World.seen c.open.new.world)
-    (g.W.World.seen c.run.new.world) c.open.ensures.continues c.in-Err-run.ensures.done.runs c.in-Err-run.ensures.done.fails.cut
+    (g.W.World.seen c.run.new.world) c.open.ensures.continues c.in_default.ensures.opened c.in-Err-run.ensures.done.runs c.in-Err-run.ensures.done.fails.cut

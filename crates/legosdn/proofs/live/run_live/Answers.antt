@@ -14,7 +14,7 @@ pub returns-clause-serves : goal.returns-clause-serves
 returns-clause-serves g c =
     serves_taken g.W.World.Tells c.args.rounds (g.S.Source.remaining c.args.source.now) (g.S.Source.remaining c.read_program.new.source) (g.S.Source.faults c.args.source.now) (g.S.Source.faults c.read_program.new.source)
     (g.K.Sink.faults c.args.sink.now) (g.K.Sink.faults c.run_world.new.sink) (g.W.World.seen c.args.live.now) (g.W.World.seen c.run_world.new.world) (g.K.Sink.contents c.args.sink.now) (g.K.Sink.contents c.run_world.new.sink) _ c.run_world.result (map app_value c.deref.result.now)
-    (subst (λ apps. Taken (map app_value apps) (g.S.Source.remaining c.args.source.now) (g.S.Source.remaining c.read_program.new.source)) (sym c.deref.ensures.value) c.in_ok-apps.ensures.taken) c.run_world.ensures.runs c.run_world.ensures.strays c.run_world.ensures.why
+    (subst (λ apps. Taken (map app_value apps) (g.S.Source.remaining c.args.source.now) (g.S.Source.remaining c.read_program.new.source)) (sym c.deref.ensures.value) c.in_ok-apps.ensures.taken) c.run_world.ensures.runs c.run_world.ensures.strays c.run_world.ensures.course c.run_world.ensures.why
 
 pub returns-in_err-apps-clause-ended : goal.returns-in_err-apps-clause-ended
 returns-in_err-apps-clause-ended g c = λ told none. none_runs_yet (g.W.World.seen c.args.live.now) none

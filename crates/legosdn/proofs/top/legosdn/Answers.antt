@@ -117,6 +117,20 @@ returns-in-Err-clause-live_run_until_stop g c = λ port rounds is tells within.
     served_or_not_begun (g.S.Source.remaining c.args.source.now) (g.S.Source.remaining c.run.new.source) c.halt.result (g.W.World.seen c.run.new.live) c.in-Err.stop (g.K.Sink.contents c.args.sink.now) (g.K.Sink.contents c.run.new.sink) (g.K.Sink.contents c.halt.new.sink) (g.K.Sink.faults c.args.sink.now) (g.K.Sink.faults c.run.new.sink) (g.K.Sink.faults c.halt.new.sink)
     c.halt.ensures.status (subst (λ (status : ℕ). Contains (5 ∷ 6 ∷ 8 ∷ 9 ∷ 10 ∷ 12 ∷ []) status) c.halt.ensures.status within) c.run.ensures.never_fell ((c.in-Err.ensures.serves port rounds is).runs tells) c.halt.ensures.line
 
+pub returns-in-Ok-clause-live_kept_messages_come_first : goal.returns-in-Ok-clause-live_kept_messages_come_first
+returns-in-Ok-clause-live_kept_messages_come_first g c = λ port rounds is told. inl (refl, (c.in-Ok.ensures.serves port rounds is).course told)
+
+pub returns-in-Err-clause-live_kept_messages_come_first : goal.returns-in-Err-clause-live_kept_messages_come_first
+returns-in-Err-clause-live_kept_messages_come_first g c = λ port rounds is told. inr (record {
+  stop = c.in-Err.stop;
+  status_is = c.halt.ensures.status;
+  before = g.K.Sink.contents c.run.new.sink;
+  faults = g.K.Sink.faults c.run.new.sink;
+  never_fell = c.run.ensures.never_fell;
+  course = (c.in-Err.ensures.serves port rounds is).course told;
+  written = c.halt.ensures.line;
+})
+
 pub returns-in-Ok-clause-live_no_stray_call : goal.returns-in-Ok-clause-live_no_stray_call
 returns-in-Ok-clause-live_no_stray_call g c = λ port rounds is tells. (c.in-Ok.ensures.serves port rounds is).strays tells
 

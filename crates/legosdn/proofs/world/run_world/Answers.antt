@@ -2,6 +2,7 @@ use Rattle.std.proofs.Common.{map}
 use Rattle.crash_policy.specs.Policies.{app_value}
 use Rattle.event_dispatch.specs.declared.served.Served.TheVariants as served
 use Rattle.legosdn.proofs.Served.{serves_whole, serves_part, cut_as, writing_place, lines_place, memory_place, switch_serves, none_stray}
+use Rattle.legosdn.proofs.Courses.{done_course, left_course, write_course, shut_course, next_course, memory_course, switch_course}
 use Rattle.legosdn.proofs.world.run_world.Goals as goal
 
 pub returns-in-Ended-clause-runs : goal.returns-in-Ended-clause-runs
@@ -72,3 +73,24 @@ pub returns-in-Txn-clause-strays : goal.returns-in-Txn-clause-strays
 returns-in-Txn-clause-strays g c =
     none_stray (map app_value c.args.apps.now) g.W.World.Tells c.args.rounds (g.W.World.seen c.args.world.now) (g.W.World.seen c.serve.new.world) (g.K.Sink.contents c.args.sink.now) (g.K.Sink.contents c.serve.new.sink) c.serve.result c.serve.ensures.continues
     c.serve.ensures.no_stray_call c.serve.ensures.all_bytes_are_messages c.serve.ensures.reference_run c.serve.ensures.reference_run_until_fault
+
+pub returns-in-Ended-clause-course : goal.returns-in-Ended-clause-course
+returns-in-Ended-clause-course g c = λ told. done_course (map app_value c.args.apps.now) (g.W.World.seen c.args.world.now) (g.W.World.seen c.serve.new.world) (g.K.Sink.contents c.args.sink.now) (g.K.Sink.contents c.serve.new.sink) c.serve.result c.serve.ensures.kept_messages_come_first told _ _ c.in-Ended.is
+
+pub returns-in-EventsLeft-clause-course : goal.returns-in-EventsLeft-clause-course
+returns-in-EventsLeft-clause-course g c = λ told. left_course (map app_value c.args.apps.now) (g.W.World.seen c.args.world.now) (g.W.World.seen c.serve.new.world) (g.K.Sink.contents c.args.sink.now) (g.K.Sink.contents c.serve.new.sink) c.serve.result c.serve.ensures.kept_messages_come_first told c.in-EventsLeft.left c.in-EventsLeft.is
+
+pub returns-in-WriteFault-clause-course : goal.returns-in-WriteFault-clause-course
+returns-in-WriteFault-clause-course g c = λ told. write_course (map app_value c.args.apps.now) (g.W.World.seen c.args.world.now) (g.W.World.seen c.serve.new.world) (g.K.Sink.contents c.args.sink.now) (g.K.Sink.contents c.serve.new.sink) c.serve.result c.serve.ensures.kept_messages_come_first told c.in-WriteFault.is
+
+pub returns-in-Shut-clause-course : goal.returns-in-Shut-clause-course
+returns-in-Shut-clause-course g c = λ told. shut_course (map app_value c.args.apps.now) (g.W.World.seen c.args.world.now) (g.W.World.seen c.serve.new.world) (g.K.Sink.contents c.args.sink.now) (g.K.Sink.contents c.serve.new.sink) c.serve.result c.serve.ensures.kept_messages_come_first told c.in-Shut.is
+
+pub returns-in-NextFault-clause-course : goal.returns-in-NextFault-clause-course
+returns-in-NextFault-clause-course g c = λ told. next_course (map app_value c.args.apps.now) (g.W.World.seen c.args.world.now) (g.W.World.seen c.serve.new.world) (g.K.Sink.contents c.args.sink.now) (g.K.Sink.contents c.serve.new.sink) c.serve.result c.serve.ensures.kept_messages_come_first told c.in-NextFault.is
+
+pub returns-in-NoMemory-clause-course : goal.returns-in-NoMemory-clause-course
+returns-in-NoMemory-clause-course g c = λ told. memory_course (map app_value c.args.apps.now) (g.W.World.seen c.args.world.now) (g.W.World.seen c.serve.new.world) (g.K.Sink.contents c.args.sink.now) (g.K.Sink.contents c.serve.new.sink) c.serve.result c.serve.ensures.kept_messages_come_first told c.in-NoMemory.is
+
+pub returns-in-Txn-clause-course : goal.returns-in-Txn-clause-course
+returns-in-Txn-clause-course g c = λ told. switch_course (map app_value c.args.apps.now) (g.W.World.seen c.args.world.now) (g.W.World.seen c.serve.new.world) (g.K.Sink.contents c.args.sink.now) (g.K.Sink.contents c.serve.new.sink) c.serve.result c.serve.ensures.kept_messages_come_first told c.in-Txn.fault c.from.result c.in-Txn.is c.from.ensures

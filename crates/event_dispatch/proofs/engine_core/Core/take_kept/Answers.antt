@@ -15,7 +15,7 @@ loop-taken-init g c = record {
   lines = refl;
   left = c.requires.none_left;
   read = c.requires.read;
-  kept = kept_at_first (g.W.World.seen c.args.world.now) c.args.self.now;
+  kept = kept_at_first g.W.World.Tells (g.W.World.seen c.args.world.now) c.args.self.now;
   passes = on_links_at_first g.W.World.Tells (g.W.World.seen c.args.world.now) c.args.self.now.net;
 }
 

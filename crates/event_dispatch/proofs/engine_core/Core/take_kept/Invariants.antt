@@ -10,6 +10,6 @@ invariant-loop-taken g l = record {
   lines : l.self.lines.items ≡ l.fn.self.lines.items;
   left : l.self.net.left ≡ [];
   read : AreRead l.self.net.kept;
-  kept : KeptSoFar l.taken (g.W.World.seen l.fn.world) (g.W.World.seen l.world) l.fn.self l.self;
+  kept : KeptSoFar g.W.World.Tells l.taken (g.W.World.seen l.fn.world) (g.W.World.seen l.world) l.fn.self l.self;
   passes : OnLinksSoFar g.W.World.Tells (length l.fn.self.store) (g.W.World.seen l.fn.world) (g.W.World.seen l.world) l.fn.self.net l.self.net;
 }

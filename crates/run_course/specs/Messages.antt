@@ -1,0 +1,117 @@
+-- What becomes of the messages that switches send: the events that they make, those that are kept where something else is awaited, and those
+-- that find no room in an undo (OpenFlow 1.0.0, 4.2 Message Handling, 5.3.7 Barrier Message and 5.4 Asynchronous Messages). What is kept, and
+-- the room, is our own choice.
+use Rattle.std.specs.Prelude.{◌≡◌, ◌==◌, ◌⊎◌, ℕ, ◌<◌, ◌≤◌, Bool, true, false, not, List, [], ◌∷◌, ◌++◌, length, map, filter, filter_map, Option, Some, None, Result, Ok, Err}
+use Rattle.std.specs.List.{list_any, flat_map}
+use Rattle.of_types.specs.Fields.{number_at, number_bytes}
+use Rattle.of_types.specs.declared.journal.Act.TheVariants.{Sent, Got}
+use Rattle.of_wire.specs.declared.message.Message.{Message}
+use Rattle.of_wire.specs.declared.message.Message.TheVariants.{FlowRemoved, Error}
+use Rattle.of_wire.specs.declared.message.Envelope.{Envelope}
+use Rattle.of_wire.specs.declared.fault.WireFault.{WireFault}
+use Rattle.of_wire.specs.Reading.{reading_of}
+use Rattle.app_frames.specs.declared.frame.Event.{Event}
+use Rattle.app_frames.specs.declared.frame.EventKind.TheVariants as kinds
+use Rattle.outside.specs.declared.step.WorldStep.{WorldStep}
+use Rattle.outside.specs.declared.step.WorldStep.TheVariants.{Acted}
+use Rattle.lego_model.specs.declared.wait.Awaited.{Awaited}
+use Rattle.lego_model.specs.Events.{event_of_message}
+use Rattle.lego_model.specs.BarrierWaits.{next_xid, heard, kept_by, barrier_sent, wait_steps, reply_got}
+
+-- ---- The events that a message makes
+
+abbrev pub event_list : Option Event → List Event
+event_list None = []
+event_list (Some event) = event ∷ []
+
+-- A notice makes its event, or none where the owner of the entry asked for none (5.4.2 Flow Removed Message). An ERROR makes one with its type
+-- and code (5.4.4 Error Message).
+abbrev pub MakesEvents : ℕ → Message → List Event → Type 0
+MakesEvents d (FlowRemoved f) events = (events ≡ event_list (event_of_message d (FlowRemoved f))) ⊎ (events ≡ [])
+MakesEvents d (Error kind code payload) events = events ≡ record { kind = kinds.SwitchError; dpid = d; body = number_bytes 2 kind ++ number_bytes 2 code } ∷ []
+MakesEvents d m events = events ≡ event_list (event_of_message d m)
+
+abbrev pub ReadMakes : ℕ → Result Envelope WireFault → List Event → Type 0
+ReadMakes d (Ok e) events = MakesEvents d e.message events
+ReadMakes d (Err fault) events = events ≡ []
+
+-- one of a switch that is not joined makes none
+abbrev pub MessageMakes : Bool → ℕ × List ℕ → List Event → Type 0
+MessageMakes true m events = ReadMakes m.0 (reading_of m.1) events
+MessageMakes false m events = events ≡ []
+
+-- messages, one after the other
+abbrev pub MessagesMake : (ℕ → Bool) → List (ℕ × List ℕ) → List Event → Type 0
+MessagesMake joined [] events = events ≡ []
+MessagesMake joined (m ∷ more) events =
+    (first : List Event) × (later : List Event) × (events ≡ first ++ later) × MessageMakes (joined m.0) m first × MessagesMake joined more later
+
+-- ---- Steps of a history
+
+-- the message that came by this step, where one was awaited
+abbrev pub got_of : WorldStep → Option (ℕ × List ℕ)
+got_of (Acted (Got d bytes)) = Some (d, bytes)
+got_of step = None
+
+-- all of them, in order, each with its switch
+abbrev pub got_in : List WorldStep → List (ℕ × List ℕ)
+got_in steps = filter_map got_of steps
+
+-- the history went on, and none came
+pub record GotNone (before after : List WorldStep) : Type 0 where
+  pub steps : List WorldStep
+  pub history : after ≡ before ++ steps
+  pub none : got_in steps ≡ []
+
+-- ---- A wait for the reply to a barrier
+
+-- It was sent behind these messages. No refusal of them is awaited, or there is one alone, whose refusal is.
+abbrev pub IsBehind : Awaited → List (List ℕ) → Type 0
+IsBehind a sent = (a.first ≡ a.barrier) ⊎ ((frame : List ℕ) × (sent ≡ frame ∷ []) × (a.first ≡ number_at 4 4 frame) × (a.barrier ≡ next_xid a.first))
+
+abbrev pub sent_steps : ℕ → List (List ℕ) → List WorldStep
+sent_steps d sent = map (λ bytes. Acted (Sent d bytes)) sent
+
+-- Messages were sent to a switch, and then a barrier; these messages came, and then its reply.
+pub record Waited (before after : List WorldStep) : Type 0 where
+  pub awaited : Awaited
+  pub sent : List (List ℕ)
+  pub behind : IsBehind awaited sent
+  pub got : List (List ℕ)
+  pub history : after ≡ before ++ (sent_steps awaited.dpid sent ++ (barrier_sent awaited ∷ (wait_steps awaited got ++ reply_got awaited ∷ [])))
+
+-- ---- In an undo messages are kept in a store of fixed size, and a switch that is lost takes its own with it.
+
+-- it is one of the switches
+abbrev pub is_one_of : List ℕ → ℕ → Bool
+is_one_of switches d = list_any (λ e. e == d) switches
+
+-- messages but for those of the switches
+abbrev pub but_of : List ℕ → List (ℕ × List ℕ) → List (ℕ × List ℕ)
+but_of switches messages = filter (λ m. not (is_one_of switches m.0)) messages
+
+-- With the message there would be more than 16,384, or more than 1,048,576 bytes.
+abbrev pub HasNoRoom : List (ℕ × List ℕ) → ℕ × List ℕ → Type 0
+HasNoRoom stored m = (16384 ≤ length stored) ⊎ (1048576 < length (flat_map (λ x. x.1) (stored ++ m ∷ [])))
+
+-- A store has no room for it, in which these messages stand, and besides them none but of the switches that are lost.
+pub record IsFull (lost : List ℕ) (kept : List (ℕ × List ℕ)) (m : ℕ × List ℕ) : Type 0 where
+  pub stored : List (ℕ × List ℕ)
+  pub stored_is : but_of lost stored ≡ kept
+  pub no_room : HasNoRoom stored m
+
+-- A wait keeps it not that awaits no refusal: it is the reply to a barrier, or an ECHO_REQUEST, which is answered, or a notice of an entry that
+-- was deleted.
+pub record IsNotKept (m : ℕ × List ℕ) : Type 0 where
+  pub awaited : Awaited
+  pub of_switch : awaited.dpid ≡ m.0
+  pub no_refusal : awaited.first ≡ awaited.barrier
+  pub none : kept_by m.0 (heard awaited m.1) m.1 ≡ []
+
+abbrev pub IsDropped : List ℕ → List (ℕ × List ℕ) → ℕ × List ℕ → Type 0
+IsDropped lost kept m = (is_one_of lost m.0 ≡ true) ⊎ IsNotKept m ⊎ IsFull lost kept m
+
+-- Of messages that came behind others these are kept, and the others are dropped.
+abbrev pub AreKept : List ℕ → List (ℕ × List ℕ) → List (ℕ × List ℕ) → List (ℕ × List ℕ) → Type 0
+AreKept lost [] kept now_kept = now_kept ≡ kept
+AreKept lost (m ∷ more) kept now_kept = AreKept lost more (kept ++ m ∷ []) now_kept ⊎ (IsDropped lost kept m × AreKept lost more kept now_kept)

@@ -1,0 +1,95 @@
+-- The course of a run, in any world that tells: it goes from part to part. In a batch the messages that were kept come first, oldest first,
+-- before all that is told in it; then the oldest of the events that wait is given to applications, one event after the other. So what was kept
+-- is handled in the next batch, and what comes of it is given in its turn, and printed. All of this is our own.
+use Rattle.std.specs.Prelude.{◌≡◌, ◌⊎◌, ℕ, ◌+◌, ◌≤◌, false, List, [], ◌∷◌, ◌++◌, length, Option}
+use Rattle.std.specs.Io.KnownBytes.{append_known}
+use Rattle.lego_io.specs.Sink.{TookPart}
+use Rattle.app_frames.specs.declared.frame.Event.{Event}
+use Rattle.outside.specs.Seen.{Seen, Longer}
+use Rattle.lego_model.specs.RunReport.{event_line}
+use Rattle.run_course.specs.Messages.{GotNone, MessagesMake}
+use Rattle.run_course.specs.Moves.{Holding, SameJoined, AreQueued, OneByOne, ItemMove, HaveTurns}
+
+-- how a run stands: what it holds, how many events were given, and what was written
+pub record Standing (Own : Type 0) : Type 0 where
+  pub holding : Holding Own
+  pub events : ℕ
+  pub written : Option (List ℕ)
+
+-- ---- A batch
+
+-- The messages that were kept are taken, oldest first: all of them, or as many as a batch can have items. What they make waits behind the events
+-- that wait. Nothing is called meanwhile, and the other messages are kept still.
+pub record KeptComeFirst {Own : Type 0} (from to : Holding Own) : Type 0 where
+  pub taken : List (ℕ × List ℕ)
+  pub kept : from.kept ≡ taken ++ to.kept
+  pub all : (to.kept ≡ []) ⊎ (1000000 ≤ length taken)
+  pub history : to.seen.history ≡ from.seen.history
+  pub joined : SameJoined from to
+  pub events : List Event
+  pub made : MessagesMake from.joined taken events
+  pub queued : AreQueued events from to
+
+-- and then what is told, item by item; its lines are written
+pub record TakesBatch {Own : Type 0} (from to : Standing Own) : Type 0 where
+  pub mid : Holding Own
+  pub first : KeptComeFirst from.holding mid
+  pub items : OneByOne ItemMove mid to.holding
+  pub events : to.events ≡ from.events
+  pub noted : List ℕ
+  pub written : to.written ≡ append_known from.written noted
+
+-- ---- An event
+
+-- the oldest is given to applications, each of which has its turn, and written with its number and what came of it
+pub record GivesOldest {Own : Type 0} (from to : Standing Own) : Type 0 where
+  pub event : Event
+  pub later : List Event
+  pub waits : from.holding.queue ≡ event ∷ later
+  pub apps : List ℕ
+  pub turns : HaveTurns (from.events + 1) event apps (record from.holding { queue = later }) to.holding
+  pub events : to.events ≡ from.events + 1
+  pub turn_text : List ℕ
+  pub written : to.written ≡ append_known from.written (event_line (from.events + 1) event.kind event.dpid ++ turn_text)
+
+-- ---- The start
+
+-- the applications were started, and their lines written
+pub record Starts {Own : Type 0} (from to : Standing Own) : Type 0 where
+  pub got_none : GotNone from.holding.seen.history to.holding.seen.history
+  pub joined : SameJoined from.holding to.holding
+  pub kept : to.holding.kept ≡ from.holding.kept
+  pub queue : to.holding.queue ≡ from.holding.queue
+  pub events : to.events ≡ from.events
+  pub text : List ℕ
+  pub written : to.written ≡ append_known from.written text
+
+-- ---- The course
+
+abbrev pub Part : {Own : Type 0} → Standing Own → Standing Own → Type 0
+Part from to = TakesBatch from to ⊎ GivesOldest from to ⊎ Starts from to
+
+-- part by part, with how the run stands behind each of them
+abbrev pub Goes : {Own : Type 0} → List (Standing Own) → Standing Own → Standing Own → Type 0
+Goes [] from to = to ≡ from
+Goes (mid ∷ more) from to = Part from mid × Goes more mid to
+
+-- nothing is kept yet, and no event waits
+abbrev pub at_first : {Own : Type 0} → Seen Own → Option (List ℕ) → Standing Own
+at_first seen written = record { holding = record { seen = seen; joined = λ d. false; kept = []; queue = [] }; events = 0; written = written }
+
+-- Where the sink failed: it took a part of the lines of one part more, or of the end of the report, where no event waits.
+pub record WritesPart {Own : Type 0} (last : Standing Own) (written : Option (List ℕ)) : Type 0 where
+  pub text : List ℕ
+  pub whole : ((behind : Standing Own) × Part last behind × (behind.written ≡ append_known last.written text)) ⊎ (last.holding.queue ≡ [])
+  pub part : TookPart last.written written text
+
+-- The run goes its course, up to its last whole part, behind which it stands so. Before it the world was opened, or nothing was done.
+pub record TakesCourse {Own : Type 0} (old new : Seen Own) (contents : Option (List ℕ)) (Stands : Standing Own → Type 0) : Type 0 where
+  pub opened : Seen Own
+  pub opening : GotNone old.history opened.history
+  pub stops : List (Standing Own)
+  pub last : Standing Own
+  pub parts : Goes stops (at_first opened contents) last
+  pub later : Longer last.holding.seen.history new.history
+  pub stands : Stands last

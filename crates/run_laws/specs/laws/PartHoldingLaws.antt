@@ -1,0 +1,121 @@
+-- The parts of a run of the engine are those of the course of a run.
+use Rattle.std.specs.Prelude.{map}
+use Rattle.std.proofs.Common.{ℕ, ◌+◌, Bool, List, [], ◌∷◌, Option, sym, ap, ◌∙◌, inl, inr}
+use Rattle.std.specs.Io.KnownBytes.{append_known}
+use Rattle.flow_table.specs.View.{TableView}
+use Rattle.crash_policy.specs.Policies.{AppValue}
+use Rattle.app_frames.specs.declared.frame.Event.{Event}
+use Rattle.outside.specs.Seen.{Seen}
+use Rattle.net_txn.specs.Net.{NetState}
+use Rattle.net_txn.specs.Views.{is_viewed}
+use Rattle.net_txn.specs.laws.ViewLaws.{viewed}
+use Rattle.batch_laws.specs.Knowledge.{Knowledge, knowledge_of, is_known}
+use Rattle.run_course.specs.Messages.{GotNone}
+use Rattle.run_course.specs.Parts as course
+use Rattle.run_course.specs.Parts.{Standing, TakesCourse}
+use Rattle.run_laws.specs.Facts.{between}
+use Rattle.run_laws.specs.Course.{KeptComesFirst, Stage, TakesBatch, GivesOldest, Starts, IsPart, Part, Course, WritesPart, RunsOn, first_stage}
+use Rattle.run_laws.specs.laws.MadeEventLaws.{kept_makes, kept_known}
+use Rattle.run_laws.specs.laws.HoldingLaws.{holding_of}
+use Rattle.run_laws.specs.laws.ItemHoldingLaws.{items_move}
+use Rattle.run_laws.specs.laws.TurnHoldingLaws.{starts_none, offers_turns}
+
+-- how the run stands, by what the engine keeps
+abbrev pub standing_of : {Own : Type 0} → Stage Own → Standing Own
+standing_of s = record { holding = holding_of s.seen s.engine.net s.engine.queue; events = s.engine.events; written = s.written }
+
+-- ---- A batch
+
+kept_first : {Own Tells : Type 0} (old new : Seen Own) (net now_net : NetState) (queue now_queue : List Event) → Tells → KeptComesFirst Tells old new net now_net queue now_queue → course.KeptComeFirst (holding_of old net queue) (holding_of new now_net now_queue)
+kept_first old new net now_net queue now_queue told first =
+    let k = knowledge_of net queue in
+    let makes = kept_makes (λ e. is_viewed e net.views) first.taken k (λ e. sym (viewed e net.views)) in
+    record {
+      taken = first.taken;
+      kept = first.kept_is;
+      all = first.all;
+      history = first.told told;
+      joined = λ e. viewed e now_net.views ∙ ap (λ (x : Knowledge). is_known e x) first.knowledge ∙ kept_known e first.taken k ∙ sym (viewed e net.views);
+      events = makes.events;
+      made = makes.made;
+      queued = ap (λ (x : Knowledge). x.queue) first.knowledge ∙ makes.queue_is;
+    }
+
+batch_part : {Own Tells : Type 0} (from to : Stage Own) → Tells → TakesBatch Tells from to → course.TakesBatch (standing_of from) (standing_of to)
+batch_part from to told batch =
+    let taken = batch.taken in
+    record {
+      mid = holding_of taken.mid.seen taken.mid.net taken.mid.queue;
+      first = kept_first from.seen taken.mid.seen from.engine.net taken.mid.net from.engine.queue taken.mid.queue told taken.first;
+      items = items_move taken.items taken.mid (between to.seen to.engine) told taken.told;
+      events = batch.events;
+      noted = batch.noted;
+      written = batch.written;
+    }
+
+-- ---- An event
+
+event_part : {Own Tells : Type 0} {accepts : List TableView → Bool} (from to : Stage Own) → Tells → GivesOldest Tells accepts from to → course.GivesOldest (standing_of from) (standing_of to)
+event_part {Tells = Tells} {accepts = accepts} from to told gives =
+    let d = gives.dispatches in
+    let e = record from.engine { queue = gives.later } in
+    let turned = offers_turns Tells accepts gives.event (from.engine.events + 1) 0 from.engine.apps d.turn_text (between from.seen e) (between to.seen to.engine) to.engine.apps d.stopped told d.offers in
+    record {
+      event = gives.event;
+      later = gives.later;
+      waits = gives.waits;
+      apps = turned.apps;
+      turns = turned.turns;
+      events = d.events_is;
+      turn_text = d.turn_text;
+      written = gives.written ∙ ap (append_known from.written) d.text_is;
+    }
+
+-- ---- The start
+
+start_part : {Own Tells : Type 0} (from to : Stage Own) → Tells → Starts Tells from to → course.Starts (standing_of from) (standing_of to)
+start_part {Tells = Tells} from to told starts =
+    let all = starts.all in
+    record {
+      got_none = starts_none Tells 0 from.engine.apps starts.text from.seen to.seen from.engine.net from.engine.queue from.engine.events to.engine.apps told all.all;
+      joined = λ e. ap (λ (n : NetState). is_viewed e n.views) all.net;
+      kept = ap (λ (n : NetState). n.kept) all.net;
+      queue = all.queue;
+      events = all.events;
+      text = starts.text;
+      written = starts.written;
+    }
+
+-- ---- The course
+
+part_is : {Own Tells : Type 0} (accepts : List TableView → Bool) (from to : Stage Own) → Tells → IsPart Tells accepts from to → course.Part (standing_of from) (standing_of to)
+part_is accepts from to told (inl batch) = inl (batch_part from to told batch)
+part_is accepts from to told (inr (inl event)) = inr (inl (event_part from to told event))
+part_is accepts from to told (inr (inr starts)) = inr (inr (start_part from to told starts))
+
+goes_so : {Own Tells : Type 0} (accepts : List TableView → Bool) (stages : List (Stage Own)) (from to : Stage Own) → Tells → Course Tells accepts stages from to → course.Goes (map standing_of stages) (standing_of from) (standing_of to)
+goes_so accepts [] from to told parts = ap standing_of parts
+goes_so accepts (mid ∷ more) from to told parts = (part_is accepts from mid told parts.0.part, goes_so accepts more mid to told parts.1)
+
+pub writes_part : {Own Tells : Type 0} (accepts : List TableView → Bool) (last : Stage Own) (written : Option (List ℕ)) → Tells → WritesPart Tells accepts last written → course.WritesPart (standing_of last) written
+writes_part accepts last written told writes = record {
+  text = writes.text;
+  whole = elim writes.whole [
+    | inl more ↦ inl (standing_of more.0, part_is accepts last more.0 told more.1, more.2)
+    | inr none ↦ inr none
+  ];
+  part = writes.part;
+}
+
+-- the run takes its course, up to where it stands so
+pub takes_course : {Own Tells : Type 0} (accepts : List TableView → Bool) (rules : List AppValue) (old opened new : Seen Own) (contents : Option (List ℕ)) (last : Stage Own) (Stands : Standing Own → Type 0) → Tells → GotNone old.history opened.history → RunsOn Tells accepts (first_stage rules opened contents) last new
+    → Stands (standing_of last) → TakesCourse old new contents Stands
+takes_course accepts rules old opened new contents last Stands told opening runs stands = record {
+  opened = opened;
+  opening = opening;
+  stops = map standing_of runs.course.stages;
+  last = standing_of last;
+  parts = goes_so accepts runs.course.stages (first_stage rules opened contents) last told runs.course.parts;
+  later = runs.later.told told;
+  stands = stands;
+}

@@ -1,0 +1,208 @@
+-- An undo in which no switch failed but by its loss, as the course of a run says it: what came is kept where there was room.
+use Rattle.std.specs.Prelude.{◌&&◌, not, map, length, nat_lt, nat_le}
+use Rattle.std.proofs.Common.{◌≡◌, ℕ, ◌+◌, Bool, true, false, List, [], ◌∷◌, ◌++◌, drop, Option, Some, None, Ok, refl, sym, ap, ◌∙◌, subst, inl, inr, arith}
+use Rattle.std.specs.List.{AllByRecursion, flat_map}
+use Rattle.std.proofs.lemmas.List.{append-nil, length-append}
+use Rattle.std.proofs.lemmas.List.Elements.{filter-append}
+use Rattle.std.proofs.lemmas.Bool.{cases_Bool, eq-eqb, ltb-false, leb-false}
+use Rattle.of_types.specs.declared.journal.Act.TheVariants.{Stim, Started, Gave, Gone, Took, Ended, Sent, Got, Lost as WasLost}
+use Rattle.of_wire.specs.declared.message.Message.TheVariants.{BarrierReply}
+use Rattle.of_wire.specs.Spelling.{message_bytes}
+use Rattle.app_frames.specs.declared.frame.Event.{Event}
+use Rattle.outside.specs.declared.step.WorldStep.{WorldStep}
+use Rattle.outside.specs.declared.step.WorldStep.TheVariants.{Acted, TookInto, From, Joined, Left, Moment, Idle, End, Opened, NotOpened, NextFailed, SendLost, RecvLost, SendFailed, RecvFailed}
+use Rattle.outside.specs.Seen.{Counts, Seen}
+use Rattle.lego_model.specs.declared.fault.TxnFault.{TxnFault}
+use Rattle.lego_model.specs.declared.wait.Awaited.{Awaited}
+use Rattle.lego_model.specs.declared.wait.Heard.{Heard}
+use Rattle.lego_model.specs.declared.wait.Heard.TheVariants.{Reply, Refused, Notice, Echo, Other}
+use Rattle.lego_model.specs.BarrierWaits.{heard, steps_by, kept_by, kept_of, heard_steps, wait_steps, reply_got}
+use Rattle.lego_model.specs.UndoFaults.{IsStepOf}
+use Rattle.net_txn.specs.Net.{NetState}
+use Rattle.net_txn.specs.Views.{is_viewed}
+use Rattle.net_txn.specs.MessageStore.{bytes_kept, fits, KeptWhereFit}
+use Rattle.net_txn.specs.Losing.{is_among}
+use Rattle.net_txn.specs.Undos.{Part, Inverse, BarrierPassed, Stuck, alone, part_steps, steps_of, parts_of, key_logged, undone_net, next_free, first_fault_of, fault_in, first_fault, ended_by, lost_in, lost_parts, is_stuck, KeepsOne, Keeps, Undoes}
+use Rattle.net_txn.specs.laws.LinkPresenceLaws.{among-append, stays_in}
+use Rattle.net_txn.specs.laws.AbreastLaws.{lose_all-viewed, without_keys-viewed}
+use Rattle.net_txn.specs.laws.HeardLaws.{heard-reply}
+use Rattle.net_txn.specs.laws.LoseAllLaws.{lose_all-so}
+use Rattle.net_txn.specs.laws.OutLaws.{none_failed}
+use Rattle.net_txn.specs.laws.RestoreLaws.{AllRun, runs_here, runs_older}
+use Rattle.run_course.specs.Messages.{got_in, is_one_of, but_of, HasNoRoom, IsFull, IsNotKept, AreKept}
+use Rattle.run_course.specs.Moves.{TakesBack}
+use Rattle.run_laws.specs.laws.HoldingLaws.{holding_of, got_append}
+
+-- ---- Some messages and then others
+
+kept_then : (lost : List ℕ) (first second : List (ℕ × List ℕ)) (a b c : List (ℕ × List ℕ)) → AreKept lost first a b → AreKept lost second b c → AreKept lost (first ++ second) a c
+kept_then lost [] second a b c before after = subst (λ (kept : List (ℕ × List ℕ)). AreKept lost second kept c) before after
+kept_then lost (m ∷ more) second a b c (inl one) after = inl (kept_then lost more second (a ++ m ∷ []) b c one after)
+kept_then lost (m ∷ more) second a b c (inr none) after = inr (none.0, kept_then lost more second a b c none.1 after)
+
+-- all of a switch that is lost go
+kept_none : (lost : List ℕ) (came kept : List (ℕ × List ℕ)) → AllByRecursion (λ m. is_one_of lost m.0 ≡ true) came → AreKept lost came kept kept
+kept_none lost [] kept all = refl
+kept_none lost (m ∷ more) kept all = inr (inl all.0, kept_none lost more kept all.1)
+
+-- ---- The messages of a wait
+
+got_by : (d : ℕ) (h : Heard) (bytes : List ℕ) → got_in (steps_by d h bytes) ≡ []
+got_by d Reply bytes = refl
+got_by d (Refused refusal) bytes = refl
+got_by d Notice bytes = refl
+got_by d Echo bytes = refl
+got_by d Other bytes = refl
+
+got_wait : (a : Awaited) (got : List (List ℕ)) → got_in (wait_steps a got) ≡ map (λ b. (a.dpid, b)) got
+got_wait a [] = refl
+got_wait a (b ∷ bs) =
+    got_append (heard_steps a b) (wait_steps a bs)
+    ∙ ap (λ (ms : List (ℕ × List ℕ)). ((a.dpid, b) ∷ ms) ++ got_in (wait_steps a bs)) (got_by a.dpid (heard a b) b)
+    ∙ ap (λ (ms : List (ℕ × List ℕ)). (a.dpid, b) ∷ ms) (got_wait a bs)
+
+-- ---- Room
+
+bytes_are : (kept : List (ℕ × List ℕ)) → bytes_kept kept ≡ length (flat_map (λ x. x.1) kept)
+bytes_are [] = refl
+bytes_are (m ∷ more) = ap (λ (n : ℕ). length m.1 + n) (bytes_are more) ∙ sym (length-append m.1 (flat_map (λ x. x.1) more))
+
+bytes_last : (kept : List (ℕ × List ℕ)) (m : ℕ × List ℕ) → length (flat_map (λ x. x.1) (kept ++ m ∷ [])) ≡ length (flat_map (λ x. x.1) kept) + length m.1
+bytes_last [] m = omega (arith, ap length (append-nil m.1))
+bytes_last (x ∷ more) m = omega (arith, length-append x.1 (flat_map (λ y. y.1) (more ++ m ∷ [])), length-append x.1 (flat_map (λ y. y.1) more), bytes_last more m)
+
+no_room : (kept : List (ℕ × List ℕ)) (m : ℕ × List ℕ) (few small : Bool) → nat_lt (length kept) 16384 ≡ few → nat_le (bytes_kept kept + length m.1) 1048576 ≡ small → (few && small) ≡ false → HasNoRoom kept m
+no_room kept m false small number bytes full = inl (ltb-false (length kept) 16384 number)
+no_room kept m true false number bytes full = inr (omega (arith, leb-false (bytes_kept kept + length m.1) 1048576 bytes, bytes_are kept, bytes_last kept m))
+no_room kept m true true number bytes full = absurd cc
+
+is_full : (lost : List ℕ) (kept : List (ℕ × List ℕ)) (m : ℕ × List ℕ) → fits kept m.1 ≡ false → IsFull lost (but_of lost kept) m
+is_full lost kept m full = record { stored = kept; stored_is = refl; no_room = no_room kept m (nat_lt (length kept) 16384) (nat_le (bytes_kept kept + length m.1) 1048576) refl refl full }
+
+-- ---- One message before the reply
+
+one_more : (lost : List ℕ) (kept : List (ℕ × List ℕ)) (m : ℕ × List ℕ) → is_one_of lost m.0 ≡ false → but_of lost (kept ++ m ∷ []) ≡ but_of lost kept ++ m ∷ []
+one_more lost kept m stays = filter-append (λ x. not (is_one_of lost x.0)) kept (m ∷ []) ∙ rw stays refl
+
+one_gone : (lost : List ℕ) (kept : List (ℕ × List ℕ)) (m : ℕ × List ℕ) → is_one_of lost m.0 ≡ true → but_of lost (kept ++ m ∷ []) ≡ but_of lost kept
+one_gone lost kept m goes = filter-append (λ x. not (is_one_of lost x.0)) kept (m ∷ []) ∙ rw goes (append-nil (but_of lost kept))
+
+not_kept : (a : Awaited) (bytes : List ℕ) → a.first ≡ a.barrier → kept_by a.dpid (heard a bytes) bytes ≡ [] → IsNotKept (a.dpid, bytes)
+not_kept a bytes no_refusal none = record { awaited = a; of_switch = refl; no_refusal = no_refusal; none = none }
+
+-- it was kept where it fits, and then the others
+other_kept : (lost : List ℕ) (d : ℕ) (bytes : List ℕ) (more : List (ℕ × List ℕ)) (kept now_kept : List (ℕ × List ℕ)) → AreKept lost more (but_of lost (kept ++ (d, bytes) ∷ [])) (but_of lost now_kept) → AreKept lost ((d, bytes) ∷ more) (but_of lost kept) (but_of lost now_kept)
+other_kept lost d bytes more kept now_kept rest = elim (cases_Bool (is_one_of lost d)) [
+  | inl goes ↦ inr (inl goes, subst (λ (k : List (ℕ × List ℕ)). AreKept lost more k (but_of lost now_kept)) (one_gone lost kept (d, bytes) goes) rest)
+  | inr stays ↦ inl (subst (λ (k : List (ℕ × List ℕ)). AreKept lost more k (but_of lost now_kept)) (one_more lost kept (d, bytes) stays) rest)
+]
+
+-- one, and then the others
+one_kept : (lost : List ℕ) (a : Awaited) (b : List ℕ) (more later kept now_kept : List (ℕ × List ℕ)) → a.first ≡ a.barrier → ((k : List (ℕ × List ℕ)) → KeptWhereFit k later now_kept → AreKept lost more (but_of lost k) (but_of lost now_kept)) → (h : Heard) → heard a b ≡ h
+    → KeptWhereFit kept (kept_by a.dpid h b ++ later) now_kept → AreKept lost ((a.dpid, b) ∷ more) (but_of lost kept) (but_of lost now_kept)
+one_kept lost a b more later kept now_kept no_refusal rest Reply is fits = inr (inr (inl (not_kept a b no_refusal (rw is refl))), rest kept fits)
+one_kept lost a b more later kept now_kept no_refusal rest (Refused refusal) is fits = inr (inr (inl (not_kept a b no_refusal (rw is refl))), rest kept fits)
+one_kept lost a b more later kept now_kept no_refusal rest Notice is fits = inr (inr (inl (not_kept a b no_refusal (rw is refl))), rest kept fits)
+one_kept lost a b more later kept now_kept no_refusal rest Echo is fits = inr (inr (inl (not_kept a b no_refusal (rw is refl))), rest kept fits)
+one_kept lost a b more later kept now_kept no_refusal rest Other is (inl one) = other_kept lost a.dpid b more kept now_kept (rest (kept ++ (a.dpid, b) ∷ []) one)
+one_kept lost a b more later kept now_kept no_refusal rest Other is (inr over) = inr (inr (inr (is_full lost kept (a.dpid, b) over.0)), rest kept over.1)
+
+wait_kept : (lost : List ℕ) (a : Awaited) (got : List (List ℕ)) (kept now_kept : List (ℕ × List ℕ)) → a.first ≡ a.barrier → KeptWhereFit kept (kept_of a got) now_kept → AreKept lost (map (λ b. (a.dpid, b)) got) (but_of lost kept) (but_of lost now_kept)
+wait_kept lost a [] kept now_kept no_refusal fit = ap (but_of lost) fit
+wait_kept lost a (b ∷ bs) kept now_kept no_refusal fit =
+    one_kept lost a b (map (λ c. (a.dpid, c)) bs) (kept_of a bs) kept now_kept no_refusal (λ k fits. wait_kept lost a bs k now_kept no_refusal fits) (heard a b) refl fit
+
+-- ---- The parts of an undo
+
+-- a message that a call of the switch got is one of it
+step_of_switch : (d : ℕ) (lost : List ℕ) (step : WorldStep) (rest : List (ℕ × List ℕ)) → is_one_of lost d ≡ true → IsStepOf d step → AllByRecursion (λ m. is_one_of lost m.0 ≡ true) rest → AllByRecursion (λ m. is_one_of lost m.0 ≡ true) (got_in (step ∷ []) ++ rest)
+step_of_switch d lost (Acted (Got e bytes)) rest goes is all = (ap (is_one_of lost) is ∙ goes, all)
+step_of_switch d lost (Acted (Sent e bytes)) rest goes is all = all
+step_of_switch d lost (SendLost e) rest goes is all = all
+step_of_switch d lost (RecvLost e) rest goes is all = all
+step_of_switch d lost (SendFailed e) rest goes is all = all
+step_of_switch d lost (RecvFailed e) rest goes is all = all
+step_of_switch d lost (Acted (Stim x)) rest goes is all = absurd is
+step_of_switch d lost (Acted (Started app stands)) rest goes is all = absurd is
+step_of_switch d lost (Acted (Gave app bytes)) rest goes is all = absurd is
+step_of_switch d lost (Acted (Gone app bytes)) rest goes is all = absurd is
+step_of_switch d lost (Acted (Took app what)) rest goes is all = absurd is
+step_of_switch d lost (Acted (Ended app)) rest goes is all = absurd is
+step_of_switch d lost (Acted (WasLost e)) rest goes is all = absurd is
+step_of_switch d lost (TookInto app what room) rest goes is all = absurd is
+step_of_switch d lost (From e bytes) rest goes is all = absurd is
+step_of_switch d lost (Joined e bytes) rest goes is all = absurd is
+step_of_switch d lost (Left e) rest goes is all = absurd is
+step_of_switch d lost (Moment t) rest goes is all = absurd is
+step_of_switch d lost Idle rest goes is all = absurd is
+step_of_switch d lost End rest goes is all = absurd is
+step_of_switch d lost Opened rest goes is all = absurd is
+step_of_switch d lost NotOpened rest goes is all = absurd is
+step_of_switch d lost NextFailed rest goes is all = absurd is
+
+steps_of_switch : (d : ℕ) (lost : List ℕ) (steps : List WorldStep) → is_one_of lost d ≡ true → AllByRecursion (IsStepOf d) steps → AllByRecursion (λ m. is_one_of lost m.0 ≡ true) (got_in steps)
+steps_of_switch d lost [] goes all = tt
+steps_of_switch d lost (step ∷ steps) goes all =
+    subst (AllByRecursion (λ m. is_one_of lost m.0 ≡ true)) (sym (got_append (step ∷ []) steps)) (step_of_switch d lost step (got_in steps) goes all.0 (steps_of_switch d lost steps goes all.1))
+
+none_of : (lost : List ℕ) (d : ℕ) (more : List (List ℕ)) → is_one_of lost d ≡ true → but_of lost (map (λ b. (d, b)) more) ≡ []
+none_of lost d [] goes = refl
+none_of lost d (b ∷ more) goes = rw goes (none_of lost d more goes)
+
+-- where no switch failed but by its loss
+stuck_gone : (old new : Counts) (d : ℕ) (p : Part) (older : List (ℕ × Part)) → ((rest : List Part) → is_stuck (p ∷ rest) ≡ true) → AllRun old new ((d, p) ∷ older) → first_fault ((d, p) ∷ older) ≡ None → is_among d (lost_parts ((d, p) ∷ older)) ≡ true
+stuck_gone old new d p older stuck runs none =
+    let same : Ok tt ≡ ended_by (first_fault ((d, p) ∷ older)) = sym (ap ended_by none) in
+    sym (none_failed old new (Ok tt) ((d, p) ∷ older) d runs same refl) ∙ rw (eq-eqb d d refl) (stuck (parts_of d older))
+
+part_kept : (old new : Counts) (lost : List ℕ) (d : ℕ) (p : Part) (older : List (ℕ × Part)) (kept now_kept : List (ℕ × List ℕ)) → AllRun old new ((d, p) ∷ older) → first_fault ((d, p) ∷ older) ≡ None → ((e : ℕ) → is_among e (lost_parts ((d, p) ∷ older)) ≡ true → is_one_of lost e ≡ true) → KeepsOne d p kept now_kept
+    → AreKept lost (got_in (part_steps d p)) (but_of lost kept) (but_of lost now_kept)
+part_kept old new lost d (Inverse xid k) older kept now_kept runs none among keeps = ap (but_of lost) keeps
+part_kept old new lost d (BarrierPassed xid got) older kept now_kept runs none among keeps =
+    let a = alone d xid in
+    subst (λ (ms : List (ℕ × List ℕ)). AreKept lost ms (but_of lost kept) (but_of lost now_kept)) (sym (got_append (wait_steps a got) (reply_got a ∷ []) ∙ ap (λ (ms : List (ℕ × List ℕ)). ms ++ got_in (reply_got a ∷ [])) (got_wait a got)))
+    (kept_then lost (map (λ b. (d, b)) got) (got_in (reply_got a ∷ [])) (but_of lost kept) (but_of lost now_kept) (but_of lost now_kept) (wait_kept lost a got kept now_kept refl keeps)
+    (inr (inr (inl (not_kept a (message_bytes a.barrier BarrierReply) refl (rw (heard-reply a) refl))), refl)))
+part_kept old new lost d (Stuck xid halt steps) older kept now_kept runs none among keeps =
+    let goes = among d (stuck_gone old new d (Stuck xid halt steps) older (λ rest. refl) runs none) in
+    let run = runs_here old new (d, Stuck xid halt steps) older runs in
+    subst (AreKept lost (got_in steps) (but_of lost kept)) (sym (ap (but_of lost) keeps.1 ∙ filter-append (λ x. not (is_one_of lost x.0)) kept (map (λ b. (d, b)) keeps.0) ∙ ap (λ (ms : List (ℕ × List ℕ)). but_of lost kept ++ ms) (none_of lost d keeps.0 goes) ∙ append-nil (but_of lost kept)))
+    (kept_none lost (got_in steps) (but_of lost kept) (steps_of_switch d lost steps goes run.0.each))
+
+none_before : (a b : Option TxnFault) → first_fault_of a b ≡ None → a ≡ None
+none_before None b is = refl
+none_before (Some x) b is = absurd cc
+
+front_among : (e : ℕ) (front more : List ℕ) → is_among e front ≡ true → is_among e (front ++ more) ≡ true
+front_among e front more is = among-append e front more ∙ rw is refl
+
+parts_kept : (old new : Counts) (lost : List ℕ) (parts : List (ℕ × Part)) (kept now_kept : List (ℕ × List ℕ)) → AllRun old new parts → first_fault parts ≡ None → ((e : ℕ) → is_among e (lost_parts parts) ≡ true → is_one_of lost e ≡ true) → Keeps kept parts now_kept
+    → AreKept lost (got_in (steps_of parts)) (but_of lost kept) (but_of lost now_kept)
+parts_kept old new lost [] kept now_kept runs none among keeps = ap (but_of lost) keeps
+parts_kept old new lost (p ∷ older) kept now_kept runs none among keeps =
+    subst (λ (ms : List (ℕ × List ℕ)). AreKept lost ms (but_of lost kept) (but_of lost now_kept)) (sym (got_append (steps_of older) (part_steps p.0 p.1)))
+    (kept_then lost (got_in (steps_of older)) (got_in (part_steps p.0 p.1)) (but_of lost kept) (but_of lost keeps.0) (but_of lost now_kept)
+    (parts_kept old new lost older kept keeps.0 (runs_older old new p older runs) (none_before (first_fault older) (fault_in p.1) none) (λ e is. among e (front_among e (lost_parts older) (lost_in p.0 p.1) is)) keeps.1)
+    (part_kept old new lost p.0 p.1 older keeps.0 now_kept runs none among keeps.2))
+
+-- ---- The whole
+
+no_fault : (o : Option TxnFault) → Ok tt ≡ ended_by o → o ≡ None
+no_fault None is = refl
+no_fault (Some fault) is = absurd cc
+
+pub undo_moves : {Own Tells : Type 0} {start : ℕ} (old new : Seen Own) (net now_net : NetState) (queue : List Event) → Tells → Undoes Tells start old new net now_net (Ok tt) → TakesBack (holding_of old net queue) (holding_of new now_net queue)
+undo_moves {start = start} old new net now_net queue told u =
+    let lost = lost_parts u.parts in
+    let runs : AllRun old.counts new.counts u.parts = λ d. (u.each d).run in
+    let left = record (undone_net start net) { xid = next_free net.xid u.parts; kept = u.kept; room = now_net.room } in
+    record {
+      lost = lost;
+      told = λ joined. u.losses told joined;
+      joined = λ e. ap (λ (n : NetState). is_viewed e n.views) u.net_is ∙ lose_all-viewed e lost left ∙ ap (stays_in e lost) (without_keys-viewed e (map key_logged (drop start net.log)) net.views);
+      steps = steps_of u.parts;
+      history = u.told told;
+      kept = subst (AreKept lost (got_in (steps_of u.parts)) (but_of lost net.kept)) (sym (ap (λ (n : NetState). n.kept) u.net_is ∙ ap (λ (n : NetState). n.kept) (lose_all-so lost left)))
+          (parts_kept old.counts new.counts lost u.parts net.kept u.kept runs (no_fault (first_fault u.parts) u.result_is) (λ e is. is) u.keeps);
+      queue = refl;
+    }
