@@ -16,7 +16,8 @@ use Rattle.run_laws.specs.laws.PartHoldingLaws.{writes_part, takes_course}
 use Rattle.legosdn.specs.declared.stop.Refusal.{Refusal}
 use Rattle.legosdn.specs.declared.stop.Stop.{Stop}
 use Rattle.legosdn.specs.declared.stop.Stop.TheVariants.{Usage, Refused, ReadFault, WriteFault, Shut, NextFault, SwitchBroke, Diverged, EventsLeft, NoMemory}
-use Rattle.legosdn.specs.Headline.{stop_of_switch, IsReadCause}
+use Rattle.legosdn.specs.Stops.{stop_of_switch}
+use Rattle.legosdn.specs.Headline.{IsReadCause}
 use Rattle.legosdn.specs.Live.{StandsAt}
 
 -- ---- Nothing ran
@@ -32,65 +33,65 @@ still_course seen contents result stands = record {
   stands = stands;
 }
 
-unread_stands : {Own T : Type 0} (IsRefused : Refusal → List ℕ → Type 0) (told : Option (List ℕ)) (i j : ℕ) (seen : Seen Own) (contents : Option (List ℕ)) (stop : Stop) → IsReadCause IsRefused told i j stop → StandsAt {T = T} (Err stop) contents (at_first seen contents)
-unread_stands IsRefused told i j seen contents (Refused refusal) cause = refl
-unread_stands IsRefused told i j seen contents ReadFault cause = refl
-unread_stands IsRefused told i j seen contents NoMemory cause = refl
-unread_stands IsRefused told i j seen contents Usage cause = absurd cause
-unread_stands IsRefused told i j seen contents WriteFault cause = absurd cause
-unread_stands IsRefused told i j seen contents Shut cause = absurd cause
-unread_stands IsRefused told i j seen contents NextFault cause = absurd cause
-unread_stands IsRefused told i j seen contents (SwitchBroke d) cause = absurd cause
-unread_stands IsRefused told i j seen contents (Diverged d) cause = absurd cause
-unread_stands IsRefused told i j seen contents (EventsLeft left) cause = absurd cause
+unread_stands : {Own : Type 0} (T : Type 0) (IsRefused : Refusal → List ℕ → Type 0) (told : Option (List ℕ)) (i j : ℕ) (seen : Seen Own) (contents : Option (List ℕ)) (stop : Stop) → IsReadCause IsRefused told i j stop → StandsAt {T = T} (Err stop) contents (at_first seen contents)
+unread_stands T IsRefused told i j seen contents (Refused refusal) cause = refl
+unread_stands T IsRefused told i j seen contents ReadFault cause = refl
+unread_stands T IsRefused told i j seen contents NoMemory cause = refl
+unread_stands T IsRefused told i j seen contents Usage cause = absurd cause
+unread_stands T IsRefused told i j seen contents WriteFault cause = absurd cause
+unread_stands T IsRefused told i j seen contents Shut cause = absurd cause
+unread_stands T IsRefused told i j seen contents NextFault cause = absurd cause
+unread_stands T IsRefused told i j seen contents (SwitchBroke d) cause = absurd cause
+unread_stands T IsRefused told i j seen contents (Diverged d) cause = absurd cause
+unread_stands T IsRefused told i j seen contents (EventsLeft left) cause = absurd cause
 
 pub unread_course : {Own T : Type 0} (IsRefused : Refusal → List ℕ → Type 0) (told : Option (List ℕ)) (i j : ℕ) (seen : Seen Own) (contents : Option (List ℕ)) (stop : Stop) (result : Result T Stop) → IsErrAnd result (λ s. s ≡ stop) → IsReadCause IsRefused told i j stop → TakesCourse seen seen contents (StandsAt result contents)
 unread_course IsRefused told i j seen contents stop (Ok x) is cause = absurd is
-unread_course IsRefused told i j seen contents stop (Err s) is cause =
-    still_course seen contents (Err s) (subst (λ (x : Stop). StandsAt (Err x) contents (at_first seen contents)) (sym is) (unread_stands IsRefused told i j seen contents stop cause))
+unread_course {T = T} IsRefused told i j seen contents stop (Err s) is cause =
+    still_course seen contents (Err s) (subst (λ (x : Stop). StandsAt {T = T} (Err x) contents (at_first seen contents)) (sym is) (unread_stands T IsRefused told i j seen contents stop cause))
 
 -- ---- A run
 
-module _ {Own T Tells : Type 0} {accepts : List TableView → Bool} (rules : List AppValue) (old new : Seen Own) (a b : Option (List ℕ)) (end : Served) (goes : GoesItsCourse rules Tells accepts old new a b end) (told : Tells) where
+module _ {Own Tells : Type 0} {accepts : List TableView → Bool} (rules : List AppValue) (old new : Seen Own) (a b : Option (List ℕ)) (end : Served) (goes : GoesItsCourse rules Tells accepts old new a b end) (told : Tells) where
   -- how the engine ended is known
   known : (s : Served) → end ≡ s → GoesItsCourse rules Tells accepts old new a b s
   known s is = subst (λ (x : Served). GoesItsCourse rules Tells accepts old new a b x) is goes
 
-  pub done_course : (events : ℕ) (x : T) → end ≡ served.Ended events → TakesCourse old new a (StandsAt {T = T} (Ok x) b)
+  pub done_course : (events : ℕ) (x : Unit {0}) → end ≡ served.Ended events → TakesCourse old new a (StandsAt {T = Unit {0}} (Ok x) b)
   done_course events x is =
       let g = known (served.Ended events) is in
-      takes_course accepts rules old g.opened new a g.last (StandsAt {T = T} (Ok x) b) told (g.opening told) g.runs (g.ends.0, (g.ends.2, g.ends.3))
+      takes_course accepts rules old g.opened new a g.last (StandsAt {T = Unit {0}} (Ok x) b) told (g.opening told) g.runs (g.ends.0, (g.ends.2, g.ends.3))
 
-  pub left_course : (left : ℕ) → end ≡ served.EventsLeft left → TakesCourse old new a (StandsAt {T = T} (Err (EventsLeft left)) b)
+  pub left_course : (left : ℕ) → end ≡ served.EventsLeft left → TakesCourse old new a (StandsAt {T = Unit {0}} (Err (EventsLeft left)) b)
   left_course left is =
       let g = known (served.EventsLeft left) is in
-      takes_course accepts rules old g.opened new a g.last (StandsAt {T = T} (Err (EventsLeft left)) b) told (g.opening told) g.runs g.ends
+      takes_course accepts rules old g.opened new a g.last (StandsAt {T = Unit {0}} (Err (EventsLeft left)) b) told (g.opening told) g.runs g.ends
 
-  pub write_course : end ≡ served.WriteFault → TakesCourse old new a (StandsAt {T = T} (Err WriteFault) b)
+  pub write_course : end ≡ served.WriteFault → TakesCourse old new a (StandsAt {T = Unit {0}} (Err WriteFault) b)
   write_course is =
       let g = known served.WriteFault is in
-      takes_course accepts rules old g.opened new a g.last (StandsAt {T = T} (Err WriteFault) b) told (g.opening told) g.runs (writes_part accepts g.last b told g.ends)
+      takes_course accepts rules old g.opened new a g.last (StandsAt {T = Unit {0}} (Err WriteFault) b) told (g.opening told) g.runs (writes_part accepts g.last b told g.ends)
 
-  pub shut_course : end ≡ served.Shut → TakesCourse old new a (StandsAt {T = T} (Err Shut) b)
+  pub shut_course : end ≡ served.Shut → TakesCourse old new a (StandsAt {T = Unit {0}} (Err Shut) b)
   shut_course is =
       let g = known served.Shut is in
-      takes_course accepts rules old g.opened new a g.last (StandsAt {T = T} (Err Shut) b) told (g.opening told) g.runs g.ends
+      takes_course accepts rules old g.opened new a g.last (StandsAt {T = Unit {0}} (Err Shut) b) told (g.opening told) g.runs g.ends
 
-  pub next_course : end ≡ served.NextFault → TakesCourse old new a (StandsAt {T = T} (Err NextFault) b)
+  pub next_course : end ≡ served.NextFault → TakesCourse old new a (StandsAt {T = Unit {0}} (Err NextFault) b)
   next_course is =
       let g = known served.NextFault is in
-      takes_course accepts rules old g.opened new a g.last (StandsAt {T = T} (Err NextFault) b) told (g.opening told) g.runs g.ends
+      takes_course accepts rules old g.opened new a g.last (StandsAt {T = Unit {0}} (Err NextFault) b) told (g.opening told) g.runs g.ends
 
-  pub memory_course : end ≡ served.NoMemory → TakesCourse old new a (StandsAt {T = T} (Err NoMemory) b)
+  pub memory_course : end ≡ served.NoMemory → TakesCourse old new a (StandsAt {T = Unit {0}} (Err NoMemory) b)
   memory_course is =
       let g = known served.NoMemory is in
-      takes_course accepts rules old g.opened new a g.last (StandsAt {T = T} (Err NoMemory) b) told (g.opening told) g.runs g.ends
+      takes_course accepts rules old g.opened new a g.last (StandsAt {T = Unit {0}} (Err NoMemory) b) told (g.opening told) g.runs g.ends
 
-  fault_course : (fault : TxnFault) → end ≡ served.Txn fault → TakesCourse old new a (StandsAt {T = T} (Err (stop_of_switch fault)) b)
-  fault_course (txn.SwitchBroke d bytes) is = let g = known (served.Txn (txn.SwitchBroke d bytes)) is in takes_course accepts rules old g.opened new a g.last (StandsAt {T = T} (Err (SwitchBroke d)) b) told (g.opening told) g.runs g.ends
-  fault_course (txn.Flooded d n) is = let g = known (served.Txn (txn.Flooded d n)) is in takes_course accepts rules old g.opened new a g.last (StandsAt {T = T} (Err (SwitchBroke d)) b) told (g.opening told) g.runs g.ends
-  fault_course (txn.Diverged d sent got) is = let g = known (served.Txn (txn.Diverged d sent got)) is in takes_course accepts rules old g.opened new a g.last (StandsAt {T = T} (Err (Diverged d)) b) told (g.opening told) g.runs g.ends
-  fault_course txn.NoMemory is = let g = known (served.Txn txn.NoMemory) is in takes_course accepts rules old g.opened new a g.last (StandsAt {T = T} (Err NoMemory) b) told (g.opening told) g.runs g.ends
+  fault_course : (fault : TxnFault) → end ≡ served.Txn fault → TakesCourse old new a (StandsAt {T = Unit {0}} (Err (stop_of_switch fault)) b)
+  fault_course (txn.SwitchBroke d bytes) is = let g = known (served.Txn (txn.SwitchBroke d bytes)) is in takes_course accepts rules old g.opened new a g.last (StandsAt {T = Unit {0}} (Err (SwitchBroke d)) b) told (g.opening told) g.runs g.ends
+  fault_course (txn.Flooded d n) is = let g = known (served.Txn (txn.Flooded d n)) is in takes_course accepts rules old g.opened new a g.last (StandsAt {T = Unit {0}} (Err (SwitchBroke d)) b) told (g.opening told) g.runs g.ends
+  fault_course (txn.Diverged d sent got) is = let g = known (served.Txn (txn.Diverged d sent got)) is in takes_course accepts rules old g.opened new a g.last (StandsAt {T = Unit {0}} (Err (Diverged d)) b) told (g.opening told) g.runs g.ends
+  fault_course txn.NoMemory is = let g = known (served.Txn txn.NoMemory) is in takes_course accepts rules old g.opened new a g.last (StandsAt {T = Unit {0}} (Err NoMemory) b) told (g.opening told) g.runs g.ends
 
-  pub switch_course : (fault : TxnFault) (stop : Stop) → end ≡ served.Txn fault → stop ≡ stop_of_switch fault → TakesCourse old new a (StandsAt {T = T} (Err stop) b)
-  switch_course fault stop is so = subst (λ (s : Stop). TakesCourse old new a (StandsAt {T = T} (Err s) b)) (sym so) (fault_course fault is)
+  pub switch_course : (fault : TxnFault) (stop : Stop) → end ≡ served.Txn fault → stop ≡ stop_of_switch fault → TakesCourse old new a (StandsAt {T = Unit {0}} (Err stop) b)
+  switch_course fault stop is so = subst (λ (s : Stop). TakesCourse old new a (StandsAt {T = Unit {0}} (Err s) b)) (sym so) (fault_course fault is)

@@ -1,6 +1,6 @@
 use Rattle.std.proofs.Common.{◌≡◌, rules, refl, sym, inl}
 use Rattle.legosdn.specs.declared.stop.Stop.TheVariants.{NoMemory}
-use Rattle.legosdn.proofs.Serving.{replays_unread}
+use Rattle.legosdn.proofs.Serving.{replays_unread, serves_unread}
 use Rattle.sim_world.specs.World.{seen_of}
 use Rattle.legosdn.proofs.Losses.{nothing_lost}
 use Rattle.legosdn.proofs.Runs.{untouched, none_runs, none_runs_yet, no_ids, no_ids_yet, new_strays}
@@ -78,3 +78,8 @@ returns-in-Some-Replay-clause-live_ids g c = λ told none order short. no_ids_ye
 
 pub returns-in-None-clause-live_ids : goal.returns-in-None-clause-live_ids
 returns-in-None-clause-live_ids g c = λ told none order short. no_ids_yet (g.W.World.seen c.args.live.now) none
+
+pub returns-in_err-read_words-clause-serves : goal.returns-in_err-read_words-clause-serves
+returns-in_err-read_words-clause-serves g c = λ port rounds is.
+    serves_unread g.W.World.Tells rounds (g.S.Source.remaining c.args.source.now) (g.S.Source.remaining c.args.source.now) (g.S.Source.faults c.args.source.now) (g.S.Source.faults c.args.source.now) (g.K.Sink.faults c.args.sink.now) (g.W.World.seen c.args.live.now) (g.K.Sink.contents c.args.sink.now)
+    _ NoMemory c.from_residual.result c.from_residual.ensures.1 tt (refl, refl)
