@@ -22,8 +22,8 @@ use Rattle.legosdn.specs.Live.{StandsAt}
 
 -- ---- Nothing ran
 
-still_course : {Own T : Type 0} (seen : Seen Own) (contents : Option (List ℕ)) (result : Result T Stop) → StandsAt result contents (at_first seen contents) → TakesCourse seen seen contents (StandsAt result contents)
-still_course seen contents result stands = record {
+still_course : {Own : Type 0} (T : Type 0) (seen : Seen Own) (contents : Option (List ℕ)) (result : Result T Stop) → StandsAt result contents (at_first seen contents) → TakesCourse seen seen contents (StandsAt result contents)
+still_course T seen contents result stands = record {
   opened = seen;
   opening = none_got seen.history;
   stops = [];
@@ -48,7 +48,7 @@ unread_stands T IsRefused told i j seen contents (EventsLeft left) cause = absur
 pub unread_course : {Own T : Type 0} (IsRefused : Refusal → List ℕ → Type 0) (told : Option (List ℕ)) (i j : ℕ) (seen : Seen Own) (contents : Option (List ℕ)) (stop : Stop) (result : Result T Stop) → IsErrAnd result (λ s. s ≡ stop) → IsReadCause IsRefused told i j stop → TakesCourse seen seen contents (StandsAt result contents)
 unread_course IsRefused told i j seen contents stop (Ok x) is cause = absurd is
 unread_course {T = T} IsRefused told i j seen contents stop (Err s) is cause =
-    still_course seen contents (Err s) (subst (λ (x : Stop). StandsAt {T = T} (Err x) contents (at_first seen contents)) (sym is) (unread_stands T IsRefused told i j seen contents stop cause))
+    still_course T seen contents (Err s) (subst (λ (x : Stop). StandsAt {T = T} (Err x) contents (at_first seen contents)) (sym is) (unread_stands T IsRefused told i j seen contents stop cause))
 
 -- ---- A run
 
