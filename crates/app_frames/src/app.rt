@@ -1,6 +1,6 @@
 //! What applications tell.
 
-ghost use Rattle.std.specs.Prelude.{◌≡◌, ℕ, ◌≤◌, ◌↔◌, List, [], ◌++◌, length, take, Ok, Some, None, IfOk, IfSome};
+ghost use Rattle.std.specs.Prelude.{◌≡◌, ℕ, ◌≤◌, ◌↔◌, List, [], ◌++◌, length, Ok, Some, None, IfOk, IfSome};
 ghost use Rattle.app_frames.specs.declared.kind.AppKind.TheVariants as kinds_of;
 ghost use Rattle.of_types.specs.Fields.{number_bytes};
 ghost use Rattle.app_frames.specs.Kinds.{number_of_app};

@@ -1,6 +1,6 @@
 //! Frames of both directions.
 
-ghost use Rattle.std.specs.Prelude.{◌≡◌, ◌↔◌, IsTrue};
+ghost use Rattle.std.specs.Prelude.{◌↔◌, IsTrue};
 ghost use Rattle.app_frames.specs.Frames.{AppFits, HostFits};
 
 use of_types::limits::MOST_MESSAGE_BYTES;

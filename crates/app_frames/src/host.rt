@@ -1,12 +1,12 @@
 //! What the host tells.
 
-ghost use Rattle.std.specs.Prelude.{◌≡◌, ℕ, ◌+◌, ◌^◌, ◌<◌, ◌≤◌, ◌↔◌, List, [], ◌++◌, length, drop, take, Ok, Some, None, IfOk, IfSome, option_map};
+ghost use Rattle.std.specs.Prelude.{◌≡◌, ℕ, ◌+◌, ◌<◌, ◌↔◌, List, [], ◌++◌, length, Ok, Some, None, IfOk, IfSome};
 ghost use Rattle.of_types.specs.Fields.{number_bytes};
 ghost use Rattle.app_frames.specs.declared.kind.HostKind.TheVariants as kinds_of;
 ghost use Rattle.app_frames.specs.Kinds.{number_of_host, number_of_event};
 ghost use Rattle.app_frames.specs.declared.frame.HostFrame.{HostFrame};
 ghost use Rattle.app_frames.specs.Reading.{Gives};
-ghost use Rattle.app_frames.specs.Bodies.{GivesBody, bare, event_with, event_of, answer_with, answer_of, host_body};
+ghost use Rattle.app_frames.specs.Bodies.{GivesBody, bare, event_of, answer_with, answer_of, host_body};
 ghost use Rattle.app_frames.specs.Spelling.{framed, host_bytes};
 ghost use Rattle.app_frames.specs.Frames.{host_reading, IsHostPartial, HostFits, IsHostFrame, IsHostAtFront};
 

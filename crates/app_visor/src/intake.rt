@@ -1,6 +1,6 @@
 //! The bytes that are taken from an application.
 
-ghost use Rattle.std.specs.Prelude.{◌≡◌, ℕ, ◌<◌, List, [], length, OnErr, OnOk, IfOk, IfSome, Ok, None, ◌⊎◌};
+ghost use Rattle.std.specs.Prelude.{◌≡◌, ℕ, ◌<◌, List, length, OnErr, IfOk, Ok, None, ◌⊎◌};
 ghost use Rattle.app_visor.specs.Talks.{Wants};
 ghost use Rattle.app_visor.specs.Reads.{IsAtFront, Gave, TakesOne};
 

@@ -1,6 +1,6 @@
 //! Laws of batches, each the contract of a function that does nothing.
 
-ghost use Rattle.std.specs.Prelude.{◌≡◌, ℕ, Bool, List};
+ghost use Rattle.std.specs.Prelude.{Bool, List};
 ghost use Rattle.std.specs.List.{AllByRecursion};
 ghost use Rattle.of_types.specs.declared.journal.WorldStim.{WorldStim};
 ghost use Rattle.app_frames.specs.declared.frame.Event.{Event};

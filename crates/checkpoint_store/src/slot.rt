@@ -1,6 +1,6 @@
 //! The place of one application in a store.
 
-ghost use Rattle.std.specs.Prelude.{◌≡◌, ◌+◌, ◌≤◌, [], length, drop, nat_le, OnOk, OnErr};
+ghost use Rattle.std.specs.Prelude.{◌≡◌, ◌+◌, ◌≤◌, length, drop, nat_le, OnOk, OnErr};
 ghost use Rattle.checkpoint_store.specs.Past.{turn_size, turns_size, checkpoints, remembers, forgets, IsWithinLimits};
 ghost use Rattle.checkpoint_store.specs.Slots.{empty_slot, staged, done, dropped};
 

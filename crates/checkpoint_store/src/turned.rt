@@ -1,6 +1,6 @@
 //! Completed turns.
 
-ghost use Rattle.std.specs.Prelude.{◌≡◌, ◌+◌, ◌-◌, ◌^◌, length, min, sum_by};
+ghost use Rattle.std.specs.Prelude.{◌≡◌, ◌-◌, ◌^◌, length, min, sum_by};
 ghost use Rattle.checkpoint_store.specs.Past.{turn_size, turns_size};
 
 use crate::frame_list::FrameList;

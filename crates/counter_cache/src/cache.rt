@@ -1,9 +1,7 @@
 //! The cache of one switch.
 
-ghost use Rattle.std.specs.Prelude.{◌≡◌, ◌≤◌, [], List, map, filter, None, IfOk, OnOk};
+ghost use Rattle.std.specs.Prelude.{◌≡◌, ◌≤◌, [], map, filter, None, IfOk, OnOk};
 ghost use Rattle.of_stats.specs.declared.sum.Sum.{Sum};
-ghost use Rattle.flow_table.specs.declared.entry.Entry.{Entry};
-ghost use Rattle.flow_table.specs.declared.view.ViewRow.{ViewRow};
 ghost use Rattle.flow_table.specs.Corrected.{lost_at};
 ghost use Rattle.counter_cache.specs.Cache.{with_lost_row, without_lost, KeepsRoom};
 ghost use Rattle.counter_cache.specs.Fixed.{fixed_row, fixed_sum, fixed_removed, is_met, RowsAreShown, SumIsShown, NoticeIsShown};

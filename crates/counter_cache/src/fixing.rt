@@ -2,7 +2,7 @@
 
 ghost use Rattle.std.specs.Prelude.{◌≡◌, ◌+◌, ◌%◌, ◌^◌, map};
 ghost use Rattle.flow_table.specs.Sorted.{AreLostRows};
-ghost use Rattle.counter_cache.specs.Fixed.{row_with, removed_with, key_removed, fixed_row, fixed_removed};
+ghost use Rattle.counter_cache.specs.Fixed.{row_with, removed_with, fixed_row, fixed_removed};
 
 use crate::rows::find;
 use flow_table::Lost;

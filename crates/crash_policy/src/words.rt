@@ -1,6 +1,6 @@
 //! The words and the keys that a policy text may have.
 
-ghost use Rattle.std.specs.Prelude.{◌≡◌, pos};
+ghost use Rattle.std.specs.Prelude.{◌≡◌};
 ghost use Rattle.std.specs.List.{list_all};
 ghost use Rattle.crash_policy.specs.Keys as spec;
 

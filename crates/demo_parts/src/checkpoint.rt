@@ -1,7 +1,7 @@
 //! What was learned, as bytes.
 
 ghost use Rattle.std.specs.Prelude.{◌≡◌, ◌≤◌, ◌*◌, [], length, take, None, IfOk};
-ghost use Rattle.of_types.specs.Fields.{number_at, number_bytes};
+ghost use Rattle.of_types.specs.Fields.{number_at};
 ghost use Rattle.demo_parts.specs.Checkpoint.{row_bytes, checkpoint_of, is_below, is_ascending, rows_in, with_rows, restored};
 
 use of_types::{ByteList, PortNo, get_array, get_u16, put_array, put_u16};

@@ -1,6 +1,6 @@
 //! An application that deletes the flows to a port that went down.
 
-ghost use Rattle.std.specs.Prelude.{◌≡◌, IfOk, length};
+ghost use Rattle.std.specs.Prelude.{◌≡◌};
 ghost use Rattle.of_wire.specs.Spelling.{message_size};
 ghost use Rattle.demo_parts.specs.Down.{is_down};
 

@@ -1,7 +1,6 @@
 //! A learning switch: it learns by which port each address is reached.
 
-ghost use Rattle.std.specs.Prelude.{◌≡◌, ◌≤◌, ◌++◌, length, [], IsTrue, IfOk, OnOk, OnErr};
-ghost use Rattle.of_types.specs.Fields.{piece};
+ghost use Rattle.std.specs.Prelude.{◌≡◌, ◌≤◌, length, [], IsTrue, IfOk, OnOk, OnErr};
 ghost use Rattle.demo_parts.specs.Learn.{station, port_at, with_row, is_taken, source, destination, packet_of, rows_after, rows_after_packet, frames_for_packet, sent_on};
 ghost use Rattle.demo_parts.specs.Checkpoint.{checkpoint_of, restored, answers_to};
 

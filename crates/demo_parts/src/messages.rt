@@ -1,6 +1,6 @@
 //! The messages of a learning switch, and the frames that they stand in.
 
-ghost use Rattle.std.specs.Prelude.{◌≡◌, ◌==◌, ◌≤◌, ◌+◌, [], ◌∷◌, length, not, IfOk};
+ghost use Rattle.std.specs.Prelude.{◌≡◌, ◌==◌, ◌≤◌, ◌+◌, [], ◌∷◌, length, IfOk};
 ghost use Rattle.of_wire.specs.Spelling.{message_size};
 ghost use Rattle.of_match.specs.Fields.{bytes_of, any_fields};
 ghost use Rattle.of_match.specs.Match.{match_of};

@@ -23,7 +23,7 @@ use crate::run::{Managed, Run};
 use app_frames::{Event, EventKind};
 use app_visor::{AppState, Back, TurnEnd, restart, turn};
 use checkpoint_store::Store;
-use crash_policy::{Policy, listens, rule};
+use crash_policy::{Policy, rule};
 use lego_io::Sink;
 use net_txn::{EventQueue, Net, Txn};
 use of_types::Dpid;

@@ -3,7 +3,6 @@
 ghost use Rattle.std.specs.Prelude.{◌≡◌, ◌==◌, ◌≤◌, IfNone};
 ghost use Rattle.std.specs.List.{list_any};
 ghost use Rattle.of_match.specs.Key.{key_number};
-ghost use Rattle.match_overlap.specs.Relations.{is_overlapping};
 ghost use Rattle.flow_table.specs.Table.{IsTable, IsPlaceOf, has_key};
 ghost use Rattle.flow_table.specs.Change.{clashes_with};
 ghost use Rattle.flow_table.specs.Change.{key_in, is_modify, is_output_to, describes, sends_to, deletes, adds, clashes, is_full, refusal, asks_notice};

@@ -1,6 +1,6 @@
 //! Which entry a packet hits, and what it counts there.
 
-ghost use Rattle.std.specs.Prelude.{◌≡◌, ◌+◌, ◌<◌, nat_lt, drop, length, slice_index_or};
+ghost use Rattle.std.specs.Prelude.{◌≡◌, ◌+◌, ◌<◌, nat_lt, drop, length};
 ghost use Rattle.flow_table.specs.Table.{IsTable, IsPositionOf};
 ghost use Rattle.flow_table.specs.Hit.{rank, best, counted, hit, with_more, with_counts};
 

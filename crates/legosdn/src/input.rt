@@ -1,7 +1,7 @@
 //! An input, cut into its policy and its session.
 
 ghost use Rattle.std.specs.Prelude.{◌≡◌, ◌==◌, ◌⊎◌, ◌++◌, ◌+◌, ◌<◌, ◌≤◌, ◌^◌, ◌∷◌, [], ℕ, List, None, Some, Err, length, position, IfSome, IfOk, IfErr, OnOk};
-ghost use Rattle.lego_io.specs.Count.{Rose, NeverFell};
+ghost use Rattle.lego_io.specs.Count.{NeverFell};
 ghost use Rattle.lego_io.specs.Source.{ended};
 ghost use Rattle.lego_io.specs.Lines.{cut_at_lf, lines_of};
 ghost use Rattle.legosdn.specs.declared.stop.Refusal.TheVariants.{Separator};

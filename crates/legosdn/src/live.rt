@@ -1,6 +1,6 @@
 //! The command `run`.
 
-ghost use Rattle.std.specs.Prelude.{◌≡◌, ◌≤◌, [], IfErr};
+ghost use Rattle.std.specs.Prelude.{◌≡◌, ◌≤◌, []};
 ghost use Rattle.lego_io.specs.Count.{NeverFell};
 ghost use Rattle.outside.specs.State.{state};
 ghost use Rattle.outside.specs.InOrder.{InOrder};

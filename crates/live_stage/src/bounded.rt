@@ -1,8 +1,6 @@
 //! A live world that ends by itself.
 
-ghost use Rattle.std.specs.Prelude.{◌≡◌, ℕ, ◌<◌, ◌≤◌, length, IsOk};
-ghost use Rattle.of_wire.specs.Reading.{reading_of};
-ghost use Rattle.outside.specs.Seen.{Seen};
+ghost use Rattle.std.specs.Prelude.{◌≡◌, ◌<◌};
 
 use live_world::{Clock, LiveWorld};
 use of_types::{Dpid, kinds};

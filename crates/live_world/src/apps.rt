@@ -1,6 +1,6 @@
 //! Applications: child programs behind pipes.
 
-ghost use Rattle.std.specs.Prelude.{ℕ, ◌<◌, ◌≤◌, length};
+ghost use Rattle.std.specs.Prelude.{◌<◌, length};
 ghost use Rattle.outside.specs.Calls.{IsTakenIn};
 
 use crate::clock::Clock;
@@ -13,7 +13,7 @@ use std::alloc::Global;
 use std::io;
 use std::io::{ErrorKind, Read, Write};
 use std::net::Net;
-use std::os::fd::{AsRawFd, RawFd};
+use std::os::fd::AsRawFd;
 use std::process::{Child, ChildStdin, ChildStdout, Command, Processes, Stdio, SystemProcess};
 
 /// How many bytes a pipe takes at once without a wait, when it takes any.

@@ -3,7 +3,7 @@
 ghost use Rattle.std.specs.Prelude.{◌≡◌, IfOk};
 ghost use Rattle.outside.specs.Calls.{IsItemIn};
 ghost use Rattle.outside.specs.Conforming.{is_unasked};
-ghost use Rattle.live_world.specs.Keeping.{change_of, port_kept, other_kept, message_kept, kept_of};
+ghost use Rattle.live_world.specs.Keeping.{change_of, port_kept, message_kept, kept_of};
 
 use of_types::{ByteList, Dpid, PortChange, PortDesc, PortNo, Stimulus, WorldStim, ports};
 use of_wire::{Message, MessageKind, PortStatus, WireFault, decode};

@@ -2,7 +2,7 @@
 
 use mio::event::Source;
 use mio::{Events, Interest, Poll, Token};
-use std::alloc::{AllocError, Global};
+use std::alloc::Global;
 use std::io;
 use std::net::Net;
 use std::time::Duration;

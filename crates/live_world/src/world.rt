@@ -1,6 +1,6 @@
 //! The world of real switches and real applications.
 
-ghost use Rattle.std.specs.Prelude.{◌≡◌, ℕ};
+ghost use Rattle.std.specs.Prelude.{◌≡◌};
 ghost use Rattle.live_world.specs.Live.{live_seen};
 
 use crate::apps::{App, Surroundings};

@@ -2,7 +2,7 @@
 
 ghost use Rattle.std.specs.Prelude.{◌≡◌, ◌==◌};
 ghost use Rattle.std.specs.Str.{bytes_eq};
-ghost use Rattle.match_overlap.specs.Fieldwise.{value_subsumes, value_overlaps, first_bits, prefix_subsumes, prefix_overlaps, link_subsumes, frame_subsumes, network_subsumes, fields_subsume, link_overlaps, frame_overlaps, network_overlaps, fields_overlap};
+ghost use Rattle.match_overlap.specs.Fieldwise.{value_subsumes, first_bits, prefix_subsumes, link_subsumes, frame_subsumes, network_subsumes, fields_subsume};
 
 use of_match::Fields;
 

@@ -1,6 +1,6 @@
 //! What stands in a vendor's action.
 
-ghost use Rattle.std.specs.Prelude.{◌≡◌, length};
+ghost use Rattle.std.specs.Prelude.{◌≡◌};
 
 use of_types::ByteList;
 use std::cmp::{Eq, PartialEq};

@@ -1,15 +1,13 @@
 //! Laws of matches and keys, each the contract of a function that does nothing.
 
-ghost use Rattle.std.specs.Prelude.{◌≡◌, ◌↔◌, IsTrue, ℕ, List};
+ghost use Rattle.std.specs.Prelude.{◌≡◌, ℕ, List};
 ghost use Rattle.std.specs.Ordering.{nat_cmp};
 ghost use Rattle.of_match.specs.declared.fields.Fields.{Fields};
 ghost use Rattle.of_match.specs.declared.flow_match.Match.{Match};
 ghost use Rattle.of_match.specs.declared.key.Key.{Key};
-ghost use Rattle.of_match.specs.declared.packet_key.PacketKey.{PacketKey};
 ghost use Rattle.of_match.specs.Fields.{fields_of, bytes_of, IsFields};
 ghost use Rattle.of_match.specs.Match.{match_of, fields_in};
 ghost use Rattle.of_match.specs.Key.{key_cmp, key_number, IsKey};
-ghost use Rattle.of_match.specs.Covers.{Covers, is_covering};
 
 /// Decoding what a match was encoded as gives that match again.
 pub fn decode_after_encode()

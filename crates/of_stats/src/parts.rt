@@ -1,6 +1,6 @@
 //! Replies in parts.
 
-ghost use Rattle.std.specs.Prelude.{◌≡◌, ◌≤◌, ◌<◌, ◌+◌, ◌↔◌, ℕ, List, [], length, map, take, Ok, All, IfOk, IsErrOf, IsTrue, MatchOption};
+ghost use Rattle.std.specs.Prelude.{◌≡◌, ◌≤◌, ◌<◌, ◌+◌, ◌↔◌, ℕ, List, length, map, take, Ok, All, IfOk, IsErrOf, IsTrue, MatchOption};
 ghost use Rattle.std.specs.List.{concat};
 ghost use Rattle.of_stats.specs.declared.flow_row.FlowRow.{FlowRow};
 ghost use Rattle.of_stats.specs.Flows.{row_bytes, AreRows};

@@ -1,6 +1,6 @@
 //! Rows of flows out of bytes.
 
-ghost use Rattle.std.specs.Prelude.{◌≡◌, ◌+◌, ◌≤◌, ◌<◌, ◌^◌, ℕ, List, length, drop, IfOk, IfSome, Ok};
+ghost use Rattle.std.specs.Prelude.{◌≡◌, ◌+◌, ◌≤◌, ◌<◌, List, length, drop, IfOk, IfSome, Ok};
 ghost use Rattle.of_stats.specs.declared.flow_row.FlowRow.{FlowRow};
 ghost use Rattle.of_stats.specs.Flows.{AreRows, SpellRows};
 ghost use Rattle.of_stats.specs.Reading.{Gives, row_length_at, row_with as row_value, row_of, row_at, rows_of};

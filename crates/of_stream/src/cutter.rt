@@ -1,6 +1,6 @@
 //! The cutter.
 
-ghost use Rattle.std.specs.Prelude.{◌≡◌, ◌≤◌, ◌↔◌, [], ◌++◌, length, take, IfOk, OnOk, OnErr, IfSome, IsErrOf, Ok, None};
+ghost use Rattle.std.specs.Prelude.{◌≡◌, ◌↔◌, [], ◌++◌, IfOk, OnOk, OnErr, IfSome, IsErrOf, Ok, None};
 ghost use Rattle.of_stream.specs.Frames.{IsFrame, IsPartial, IsBroken};
 ghost use Rattle.of_stream.specs.Front.{IsFront};
 

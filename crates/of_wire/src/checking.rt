@@ -1,6 +1,6 @@
 //! Whether bytes are a message, without making it.
 
-ghost use Rattle.std.specs.Prelude.{◌≡◌, ◌≤◌, length, drop, IsTrue};
+ghost use Rattle.std.specs.Prelude.{◌≤◌, length, drop, IsTrue};
 ghost use Rattle.of_action.specs.Reading.{actions_of};
 ghost use Rattle.of_wire.specs.Reading.{Tells, of_actions, has_length, packet_out_of, flow_mod_of, body_of, reading_of};
 

@@ -1,9 +1,7 @@
 //! A world that counts its calls.
 
-ghost use Rattle.std.specs.Prelude.{◌≡◌, ℕ, ◌<◌, ◌≤◌, length, IsOk};
+ghost use Rattle.std.specs.Prelude.{◌≡◌, ◌<◌};
 ghost use Rattle.lego_io.specs.Count.{raised};
-ghost use Rattle.of_wire.specs.Reading.{reading_of};
-ghost use Rattle.outside.specs.Seen.{Seen};
 
 use crate::faults::{GiveFault, LinkFault, NextFault, OpenFault, Short, StartFault};
 use crate::item::{Item, Taken};

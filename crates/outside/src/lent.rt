@@ -1,8 +1,6 @@
 //! A world that is lent.
 
-ghost use Rattle.std.specs.Prelude.{ℕ, ◌<◌, ◌≤◌, length, IsOk};
-ghost use Rattle.of_wire.specs.Reading.{reading_of};
-ghost use Rattle.outside.specs.Seen.{Seen};
+ghost use Rattle.std.specs.Prelude.{◌<◌};
 
 use crate::faults::{GiveFault, LinkFault, NextFault, OpenFault, Short, StartFault};
 use crate::item::{Item, Taken};

@@ -1,6 +1,6 @@
 //! A world in which nothing happens.
 
-ghost use Rattle.std.specs.Prelude.{◌≡◌, ℕ};
+ghost use Rattle.std.specs.Prelude.{◌≡◌};
 ghost use Rattle.lego_io.specs.Count.{Rose, NeverFell};
 ghost use Rattle.outside.specs.Calls.{Opens, Nexts, Starts, Gives, Takes, Sends, Receives};
 ghost use Rattle.outside.specs.Mute.{mute_seen};

@@ -1,6 +1,6 @@
 //! The one object that stands for the switches and the applications.
 
-ghost use Rattle.std.specs.Prelude.{ℕ, ◌<◌, ◌≤◌, length, IsOk};
+ghost use Rattle.std.specs.Prelude.{◌<◌, ◌≤◌, length, IsOk};
 ghost use Rattle.of_wire.specs.Reading.{reading_of};
 ghost use Rattle.outside.specs.Seen.{Seen};
 ghost use Rattle.outside.specs.Calls.{most_message, Opens, Nexts, Starts, Gives, Takes, Ends, Sends, Receives};

@@ -1,6 +1,6 @@
 //! Laws of applications that keep to their lines, each the contract of a function that does nothing.
 
-ghost use Rattle.std.specs.Prelude.{◌≡◌, ◌≤◌, ℕ, List, [], length, filter};
+ghost use Rattle.std.specs.Prelude.{◌≤◌, ℕ, [], length, filter};
 ghost use Rattle.std.specs.List.{AllByRecursion};
 ghost use Rattle.lego_model.specs.Journal.{is_of};
 ghost use Rattle.lego_model.specs.AtOnce.{AtOnce};

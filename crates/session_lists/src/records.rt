@@ -1,6 +1,6 @@
 //! Short records, one behind the other in one block of memory.
 
-ghost use Rattle.std.specs.Prelude.{◌≡◌, ◌+◌, ◌-◌, ◌^◌, ◌<◌, ◌≤◌, [], ◌∷◌, ◌++◌, length, take, drop, Some, IfOk, OnOk, OnErr, slice_get};
+ghost use Rattle.std.specs.Prelude.{◌≡◌, ◌+◌, ◌-◌, ◌<◌, ◌≤◌, [], ◌∷◌, ◌++◌, length, take, drop, Some, IfOk, OnOk, OnErr, slice_get};
 ghost use Rattle.session_lists.specs.Records.{records_in as all_records, IsCut as IsCutSo};
 ghost use Rattle.session_lists.specs.laws.RecordLaws.{start_of};
 

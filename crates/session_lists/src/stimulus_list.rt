@@ -1,7 +1,6 @@
 //! Stimuli, packed.
 
 ghost use Rattle.std.specs.Prelude.{◌≡◌, ◌≤◌, [], ◌∷◌, ◌++◌, length, drop, IfOk, OnOk, OnErr, slice_get};
-ghost use Rattle.of_types.specs.Fields.{number_bytes};
 ghost use Rattle.of_types.specs.declared.journal.WorldStim.TheVariants as world;
 ghost use Rattle.session_lists.specs.Stimuli.{size_of, stimulus_in};
 

@@ -1,6 +1,6 @@
 //! A session text, read into a simulated world.
 
-ghost use Rattle.std.specs.Prelude.{◌≡◌, ◌^◌, ◌<◌, map, string_bytes, OnOk, OnErr};
+ghost use Rattle.std.specs.Prelude.{◌≡◌, ◌^◌, ◌<◌, map, string_bytes, OnOk};
 ghost use Rattle.lego_model.specs.SessionFacts.{IsSession};
 ghost use Rattle.lego_model.specs.SessionText.{session_text};
 ghost use Rattle.sim_world.specs.World.{given_of, seen_of};

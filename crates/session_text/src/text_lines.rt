@@ -1,7 +1,7 @@
 //! The lines of a session text, each as what it adds to what has been read, or its first fault: `Word` for
 //! the line as a whole, then each word from left to right, last the order of moments.
 
-ghost use Rattle.std.specs.Prelude.{◌≡◌, ◌||◌, ◌==◌, not, Ok, List, [], length, map, string_bytes};
+ghost use Rattle.std.specs.Prelude.{◌≡◌, ◌||◌, ◌==◌, not, Ok, [], length, map, string_bytes};
 ghost use Rattle.of_wire.specs.Reading.{reading_of};
 ghost use Rattle.of_wire.specs.Spelling.{kind_of};
 ghost use Rattle.outside.specs.Conforming.{is_unasked, may_be_raw};

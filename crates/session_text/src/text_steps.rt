@@ -1,6 +1,6 @@
 //! The steps of a scripted turn.
 
-ghost use Rattle.std.specs.Prelude.{◌≡◌, ℕ, List, Ok, map, length};
+ghost use Rattle.std.specs.Prelude.{◌≡◌, Ok, map};
 ghost use Rattle.app_frames.specs.Frames.{AppFits};
 ghost use Rattle.lego_model.specs.SessionSteps.{has_head as has_head_in, is_plain_end as is_plain_end_in, is_end as is_end_in, is_mark as is_mark_in, is_message as is_message_in, is_step as is_step_in, are_steps as are_steps_in, gives, message_step as message_step_in, bytes_step as bytes_step_in, checkpoint_step as checkpoint_step_in, word_step as word_step_in, headed_step as headed_step_in, step_of as step_in, steps_of as steps_in};
 ghost use Rattle.lego_model.specs.SessionWords.{before, behind};

@@ -1,9 +1,9 @@
 //! The words of a session text, each with its first fault.
 
-ghost use Rattle.std.specs.Prelude.{◌≡◌, ◌==◌, ◌≤◌, ◌%◌, ◌*◌, ◌&&◌, not, ℕ, List, IfOk, MatchOption, map, true, false, length, string_bytes};
+ghost use Rattle.std.specs.Prelude.{◌≡◌, ◌==◌, ◌≤◌, ◌%◌, ◌&&◌, not, IfOk, MatchOption, map, true, false, length, string_bytes};
 ghost use Rattle.std.specs.List.{list_all};
 ghost use Rattle.of_types.specs.Numerals.{is_numeral as is_numeral_in};
-ghost use Rattle.lego_model.specs.SessionWords.{a_number as a_number_in, is_sized, some_bytes as some_bytes_in, ascends as ascends_in, listed_ports as listed_ports_in, some_ports as some_ports_in, place_among, an_app as an_app_in, before, behind, has_mark};
+ghost use Rattle.lego_model.specs.SessionWords.{a_number as a_number_in, is_sized, some_bytes as some_bytes_in, ascends as ascends_in, listed_ports as listed_ports_in, some_ports as some_ports_in, an_app as an_app_in, before, behind, has_mark};
 ghost use Rattle.session_text.specs.TextGives.{Gives, numbers as numbers_in, ordered, ports_read};
 
 use crate::text_fault::LineFault;

@@ -1,6 +1,6 @@
 //! Known ports by their numbers.
 
-ghost use Rattle.std.specs.Prelude.{◌≡◌, ◌≢◌, ◌<◌, ◌≤◌, [], true, false, OnOk, OnErr, length, set, slice_index_or};
+ghost use Rattle.std.specs.Prelude.{◌≡◌, ◌≢◌, ◌<◌, [], true, false, OnOk, OnErr, length, set, slice_index_or};
 ghost use Rattle.of_types.specs.declared.port_desc.PortDesc.{PortDesc};
 ghost use Rattle.flow_table.specs.Sorted.{with_item, without_place, port_number, IsPortPlace};
 ghost use Rattle.shadow_tables.specs.Known.{ports_after, with_config, configured};

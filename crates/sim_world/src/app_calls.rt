@@ -1,6 +1,6 @@
 //! The calls of a simulated world that reach applications.
 
-ghost use Rattle.std.specs.Prelude.{◌≡◌, ℕ, ◌+◌, ◌-◌, ◌^◌, ◌≤◌, ◌<◌, [], ◌∷◌, true, false, not, length, Result, IsErr, IsErrOf};
+ghost use Rattle.std.specs.Prelude.{◌≡◌, ◌+◌, ◌-◌, ◌^◌, ◌≤◌, ◌<◌, [], ◌∷◌, true, length, Result, IsErr, IsErrOf};
 ghost use Rattle.outside.specs.State.{is_running};
 ghost use Rattle.outside.specs.declared.step.WorldStep.TheVariants.{TookInto};
 ghost use Rattle.outside.specs.Calls.{start_steps, give_steps, take_steps, end_steps, IsTakenIn};

@@ -1,7 +1,6 @@
 //! What a simulated world is given before anything happens.
 
 ghost use Rattle.std.specs.Prelude.{◌≡◌, ◌<◌, ◌≤◌, [], ◌∷◌, ◌++◌, false, length, IfOk, OnOk, OnErr};
-ghost use Rattle.flow_table.specs.Switch.{Declared};
 ghost use Rattle.outside.specs.Seen.{is_declared};
 ghost use Rattle.outside.specs.State.{is_link_call, fails_of, link_at_first};
 ghost use Rattle.sim_world.specs.World.{given_of};

@@ -1,6 +1,6 @@
 //! The life of one application, kept as positions in the lines that it was given.
 
-ghost use Rattle.std.specs.Prelude.{◌≡◌, ℕ, ◌+◌, ◌-◌, ◌<◌, ◌≤◌, ◌^◌, ◌&&◌, ◌||◌, not, true, false, List, length, take, drop, min, IsTrue, is_some};
+ghost use Rattle.std.specs.Prelude.{◌≡◌, ℕ, ◌+◌, ◌-◌, ◌<◌, ◌^◌, ◌&&◌, ◌||◌, not, true, false, List, length, take, drop, min, IsTrue, is_some};
 ghost use Rattle.outside.specs.Calls.{IsTakenIn};
 ghost use Rattle.outside.specs.State.{event_number};
 ghost use Rattle.outside.specs.declared.call.FailCall.{FailCall};

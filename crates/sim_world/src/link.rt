@@ -1,6 +1,6 @@
 //! One switch of a simulated world, with its link.
 
-ghost use Rattle.std.specs.Prelude.{◌≡◌, ℕ, ◌+◌, ◌-◌, ◌^◌, ◌<◌, ◌≤◌, ◌++◌, ◌∷◌, [], not, length, take, is_some, slice_get, IsOk, IfNone, IfOk, IfSome, OnOk, OnErr};
+ghost use Rattle.std.specs.Prelude.{◌≡◌, ◌+◌, ◌-◌, ◌^◌, ◌<◌, ◌≤◌, [], not, length, take, is_some, slice_get, IsOk, IfNone, IfOk, IfSome, OnOk, OnErr};
 ghost use Rattle.std.specs.Option.{option_map};
 ghost use Rattle.of_types.specs.declared.journal.Stimulus.TheVariants.{Advance};
 ghost use Rattle.of_wire.specs.Reading.{reading_of};

@@ -1,10 +1,10 @@
 //! The calls of a simulated world that reach switches.
 
-ghost use Rattle.std.specs.Prelude.{◌≡◌, ℕ, ◌+◌, ◌≤◌, ◌<◌, [], ◌∷◌, true, not, length, take, IsOk, IsTrue, IsErrOf, IfSome, IfNone, Some, slice_get, OnOk, OnErr};
+ghost use Rattle.std.specs.Prelude.{◌≡◌, ◌+◌, ◌≤◌, ◌<◌, [], ◌∷◌, true, not, length, take, IsOk, IsErrOf, IfSome, IfNone, Some, slice_get, OnOk, OnErr};
 ghost use Rattle.of_types.specs.declared.journal.Act.TheVariants.{Sent, Got};
 ghost use Rattle.of_wire.specs.Reading.{reading_of};
 ghost use Rattle.outside.specs.declared.step.WorldStep.TheVariants.{Acted, SendLost, RecvLost, SendFailed, RecvFailed};
-ghost use Rattle.outside.specs.State.{link_fails, is_joined, has_waiting, waits_of, link_of, with_link, link_sent};
+ghost use Rattle.outside.specs.State.{link_fails, is_joined, has_waiting, waits_of, link_of};
 ghost use Rattle.outside.specs.Calls.{send_steps, receive_steps};
 ghost use Rattle.outside.specs.InOrder.{MayComeAll};
 ghost use Rattle.sim_world.specs.Tally.{tally_stray, tally_short_of, tally_fault_of};

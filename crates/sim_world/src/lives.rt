@@ -1,13 +1,13 @@
 //! The lives of all applications.
 
-ghost use Rattle.std.specs.Prelude.{◌≡◌, ℕ, ◌+◌, ◌-◌, ◌<◌, ◌≤◌, ◌^◌, [], ◌∷◌, ◌++◌, true, false, List, length, All, is_some, IfOk, OnOk, OnErr, IfSome, IfNone};
+ghost use Rattle.std.specs.Prelude.{◌≡◌, ℕ, ◌+◌, ◌-◌, ◌<◌, ◌^◌, [], ◌∷◌, ◌++◌, true, false, List, length, All, is_some, IfOk, OnOk, OnErr, IfSome, IfNone};
 ghost use Rattle.of_types.specs.declared.journal.Act.TheVariants.{Started, Gave, Gone, Ended};
 ghost use Rattle.app_frames.specs.declared.script.ScriptStep.{ScriptStep};
 ghost use Rattle.outside.specs.Calls.{IsTakenIn};
 ghost use Rattle.outside.specs.State.{event_number};
 ghost use Rattle.outside.specs.declared.call.FailCall.{FailCall};
 ghost use Rattle.outside.specs.declared.step.WorldStep.TheVariants.{Acted, TookInto};
-ghost use Rattle.sim_world.specs.Scripts.{Scripts, will_start, will_give, next_taken, taken_bytes, after_start, after_gave, after_gone, after_take, after_end, life_after};
+ghost use Rattle.sim_world.specs.Scripts.{will_start, will_give, next_taken, taken_bytes, after_start, after_gave, after_gone, after_take, after_end, life_after};
 ghost use Rattle.sim_world.specs.Lives.{IsCellOf, IsFirst, Moved, took_of, life_in, has_cell, named_lives, life_of, is_known};
 
 use crate::life::LifeCell;

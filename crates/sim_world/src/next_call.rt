@@ -3,13 +3,13 @@
 ghost use Rattle.std.specs.List.{AllByRecursion};
 ghost use Rattle.std.specs.Option.{option_to_list};
 ghost use Rattle.std.specs.VecDeque.{deque_len, deque_capacity};
-ghost use Rattle.std.specs.Prelude.{◌≡◌, ℕ, ◌+◌, ◌-◌, ◌^◌, ◌≤◌, ◌<◌, ◌++◌, [], ◌∷◌, All, length, take, drop, false, true, IfOk, IfSome, IfNone, OnOk, OnErr, IsOk, IsErrOf, Some, slice_get};
+ghost use Rattle.std.specs.Prelude.{◌≡◌, ◌+◌, ◌-◌, ◌^◌, ◌≤◌, ◌<◌, ◌++◌, [], ◌∷◌, All, length, false, true, IfOk, IfSome, IfNone, OnOk, OnErr, IsErrOf, Some, slice_get};
 ghost use Rattle.of_types.specs.declared.journal.Act.TheVariants.{Stim};
 ghost use Rattle.of_types.specs.declared.journal.WorldStim.{WorldStim};
 ghost use Rattle.outside.specs.declared.step.WorldStep.TheVariants.{Acted, Idle, End, NextFailed};
-ghost use Rattle.outside.specs.State.{upcoming, moment_after};
-ghost use Rattle.outside.specs.Calls.{item_step, next_steps, IsItemIn, IsIdle, IsOver};
-ghost use Rattle.outside.specs.Conforming.{IsWorldStim, IsNext};
+ghost use Rattle.outside.specs.State.{moment_after};
+ghost use Rattle.outside.specs.Calls.{item_step, IsItemIn};
+ghost use Rattle.outside.specs.Conforming.{IsWorldStim};
 ghost use Rattle.lego_io.specs.Count.{raised};
 ghost use Rattle.sim_world.specs.Links.{IsDue, StandsAt, waiting_in};
 ghost use Rattle.sim_world.specs.laws.NextLaws.{IsMessage};

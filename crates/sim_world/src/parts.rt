@@ -1,6 +1,6 @@
 //! The parts of a simulated world, and what each step does to them.
 
-ghost use Rattle.std.specs.Prelude.{◌≡◌, ℕ, ◌+◌, ◌-◌, ◌^◌, ◌≤◌, ◌<◌, ◌==◌, [], ◌∷◌, ◌++◌, true, false, not, filter, length, IsTrue, IsErrOf, OnOk, OnErr};
+ghost use Rattle.std.specs.Prelude.{◌≡◌, ℕ, ◌+◌, ◌-◌, ◌^◌, ◌≤◌, ◌<◌, ◌==◌, [], ◌∷◌, true, false, not, filter, length, IsTrue, IsErrOf, OnOk, OnErr};
 ghost use Rattle.lego_io.specs.Count.{raised};
 ghost use Rattle.of_types.specs.declared.journal.Act.TheVariants.{Started, Gave, Gone, Ended};
 ghost use Rattle.outside.specs.declared.step.WorldStep.TheVariants.{Acted, Opened, NotOpened};

@@ -1,7 +1,7 @@
 //! The lines of all applications: how their starts end, and what they give in their turns.
 
-ghost use Rattle.std.specs.Prelude.{◌≡◌, ◌+◌, ◌<◌, ◌≤◌, [], ◌∷◌, ◌++◌, length, drop, slice_get, IfOk, OnOk, OnErr};
-ghost use Rattle.sim_world.specs.Scripts.{lines_of, steps_of_start, plain_turn, start_or_ready, turn_or_plain, ready_bytes, garbled_bytes, done_bytes};
+ghost use Rattle.std.specs.Prelude.{◌≡◌, ◌+◌, ◌<◌, [], ◌∷◌, ◌++◌, drop, slice_get, IfOk, OnOk, OnErr};
+ghost use Rattle.sim_world.specs.Scripts.{lines_of, steps_of_start, start_or_ready, turn_or_plain, ready_bytes, garbled_bytes, done_bytes};
 ghost use Rattle.sim_world.specs.Lives.{IsGivingIn, IsNextLine, Follows, steps_given};
 
 use crate::life::Giving;

@@ -1,8 +1,8 @@
 //! The messages of a switch that wait.
 
-ghost use Rattle.std.specs.Prelude.{◌≡◌, ℕ, ◌+◌, ◌-◌, ◌<◌, ◌≤◌, ◌==◌, ◌++◌, ◌∷◌, [], length, take, IfNone, IfSome, OnOk, OnErr};
+ghost use Rattle.std.specs.Prelude.{◌≡◌, ◌+◌, ◌-◌, ◌<◌, ◌≤◌, ◌==◌, ◌++◌, ◌∷◌, [], length, take, IfNone, IfSome, OnOk};
 ghost use Rattle.std.specs.VecDeque.{deque_len, deque_capacity};
-ghost use Rattle.sim_world.specs.LinkWaits.{joined, all_of, AreFilled, AreShort};
+ghost use Rattle.sim_world.specs.LinkWaits.{all_of, AreFilled, AreShort};
 
 use of_types::ByteList;
 use std::alloc::{AllocError, Global};

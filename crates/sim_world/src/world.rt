@@ -1,11 +1,10 @@
 //! A simulated world.
 
-ghost use Rattle.std.specs.Prelude.{◌≡◌, ℕ, ◌<◌, ◌≤◌, ◌++◌, true, length, List, IsOk, IsErr, IsErrOf};
+ghost use Rattle.std.specs.Prelude.{◌≡◌, ◌<◌, ◌≤◌, true, length, IsOk, IsErr, IsErrOf};
 ghost use Rattle.of_wire.specs.Reading.{reading_of};
 ghost use Rattle.lego_io.specs.Count.{raised};
 ghost use Rattle.outside.specs.Calls.{most_message, Opens, Nexts, Starts, Gives, Takes, Ends, Sends, Receives};
 ghost use Rattle.outside.specs.InOrder.{InOrder};
-ghost use Rattle.outside.specs.declared.step.WorldStep.{WorldStep};
 ghost use Rattle.sim_world.specs.Told.{without_links};
 ghost use Rattle.sim_world.specs.Scripts.{KeepsScripts};
 ghost use Rattle.sim_world.specs.Places.{AreExpected};

@@ -1,6 +1,6 @@
 //! Laws of the messages of applications, each the contract of a function that does nothing.
 
-ghost use Rattle.std.specs.Prelude.{◌≡◌, ℕ, List, [], None, Ok, Some};
+ghost use Rattle.std.specs.Prelude.{◌≡◌, ℕ, List, None, Ok, Some};
 ghost use Rattle.of_types.specs.declared.errors.OfError.{OfError};
 ghost use Rattle.of_wire.specs.declared.bodies.FlowMod.{FlowMod as Change};
 ghost use Rattle.of_wire.specs.declared.message.Message.TheVariants.{FlowMod};

@@ -1,7 +1,7 @@
 //! Laws of transactions, each the contract of a function that does nothing.
 
 ghost use Rattle.std.specs.Prelude.{◌≡◌, ℕ, List, [], length, Result, Ok, Err, Some};
-ghost use Rattle.flow_table.specs.Switch.{Declared, SwitchState};
+ghost use Rattle.flow_table.specs.Switch.{SwitchState};
 ghost use Rattle.undo_laws.specs.Serials.{IsSerialed};
 ghost use Rattle.app_frames.specs.declared.frame.Answer.{Answer};
 ghost use Rattle.lego_model.specs.AfterFault.{UndoneButFailed};

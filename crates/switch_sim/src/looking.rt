@@ -1,6 +1,6 @@
 //! Frames that are looked up in the table.
 
-ghost use Rattle.std.specs.Prelude.{◌≡◌, ◌==◌, ◌≤◌, ◌<◌, ◌^◌, [], None, Some, length, if◌then◌else◌, IfOk, OnOk, OnErr, IfSome, MatchOption};
+ghost use Rattle.std.specs.Prelude.{◌≡◌, ◌==◌, ◌≤◌, ◌<◌, ◌^◌, None, Some, length, if◌then◌else◌, IfOk, OnOk, OnErr, IfSome, MatchOption};
 ghost use Rattle.eth_key.specs.PacketFields.{key_of};
 ghost use Rattle.frame_edit.specs.Edits.{AreEdits, outputs};
 ghost use Rattle.flow_table.specs.Table.{IsTable};

@@ -1,6 +1,6 @@
 //! FLOW_REMOVED messages, which are written after the table has changed, when nothing may fail any more.
 
-ghost use Rattle.std.specs.Prelude.{◌≡◌, ℕ, ◌+◌, ◌≤◌, ◌<◌, ◌++◌, ◌&&◌, ◌∷◌, [], length, map, filter, All, IfOk};
+ghost use Rattle.std.specs.Prelude.{◌≡◌, ℕ, ◌+◌, ◌≤◌, ◌<◌, ◌&&◌, [], length, map, filter, All, IfOk};
 ghost use Rattle.std.specs.Vec.{vec_len, vec_capacity};
 ghost use Rattle.of_wire.specs.Spelling.{message_bytes};
 ghost use Rattle.flow_table.specs.Change.{is_delete, describes, deletes, asks_notice, notices_of};

@@ -1,12 +1,11 @@
 //! Which messages a switch refuses, and by which error.
 
 ghost use Rattle.std.specs.Prelude.{◌≡◌, false, true, Some, None, MatchOption};
-ghost use Rattle.flow_table.specs.Switch.{PortState, port_at};
-ghost use Rattle.flow_table.specs.Change.{is_delete};
+ghost use Rattle.flow_table.specs.Switch.{port_at};
 ghost use Rattle.flow_table.specs.Refusals.{is_output, action_refusal, actions_refusal, flow_actions_refusal, flow_refusal, packet_out_refusal, port_refusal, config_refusal, query_size, stats_refusal};
 
 use crate::port::{Port, address};
-use of_action::{Action, ActionList, size};
+use of_action::{Action, size};
 use of_types::limits::MOST_ACTION_BYTES;
 use of_types::{Dpid, OfError, PortNo, errors, flows, ports, stats};
 use of_wire::{FlowMod, PacketOut, PortMod, Stats, SwitchConfig};

@@ -1,7 +1,6 @@
 //! Messages that a switch sends.
 
 ghost use Rattle.std.specs.Prelude.{◌≡◌, ◌≤◌, ◌<◌, ◌^◌, length, take, map, Ok, All, IfOk};
-ghost use Rattle.of_types.specs.declared.port_desc.PortDesc.{PortDesc};
 ghost use Rattle.of_types.specs.Layout.{AreFields};
 ghost use Rattle.of_wire.specs.Grammar.{IsMessage, enveloped};
 ghost use Rattle.of_wire.specs.Reading.{reading_of};
@@ -13,7 +12,7 @@ ghost use Rattle.switch_sim.specs.Readable.{IsReadable, features_message};
 
 use crate::port::Port;
 use flow_table::Notice;
-use of_types::{ByteList, Dpid, OfError, PortDesc, PortNo, Xid, flows};
+use of_types::{ByteList, Dpid, OfError, PortNo, Xid, flows};
 use of_wire::{
     FeaturesReply, FlowRemoved, Message, PacketIn, PortList, PortStatus, SwitchConfig, encode,
 };

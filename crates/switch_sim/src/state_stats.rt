@@ -1,6 +1,6 @@
 //! Statistics of a switch as functions of its state.
 
-ghost use Rattle.std.specs.Prelude.{◌≡◌, ◌≤◌, ◌<◌, ◌∷◌, [], None, map, length, All, if◌then◌else◌, IfOk};
+ghost use Rattle.std.specs.Prelude.{◌≡◌, ◌≤◌, ◌<◌, ◌∷◌, [], None, length, All, if◌then◌else◌, IfOk};
 ghost use Rattle.of_action.specs.Spelling.{list_size};
 ghost use Rattle.of_stats.specs.Parts.{room};
 ghost use Rattle.flow_table.specs.Refusals.{stats_refusal};

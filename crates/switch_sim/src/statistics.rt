@@ -1,21 +1,20 @@
 //! Statistics of a switch.
 
-ghost use Rattle.std.specs.Prelude.{◌≡◌, ◌+◌, ◌-◌, ◌≤◌, ◌<◌, ◌^◌, ◌++◌, ◌%◌, ℕ, List, [], ◌∷◌, length, map, filter, replicate, codes, All, IfOk, OnOk};
+ghost use Rattle.std.specs.Prelude.{◌≡◌, ◌+◌, ◌-◌, ◌≤◌, ◌<◌, ◌^◌, ◌++◌, length, map, filter, codes, All, IfOk, OnOk};
 ghost use Rattle.std.specs.List.{list_any};
-ghost use Rattle.of_types.specs.Fields.{number_at};
 ghost use Rattle.of_action.specs.Spelling.{list_bytes, list_size};
 ghost use Rattle.of_stats.specs.Flows.{row_bytes};
 ghost use Rattle.flow_table.specs.Change.{is_output_to, sends_to};
 ghost use Rattle.flow_table.specs.Rows.{is_selected, selected};
 ghost use Rattle.flow_table.specs.Switch.{padded};
-ghost use Rattle.flow_table.specs.Statistics.{description_bytes, flow_row, sum_of, port_row, port_bytes, is_asked, part_bytes, parts_of};
+ghost use Rattle.flow_table.specs.Statistics.{description_bytes, flow_row, sum_of, port_bytes, is_asked, part_bytes, parts_of};
 ghost use Rattle.of_types.specs.Layout.{spelled};
 ghost use Rattle.of_stats.specs.Layouts.{sum_fields, table_fields};
 ghost use Rattle.of_stats.specs.Parts.{room};
 ghost use Rattle.of_wire.specs.Spelling.{message_bytes};
 ghost use Rattle.std.specs.Vec.{vec_len};
 ghost use Rattle.switch_sim.specs.Readable.{IsReadable, AreReadable};
-ghost use Rattle.switch_sim.specs.Words.{counted_in, IsSumBefore};
+ghost use Rattle.switch_sim.specs.Words.{counted_in};
 
 use crate::message_list::MessageList;
 use crate::port::Port;

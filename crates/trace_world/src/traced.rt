@@ -1,9 +1,7 @@
 //! A world whose acts are told in words.
 
-ghost use Rattle.std.specs.Prelude.{◌≡◌, ℕ, ◌<◌, ◌≤◌, length, IsOk};
+ghost use Rattle.std.specs.Prelude.{◌≡◌, ◌<◌};
 ghost use Rattle.std.specs.Borrow.{Lends, sem};
-ghost use Rattle.of_wire.specs.Reading.{reading_of};
-ghost use Rattle.outside.specs.Seen.{Seen};
 
 use crate::scribe::Scribe;
 use lego_io::Sink;

@@ -1,6 +1,6 @@
 //! Laws of turns, each the contract of a function that does nothing.
 
-ghost use Rattle.std.specs.Prelude.{◌≡◌, ◌⊎◌, ℕ, Bool, List, length, Result, Some, Err};
+ghost use Rattle.std.specs.Prelude.{◌≡◌, ◌⊎◌, ℕ, Bool, List, length, Result, Err};
 ghost use Rattle.flow_table.specs.View.{TableView};
 ghost use Rattle.app_frames.specs.declared.frame.Event.{Event};
 ghost use Rattle.lego_model.specs.Places.{Place};

@@ -1,6 +1,6 @@
 //! Laws of logs and of undo, each the contract of a function that does nothing.
 
-ghost use Rattle.std.specs.Prelude.{◌≡◌, ◌⊎◌, ℕ, true, List, [], ◌∷◌, ◌++◌, map, Option, Some};
+ghost use Rattle.std.specs.Prelude.{◌≡◌, ◌⊎◌, ℕ, true, List, [], ◌++◌, Option, Some};
 ghost use Rattle.std.specs.Option.{option_map};
 ghost use Rattle.of_match.specs.declared.key.Key.{Key};
 ghost use Rattle.of_types.specs.declared.errors.OfError.{OfError};

@@ -1,6 +1,6 @@
 //! A simulated world.
 
-ghost use Rattle.std.specs.Prelude.{◌≡◌, ◌≤◌, [], IsTrue, OnOk};
+ghost use Rattle.std.specs.Prelude.{◌≡◌, [], IsTrue, OnOk};
 ghost use Rattle.outside.specs.Seen.{is_declared};
 ghost use Rattle.sim_world.specs.World.{given_of};
 ghost use Rattle.sim_world.specs.Building.{nothing_given, IsNew};
