@@ -1,7 +1,7 @@
 -- What is done when the link of a switch fails: the switch is lost. What the host kept of it goes, but what is logged and what is held; its
 -- known ports stand ready for its Leave event. All of this is our own.
 use Rattle.std.specs.Prelude.{◌≡◌, ◌≢◌, ◌==◌, ℕ, Bool, true, false, List, [], ◌∷◌, ◌++◌, filter, fold, None}
-use Rattle.std.specs.List.{list_any}
+use Rattle.std.specs.List.{AllByRecursion, list_any}
 use Rattle.lego_io.specs.Count.{Rose}
 use Rattle.outside.specs.declared.step.WorldStep.{WorldStep}
 use Rattle.outside.specs.Seen.{Seen, journal}
@@ -10,6 +10,7 @@ use Rattle.lego_model.specs.Journal.{released, losses}
 use Rattle.lego_model.specs.Packets.{Held}
 use Rattle.lego_model.specs.History.{lost_of}
 use Rattle.lego_model.specs.AtOnce.{SendsNone}
+use Rattle.lego_model.specs.UndoFaults.{IsStepOf}
 use Rattle.lego_model.specs.declared.fault.TxnFault.TheVariants.{NoMemory}
 use Rattle.lego_model.specs.declared.wait.Awaited.{Awaited}
 use Rattle.outside.specs.InOrder.{MessagesSince}
@@ -54,9 +55,16 @@ pub record SaysNone {Own : Type 0} (old new : Seen Own) : Type 0 where
   pub history : new.history ≡ old.history ++ steps
   pub none_sent : SendsNone (journal steps)
 
--- The count of its link rose in these calls, some call left a step.
+-- the calls were of this switch alone
+pub record CallsSwitch {Own : Type 0} (d : ℕ) (old new : Seen Own) : Type 0 where
+  pub steps : List WorldStep
+  pub history : new.history ≡ old.history ++ steps
+  pub each : AllByRecursion (IsStepOf d) steps
+
+-- The count of its link rose in these calls, which are of this switch alone; some call left a step.
 pub record IsLost {Own : Type 0} (Tells : Type 0) (d : ℕ) (packets : List Held) (old new : Seen Own) : Type 0 where
   pub rose : Rose (old.counts.link_faults d) (new.counts.link_faults d)
+  pub only : Tells → CallsSwitch d old new
   pub some : LeavesStep Tells old new
   pub out : Tells → is_joined d (state old) ≡ true → GoesOut d packets old new
   pub was_out : Tells → is_joined d (state old) ≡ false → SaysNone old new

@@ -35,16 +35,11 @@ abbrev pub ReadMakes : ℕ → Result Envelope WireFault → List Event → Type
 ReadMakes d (Ok e) events = MakesEvents d e.message events
 ReadMakes d (Err fault) events = events ≡ []
 
--- one of a switch that is not joined makes none
-abbrev pub MessageMakes : Bool → ℕ × List ℕ → List Event → Type 0
-MessageMakes true m events = ReadMakes m.0 (reading_of m.1) events
-MessageMakes false m events = events ≡ []
-
--- messages, one after the other
-abbrev pub MessagesMake : (ℕ → Bool) → List (ℕ × List ℕ) → List Event → Type 0
-MessagesMake joined [] events = events ≡ []
-MessagesMake joined (m ∷ more) events =
-    (first : List Event) × (later : List Event) × (events ≡ first ++ later) × MessageMakes (joined m.0) m first × MessagesMake joined more later
+-- messages, each with its switch, one after the other
+abbrev pub MessagesMake : List (ℕ × List ℕ) → List Event → Type 0
+MessagesMake [] events = events ≡ []
+MessagesMake (m ∷ more) events =
+    (first : List Event) × (later : List Event) × (events ≡ first ++ later) × ReadMakes m.0 (reading_of m.1) first × MessagesMake more later
 
 -- ---- Steps of a history
 
@@ -111,7 +106,8 @@ pub record IsNotKept (m : ℕ × List ℕ) : Type 0 where
 abbrev pub IsDropped : List ℕ → List (ℕ × List ℕ) → ℕ × List ℕ → Type 0
 IsDropped lost kept m = (is_one_of lost m.0 ≡ true) ⊎ IsNotKept m ⊎ IsFull lost kept m
 
--- Of messages that came behind others these are kept, and the others are dropped.
+-- Of messages that came behind others these are kept, none of them of a switch that is lost, and the others are dropped.
 abbrev pub AreKept : List ℕ → List (ℕ × List ℕ) → List (ℕ × List ℕ) → List (ℕ × List ℕ) → Type 0
 AreKept lost [] kept now_kept = now_kept ≡ kept
-AreKept lost (m ∷ more) kept now_kept = AreKept lost more (kept ++ m ∷ []) now_kept ⊎ (IsDropped lost kept m × AreKept lost more kept now_kept)
+AreKept lost (m ∷ more) kept now_kept =
+    ((is_one_of lost m.0 ≡ false) × AreKept lost more (kept ++ m ∷ []) now_kept) ⊎ (IsDropped lost kept m × AreKept lost more kept now_kept)

@@ -1,6 +1,7 @@
 -- What a run holds between two of its calls, and the moves by which it goes on: what each makes of the messages that are kept, of the events
 -- that wait, and of the switches that are joined (OpenFlow 1.0.0, 4.2 Message Handling and 5.3.7 Barrier Message). All of this is our own.
 use Rattle.std.specs.Prelude.{◌≡◌, ◌≢◌, ◌==◌, ◌&&◌, ◌⊎◌, ℕ, Bool, true, false, not, List, [], ◌∷◌, ◌++◌, filter, Option}
+use Rattle.std.specs.List.{AllByRecursion}
 use Rattle.lego_io.specs.Count.{Rose}
 use Rattle.of_types.specs.declared.journal.WorldStim.{WorldStim}
 use Rattle.of_types.specs.declared.journal.Act.TheVariants.{Gave, Gone}
@@ -9,11 +10,12 @@ use Rattle.app_frames.specs.declared.frame.EventKind.TheVariants as kinds
 use Rattle.outside.specs.declared.step.WorldStep.{WorldStep}
 use Rattle.outside.specs.declared.step.WorldStep.TheVariants.{Acted, Joined, Left}
 use Rattle.outside.specs.Seen.{Seen}
-use Rattle.outside.specs.State.{state, waits_of, is_joined}
+use Rattle.outside.specs.State.{state, is_joined}
 use Rattle.outside.specs.Calls.{stim_steps}
 use Rattle.lego_model.specs.BarrierWaits.{kept_of}
 use Rattle.lego_model.specs.Controller.{event_frame}
 use Rattle.lego_model.specs.History.{lost_of}
+use Rattle.lego_model.specs.UndoFaults.{IsStepOf}
 use Rattle.run_course.specs.Messages.{got_in, GotNone, Waited, MessagesMake, AreKept, is_one_of, but_of}
 
 pub record Holding (Own : Type 0) : Type 0 where
@@ -32,6 +34,10 @@ SameJoined from to = (d : ℕ) → to.joined d ≡ from.joined d
 abbrev pub SameBut : {Own : Type 0} → ℕ → Holding Own → Holding Own → Type 0
 SameBut d from to = (e : ℕ) → e ≢ d → to.joined e ≡ from.joined e
 
+-- each of these messages is of a switch that is joined
+abbrev pub OfJoined : {Own : Type 0} → Holding Own → List (ℕ × List ℕ) → Type 0
+OfJoined at messages = AllByRecursion (λ m. at.joined m.0 ≡ true) messages
+
 -- these events wait behind the others
 abbrev pub AreQueued : {Own : Type 0} → List Event → Holding Own → Holding Own → Type 0
 AreQueued events from to = to.queue ≡ from.queue ++ events
@@ -48,32 +54,34 @@ pub record Calls {Own : Type 0} (from to : Holding Own) : Type 0 where
 
 -- ---- Waits
 
--- What came is kept behind the others, but for what the wait is about.
+-- A switch that is joined was waited for. What came is kept behind the others, but for what the wait is about.
 pub record Keeps {Own : Type 0} (from to : Holding Own) : Type 0 where
   pub waited : Waited from.seen.history to.seen.history
+  pub was_in : from.joined waited.awaited.dpid ≡ true
   pub joined : SameJoined from to
   pub kept : to.kept ≡ from.kept ++ kept_of waited.awaited waited.got
   pub queue : to.queue ≡ from.queue
 
--- A packet was released: what came becomes events at once.
+-- A packet was released to a switch that is joined: what came becomes events at once.
 pub record Releases {Own : Type 0} (from to : Holding Own) : Type 0 where
   pub waited : Waited from.seen.history to.seen.history
+  pub was_in : from.joined waited.awaited.dpid ≡ true
   pub joined : SameJoined from to
   pub kept : to.kept ≡ from.kept
   pub events : List Event
-  pub made : MessagesMake from.joined (kept_of waited.awaited waited.got) events
+  pub made : MessagesMake (kept_of waited.awaited waited.got) events
   pub queued : AreQueued events from to
 
 -- ---- Switches that are lost
 
--- A call of the link of this switch failed. What was kept of it goes, and all else that was kept stays. Nothing was taken of another switch,
--- where this one was joined by what the history tells.
+-- A call of the link of this switch failed, and all calls were of it. So nothing came but of this switch. What was kept of it goes, and all else
+-- that was kept stays.
 pub record Loses {Own : Type 0} (from to : Holding Own) : Type 0 where
   pub dpid : ℕ
   pub rose : Rose (from.seen.counts.link_faults dpid) (to.seen.counts.link_faults dpid)
   pub steps : List WorldStep
   pub history : to.seen.history ≡ from.seen.history ++ steps
-  pub others_wait : is_joined dpid (state from.seen) ≡ true → (e : ℕ) → e ≢ dpid → waits_of e (state to.seen) ≡ waits_of e (state from.seen)
+  pub each : AllByRecursion (IsStepOf dpid) steps
   pub out : to.joined dpid ≡ false
   pub others : SameBut dpid from to
   pub kept : to.kept ≡ filter (λ m. not (m.0 == dpid)) from.kept
@@ -85,13 +93,14 @@ abbrev pub AreJoined : {Own : Type 0} → Holding Own → Type 0
 AreJoined from = (d : ℕ) → from.joined d ≡ true → is_joined d (state from.seen) ≡ true
 
 -- The changes of a turn were undone. Switches may be lost in it, which the history tells, where it tells of each joined switch that it joined. What
--- came is kept where there is room.
+-- came is of switches that were joined, and is kept where there is room.
 pub record TakesBack {Own : Type 0} (from to : Holding Own) : Type 0 where
   pub lost : List ℕ
   pub told : AreJoined from → lost_of to.seen ≡ lost_of from.seen ++ lost
   pub joined : (d : ℕ) → to.joined d ≡ (from.joined d && not (is_one_of lost d))
   pub steps : List WorldStep
   pub history : to.seen.history ≡ from.seen.history ++ steps
+  pub were_in : OfJoined from (got_in steps)
   pub kept : AreKept lost (got_in steps) (but_of lost from.kept) to.kept
   pub queue : to.queue ≡ from.queue
 

@@ -18,8 +18,8 @@ pub record Standing (Own : Type 0) : Type 0 where
 
 -- ---- A batch
 
--- The messages that were kept are taken, oldest first: all of them, or as many as a batch can have items. What they make waits behind the events
--- that wait. Nothing is called meanwhile, and the other messages are kept still.
+-- The messages that were kept are taken, oldest first: all of them, or as many as a batch can have items. What they make, each of them, waits
+-- behind the events that wait. Nothing is called meanwhile, and the other messages are kept still.
 pub record KeptComeFirst {Own : Type 0} (from to : Holding Own) : Type 0 where
   pub taken : List (ℕ × List ℕ)
   pub kept : from.kept ≡ taken ++ to.kept
@@ -27,7 +27,7 @@ pub record KeptComeFirst {Own : Type 0} (from to : Holding Own) : Type 0 where
   pub history : to.seen.history ≡ from.seen.history
   pub joined : SameJoined from to
   pub events : List Event
-  pub made : MessagesMake from.joined taken events
+  pub made : MessagesMake taken events
   pub queued : AreQueued events from to
 
 -- and then what is told, item by item; its lines are written

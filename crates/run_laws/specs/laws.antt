@@ -35,4 +35,5 @@ pub mod HoldingLaws
 pub mod UndoHoldingLaws
 pub mod ItemHoldingLaws
 pub mod TurnHoldingLaws
+pub mod KeptJoinedLaws
 pub mod PartHoldingLaws

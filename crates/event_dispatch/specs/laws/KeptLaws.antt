@@ -3,7 +3,7 @@ use Rattle.std.specs.Prelude.{◌⊎◌, if◌then◌else◌, ◌&&◌, map, tru
 use Rattle.std.specs.Str.{bytes_eq}
 use Rattle.std.proofs.Common.{◌≡◌, ◌==◌, ℕ, Bool, not, List, [], ◌∷◌, ◌++◌, drop, filter, Option, Some, None, Result, Ok, Err, IsOk, IsOkAnd, refl, sym, ap, ◌∙◌, subst, inl, inr, true≢false}
 use Rattle.std.specs.List.{AllByRecursion}
-use Rattle.std.proofs.lemmas.Bool.{cases_Bool, eq-eqb, eqb-false, ne_eqb}
+use Rattle.std.proofs.lemmas.Bool.{cases_Bool, eqb-false, ne_eqb}
 use Rattle.of_types.specs.Fields.{number_at}
 use Rattle.of_types.specs.declared.port_desc.PortDesc.{PortDesc}
 use Rattle.of_wire.specs.Reading.{reading_of}
@@ -17,7 +17,6 @@ use Rattle.flow_table.specs.View.{TableView}
 use Rattle.app_frames.specs.declared.frame.Answer.{Answer}
 use Rattle.app_frames.specs.declared.frame.Event.{Event}
 use Rattle.outside.specs.Seen.{Counts, Seen}
-use Rattle.lego_model.specs.declared.fault.TxnFault.{TxnFault}
 use Rattle.lego_model.specs.declared.wait.Awaited.{Awaited}
 use Rattle.lego_model.specs.declared.wait.Heard.{Heard}
 use Rattle.lego_model.specs.declared.wait.Heard.TheVariants.{Reply, Refused, Notice, Echo, Other}
@@ -29,11 +28,11 @@ use Rattle.lego_model.specs.BarrierWaits.{heard, is_awaited, is_apart, refusal_o
 use Rattle.outside.specs.declared.step.WorldStep.{WorldStep}
 use Rattle.net_txn.specs.Answering.{known_rows}
 use Rattle.net_txn.specs.Changes.{answer_of_host, Changes, ChangesJoined, ChangesLost}
-use Rattle.net_txn.specs.Arriving.{net_after, Becomes, ArrivesLost, Arrives}
+use Rattle.net_txn.specs.Arriving.{Becomes, ArrivesLost, Arrives}
 use Rattle.net_txn.specs.Joining.{JoinsOrNot}
 use Rattle.net_txn.specs.Losing.{is_among, lost_net, lose_all}
-use Rattle.net_txn.specs.Undos.{Part, Inverse, BarrierPassed, Stuck, alone, parts_of, fault_in, first_fault_of, first_fault, is_stuck, KeepsOne, Keeps, Undoes, ended_by, lost_in, lost_parts, undone_net, next_free}
-use Rattle.net_txn.specs.laws.LinkPresenceLaws.{among-append}
+use Rattle.net_txn.specs.Undos.{Part, Inverse, BarrierPassed, Stuck, alone, fault_in, first_fault, KeepsOne, Keeps, Undoes, lost_in, lost_parts, undone_net, next_free}
+use Rattle.net_txn.specs.laws.LinkPresenceLaws.{among-front}
 use Rattle.net_txn.specs.Releases.{Commits}
 use Rattle.app_visor.specs.Beats.{Beat, Talk, Asks as AskedNow, Chain}
 use Rattle.app_visor.specs.Talks.{give_act}
@@ -43,7 +42,9 @@ use Rattle.event_dispatch.specs.declared.closing.Closing.TheVariants as closings
 use Rattle.event_dispatch.specs.Runs.{AreRead}
 use Rattle.event_dispatch.specs.Serves.{IsPlayed, PlaysTurn}
 use Rattle.net_txn.specs.laws.RestoreLaws.{AllRun, runs_here, runs_older}
-use Rattle.net_txn.specs.laws.OutLaws.{none_failed}
+use Rattle.net_txn.specs.laws.OutLaws.{ended_none, stuck_lost}
+use Rattle.net_txn.specs.laws.AgreeLaws.{both_none}
+use Rattle.net_txn.specs.laws.ArrivalLaws.{net_after_kept}
 use Rattle.net_txn.specs.laws.SaidLaws.{all_two}
 use Rattle.net_txn.specs.laws.ReadLaws.{all_read}
 
@@ -116,33 +117,9 @@ fit_read P kept (m ∷ ms) now_kept (inr over) read all = fit_read P kept ms now
 
 -- ---- A message that came, a switch that joins, a question for rows
 
-kept_after : (d : ℕ) (m : Message) (net : NetState) → (net_after d m net).kept ≡ net.kept
-kept_after d (messages.Hello x) net = refl
-kept_after d (messages.Error x y z) net = refl
-kept_after d (messages.EchoRequest x) net = refl
-kept_after d (messages.EchoReply x) net = refl
-kept_after d (messages.Vendor x) net = refl
-kept_after d messages.FeaturesRequest net = refl
-kept_after d (messages.FeaturesReply x) net = refl
-kept_after d messages.GetConfigRequest net = refl
-kept_after d (messages.GetConfigReply x) net = refl
-kept_after d (messages.SetConfig x) net = refl
-kept_after d (messages.PacketIn x) net = refl
-kept_after d (messages.FlowRemoved x) net = refl
-kept_after d (messages.PortStatus x) net = refl
-kept_after d (messages.PacketOut x) net = refl
-kept_after d (messages.FlowMod x) net = refl
-kept_after d (messages.PortMod x) net = refl
-kept_after d (messages.StatsRequest x) net = refl
-kept_after d (messages.StatsReply x) net = refl
-kept_after d messages.BarrierRequest net = refl
-kept_after d messages.BarrierReply net = refl
-kept_after d (messages.QueueGetConfigRequest x) net = refl
-kept_after d (messages.QueueGetConfigReply x) net = refl
-
 became_read : {Own : Type 0} (Tells : Type 0) (d xid : ℕ) (m : Message) (old new : Seen Own) (net now_net : NetState) (event : Option Event) → Becomes Tells d xid m old new net now_net event ⊎ ArrivesLost Tells d m old new net now_net event → AreRead net.kept
     → AreRead now_net.kept
-became_read Tells d xid m old new net now_net event (inl is) read = subst AreRead (sym (ap (λ (n : NetState). n.kept) is.net_is ∙ kept_after d m net)) read
+became_read Tells d xid m old new net now_net event (inl is) read = subst AreRead (sym (ap (λ (n : NetState). n.kept) is.net_is ∙ net_after_kept d m net)) read
 became_read Tells d xid m old new net now_net event (inr lost) read = read_same (lost_net d net) now_net lost.net_is (read_left d net.kept read)
 
 arrived_by : {Own : Type 0} (Tells : Type 0) (d : ℕ) (old new : Seen Own) (net now_net : NetState) (event : Option Event) (r : Result Envelope WireFault)
@@ -159,26 +136,15 @@ joins_read Tells d ports old new false net now_net joins read = subst AreRead (s
 
 -- ---- An undo in which no switch failed
 
-no_fault : (o : Option TxnFault) → Ok tt ≡ ended_by o → o ≡ None
-no_fault None is = refl
-no_fault (Some fault) is = absurd cc
-
-none_first : (a b : Option TxnFault) → first_fault_of a b ≡ None → (a ≡ None) × (b ≡ None)
-none_first None b is = (refl, is)
-none_first (Some x) b is = absurd cc
-
 -- it was read, or goes with its switch
 abbrev IsReadBut : List ℕ → ℕ × List ℕ → Type 0
 IsReadBut lost m = (is_among m.0 lost ≡ true) ⊎ IsKeptRead m
-
-among_front : (d : ℕ) (lost more : List ℕ) → is_among d lost ≡ true → is_among d (lost ++ more) ≡ true
-among_front d lost more is = rw (among-append d lost more) (rw is refl)
 
 but_more : (lost more : List ℕ) (kept : List (ℕ × List ℕ)) → AllByRecursion (IsReadBut lost) kept → AllByRecursion (IsReadBut (lost ++ more)) kept
 but_more lost more kept all = all_by kept one all
   where
     one : (m : ℕ × List ℕ) → IsReadBut lost m → IsReadBut (lost ++ more) m
-    one m (inl gone) = inl (among_front m.0 lost more gone)
+    one m (inl gone) = inl (among-front m.0 lost more gone)
     one m (inr read) = inr read
 
 gone_all : (d : ℕ) (lost : List ℕ) → is_among d lost ≡ true → (more : List (List ℕ)) → AllByRecursion (IsReadBut lost) (map (λ b. (d, b)) more)
@@ -187,12 +153,6 @@ gone_all d lost gone (b ∷ more) = (inl gone, gone_all d lost gone more)
 
 read_but : (lost : List ℕ) (kept : List (ℕ × List ℕ)) → AreRead kept → AllByRecursion (IsReadBut lost) kept
 read_but lost kept read = all_by kept (λ m is. inr is) read
-
--- a switch that is stuck without a fault is lost
-stuck_lost : (old new : Counts) (d : ℕ) (p : Part) (older : List (ℕ × Part)) → ((rest : List Part) → is_stuck (p ∷ rest) ≡ true) → AllRun old new ((d, p) ∷ older) → first_fault ((d, p) ∷ older) ≡ None → is_among d (lost_parts ((d, p) ∷ older)) ≡ true
-stuck_lost old new d p older stuck runs none =
-    let same : Ok tt ≡ ended_by (first_fault ((d, p) ∷ older)) = sym (ap ended_by none) in
-    sym (none_failed old new (Ok tt) ((d, p) ∷ older) d runs same refl) ∙ rw (eq-eqb d d refl) (stuck (parts_of d older))
 
 part_read : (old new : Counts) (d : ℕ) (p : Part) (older : List (ℕ × Part)) (kept now_kept : List (ℕ × List ℕ)) → AllRun old new ((d, p) ∷ older) → first_fault ((d, p) ∷ older) ≡ None → KeepsOne d p kept now_kept → AllByRecursion (IsReadBut (lost_parts older)) kept
     → AllByRecursion (IsReadBut (lost_parts ((d, p) ∷ older))) now_kept
@@ -208,7 +168,7 @@ part_read old new d (Stuck xid halt steps) older kept now_kept runs none keeps r
 keeps_read : (old new : Counts) (kept : List (ℕ × List ℕ)) (parts : List (ℕ × Part)) (now_kept : List (ℕ × List ℕ)) → AllRun old new parts → first_fault parts ≡ None → Keeps kept parts now_kept → AreRead kept → AllByRecursion (IsReadBut (lost_parts parts)) now_kept
 keeps_read old new kept [] now_kept runs none keeps read = subst (AllByRecursion (IsReadBut [])) (sym keeps) (read_but [] kept read)
 keeps_read old new kept (p ∷ older) now_kept runs none keeps read =
-    let both = none_first (first_fault older) (fault_in p.1) none in
+    let both = both_none (first_fault older) (fault_in p.1) none in
     part_read old new p.0 p.1 older keeps.0 now_kept runs none keeps.2 (keeps_read old new kept older keeps.0 (runs_older old new p older runs) both.0 keeps.1 read)
 
 -- the messages of the switches that were lost go
@@ -235,7 +195,7 @@ undoes_read : {Own Tells : Type 0} {start : ℕ} {old new : Seen Own} (net now_n
 undoes_read {start = start} {old = old} {new = new} net now_net u read =
     read_same (lose_all (lost_parts u.parts) (record (undone_net start net) { xid = next_free net.xid u.parts; kept = u.kept; room = now_net.room })) now_net u.net_is
     (goes_all (lost_parts u.parts) (record (undone_net start net) { xid = next_free net.xid u.parts; kept = u.kept; room = now_net.room })
-    (keeps_read old.counts new.counts net.kept u.parts u.kept (λ d. (u.each d).run) (no_fault (first_fault u.parts) u.result_is) u.keeps read))
+    (keeps_read old.counts new.counts net.kept u.parts u.kept (λ d. (u.each d).run) (ended_none (first_fault u.parts) u.result_is) u.keeps read))
 
 -- ---- A turn
 

@@ -43,6 +43,30 @@ net_after_xid d messages.BarrierReply net = refl
 net_after_xid d (messages.QueueGetConfigRequest payload) net = refl
 net_after_xid d (messages.QueueGetConfigReply payload) net = refl
 
+pub net_after_kept : (d : ℕ) (m : Message) (net : NetState) → (net_after d m net).kept ≡ net.kept
+net_after_kept d (messages.FlowRemoved f) net = refl
+net_after_kept d (messages.PortStatus status) net = refl
+net_after_kept d (messages.Error kind code payload) net = refl
+net_after_kept d (messages.Hello payload) net = refl
+net_after_kept d (messages.EchoRequest payload) net = refl
+net_after_kept d (messages.EchoReply payload) net = refl
+net_after_kept d (messages.Vendor payload) net = refl
+net_after_kept d messages.FeaturesRequest net = refl
+net_after_kept d (messages.FeaturesReply features) net = refl
+net_after_kept d messages.GetConfigRequest net = refl
+net_after_kept d (messages.GetConfigReply config) net = refl
+net_after_kept d (messages.SetConfig config) net = refl
+net_after_kept d (messages.PacketIn packet) net = refl
+net_after_kept d (messages.PacketOut packet) net = refl
+net_after_kept d (messages.FlowMod m) net = refl
+net_after_kept d (messages.PortMod port) net = refl
+net_after_kept d (messages.StatsRequest m) net = refl
+net_after_kept d (messages.StatsReply m) net = refl
+net_after_kept d messages.BarrierRequest net = refl
+net_after_kept d messages.BarrierReply net = refl
+net_after_kept d (messages.QueueGetConfigRequest payload) net = refl
+net_after_kept d (messages.QueueGetConfigReply payload) net = refl
+
 pub says_halt : {Own T : Type 0} (Tells : Type 0) (d : ℕ) (frame : List ℕ) (old new : Seen Own) (result : Result T Halt) → SaysTo Tells d frame old new result → IfErr result (SaysHalt Tells d old new)
 says_halt Tells d frame old new (Ok x) says = tt
 says_halt Tells d frame old new (Err halt) says = says_halts halt says

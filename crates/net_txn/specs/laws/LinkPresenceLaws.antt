@@ -135,6 +135,9 @@ among-append e (x ∷ xs) ys = among_at (x == e) (among-append e xs ys)
     among_at true rest = refl
     among_at false rest = rest
 
+pub among-front : (e : ℕ) (xs ys : List ℕ) → is_among e xs ≡ true → is_among e (xs ++ ys) ≡ true
+among-front e xs ys is = among-append e xs ys ∙ rw is refl
+
 pub stays-then : (e : ℕ) (xs ys : List ℕ) (b : Bool) → stays_in e ys (stays_in e xs b) ≡ stays_in e (xs ++ ys) b
 stays-then e xs ys true = at (is_among e xs) ∙ ap not (sym (among-append e xs ys))
   where

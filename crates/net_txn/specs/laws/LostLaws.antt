@@ -46,7 +46,7 @@ use Rattle.net_txn.specs.laws.EchoLaws.{echo_reply-reading}
 use Rattle.net_txn.specs.laws.HeardLaws.{IsMessage-barrier}
 use Rattle.net_txn.specs.laws.LinkPresenceLaws.{losses_by, lost_none_all, loses-append}
 use Rattle.net_txn.specs.laws.PartLaws.{steps_other}
-use Rattle.net_txn.specs.laws.SaidLaws.{all_two, all_behind, is_fine, AreFine, fine_append, fine_none_lost, fine_frames, fine_wait, said_links, wait_none_lost, Calls-same, Calls-moves}
+use Rattle.net_txn.specs.laws.SaidLaws.{all_two, all_behind, all_of_switch, is_fine, AreFine, fine_append, fine_none_lost, fine_frames, fine_wait, said_links, wait_none_lost, Calls-same, Calls-moves}
 use Rattle.net_txn.specs.laws.TalkLaws.{front_steps, talks_cause, talks_flooded}
 
 -- ---- The packets that were released
@@ -265,6 +265,11 @@ some_by d joined (x ∷ xs) last failed =
 pub is_lost : {Own : Type 0} {Tells : Type 0} {old new : Seen Own} (d : ℕ) (packets : List Held) (front : List Said) (last : Said) → AreFine front → IsFailed d last → packets_said front ≡ packets → Calls Tells d (front ++ last ∷ []) old new → IsLost Tells d packets old new
 is_lost {Tells = Tells} {old = old} {new = new} d packets front last fine failed same c = record {
   rose = rose_by d last old new failed (all_behind (IsSaid d old.counts new.counts) front (last ∷ []) c.each).0;
+  only = λ told. record {
+    steps = said_steps (is_joined d (state old)) (front ++ last ∷ []);
+    history = c.told told;
+    each = all_of_switch (is_joined d (state old)) d old.counts new.counts (front ++ last ∷ []) c.each;
+  };
   some = leaves_by old new (said_steps (is_joined d (state old)) (front ++ last ∷ [])) c.told (some_by d (is_joined d (state old)) front last failed);
   out = λ told joined. subst (λ (ps : List Held). GoesOut d ps old new) same (goes_out d front last fine failed c told joined);
   was_out = λ told out. says_none (front ++ last ∷ []) c told out;

@@ -1,6 +1,6 @@
 -- The switches that are lost in an undo: which they are, what the journal has of them, and that they are out.
-use Rattle.std.proofs.Common.{◌≡◌, ◌==◌, ℕ, Bool, true, false, ◌||◌, List, [], ◌∷◌, ◌++◌, None, if◌then◌else◌, refl, sym, ap, ◌∙◌, subst, inl, inr}
-use Rattle.std.specs.Prelude.{Result, IsOk}
+use Rattle.std.proofs.Common.{◌≡◌, ◌==◌, ℕ, Bool, true, false, ◌||◌, List, [], ◌∷◌, ◌++◌, Option, Some, None, if◌then◌else◌, refl, sym, ap, ◌∙◌, subst, inl, inr}
+use Rattle.std.specs.Prelude.{Result, Ok, IsOk}
 use Rattle.std.proofs.lemmas.Bool.{cases_Bool, cases_eq, eq-eqb, ne_eqb}
 use Rattle.of_types.specs.declared.journal.Act.{Act}
 use Rattle.outside.specs.declared.step.WorldStep.{WorldStep}
@@ -70,6 +70,16 @@ stuck_out d (p ∷ older) none =
 pub none_failed : (old new : Counts) (result : Result (Unit {0}) TxnFault) (parts : List (ℕ × Part)) (d : ℕ) → AllRun old new parts → result ≡ ended_by (first_fault parts) → IsOk result → is_stuck (parts_of d parts) ≡ is_among d (lost_parts parts)
 none_failed old new result parts d run is ok =
     stuck_out d parts (no_fault (first_fault parts) (subst (λ (r : Result (Unit {0}) TxnFault). IsOk r) is ok)) ∙ sym (among_out old new d parts run)
+
+pub ended_none : (o : Option TxnFault) → Ok tt ≡ ended_by o → o ≡ None
+ended_none None is = refl
+ended_none (Some fault) is = absurd cc
+
+-- where no switch failed but by its loss, one that sticks was lost
+pub stuck_lost : (old new : Counts) (d : ℕ) (p : Part) (older : List (ℕ × Part)) → ((rest : List Part) → is_stuck (p ∷ rest) ≡ true) → AllRun old new ((d, p) ∷ older) → first_fault ((d, p) ∷ older) ≡ None → is_among d (lost_parts ((d, p) ∷ older)) ≡ true
+stuck_lost old new d p older stuck runs none =
+    let same : Ok tt ≡ ended_by (first_fault ((d, p) ∷ older)) = sym (ap ended_by none) in
+    sym (none_failed old new (Ok tt) ((d, p) ∷ older) d runs same refl) ∙ rw (eq-eqb d d refl) (stuck (parts_of d older))
 
 -- ---- What the journal has of them
 

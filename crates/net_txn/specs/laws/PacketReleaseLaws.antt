@@ -253,6 +253,14 @@ stops_none_lost d xid packet old new fault (inr (inr b)) told = replied_none_los
 lost_sent : {Own : Type 0} {Tells : Type 0} (d xid : ℕ) (packet : Packet) (old mid new : Seen Own) → xid < 2 ^ 32 → IsMessage (PacketOut packet) → PacketSent Tells d xid packet old mid → Continues Tells mid new → IsLost Tells d [] mid new → IsLost Tells d ((d, packet) ∷ []) old new
 lost_sent {Tells = Tells} d xid packet old mid new lt is sent later lost = record {
   rose = Rose-after (old.counts.link_faults d) (mid.counts.link_faults d) (new.counts.link_faults d) (sent.continues.none_fell.link_faults d) lost.rose;
+  only = λ told. (
+      let steps = said_steps (is_joined d (state old)) (Says d (packet_bytes xid packet) ∷ []) in
+      let calls = lost.only told in
+      record {
+        steps = steps ++ calls.steps;
+        history = calls.history ∙ ap (λ (s : List WorldStep). s ++ calls.steps) (sent.told told) ∙ append_assoc old.history steps calls.steps;
+        each = (refl, calls.each);
+      });
   some = leaves_then old _ later sent.told (omega arith);
   out = λ told joined. (
       let bytes = packet_bytes xid packet in

@@ -251,7 +251,7 @@ of_switch true d old new (CannotHear e) is = (is.0, tt)
 of_switch false d old new (CannotHear e) is = (is.0, tt)
 of_switch joined d old new (LacksMemory e) is = tt
 
-all_of_switch : (joined : Bool) (d : ℕ) (old new : Counts) (said : List Said) → AllByRecursion (IsSaid d old new) said → AllByRecursion (IsStepOf d) (said_steps joined said)
+pub all_of_switch : (joined : Bool) (d : ℕ) (old new : Counts) (said : List Said) → AllByRecursion (IsSaid d old new) said → AllByRecursion (IsStepOf d) (said_steps joined said)
 all_of_switch joined d old new [] all = tt
 all_of_switch joined d old new (s ∷ ss) all = all_two (IsStepOf d) (steps_in joined s) (said_steps (joined_behind joined s) ss) (of_switch joined d old new s all.0) (all_of_switch (joined_behind joined s) d old new ss all.1)
 

@@ -1,37 +1,36 @@
 -- Moves of the network, as the course of a run says them: messages of applications for switches, and packets that are released.
 use Rattle.std.specs.Prelude.{◌==◌}
+use Rattle.std.specs.Option.{is_some}
 use Rattle.std.proofs.Common.{◌≡◌, ℕ, Bool, true, false, List, [], ◌∷◌, ◌++◌, Option, Some, None, Result, Ok, Err, refl, sym, ap, ◌∙◌, subst, inl, inr, append_assoc}
-use Rattle.std.specs.List.{AllByRecursion}
 use Rattle.std.proofs.lemmas.List.{append-nil}
 use Rattle.std.proofs.lemmas.List.Elements.{filter_map-append}
 use Rattle.std.proofs.lemmas.Bool.{eq-eqb, ne_eqb}
 use Rattle.of_wire.specs.declared.message.Message.TheVariants.{FlowMod}
 use Rattle.of_wire.specs.Spelling.{message_bytes}
+use Rattle.flow_table.specs.declared.view.ViewRow.{ViewRow}
 use Rattle.flow_table.specs.View.{TableView}
 use Rattle.app_frames.specs.declared.frame.Answer.{Answer}
 use Rattle.app_frames.specs.declared.frame.Event.{Event}
 use Rattle.outside.specs.declared.step.WorldStep.{WorldStep}
-use Rattle.outside.specs.Seen.{Seen, Continues}
+use Rattle.outside.specs.Seen.{Seen}
 use Rattle.lego_model.specs.declared.wait.Awaited.{Awaited}
-use Rattle.lego_model.specs.declared.wait.Heard.{Heard}
-use Rattle.lego_model.specs.declared.wait.Heard.TheVariants.{Reply, Refused, Notice, Echo, Other}
 use Rattle.lego_model.specs.Answers.{as_sent}
 use Rattle.lego_model.specs.Packets.{Held}
-use Rattle.lego_model.specs.BarrierWaits.{heard, kept_by, kept_of, barrier_sent, wait_steps, reply_got}
+use Rattle.lego_model.specs.BarrierWaits.{barrier_sent, wait_steps, reply_got}
 use Rattle.lego_model.specs.laws.OwnIdLaws.{xid_sent}
 use Rattle.net_txn.specs.Net.{NetState}
-use Rattle.net_txn.specs.Views.{is_viewed}
+use Rattle.net_txn.specs.Views.{rows_at, is_viewed}
 use Rattle.net_txn.specs.laws.ViewLaws.{viewed}
+use Rattle.net_txn.specs.laws.ChangeLaws.{host_unknown}
 use Rattle.net_txn.specs.Waits.{Brought, Waits}
 use Rattle.net_txn.specs.Losing.{lost_net, IsLost}
 use Rattle.net_txn.specs.laws.LinkPresenceLaws.{stays_in}
 use Rattle.net_txn.specs.laws.AbreastLaws.{forget-viewed, arrival_viewed}
-use Rattle.net_txn.specs.Arriving.{net_after}
+use Rattle.net_txn.specs.laws.ArrivalLaws.{net_after_kept}
 use Rattle.net_txn.specs.Changes.{answer_of_host, Changes, ChangesJoined, ChangesLost}
 use Rattle.net_txn.specs.Answering.{known_rows}
-use Rattle.net_txn.specs.Releases.{Knows, takes_read, takes_all, packet_awaited, SendsPacket, LosesPacket, ReleasesOne, ReleasesAll, committed, Commits}
+use Rattle.net_txn.specs.Releases.{Knows, takes_read, takes_all, SendsPacket, LosesPacket, ReleasesOne, ReleasesAll, committed, Commits}
 use Rattle.of_wire.specs.declared.message.Envelope.{Envelope}
-use Rattle.of_wire.specs.declared.message.Message.{Message}
 use Rattle.of_wire.specs.declared.message.Message.TheVariants as messages
 use Rattle.of_wire.specs.declared.fault.WireFault.{WireFault}
 use Rattle.of_wire.specs.Reading.{reading_of}
@@ -103,16 +102,16 @@ pub other_stays : (d e : ℕ) (b : Bool) → (d == e) ≡ false → stays_in e (
 other_stays d e true apart = rw apart refl
 other_stays d e false apart = refl
 
-pub loses_switch : {Own Tells : Type 0} {packets : List Held} (d : ℕ) (old new : Seen Own) (net now_net : NetState) (queue : List Event) (events : List Event) → Tells → Continues Tells old new → IsLost Tells d packets old new → now_net.views ≡ (lost_net d net).views → now_net.kept ≡ (lost_net d net).kept
+pub loses_switch : {Own Tells : Type 0} {packets : List Held} (d : ℕ) (old new : Seen Own) (net now_net : NetState) (queue : List Event) (events : List Event) → Tells → IsLost Tells d packets old new → now_net.views ≡ (lost_net d net).views → now_net.kept ≡ (lost_net d net).kept
     → Loses (holding_of old net queue) (holding_of new now_net (queue ++ events))
-loses_switch d old new net now_net queue events told later lost views kept =
-    let on = later.told told in
+loses_switch d old new net now_net queue events told lost views kept =
+    let calls = lost.only told in
     record {
       dpid = d;
       rose = lost.rose;
-      steps = on.0;
-      history = on.1;
-      others_wait = λ joined e other. (lost.out told joined).others_wait e other;
+      steps = calls.steps;
+      history = calls.history;
+      each = calls.each;
       out = ap (λ (vs : List TableView). is_viewed d vs) views ∙ forget-viewed d d net.views ∙ one_gone d (is_viewed d net.views);
       others = λ e other. ap (λ (vs : List TableView). is_viewed e vs) views ∙ forget-viewed d e net.views ∙ other_stays d e (is_viewed e net.views) (ne_eqb d e (λ same. other (sym same)));
       kept = kept;
@@ -135,6 +134,11 @@ calls_same old new net now_net queue seen views kept = calls_still old new net n
 
 -- ---- A message of an application
 
+-- a switch that the host does not answer for is joined
+asked_joined : (d : ℕ) (bytes : List ℕ) (net : NetState) (rows : Option (List ViewRow)) → rows_at d net.views ≡ rows → answer_of_host d bytes net ≡ None → is_viewed d net.views ≡ true
+asked_joined d bytes net (Some rows) is none = viewed d net.views ∙ ap is_some is
+asked_joined d bytes net None is none = let unknown = host_unknown d bytes net net.views refl is in absurd cc
+
 change_asked : {Own Tells : Type 0} {d : ℕ} {old new : Seen Own} (bytes : List ℕ) (net now_net : NetState) (queue : List Event) (answer : Answer) → Tells → ChangesJoined Tells d bytes old new net now_net (Ok answer) → answer_of_host d bytes net ≡ None → Keeps (holding_of old net queue) (holding_of new now_net queue)
 change_asked {d = d} bytes net now_net queue answer told changes host =
     let change = asked (known_rows d net.views) bytes host in
@@ -142,6 +146,7 @@ change_asked {d = d} bytes net now_net queue answer told changes host =
     let frame = message_bytes net.xid (as_sent (FlowMod change.change)) in
     record {
       waited = waited_by (frame ∷ []) (inr (frame, refl, sym (xid_sent net.xid (as_sent (FlowMod change.change)) asks.is_xid.1), refl)) told asks.waits;
+      was_in = asked_joined d bytes net (rows_at d net.views) refl host;
       joined = λ e. viewed e now_net.views ∙ changes.switches e ∙ sym (viewed e net.views);
       kept = asks.waits.hears.kept_is;
       queue = refl;
@@ -153,43 +158,19 @@ change_stays {old = old} {new = new} bytes net now_net queue answer (Some said) 
     inl (calls_same old new net now_net queue same.world (ap (λ (n : NetState). n.views) same.stays) (ap (λ (n : NetState). n.kept) same.stays))
 change_stays bytes net now_net queue answer None told changes host = inr (inl (change_asked bytes net now_net queue answer told changes host))
 
-change_goes : {Own Tells : Type 0} {d : ℕ} {old new : Seen Own} (net now_net : NetState) (queue : List Event) → Tells → Continues Tells old new → ChangesLost Tells d old new net now_net → TurnMove (holding_of old net queue) (holding_of new now_net queue)
-change_goes {d = d} {old = old} {new = new} net now_net queue told later lost =
+change_goes : {Own Tells : Type 0} {d : ℕ} {old new : Seen Own} (net now_net : NetState) (queue : List Event) → Tells → ChangesLost Tells d old new net now_net → TurnMove (holding_of old net queue) (holding_of new now_net queue)
+change_goes {d = d} {old = old} {new = new} net now_net queue told lost =
     inr (inr (inr (inl (subst (λ (q : List Event). Loses (holding_of old net queue) (holding_of new now_net q)) (append-nil queue)
-    (loses_switch d old new net now_net queue [] told later lost.is_lost (ap (λ (n : NetState). n.views) lost.net_is) (ap (λ (n : NetState). n.kept) lost.net_is))))))
+    (loses_switch d old new net now_net queue [] told lost.is_lost (ap (λ (n : NetState). n.views) lost.net_is) (ap (λ (n : NetState). n.kept) lost.net_is))))))
 
 pub change_moves : {Own Tells : Type 0} {d : ℕ} {bytes : List ℕ} {old new : Seen Own} (net now_net : NetState) (queue : List Event) (answer : Answer) → Tells → Changes Tells d bytes old new net now_net (Ok answer) → TurnMove (holding_of old net queue) (holding_of new now_net queue)
 change_moves {d = d} {bytes = bytes} net now_net queue answer told changes =
     elim changes.answered [
       | inl joined ↦ change_stays bytes net now_net queue answer (answer_of_host d bytes net) told joined refl
-      | inr lost ↦ change_goes net now_net queue told changes.continues lost.2
+      | inr lost ↦ change_goes net now_net queue told lost.2
     ]
 
 -- ---- A packet that is released
-
-after_kept : (d : ℕ) (m : Message) (net : NetState) → (net_after d m net).kept ≡ net.kept
-after_kept d (messages.FlowRemoved f) net = refl
-after_kept d (messages.PortStatus status) net = refl
-after_kept d (messages.Error kind code payload) net = refl
-after_kept d (messages.Hello payload) net = refl
-after_kept d (messages.EchoRequest payload) net = refl
-after_kept d (messages.EchoReply payload) net = refl
-after_kept d (messages.Vendor payload) net = refl
-after_kept d messages.FeaturesRequest net = refl
-after_kept d (messages.FeaturesReply features) net = refl
-after_kept d messages.GetConfigRequest net = refl
-after_kept d (messages.GetConfigReply config) net = refl
-after_kept d (messages.SetConfig config) net = refl
-after_kept d (messages.PacketIn packet) net = refl
-after_kept d (messages.PacketOut packet) net = refl
-after_kept d (messages.FlowMod m) net = refl
-after_kept d (messages.PortMod port) net = refl
-after_kept d (messages.StatsRequest m) net = refl
-after_kept d (messages.StatsReply m) net = refl
-after_kept d messages.BarrierRequest net = refl
-after_kept d messages.BarrierReply net = refl
-after_kept d (messages.QueueGetConfigRequest payload) net = refl
-after_kept d (messages.QueueGetConfigReply payload) net = refl
 
 -- the same switches have views, and the same messages are kept
 record StaysAlike (net now_net : NetState) : Type 0 where
@@ -200,43 +181,32 @@ alike_then : (a b c : NetState) → StaysAlike a b → StaysAlike b c → StaysA
 alike_then a b c first second = record { views = λ e. second.views e ∙ first.views e; kept = second.kept ∙ first.kept }
 
 read_alike : (d : ℕ) (r : Result Envelope WireFault) (k : Knows) → StaysAlike k.0 (takes_read d r k).0
-read_alike d (Ok x) k = record { views = λ e. arrival_viewed d e x.message k.0; kept = after_kept d x.message k.0 }
+read_alike d (Ok x) k = record { views = λ e. arrival_viewed d e x.message k.0; kept = net_after_kept d x.message k.0 }
 read_alike d (Err fault) k = record { views = λ e. refl; kept = refl }
 
 all_alike : (came : List (ℕ × List ℕ)) (k : Knows) → StaysAlike k.0 (takes_all came k).0
 all_alike [] k = record { views = λ e. refl; kept = refl }
 all_alike (m ∷ more) k = alike_then k.0 (takes_read m.0 (reading_of m.1) k).0 (takes_all more (takes_read m.0 (reading_of m.1) k)).0 (read_alike m.0 (reading_of m.1) k) (all_alike more (takes_read m.0 (reading_of m.1) k))
 
--- all that a wait keeps is of its switch
-of_by : (joined : ℕ → Bool) (d : ℕ) (bytes : List ℕ) (h : Heard) (rest : List (ℕ × List ℕ)) → joined d ≡ true → AllByRecursion (λ m. joined m.0 ≡ true) rest → AllByRecursion (λ m. joined m.0 ≡ true) (kept_by d h bytes ++ rest)
-of_by joined d bytes Reply rest is all = all
-of_by joined d bytes (Refused refusal) rest is all = all
-of_by joined d bytes Notice rest is all = all
-of_by joined d bytes Echo rest is all = all
-of_by joined d bytes Other rest is all = (is, all)
-
-of_switch : (joined : ℕ → Bool) (a : Awaited) (got : List (List ℕ)) → joined a.dpid ≡ true → AllByRecursion (λ m. joined m.0 ≡ true) (kept_of a got)
-of_switch joined a [] is = tt
-of_switch joined a (b ∷ bs) is = of_by joined a.dpid b (heard a b) (kept_of a bs) is (of_switch joined a bs is)
-
 packet_sent : {Own Tells : Type 0} (held : Held) (old new : Seen Own) (net now_net : NetState) (queue now_queue : List Event) → Tells → is_viewed held.0 net.views ≡ true → SendsPacket Tells held old new net now_net queue now_queue → Releases (holding_of old net queue) (holding_of new now_net now_queue)
 packet_sent held old new net now_net queue now_queue told joined sends =
     let first : Knows = (record net { xid = _ }, queue) in
     let alike = all_alike sends.came first in
-    let made = came_makes (λ e. is_viewed e net.views) sends.came first (subst (AllByRecursion (λ m. is_viewed m.0 net.views ≡ true)) (sym sends.waits.hears.kept_is) (of_switch (λ e. is_viewed e net.views) (packet_awaited held.0 net.xid) sends.waits.got joined)) in
+    let made = came_makes sends.came first in
     record {
       waited = waited_by (message_bytes net.xid (PacketOut held.1) ∷ []) (inl refl) told sends.waits;
+      was_in = joined;
       joined = λ e. ap (λ (k : Knows). is_viewed e k.0.views) sends.taken ∙ alike.views e;
       kept = ap (λ (k : Knows). k.0.kept) sends.taken ∙ alike.kept;
       events = made.events;
-      made = subst (λ (ms : List (ℕ × List ℕ)). MessagesMake (λ e. is_viewed e net.views) ms made.events) sends.waits.hears.kept_is made.made;
+      made = subst (λ (ms : List (ℕ × List ℕ)). MessagesMake ms made.events) sends.waits.hears.kept_is made.made;
       queued = ap (λ (k : Knows). k.1) sends.taken ∙ made.queue_is;
     }
 
 packet_lost : {Own Tells : Type 0} {packets : List Held} (held : Held) (old new : Seen Own) (net now_net : NetState) (queue now_queue : List Event) → Tells → LosesPacket Tells packets held old new net now_net queue now_queue → TurnMove (holding_of old net queue) (holding_of new now_net now_queue)
 packet_lost held old new net now_net queue now_queue told is =
     inr (inr (inr (inl (subst (λ (q : List Event). Loses (holding_of old net queue) (holding_of new now_net q)) (append-nil queue ∙ sym is.queue_is)
-    (loses_switch held.0 old new net now_net queue [] told is.continues is.is_lost (ap (λ (n : NetState). n.views) is.net_is) (ap (λ (n : NetState). n.kept) is.net_is))))))
+    (loses_switch held.0 old new net now_net queue [] told is.is_lost (ap (λ (n : NetState). n.views) is.net_is) (ap (λ (n : NetState). n.kept) is.net_is))))))
 
 packet_moves : {Own Tells : Type 0} (held : Held) (sent : List Held) (old new : Seen Own) (net now_net : NetState) (queue now_queue : List Event) → Tells → ReleasesOne Tells held sent old new net now_net queue now_queue → TurnMove (holding_of old net queue) (holding_of new now_net now_queue)
 packet_moves held sent old new net now_net queue now_queue told (inl sends) = inr (inr (inl (packet_sent held old new net now_net queue now_queue told sends.1 sends.2)))

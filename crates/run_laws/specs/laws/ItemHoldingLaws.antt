@@ -100,17 +100,17 @@ from_quietly d bytes false old new net now_net told does = untouched old new net
 from_still : {Own Tells : Type 0} {text : List ℕ} (d : ℕ) (bytes : List ℕ) (old new : Seen Own) (net now_net : NetState) (queue now_queue : List Event) → Tells → HandlesStill Tells (From d bytes) text old new net now_net queue now_queue → Calls (holding_of old net queue) (holding_of new now_net now_queue)
 from_still d bytes old new net now_net queue now_queue told still =
     let k = knowledge_of net queue in
-    let makes = from_makes (λ e. is_known e k) (d, bytes) k refl in
+    let makes = from_makes (d, bytes) k in
     let quietly = from_quietly d bytes (is_some (rows_at d net.views)) old new net now_net told still.does in
     subst (λ (q : List Event). Calls (holding_of old net queue) (holding_of new now_net q)) (sym (ap (λ (x : Knowledge). x.queue) still.knowledge ∙ makes.queue_is))
     (calls_on old new net now_net queue makes.events quietly.got_none
     (λ e. viewed e now_net.views ∙ ap (λ (x : Knowledge). is_known e x) still.knowledge ∙ makes.known e ∙ sym (viewed e net.views)) quietly.kept)
 
 -- a switch whose ECHO_REQUEST could not be answered is lost
-from_lost : {Own Tells : Type 0} {text : List ℕ} (d : ℕ) (bytes : List ℕ) (old new : Seen Own) (net now_net : NetState) (queue now_queue : List Event) → Tells → Handles Tells (From d bytes) text old new net now_net queue now_queue → HandlesLost Tells (From d bytes) text old new net now_net queue now_queue → Loses (holding_of old net queue) (holding_of new now_net now_queue)
-from_lost d bytes old new net now_net queue now_queue told handles lost =
+from_lost : {Own Tells : Type 0} {text : List ℕ} (d : ℕ) (bytes : List ℕ) (old new : Seen Own) (net now_net : NetState) (queue now_queue : List Event) → Tells → HandlesLost Tells (From d bytes) text old new net now_net queue now_queue → Loses (holding_of old net queue) (holding_of new now_net now_queue)
+from_lost d bytes old new net now_net queue now_queue told lost =
     subst (λ (q : List Event). Loses (holding_of old net queue) (holding_of new now_net q)) (sym (ap (λ (x : Knowledge). x.queue) lost.knowledge))
-    (loses_switch lost.dpid old new net now_net queue (left_events (ports_lost lost.dpid net.ports)) told handles.continues lost.is_lost (ap (λ (x : Knowledge). x.views) lost.knowledge) lost.kept)
+    (loses_switch lost.dpid old new net now_net queue (left_events (ports_lost lost.dpid net.ports)) told lost.is_lost (ap (λ (x : Knowledge). x.views) lost.knowledge) lost.kept)
 
 -- ---- An item that makes nothing
 
@@ -190,18 +190,18 @@ module _ {Own Tells : Type 0} (d : ℕ) (bytes : List ℕ) (old mid new : Seen O
   joined_still still = joined_by_view (is_some (rows_at d net.views)) refl still.does still.knowledge
 
   -- it is lost as it joins
-  joined_lost : {text : List ℕ} → Handles Tells (Joined d bytes) text mid new net now_net queue now_queue → HandlesLost Tells (Joined d bytes) text mid new net now_net queue now_queue → Moved
-  joined_lost handles lost =
-      let on = handles.continues.told told in
+  joined_lost : {text : List ℕ} → HandlesLost Tells (Joined d bytes) text mid new net now_net queue now_queue → Moved
+  joined_lost lost =
+      let calls = lost.is_lost.only told in
       let views = ap (λ (x : Knowledge). x.views) lost.knowledge in
       moves_then ItemMove (holding_of old net queue) (holding_of mid net queue) (holding_of new now_net now_queue)
       (one_move ItemMove (holding_of old net queue) (holding_of mid net queue) (inl (next_calls (Joined d bytes) old mid net queue refl item)))
       (one_move ItemMove (holding_of mid net queue) (holding_of new now_net now_queue) (inr (inr (inr (record {
         dpid = lost.dpid;
         rose = lost.is_lost.rose;
-        steps = on.0;
-        history = on.1;
-        others_wait = λ joined e other. (lost.is_lost.out told joined).others_wait e other;
+        steps = calls.steps;
+        history = calls.history;
+        each = calls.each;
         out = ap (λ (vs : List TableView). is_viewed lost.dpid vs) views ∙ viewed lost.dpid net.views ∙ lost.at.1;
         others = λ e other. ap (λ (vs : List TableView). is_viewed e vs) views;
         kept = lost.kept;
@@ -255,7 +255,7 @@ from_moves d bytes old mid new net now_net queue now_queue told item handles =
     (one_move ItemMove (holding_of old net queue) (holding_of mid net queue) (inl (next_calls (From d bytes) old mid net queue refl item)))
     (one_move ItemMove (holding_of mid net queue) (holding_of new now_net now_queue) (elim handles.went [
       | inl still ↦ inl (from_still d bytes mid new net now_net queue now_queue told still)
-      | inr lost ↦ inr (inr (inr (from_lost d bytes mid new net now_net queue now_queue told handles lost)))
+      | inr lost ↦ inr (inr (inr (from_lost d bytes mid new net now_net queue now_queue told lost)))
     ]))
 
 pub next_moves : {Own Tells : Type 0} {text : List ℕ} (item : Item) (old new : Seen Own) (net now_net : NetState) (queue now_queue : List Event) → Tells → TakesNext Tells item text old new net now_net queue now_queue → OneByOne ItemMove (holding_of old net queue) (holding_of new now_net now_queue)
@@ -267,7 +267,7 @@ next_moves (items.Joined d n) old new net now_net queue now_queue told takes =
     let item = next_told (items.Joined d n) takes.buf old takes.mid told takes.nexts in
     elim takes.handles.went [
       | inl still ↦ joined_still d bytes old takes.mid new net now_net queue now_queue told item still
-      | inr lost ↦ joined_lost d bytes old takes.mid new net now_net queue now_queue told item takes.handles lost
+      | inr lost ↦ joined_lost d bytes old takes.mid new net now_net queue now_queue told item lost
     ]
 next_moves (items.Left d) old new net now_net queue now_queue told takes =
     let item = next_told (items.Left d) takes.buf old takes.mid told takes.nexts in

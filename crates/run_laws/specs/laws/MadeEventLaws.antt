@@ -1,6 +1,6 @@
 -- What messages make that are taken: events behind those that wait, as the course of a run says. They were kept, or came as a packet was released.
 use Rattle.std.specs.Prelude.{if◌then◌else◌}
-use Rattle.std.proofs.Common.{◌≡◌, ℕ, Bool, true, false, List, [], ◌∷◌, ◌++◌, Option, Some, None, Result, Ok, Err, refl, sym, ap, ◌∙◌, inl, inr, append_assoc}
+use Rattle.std.proofs.Common.{◌≡◌, ℕ, Bool, true, false, List, [], ◌∷◌, ◌++◌, Option, Some, None, Result, Ok, Err, refl, sym, ap, ◌∙◌, inl, inr, append_assoc, true≢false}
 use Rattle.std.proofs.lemmas.List.{append-nil}
 use Rattle.std.proofs.lemmas.Bool.{cases_Bool}
 use Rattle.std.specs.List.{AllByRecursion}
@@ -14,9 +14,10 @@ use Rattle.app_frames.specs.declared.frame.Event.{Event}
 use Rattle.outside.specs.declared.step.WorldStep.TheVariants.{From}
 use Rattle.net_txn.specs.Arriving.{is_told, event_of}
 use Rattle.net_txn.specs.Releases.{Knows, or_none, takes_read, takes_all}
+use Rattle.net_txn.specs.laws.SaidLaws.{all_weaker}
 use Rattle.batch_laws.specs.Knowledge.{Knowledge, is_known, with_event, told_read, handled, handled_all}
 use Rattle.batch_laws.specs.laws.KnownPortsLaws.{views_stay}
-use Rattle.run_course.specs.Messages.{event_list, MakesEvents, ReadMakes, MessageMakes, MessagesMake}
+use Rattle.run_course.specs.Messages.{event_list, MakesEvents, ReadMakes, MessagesMake}
 use Rattle.run_laws.specs.Course.{as_told}
 
 -- ---- One message
@@ -59,9 +60,6 @@ read_makes : (d : ℕ) (views : List TableView) (r : Result Envelope WireFault) 
 read_makes d views (Ok e) = makes_so d views e.message
 read_makes d views (Err fault) = refl
 
-one_makes : (joined : Bool) (m : ℕ × List ℕ) (views : List TableView) → joined ≡ true → MessageMakes joined m (events_read m.0 views (reading_of m.1))
-one_makes joined m views is = rw is (read_makes m.0 views (reading_of m.1))
-
 -- ---- Messages that came as a packet was released
 
 list_or_none : (o : Option Event) → or_none o ≡ event_list o
@@ -73,26 +71,26 @@ read_queue d (Ok e) k = ap (λ (events : List Event). k.1 ++ events) (list_or_no
 read_queue d (Err fault) k = sym (append-nil k.1)
 
 -- events behind those that wait, which the messages make
-pub record Made (joined : ℕ → Bool) (came : List (ℕ × List ℕ)) (queue now_queue : List Event) : Type 0 where
+pub record Made (came : List (ℕ × List ℕ)) (queue now_queue : List Event) : Type 0 where
   pub events : List Event
   pub queue_is : now_queue ≡ queue ++ events
-  pub made : MessagesMake joined came events
+  pub made : MessagesMake came events
 
-made_more : (joined : ℕ → Bool) (m : ℕ × List ℕ) (more : List (ℕ × List ℕ)) (first queue mid now_queue : List Event) → MessageMakes (joined m.0) m first → mid ≡ queue ++ first → Made joined more mid now_queue → Made joined (m ∷ more) queue now_queue
-made_more joined m more first queue mid now_queue one mid_is rest = record {
+made_more : (m : ℕ × List ℕ) (more : List (ℕ × List ℕ)) (first queue mid now_queue : List Event) → ReadMakes m.0 (reading_of m.1) first → mid ≡ queue ++ first → Made more mid now_queue → Made (m ∷ more) queue now_queue
+made_more m more first queue mid now_queue one mid_is rest = record {
   events = first ++ rest.events;
   queue_is = rest.queue_is ∙ ap (λ (q : List Event). q ++ rest.events) mid_is ∙ append_assoc queue first rest.events;
   made = (first, rest.events, refl, one, rest.made);
 }
 
-made_none : (joined : ℕ → Bool) (queue : List Event) → Made joined [] queue queue
-made_none joined queue = record { events = []; queue_is = sym (append-nil queue); made = refl }
+made_none : (queue : List Event) → Made [] queue queue
+made_none queue = record { events = []; queue_is = sym (append-nil queue); made = refl }
 
-pub came_makes : (joined : ℕ → Bool) (came : List (ℕ × List ℕ)) (k : Knows) → AllByRecursion (λ m. joined m.0 ≡ true) came → Made joined came k.1 (takes_all came k).1
-came_makes joined [] k all = made_none joined k.1
-came_makes joined (m ∷ more) k all =
-    made_more joined m more (events_read m.0 k.0.views (reading_of m.1)) k.1 (takes_read m.0 (reading_of m.1) k).1 (takes_all more (takes_read m.0 (reading_of m.1) k)).1
-    (one_makes (joined m.0) m k.0.views all.0) (read_queue m.0 (reading_of m.1) k) (came_makes joined more (takes_read m.0 (reading_of m.1) k) all.1)
+pub came_makes : (came : List (ℕ × List ℕ)) (k : Knows) → Made came k.1 (takes_all came k).1
+came_makes [] k = made_none k.1
+came_makes (m ∷ more) k =
+    made_more m more (events_read m.0 k.0.views (reading_of m.1)) k.1 (takes_read m.0 (reading_of m.1) k).1 (takes_all more (takes_read m.0 (reading_of m.1) k)).1
+    (read_makes m.0 k.0.views (reading_of m.1)) (read_queue m.0 (reading_of m.1) k) (came_makes more (takes_read m.0 (reading_of m.1) k))
 
 -- ---- Messages that were kept
 
@@ -108,34 +106,34 @@ read_stays : (d e : ℕ) (r : Result Envelope WireFault) (k : Knowledge) → is_
 read_stays d e (Ok x) k = views_stay d e x.message k
 read_stays d e (Err fault) k = refl
 
--- one message that is told: of a switch that is joined, or of another one
-pub record ToldMakes (joined : ℕ → Bool) (m : ℕ × List ℕ) (k now_k : Knowledge) : Type 0 where
+-- one message that is told: of a switch that is joined it makes its events
+pub record ToldMakes (m : ℕ × List ℕ) (k now_k : Knowledge) : Type 0 where
   pub events : List Event
   pub queue_is : now_k.queue ≡ k.queue ++ events
-  pub makes : MessageMakes (joined m.0) m events
+  pub makes : is_known m.0 k ≡ true → ReadMakes m.0 (reading_of m.1) events
   pub known : (e : ℕ) → is_known e now_k ≡ is_known e k
 
-told_by : (joined : ℕ → Bool) (m : ℕ × List ℕ) (k : Knowledge) (known : Bool) → joined m.0 ≡ known → ToldMakes joined m k (if known then told_read m.0 (reading_of m.1) k else k)
-told_by joined m k true is = record {
+told_by : (m : ℕ × List ℕ) (k : Knowledge) (known : Bool) → is_known m.0 k ≡ known → ToldMakes m k (if known then told_read m.0 (reading_of m.1) k else k)
+told_by m k true is = record {
   events = events_read m.0 k.views (reading_of m.1);
   queue_is = told_queue m.0 (reading_of m.1) k;
-  makes = one_makes (joined m.0) m k.views is;
+  makes = λ joined. read_makes m.0 k.views (reading_of m.1);
   known = λ e. read_stays m.0 e (reading_of m.1) k;
 }
-told_by joined m k false is = record { events = []; queue_is = sym (append-nil k.queue); makes = rw is refl; known = λ e. refl }
+told_by m k false is = record { events = []; queue_is = sym (append-nil k.queue); makes = λ joined. absurd (true≢false (sym joined ∙ is)); known = λ e. refl }
 
-pub from_makes : (joined : ℕ → Bool) (m : ℕ × List ℕ) (k : Knowledge) → is_known m.0 k ≡ joined m.0 → ToldMakes joined m k (handled (From m.0 m.1) k)
+pub from_makes : (m : ℕ × List ℕ) (k : Knowledge) → ToldMakes m k (handled (From m.0 m.1) k)
 unfolding handled
-from_makes joined m k is = told_by joined m k (is_known m.0 k) (sym is)
+from_makes m k = told_by m k (is_known m.0 k) refl
 
-pub kept_makes : (joined : ℕ → Bool) (taken : List (ℕ × List ℕ)) (k : Knowledge) → ((e : ℕ) → is_known e k ≡ joined e) → Made joined taken k.queue (handled_all (as_told taken) k).queue
-kept_makes joined [] k is = made_none joined k.queue
-kept_makes joined (m ∷ more) k is =
-    let one = from_makes joined m k (is m.0) in
-    made_more joined m more one.events k.queue (handled (From m.0 m.1) k).queue (handled_all (as_told more) (handled (From m.0 m.1) k)).queue one.makes one.queue_is
-    (kept_makes joined more (handled (From m.0 m.1) k) (λ e. one.known e ∙ is e))
+pub kept_makes : (taken : List (ℕ × List ℕ)) (k : Knowledge) → AllByRecursion (λ m. is_known m.0 k ≡ true) taken → Made taken k.queue (handled_all (as_told taken) k).queue
+kept_makes [] k all = made_none k.queue
+kept_makes (m ∷ more) k all =
+    let one = from_makes m k in
+    made_more m more one.events k.queue (handled (From m.0 m.1) k).queue (handled_all (as_told more) (handled (From m.0 m.1) k)).queue (one.makes all.0) one.queue_is
+    (kept_makes more (handled (From m.0 m.1) k) (all_weaker (λ x. is_known x.0 k ≡ true) (λ x. is_known x.0 (handled (From m.0 m.1) k) ≡ true) (λ x joined. one.known x.0 ∙ joined) more all.1))
 
 -- and the same switches have views then
 pub kept_known : (e : ℕ) (taken : List (ℕ × List ℕ)) (k : Knowledge) → is_known e (handled_all (as_told taken) k) ≡ is_known e k
 kept_known e [] k = refl
-kept_known e (m ∷ more) k = kept_known e more (handled (From m.0 m.1) k) ∙ (from_makes (λ d. is_known d k) m k refl).known e
+kept_known e (m ∷ more) k = kept_known e more (handled (From m.0 m.1) k) ∙ (from_makes m k).known e

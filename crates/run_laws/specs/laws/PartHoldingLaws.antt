@@ -1,6 +1,7 @@
 -- The parts of a run of the engine are those of the course of a run.
 use Rattle.std.specs.Prelude.{map}
-use Rattle.std.proofs.Common.{ℕ, ◌+◌, Bool, List, [], ◌∷◌, Option, sym, ap, ◌∙◌, inl, inr}
+use Rattle.std.specs.List.{AllByRecursion}
+use Rattle.std.proofs.Common.{◌≡◌, ℕ, ◌+◌, Bool, true, List, [], ◌∷◌, Option, sym, ap, ◌∙◌, inl, inr}
 use Rattle.std.specs.Io.KnownBytes.{append_known}
 use Rattle.flow_table.specs.View.{TableView}
 use Rattle.crash_policy.specs.Policies.{AppValue}
@@ -8,6 +9,7 @@ use Rattle.app_frames.specs.declared.frame.Event.{Event}
 use Rattle.outside.specs.Seen.{Seen}
 use Rattle.net_txn.specs.Net.{NetState}
 use Rattle.net_txn.specs.Views.{is_viewed}
+use Rattle.net_txn.specs.laws.SaidLaws.{all_weaker}
 use Rattle.net_txn.specs.laws.ViewLaws.{viewed}
 use Rattle.batch_laws.specs.Knowledge.{Knowledge, knowledge_of, is_known}
 use Rattle.run_course.specs.Messages.{GotNone}
@@ -18,6 +20,7 @@ use Rattle.run_laws.specs.Course.{KeptComesFirst, Stage, TakesBatch, GivesOldest
 use Rattle.run_laws.specs.laws.MadeEventLaws.{kept_makes, kept_known}
 use Rattle.run_laws.specs.laws.HoldingLaws.{holding_of}
 use Rattle.run_laws.specs.laws.ItemHoldingLaws.{items_move}
+use Rattle.run_laws.specs.laws.KeptJoinedLaws.{taken_joined, KeepsOfJoined, part_keeps, goes_keeps}
 use Rattle.run_laws.specs.laws.TurnHoldingLaws.{starts_none, offers_turns}
 
 -- how the run stands, by what the engine keeps
@@ -26,10 +29,11 @@ standing_of s = record { holding = holding_of s.seen s.engine.net s.engine.queue
 
 -- ---- A batch
 
-kept_first : {Own Tells : Type 0} (old new : Seen Own) (net now_net : NetState) (queue now_queue : List Event) → Tells → KeptComesFirst Tells old new net now_net queue now_queue → course.KeptComeFirst (holding_of old net queue) (holding_of new now_net now_queue)
-kept_first old new net now_net queue now_queue told first =
+kept_first : {Own Tells : Type 0} (old new : Seen Own) (net now_net : NetState) (queue now_queue : List Event) → Tells → AllByRecursion (λ m. is_viewed m.0 net.views ≡ true) net.kept → KeptComesFirst Tells old new net now_net queue now_queue → course.KeptComeFirst (holding_of old net queue) (holding_of new now_net now_queue)
+kept_first old new net now_net queue now_queue told joined first =
     let k = knowledge_of net queue in
-    let makes = kept_makes (λ e. is_viewed e net.views) first.taken k (λ e. sym (viewed e net.views)) in
+    let known = all_weaker (λ m. is_viewed m.0 net.views ≡ true) (λ m. is_known m.0 k ≡ true) (λ m is. sym (viewed m.0 net.views) ∙ is) first.taken (taken_joined (λ e. is_viewed e net.views) net.kept first.taken now_net.kept first.kept_is joined) in
+    let makes = kept_makes first.taken k known in
     record {
       taken = first.taken;
       kept = first.kept_is;
@@ -41,12 +45,12 @@ kept_first old new net now_net queue now_queue told first =
       queued = ap (λ (x : Knowledge). x.queue) first.knowledge ∙ makes.queue_is;
     }
 
-batch_part : {Own Tells : Type 0} (from to : Stage Own) → Tells → TakesBatch Tells from to → course.TakesBatch (standing_of from) (standing_of to)
-batch_part from to told batch =
+batch_part : {Own Tells : Type 0} (from to : Stage Own) → Tells → KeepsOfJoined (standing_of from) → TakesBatch Tells from to → course.TakesBatch (standing_of from) (standing_of to)
+batch_part from to told joined batch =
     let taken = batch.taken in
     record {
       mid = holding_of taken.mid.seen taken.mid.net taken.mid.queue;
-      first = kept_first from.seen taken.mid.seen from.engine.net taken.mid.net from.engine.queue taken.mid.queue told taken.first;
+      first = kept_first from.seen taken.mid.seen from.engine.net taken.mid.net from.engine.queue taken.mid.queue told joined taken.first;
       items = items_move taken.items taken.mid (between to.seen to.engine) told taken.told;
       events = batch.events;
       noted = batch.noted;
@@ -88,34 +92,42 @@ start_part {Tells = Tells} from to told starts =
 
 -- ---- The course
 
-part_is : {Own Tells : Type 0} (accepts : List TableView → Bool) (from to : Stage Own) → Tells → IsPart Tells accepts from to → course.Part (standing_of from) (standing_of to)
-part_is accepts from to told (inl batch) = inl (batch_part from to told batch)
-part_is accepts from to told (inr (inl event)) = inr (inl (event_part from to told event))
-part_is accepts from to told (inr (inr starts)) = inr (inr (start_part from to told starts))
+part_is : {Own Tells : Type 0} (accepts : List TableView → Bool) (from to : Stage Own) → Tells → KeepsOfJoined (standing_of from) → IsPart Tells accepts from to → course.Part (standing_of from) (standing_of to)
+part_is accepts from to told joined (inl batch) = inl (batch_part from to told joined batch)
+part_is accepts from to told joined (inr (inl event)) = inr (inl (event_part from to told event))
+part_is accepts from to told joined (inr (inr starts)) = inr (inr (start_part from to told starts))
 
-goes_so : {Own Tells : Type 0} (accepts : List TableView → Bool) (stages : List (Stage Own)) (from to : Stage Own) → Tells → Course Tells accepts stages from to → course.Goes (map standing_of stages) (standing_of from) (standing_of to)
-goes_so accepts [] from to told parts = ap standing_of parts
-goes_so accepts (mid ∷ more) from to told parts = (part_is accepts from mid told parts.0.part, goes_so accepts more mid to told parts.1)
+goes_so : {Own Tells : Type 0} (accepts : List TableView → Bool) (stages : List (Stage Own)) (from to : Stage Own) → Tells → KeepsOfJoined (standing_of from) → Course Tells accepts stages from to → course.Goes (map standing_of stages) (standing_of from) (standing_of to)
+goes_so accepts [] from to told joined parts = ap standing_of parts
+goes_so accepts (mid ∷ more) from to told joined parts =
+    let part = part_is accepts from mid told joined parts.0.part in
+    (part, goes_so accepts more mid to told (part_keeps (standing_of from) (standing_of mid) part joined) parts.1)
 
-pub writes_part : {Own Tells : Type 0} (accepts : List TableView → Bool) (last : Stage Own) (written : Option (List ℕ)) → Tells → WritesPart Tells accepts last written → course.WritesPart (standing_of last) written
-writes_part accepts last written told writes = record {
-  text = writes.text;
-  whole = elim writes.whole [
-    | inl more ↦ inl (standing_of more.0, part_is accepts last more.0 told more.1, more.2)
-    | inr none ↦ inr none
-  ];
-  part = writes.part;
-}
+module _ {Own Tells : Type 0} (accepts : List TableView → Bool) (rules : List AppValue) (opened new : Seen Own) (contents : Option (List ℕ)) (last : Stage Own) (told : Tells) (runs : RunsOn Tells accepts (first_stage rules opened contents) last new) where
+  goes_on : course.Goes (map standing_of runs.course.stages) (standing_of (first_stage rules opened contents)) (standing_of last)
+  goes_on = goes_so accepts runs.course.stages (first_stage rules opened contents) last told tt runs.course.parts
 
--- the run takes its course, up to where it stands so
-pub takes_course : {Own Tells : Type 0} (accepts : List TableView → Bool) (rules : List AppValue) (old opened new : Seen Own) (contents : Option (List ℕ)) (last : Stage Own) (Stands : Standing Own → Type 0) → Tells → GotNone old.history opened.history → RunsOn Tells accepts (first_stage rules opened contents) last new
-    → Stands (standing_of last) → TakesCourse old new contents Stands
-takes_course accepts rules old opened new contents last Stands told opening runs stands = record {
-  opened = opened;
-  opening = opening;
-  stops = map standing_of runs.course.stages;
-  last = standing_of last;
-  parts = goes_so accepts runs.course.stages (first_stage rules opened contents) last told runs.course.parts;
-  later = runs.later.told told;
-  stands = stands;
-}
+  last_joined : KeepsOfJoined (standing_of last)
+  last_joined = goes_keeps (map standing_of runs.course.stages) (standing_of (first_stage rules opened contents)) (standing_of last) goes_on tt
+
+  pub writes_part : (written : Option (List ℕ)) → WritesPart Tells accepts last written → course.WritesPart (standing_of last) written
+  writes_part written writes = record {
+    text = writes.text;
+    whole = elim writes.whole [
+      | inl more ↦ inl (standing_of more.0, part_is accepts last more.0 told last_joined more.1, more.2)
+      | inr none ↦ inr none
+    ];
+    part = writes.part;
+  }
+
+  -- the run takes its course, up to where it stands so
+  pub takes_course : (old : Seen Own) (Stands : Standing Own → Type 0) → GotNone old.history opened.history → Stands (standing_of last) → TakesCourse old new contents Stands
+  takes_course old Stands opening stands = record {
+    opened = opened;
+    opening = opening;
+    stops = map standing_of runs.course.stages;
+    last = standing_of last;
+    parts = goes_on;
+    later = runs.later.told told;
+    stands = stands;
+  }

@@ -1,6 +1,6 @@
 -- An undo in which no switch failed but by its loss, as the course of a run says it: what came is kept where there was room.
-use Rattle.std.specs.Prelude.{◌&&◌, not, map, length, nat_lt, nat_le}
-use Rattle.std.proofs.Common.{◌≡◌, ℕ, ◌+◌, Bool, true, false, List, [], ◌∷◌, ◌++◌, drop, Option, Some, None, Ok, refl, sym, ap, ◌∙◌, subst, inl, inr, arith}
+use Rattle.std.specs.Prelude.{◌==◌, ◌&&◌, not, map, length, nat_lt, nat_le, if◌then◌else◌}
+use Rattle.std.proofs.Common.{◌≡◌, ℕ, ◌+◌, Bool, true, false, List, [], ◌∷◌, ◌++◌, drop, None, Ok, refl, sym, ap, ◌∙◌, subst, inl, inr, arith}
 use Rattle.std.specs.List.{AllByRecursion, flat_map}
 use Rattle.std.proofs.lemmas.List.{append-nil, length-append}
 use Rattle.std.proofs.lemmas.List.Elements.{filter-append}
@@ -12,7 +12,6 @@ use Rattle.app_frames.specs.declared.frame.Event.{Event}
 use Rattle.outside.specs.declared.step.WorldStep.{WorldStep}
 use Rattle.outside.specs.declared.step.WorldStep.TheVariants.{Acted, TookInto, From, Joined, Left, Moment, Idle, End, Opened, NotOpened, NextFailed, SendLost, RecvLost, SendFailed, RecvFailed}
 use Rattle.outside.specs.Seen.{Counts, Seen}
-use Rattle.lego_model.specs.declared.fault.TxnFault.{TxnFault}
 use Rattle.lego_model.specs.declared.wait.Awaited.{Awaited}
 use Rattle.lego_model.specs.declared.wait.Heard.{Heard}
 use Rattle.lego_model.specs.declared.wait.Heard.TheVariants.{Reply, Refused, Notice, Echo, Other}
@@ -22,13 +21,15 @@ use Rattle.net_txn.specs.Net.{NetState}
 use Rattle.net_txn.specs.Views.{is_viewed}
 use Rattle.net_txn.specs.MessageStore.{bytes_kept, fits, KeptWhereFit}
 use Rattle.net_txn.specs.Losing.{is_among}
-use Rattle.net_txn.specs.Undos.{Part, Inverse, BarrierPassed, Stuck, alone, part_steps, steps_of, parts_of, key_logged, undone_net, next_free, first_fault_of, fault_in, first_fault, ended_by, lost_in, lost_parts, is_stuck, KeepsOne, Keeps, Undoes}
-use Rattle.net_txn.specs.laws.LinkPresenceLaws.{among-append, stays_in}
+use Rattle.net_txn.specs.Undos.{Part, Inverse, BarrierPassed, Stuck, alone, part_steps, steps_of, parts_of, key_logged, undone_net, next_free, fault_in, first_fault, lost_in, lost_parts, KeepsOne, Keeps, Undoes}
+use Rattle.net_txn.specs.laws.LinkPresenceLaws.{among-front, stays_in}
+use Rattle.net_txn.specs.laws.AgreeLaws.{both_none}
 use Rattle.net_txn.specs.laws.AbreastLaws.{lose_all-viewed, without_keys-viewed}
 use Rattle.net_txn.specs.laws.HeardLaws.{heard-reply}
 use Rattle.net_txn.specs.laws.LoseAllLaws.{lose_all-so}
-use Rattle.net_txn.specs.laws.OutLaws.{none_failed}
-use Rattle.net_txn.specs.laws.RestoreLaws.{AllRun, runs_here, runs_older}
+use Rattle.net_txn.specs.laws.OutLaws.{ended_none, stuck_lost}
+use Rattle.net_txn.specs.laws.SaidLaws.{all_two}
+use Rattle.net_txn.specs.laws.RestoreLaws.{part_of, AllRun, runs_here, runs_older}
 use Rattle.run_course.specs.Messages.{got_in, is_one_of, but_of, HasNoRoom, IsFull, IsNotKept, AreKept}
 use Rattle.run_course.specs.Moves.{TakesBack}
 use Rattle.run_laws.specs.laws.HoldingLaws.{holding_of, got_append}
@@ -37,7 +38,7 @@ use Rattle.run_laws.specs.laws.HoldingLaws.{holding_of, got_append}
 
 kept_then : (lost : List ℕ) (first second : List (ℕ × List ℕ)) (a b c : List (ℕ × List ℕ)) → AreKept lost first a b → AreKept lost second b c → AreKept lost (first ++ second) a c
 kept_then lost [] second a b c before after = subst (λ (kept : List (ℕ × List ℕ)). AreKept lost second kept c) before after
-kept_then lost (m ∷ more) second a b c (inl one) after = inl (kept_then lost more second (a ++ m ∷ []) b c one after)
+kept_then lost (m ∷ more) second a b c (inl one) after = inl (one.0, kept_then lost more second (a ++ m ∷ []) b c one.1 after)
 kept_then lost (m ∷ more) second a b c (inr none) after = inr (none.0, kept_then lost more second a b c none.1 after)
 
 -- all of a switch that is lost go
@@ -94,7 +95,7 @@ not_kept a bytes no_refusal none = record { awaited = a; of_switch = refl; no_re
 other_kept : (lost : List ℕ) (d : ℕ) (bytes : List ℕ) (more : List (ℕ × List ℕ)) (kept now_kept : List (ℕ × List ℕ)) → AreKept lost more (but_of lost (kept ++ (d, bytes) ∷ [])) (but_of lost now_kept) → AreKept lost ((d, bytes) ∷ more) (but_of lost kept) (but_of lost now_kept)
 other_kept lost d bytes more kept now_kept rest = elim (cases_Bool (is_one_of lost d)) [
   | inl goes ↦ inr (inl goes, subst (λ (k : List (ℕ × List ℕ)). AreKept lost more k (but_of lost now_kept)) (one_gone lost kept (d, bytes) goes) rest)
-  | inr stays ↦ inl (subst (λ (k : List (ℕ × List ℕ)). AreKept lost more k (but_of lost now_kept)) (one_more lost kept (d, bytes) stays) rest)
+  | inr stays ↦ inl (stays, subst (λ (k : List (ℕ × List ℕ)). AreKept lost more k (but_of lost now_kept)) (one_more lost kept (d, bytes) stays) rest)
 ]
 
 -- one, and then the others
@@ -115,45 +116,39 @@ wait_kept lost a (b ∷ bs) kept now_kept no_refusal fit =
 -- ---- The parts of an undo
 
 -- a message that a call of the switch got is one of it
-step_of_switch : (d : ℕ) (lost : List ℕ) (step : WorldStep) (rest : List (ℕ × List ℕ)) → is_one_of lost d ≡ true → IsStepOf d step → AllByRecursion (λ m. is_one_of lost m.0 ≡ true) rest → AllByRecursion (λ m. is_one_of lost m.0 ≡ true) (got_in (step ∷ []) ++ rest)
-step_of_switch d lost (Acted (Got e bytes)) rest goes is all = (ap (is_one_of lost) is ∙ goes, all)
-step_of_switch d lost (Acted (Sent e bytes)) rest goes is all = all
-step_of_switch d lost (SendLost e) rest goes is all = all
-step_of_switch d lost (RecvLost e) rest goes is all = all
-step_of_switch d lost (SendFailed e) rest goes is all = all
-step_of_switch d lost (RecvFailed e) rest goes is all = all
-step_of_switch d lost (Acted (Stim x)) rest goes is all = absurd is
-step_of_switch d lost (Acted (Started app stands)) rest goes is all = absurd is
-step_of_switch d lost (Acted (Gave app bytes)) rest goes is all = absurd is
-step_of_switch d lost (Acted (Gone app bytes)) rest goes is all = absurd is
-step_of_switch d lost (Acted (Took app what)) rest goes is all = absurd is
-step_of_switch d lost (Acted (Ended app)) rest goes is all = absurd is
-step_of_switch d lost (Acted (WasLost e)) rest goes is all = absurd is
-step_of_switch d lost (TookInto app what room) rest goes is all = absurd is
-step_of_switch d lost (From e bytes) rest goes is all = absurd is
-step_of_switch d lost (Joined e bytes) rest goes is all = absurd is
-step_of_switch d lost (Left e) rest goes is all = absurd is
-step_of_switch d lost (Moment t) rest goes is all = absurd is
-step_of_switch d lost Idle rest goes is all = absurd is
-step_of_switch d lost End rest goes is all = absurd is
-step_of_switch d lost Opened rest goes is all = absurd is
-step_of_switch d lost NotOpened rest goes is all = absurd is
-step_of_switch d lost NextFailed rest goes is all = absurd is
+step_of_switch : (P : ℕ → Bool) (d : ℕ) (step : WorldStep) (rest : List (ℕ × List ℕ)) → P d ≡ true → IsStepOf d step → AllByRecursion (λ m. P m.0 ≡ true) rest → AllByRecursion (λ m. P m.0 ≡ true) (got_in (step ∷ []) ++ rest)
+step_of_switch P d (Acted (Got e bytes)) rest so is all = (ap P is ∙ so, all)
+step_of_switch P d (Acted (Sent e bytes)) rest so is all = all
+step_of_switch P d (SendLost e) rest so is all = all
+step_of_switch P d (RecvLost e) rest so is all = all
+step_of_switch P d (SendFailed e) rest so is all = all
+step_of_switch P d (RecvFailed e) rest so is all = all
+step_of_switch P d (Acted (Stim x)) rest so is all = absurd is
+step_of_switch P d (Acted (Started app stands)) rest so is all = absurd is
+step_of_switch P d (Acted (Gave app bytes)) rest so is all = absurd is
+step_of_switch P d (Acted (Gone app bytes)) rest so is all = absurd is
+step_of_switch P d (Acted (Took app what)) rest so is all = absurd is
+step_of_switch P d (Acted (Ended app)) rest so is all = absurd is
+step_of_switch P d (Acted (WasLost e)) rest so is all = absurd is
+step_of_switch P d (TookInto app what room) rest so is all = absurd is
+step_of_switch P d (From e bytes) rest so is all = absurd is
+step_of_switch P d (Joined e bytes) rest so is all = absurd is
+step_of_switch P d (Left e) rest so is all = absurd is
+step_of_switch P d (Moment t) rest so is all = absurd is
+step_of_switch P d Idle rest so is all = absurd is
+step_of_switch P d End rest so is all = absurd is
+step_of_switch P d Opened rest so is all = absurd is
+step_of_switch P d NotOpened rest so is all = absurd is
+step_of_switch P d NextFailed rest so is all = absurd is
 
-steps_of_switch : (d : ℕ) (lost : List ℕ) (steps : List WorldStep) → is_one_of lost d ≡ true → AllByRecursion (IsStepOf d) steps → AllByRecursion (λ m. is_one_of lost m.0 ≡ true) (got_in steps)
-steps_of_switch d lost [] goes all = tt
-steps_of_switch d lost (step ∷ steps) goes all =
-    subst (AllByRecursion (λ m. is_one_of lost m.0 ≡ true)) (sym (got_append (step ∷ []) steps)) (step_of_switch d lost step (got_in steps) goes all.0 (steps_of_switch d lost steps goes all.1))
+steps_of_switch : (P : ℕ → Bool) (d : ℕ) (steps : List WorldStep) → P d ≡ true → AllByRecursion (IsStepOf d) steps → AllByRecursion (λ m. P m.0 ≡ true) (got_in steps)
+steps_of_switch P d [] so all = tt
+steps_of_switch P d (step ∷ steps) so all =
+    subst (AllByRecursion (λ m. P m.0 ≡ true)) (sym (got_append (step ∷ []) steps)) (step_of_switch P d step (got_in steps) so all.0 (steps_of_switch P d steps so all.1))
 
 none_of : (lost : List ℕ) (d : ℕ) (more : List (List ℕ)) → is_one_of lost d ≡ true → but_of lost (map (λ b. (d, b)) more) ≡ []
 none_of lost d [] goes = refl
 none_of lost d (b ∷ more) goes = rw goes (none_of lost d more goes)
-
--- where no switch failed but by its loss
-stuck_gone : (old new : Counts) (d : ℕ) (p : Part) (older : List (ℕ × Part)) → ((rest : List Part) → is_stuck (p ∷ rest) ≡ true) → AllRun old new ((d, p) ∷ older) → first_fault ((d, p) ∷ older) ≡ None → is_among d (lost_parts ((d, p) ∷ older)) ≡ true
-stuck_gone old new d p older stuck runs none =
-    let same : Ok tt ≡ ended_by (first_fault ((d, p) ∷ older)) = sym (ap ended_by none) in
-    sym (none_failed old new (Ok tt) ((d, p) ∷ older) d runs same refl) ∙ rw (eq-eqb d d refl) (stuck (parts_of d older))
 
 part_kept : (old new : Counts) (lost : List ℕ) (d : ℕ) (p : Part) (older : List (ℕ × Part)) (kept now_kept : List (ℕ × List ℕ)) → AllRun old new ((d, p) ∷ older) → first_fault ((d, p) ∷ older) ≡ None → ((e : ℕ) → is_among e (lost_parts ((d, p) ∷ older)) ≡ true → is_one_of lost e ≡ true) → KeepsOne d p kept now_kept
     → AreKept lost (got_in (part_steps d p)) (but_of lost kept) (but_of lost now_kept)
@@ -164,17 +159,10 @@ part_kept old new lost d (BarrierPassed xid got) older kept now_kept runs none a
     (kept_then lost (map (λ b. (d, b)) got) (got_in (reply_got a ∷ [])) (but_of lost kept) (but_of lost now_kept) (but_of lost now_kept) (wait_kept lost a got kept now_kept refl keeps)
     (inr (inr (inl (not_kept a (message_bytes a.barrier BarrierReply) refl (rw (heard-reply a) refl))), refl)))
 part_kept old new lost d (Stuck xid halt steps) older kept now_kept runs none among keeps =
-    let goes = among d (stuck_gone old new d (Stuck xid halt steps) older (λ rest. refl) runs none) in
+    let goes = among d (stuck_lost old new d (Stuck xid halt steps) older (λ rest. refl) runs none) in
     let run = runs_here old new (d, Stuck xid halt steps) older runs in
     subst (AreKept lost (got_in steps) (but_of lost kept)) (sym (ap (but_of lost) keeps.1 ∙ filter-append (λ x. not (is_one_of lost x.0)) kept (map (λ b. (d, b)) keeps.0) ∙ ap (λ (ms : List (ℕ × List ℕ)). but_of lost kept ++ ms) (none_of lost d keeps.0 goes) ∙ append-nil (but_of lost kept)))
-    (kept_none lost (got_in steps) (but_of lost kept) (steps_of_switch d lost steps goes run.0.each))
-
-none_before : (a b : Option TxnFault) → first_fault_of a b ≡ None → a ≡ None
-none_before None b is = refl
-none_before (Some x) b is = absurd cc
-
-front_among : (e : ℕ) (front more : List ℕ) → is_among e front ≡ true → is_among e (front ++ more) ≡ true
-front_among e front more is = among-append e front more ∙ rw is refl
+    (kept_none lost (got_in steps) (but_of lost kept) (steps_of_switch (is_one_of lost) d steps goes run.0.each))
 
 parts_kept : (old new : Counts) (lost : List ℕ) (parts : List (ℕ × Part)) (kept now_kept : List (ℕ × List ℕ)) → AllRun old new parts → first_fault parts ≡ None → ((e : ℕ) → is_among e (lost_parts parts) ≡ true → is_one_of lost e ≡ true) → Keeps kept parts now_kept
     → AreKept lost (got_in (steps_of parts)) (but_of lost kept) (but_of lost now_kept)
@@ -182,14 +170,35 @@ parts_kept old new lost [] kept now_kept runs none among keeps = ap (but_of lost
 parts_kept old new lost (p ∷ older) kept now_kept runs none among keeps =
     subst (λ (ms : List (ℕ × List ℕ)). AreKept lost ms (but_of lost kept) (but_of lost now_kept)) (sym (got_append (steps_of older) (part_steps p.0 p.1)))
     (kept_then lost (got_in (steps_of older)) (got_in (part_steps p.0 p.1)) (but_of lost kept) (but_of lost keeps.0) (but_of lost now_kept)
-    (parts_kept old new lost older kept keeps.0 (runs_older old new p older runs) (none_before (first_fault older) (fault_in p.1) none) (λ e is. among e (front_among e (lost_parts older) (lost_in p.0 p.1) is)) keeps.1)
+    (parts_kept old new lost older kept keeps.0 (runs_older old new p older runs) (both_none (first_fault older) (fault_in p.1) none).0 (λ e is. among e (among-front e (lost_parts older) (lost_in p.0 p.1) is)) keeps.1)
     (part_kept old new lost p.0 p.1 older keeps.0 now_kept runs none among keeps.2))
 
--- ---- The whole
+-- ---- All that came is of switches that were joined.
 
-no_fault : (o : Option TxnFault) → Ok tt ≡ ended_by o → o ≡ None
-no_fault None is = refl
-no_fault (Some fault) is = absurd cc
+-- nothing was done with the others
+abbrev NoneOfOthers : (ℕ → Bool) → List (ℕ × Part) → Type 0
+NoneOfOthers joined parts = (d : ℕ) → joined d ≡ false → parts_of d parts ≡ []
+
+here_joined : (joined : Bool) (d : ℕ) (p : Part) (older : List (ℕ × Part)) → (joined ≡ false → parts_of d ((d, p) ∷ older) ≡ []) → joined ≡ true
+here_joined true d p older none = refl
+here_joined false d p older none =
+    let taken = eq-eqb d d refl in
+    let nothing : p ∷ parts_of d older ≡ [] = subst (λ (b : Bool). (if b then p ∷ parts_of d older else parts_of d older) ≡ []) taken (none refl) in
+    absurd cc
+
+older_none : (here : Bool) (p : Part) (older : List Part) → (if here then p ∷ older else older) ≡ [] → older ≡ []
+older_none true p older none = absurd cc
+older_none false p older none = none
+
+parts_joined : (old new : Counts) (joined : ℕ → Bool) (parts : List (ℕ × Part)) → AllRun old new parts → NoneOfOthers joined parts → AllByRecursion (λ m. joined m.0 ≡ true) (got_in (steps_of parts))
+parts_joined old new joined [] runs none = tt
+parts_joined old new joined (p ∷ older) runs none =
+    let here = part_of old new p.0 p.1 (parts_of p.0 older) (runs_here old new p older runs) in
+    let before = parts_joined old new joined older (runs_older old new p older runs) (λ d out. older_none (p.0 == d) p.1 (parts_of d older) (none d out)) in
+    subst (AllByRecursion (λ m. joined m.0 ≡ true)) (sym (got_append (steps_of older) (part_steps p.0 p.1)))
+    (all_two (λ m. joined m.0 ≡ true) (got_in (steps_of older)) (got_in (part_steps p.0 p.1)) before (steps_of_switch joined p.0 (part_steps p.0 p.1) (here_joined (joined p.0) p.0 p.1 older (none p.0)) here))
+
+-- ---- The whole
 
 pub undo_moves : {Own Tells : Type 0} {start : ℕ} (old new : Seen Own) (net now_net : NetState) (queue : List Event) → Tells → Undoes Tells start old new net now_net (Ok tt) → TakesBack (holding_of old net queue) (holding_of new now_net queue)
 undo_moves {start = start} old new net now_net queue told u =
@@ -202,7 +211,8 @@ undo_moves {start = start} old new net now_net queue told u =
       joined = λ e. ap (λ (n : NetState). is_viewed e n.views) u.net_is ∙ lose_all-viewed e lost left ∙ ap (stays_in e lost) (without_keys-viewed e (map key_logged (drop start net.log)) net.views);
       steps = steps_of u.parts;
       history = u.told told;
+      were_in = parts_joined old.counts new.counts (λ e. is_viewed e net.views) u.parts runs (λ d. (u.each d).unknown);
       kept = subst (AreKept lost (got_in (steps_of u.parts)) (but_of lost net.kept)) (sym (ap (λ (n : NetState). n.kept) u.net_is ∙ ap (λ (n : NetState). n.kept) (lose_all-so lost left)))
-          (parts_kept old.counts new.counts lost u.parts net.kept u.kept runs (no_fault (first_fault u.parts) u.result_is) (λ e is. is) u.keeps);
+          (parts_kept old.counts new.counts lost u.parts net.kept u.kept runs (ended_none (first_fault u.parts) u.result_is) (λ e is. is) u.keeps);
       queue = refl;
     }
