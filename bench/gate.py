@@ -160,6 +160,26 @@ def table(rows, whole):
     return lines
 
 
+def longest_chain(rows):
+    """The crates whose proofs wait for one another and take longest together, lowest first, with their seconds."""
+    below = {}
+    with open(os.path.join(TOP, "crates.txt"), encoding="utf-8") as file:
+        for line in file:
+            name, colon, libraries = line.partition("#")[0].partition(":")
+            if colon:
+                below[name.split()[0]] = libraries.split()
+    chains = {}
+
+    def chain_to(crate):
+        if crate not in chains:
+            longest = max((chain_to(it) for it in below[crate] if it in below), default=(0, []), key=lambda it: it[0])
+            own = rows[crate][0]["proof"] if crate in rows else 0
+            chains[crate] = longest[0] + own, longest[1] + [crate]
+        return chains[crate]
+
+    return max(map(chain_to, below), key=lambda it: it[0])
+
+
 def gate(names, is_kept):
     """The words of the gate from nothing, by what this kit's `rt` says of itself."""
     helped = subprocess.run(["rt", "help"], stdout=subprocess.PIPE, stderr=subprocess.STDOUT, errors="replace").stdout
@@ -196,6 +216,9 @@ def measured(names, room, is_kept):
     if is_kept:
         text += ["What this run took from earlier ones has the figures, and the commit, of the run that proved it.", ""]
     rows = joined(watch.figures(), figures_before() if is_kept else {}, commit)
+    seconds, chain = longest_chain(rows)
+    text += ["The longest chain of proofs that wait for one another: %s. Together %.1f processor minutes, so no run from nothing that proves each by one job ends before." % (
+        ", ".join("`%s`" % crate for crate in chain), seconds / 60), ""]
     text += ["Processor minutes:", ""] + table(rows, 0 if is_kept or names else whole)
     return ran.returncode, "\n".join(text) + "\n"
 
