@@ -1,5 +1,5 @@
 -- The course of a run over a world that tells, as the command says it.
-use Rattle.std.proofs.Common.{◌≡◌, ℕ, Bool, List, [], Option, Result, Ok, Err, refl, sym, subst}
+use Rattle.std.proofs.Common.{◌≡◌, ℕ, Bool, List, [], Option, None, Result, Ok, Err, refl, sym, subst}
 use Rattle.std.proofs.lemmas.List.{append-nil}
 use Rattle.std.specs.Result.{IsErrAnd}
 use Rattle.flow_table.specs.View.{TableView}
@@ -10,7 +10,7 @@ use Rattle.lego_model.specs.declared.fault.TxnFault.TheVariants as txn
 use Rattle.event_dispatch.specs.declared.served.Served.{Served}
 use Rattle.event_dispatch.specs.declared.served.Served.TheVariants as served
 use Rattle.event_dispatch.specs.Serves.{GoesItsCourse}
-use Rattle.run_course.specs.Parts.{at_first, TakesCourse}
+use Rattle.run_course.specs.Parts.{Standing, TakesCourse}
 use Rattle.run_laws.specs.laws.HoldingLaws.{none_got}
 use Rattle.run_laws.specs.laws.PartHoldingLaws.{writes_part, takes_course}
 use Rattle.legosdn.specs.declared.stop.Refusal.{Refusal}
@@ -22,10 +22,15 @@ use Rattle.legosdn.specs.Live.{StandsAt}
 
 -- ---- Nothing ran
 
+abbrev at_first : {Own : Type 0} → Seen Own → Option (List ℕ) → Standing Own
+at_first seen written = record { holding = record { seen = seen; tables = λ d. None; kept = []; queue = [] }; unread = λ app. []; events = 0; written = written }
+
 still_course : {Own : Type 0} (T : Type 0) (seen : Seen Own) (contents : Option (List ℕ)) (result : Result T Stop) → StandsAt result contents (at_first seen contents) → TakesCourse seen seen contents (StandsAt result contents)
 still_course T seen contents result stands = record {
   opened = seen;
   opening = none_got seen.history;
+  first = at_first seen contents;
+  begins = record { seen_is = refl; none_joined = λ d. refl; none_kept = refl; none_waits = refl; none_unread = λ app. refl; none_given = refl; written_is = refl };
   stops = [];
   last = at_first seen contents;
   parts = refl;

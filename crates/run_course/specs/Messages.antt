@@ -1,7 +1,7 @@
 -- What becomes of the messages that switches send: the events that they make, those that are kept where something else is awaited, and those
 -- that find no room in an undo (OpenFlow 1.0.0, 4.2 Message Handling, 5.3.7 Barrier Message and 5.4 Asynchronous Messages). What is kept, and
 -- the room, is our own choice.
-use Rattle.std.specs.Prelude.{◌≡◌, ◌==◌, ◌⊎◌, ℕ, ◌<◌, ◌≤◌, Bool, true, false, not, List, [], ◌∷◌, ◌++◌, length, map, filter, filter_map, Option, Some, None, Result, Ok, Err}
+use Rattle.std.specs.Prelude.{◌≡◌, ◌==◌, ◌⊎◌, ℕ, ◌<◌, ◌≤◌, Bool, true, false, not, List, [], ◌∷◌, ◌++◌, length, map, filter, filter_map, Option, Some, None, Result, Ok, Err, if◌then◌else◌}
 use Rattle.std.specs.List.{list_any, flat_map}
 use Rattle.of_types.specs.Fields.{number_at, number_bytes}
 use Rattle.of_types.specs.declared.journal.Act.TheVariants.{Sent, Got}
@@ -10,13 +10,17 @@ use Rattle.of_wire.specs.declared.message.Message.TheVariants.{FlowRemoved, Erro
 use Rattle.of_wire.specs.declared.message.Envelope.{Envelope}
 use Rattle.of_wire.specs.declared.fault.WireFault.{WireFault}
 use Rattle.of_wire.specs.Reading.{reading_of}
+use Rattle.flow_table.specs.declared.view.ViewRow.{ViewRow}
 use Rattle.app_frames.specs.declared.frame.Event.{Event}
 use Rattle.app_frames.specs.declared.frame.EventKind.TheVariants as kinds
 use Rattle.outside.specs.declared.step.WorldStep.{WorldStep}
 use Rattle.outside.specs.declared.step.WorldStep.TheVariants.{Acted}
 use Rattle.lego_model.specs.declared.wait.Awaited.{Awaited}
+use Rattle.lego_model.specs.declared.wait.Heard.{Heard}
+use Rattle.lego_model.specs.declared.wait.Heard.TheVariants.{Refused}
 use Rattle.lego_model.specs.Events.{event_of_message}
 use Rattle.lego_model.specs.BarrierWaits.{next_xid, heard, kept_by, barrier_sent, wait_steps, reply_got}
+use Rattle.run_course.specs.Tables.{Tables, with_table, key_of, asks, rows_without}
 
 -- ---- The events that a message makes
 
@@ -24,22 +28,34 @@ abbrev pub event_list : Option Event → List Event
 event_list None = []
 event_list (Some event) = event ∷ []
 
--- A notice makes its event, or none where the owner of the entry asked for none (5.4.2 Flow Removed Message). An ERROR makes one with its type
--- and code (5.4.4 Error Message).
-abbrev pub MakesEvents : ℕ → Message → List Event → Type 0
-MakesEvents d (FlowRemoved f) events = (events ≡ event_list (event_of_message d (FlowRemoved f))) ⊎ (events ≡ [])
-MakesEvents d (Error kind code payload) events = events ≡ record { kind = kinds.SwitchError; dpid = d; body = number_bytes 2 kind ++ number_bytes 2 code } ∷ []
-MakesEvents d m events = events ≡ event_list (event_of_message d m)
+-- The events that a message of a joined switch makes, by the rows of that switch. A notice makes one if the owner of the entry asked for it (5.4.2
+-- Flow Removed Message). An ERROR makes one with its type and code (5.4.4 Error Message).
+abbrev pub events_made : ℕ → Option (List ViewRow) → Message → List Event
+events_made d rows (FlowRemoved f) = if asks (key_of f) rows then event_list (event_of_message d (FlowRemoved f)) else []
+events_made d rows (Error kind code payload) = record { kind = kinds.SwitchError; dpid = d; body = number_bytes 2 kind ++ number_bytes 2 code } ∷ []
+events_made d rows m = event_list (event_of_message d m)
 
-abbrev pub ReadMakes : ℕ → Result Envelope WireFault → List Event → Type 0
-ReadMakes d (Ok e) events = MakesEvents d e.message events
-ReadMakes d (Err fault) events = events ≡ []
+abbrev pub events_read : ℕ → Option (List ViewRow) → Result Envelope WireFault → List Event
+events_read d rows (Ok e) = events_made d rows e.message
+events_read d rows (Err fault) = []
 
--- messages, each with its switch, one after the other
-abbrev pub MessagesMake : List (ℕ × List ℕ) → List Event → Type 0
-MessagesMake [] events = events ≡ []
-MessagesMake (m ∷ more) events =
-    (first : List Event) × (later : List Event) × (events ≡ first ++ later) × ReadMakes m.0 (reading_of m.1) first × MessagesMake more later
+-- the tables behind it: with a notice the entry is gone
+abbrev pub tables_left : ℕ → Message → Tables → Tables
+tables_left d (FlowRemoved f) tables = with_table d (rows_without (key_of f ∷ [])) tables
+tables_left d m tables = tables
+
+abbrev pub tables_read : ℕ → Result Envelope WireFault → Tables → Tables
+tables_read d (Ok e) tables = tables_left d e.message tables
+tables_read d (Err fault) tables = tables
+
+-- messages, each with its switch, one after the other: the events that they make, and the tables behind them
+abbrev pub all_events : List (ℕ × List ℕ) → Tables → List Event
+all_events [] tables = []
+all_events (m ∷ more) tables = events_read m.0 (tables m.0) (reading_of m.1) ++ all_events more (tables_read m.0 (reading_of m.1) tables)
+
+abbrev pub tables_behind : List (ℕ × List ℕ) → Tables → Tables
+tables_behind [] tables = tables
+tables_behind (m ∷ more) tables = tables_behind more (tables_read m.0 (reading_of m.1) tables)
 
 -- ---- Steps of a history
 
@@ -63,6 +79,14 @@ pub record GotNone (before after : List WorldStep) : Type 0 where
 -- It was sent behind these messages. No refusal of them is awaited, or there is one alone, whose refusal is.
 abbrev pub IsBehind : Awaited → List (List ℕ) → Type 0
 IsBehind a sent = (a.first ≡ a.barrier) ⊎ ((frame : List ℕ) × (sent ≡ frame ∷ []) × (a.first ≡ number_at 4 4 frame) × (a.barrier ≡ next_xid a.first))
+
+-- some message before the reply refuses one of those messages
+abbrev pub is_refusal : Heard → Bool
+is_refusal (Refused refusal) = true
+is_refusal _ = false
+
+abbrev pub is_refused : Awaited → List (List ℕ) → Bool
+is_refused a got = list_any (λ b. is_refusal (heard a b)) got
 
 abbrev pub sent_steps : ℕ → List (List ℕ) → List WorldStep
 sent_steps d sent = map (λ bytes. Acted (Sent d bytes)) sent

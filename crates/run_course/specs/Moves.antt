@@ -1,78 +1,108 @@
--- What a run holds between two of its calls, and the moves by which it goes on: what each makes of the messages that are kept, of the events
--- that wait, and of the switches that are joined (OpenFlow 1.0.0, 4.2 Message Handling and 5.3.7 Barrier Message). All of this is our own.
-use Rattle.std.specs.Prelude.{◌≡◌, ◌≢◌, ◌==◌, ◌&&◌, ◌⊎◌, ℕ, Bool, true, false, not, List, [], ◌∷◌, ◌++◌, filter, Option}
+-- What a run holds between two of its calls, and the moves by which it goes on: what each makes of the tables of the switches that are joined, of
+-- the messages that are kept, and of the events that wait (OpenFlow 1.0.0, 4.2 Message Handling and 5.3.7 Barrier Message). All of this is our own.
+use Rattle.std.specs.Prelude.{◌≡◌, ◌==◌, ◌⊎◌, ℕ, Bool, true, false, not, List, [], ◌∷◌, ◌++◌, filter, Option, Some, None, Result, Ok, Err, if◌then◌else◌}
 use Rattle.std.specs.List.{AllByRecursion}
+use Rattle.std.specs.Option.{option_map}
 use Rattle.lego_io.specs.Count.{Rose}
 use Rattle.of_types.specs.declared.journal.WorldStim.{WorldStim}
-use Rattle.of_types.specs.declared.journal.Act.TheVariants.{Gave, Gone}
+use Rattle.of_match.specs.declared.key.Key.{Key}
+use Rattle.of_wire.specs.declared.bodies.FeaturesReply.{FeaturesReply as Features}
+use Rattle.of_wire.specs.declared.bodies.FlowMod.{FlowMod as Change}
+use Rattle.of_wire.specs.declared.message.Message.{Message}
+use Rattle.of_wire.specs.declared.message.Message.TheVariants.{FlowMod, FeaturesReply}
+use Rattle.of_wire.specs.declared.message.Envelope.{Envelope}
+use Rattle.of_wire.specs.declared.fault.WireFault.{WireFault}
+use Rattle.of_wire.specs.Grammar.{enveloped}
+use Rattle.of_wire.specs.Reading.{reading_of}
+use Rattle.of_wire.specs.Spelling.{message_bytes}
 use Rattle.app_frames.specs.declared.frame.Event.{Event}
 use Rattle.app_frames.specs.declared.frame.EventKind.TheVariants as kinds
 use Rattle.outside.specs.declared.step.WorldStep.{WorldStep}
-use Rattle.outside.specs.declared.step.WorldStep.TheVariants.{Acted, Joined, Left}
+use Rattle.outside.specs.declared.step.WorldStep.TheVariants.{From, Joined, Left, Moment, Idle, End}
 use Rattle.outside.specs.Seen.{Seen}
 use Rattle.outside.specs.State.{state, is_joined}
 use Rattle.outside.specs.Calls.{stim_steps}
+use Rattle.lego_model.specs.declared.wait.Notices.TheVariants as notices
+use Rattle.lego_model.specs.Answers.{as_sent}
 use Rattle.lego_model.specs.BarrierWaits.{kept_of}
-use Rattle.lego_model.specs.Controller.{event_frame}
 use Rattle.lego_model.specs.History.{lost_of}
-use Rattle.lego_model.specs.UndoFaults.{IsStepOf}
-use Rattle.run_course.specs.Messages.{got_in, GotNone, Waited, MessagesMake, AreKept, is_one_of, but_of}
+use Rattle.lego_model.specs.UndoFaults.{WasSent, IsStepOf}
+use Rattle.run_course.specs.Tables.{Tables, is_in, SameTables, SameBut, with_table, rows_with, rows_without}
+use Rattle.run_course.specs.Messages.{got_in, GotNone, is_refused, Waited, events_read, tables_read, all_events, tables_behind, AreKept, is_one_of, but_of}
 
 pub record Holding (Own : Type 0) : Type 0 where
   pub seen : Seen Own
-  -- the switches that joined, and have not left since and were not lost
-  pub joined : ℕ → Bool
+  -- the tables of the switches that joined, and have not left since and were not lost
+  pub tables : Tables
   -- the messages that were kept, each with its switch, oldest first
   pub kept : List (ℕ × List ℕ)
   -- the events that wait, oldest first
   pub queue : List Event
 
-abbrev pub SameJoined : {Own : Type 0} → Holding Own → Holding Own → Type 0
-SameJoined from to = (d : ℕ) → to.joined d ≡ from.joined d
-
--- the same but for one switch
-abbrev pub SameBut : {Own : Type 0} → ℕ → Holding Own → Holding Own → Type 0
-SameBut d from to = (e : ℕ) → e ≢ d → to.joined e ≡ from.joined e
-
 -- each of these messages is of a switch that is joined
 abbrev pub OfJoined : {Own : Type 0} → Holding Own → List (ℕ × List ℕ) → Type 0
-OfJoined at messages = AllByRecursion (λ m. at.joined m.0 ≡ true) messages
+OfJoined at messages = AllByRecursion (λ m. is_in m.0 at.tables ≡ true) messages
 
 -- these events wait behind the others
 abbrev pub AreQueued : {Own : Type 0} → List Event → Holding Own → Holding Own → Type 0
 AreQueued events from to = to.queue ≡ from.queue ++ events
 
--- ---- Any call but a wait
+-- the same is held, but for what is seen
+pub record HoldsStill {Own : Type 0} (from to : Holding Own) : Type 0 where
+  pub tables : SameTables from.tables to.tables
+  pub kept : to.kept ≡ from.kept
+  pub queue : to.queue ≡ from.queue
 
--- Calls were made, for an application or of what comes next, by which nothing came that was awaited. Events may wait behind the others.
+-- ---- Calls that are no waits
+
+-- Calls were made, for an application or for none, by which nothing came that was awaited.
 pub record Calls {Own : Type 0} (from to : Holding Own) : Type 0 where
   pub got_none : GotNone from.seen.history to.seen.history
-  pub joined : SameJoined from to
+  pub still : HoldsStill from to
+
+-- Behind a turn, with no call: the notices that it held become events, and switches that were lost are told.
+pub record Notes {Own : Type 0} (from to : Holding Own) : Type 0 where
+  pub history : to.seen.history ≡ from.seen.history
+  pub tables : SameTables from.tables to.tables
   pub kept : to.kept ≡ from.kept
   pub events : List Event
   pub queued : AreQueued events from to
 
 -- ---- Waits
 
--- A switch that is joined was waited for. What came is kept behind the others, but for what the wait is about.
-pub record Keeps {Own : Type 0} (from to : Holding Own) : Type 0 where
+-- a change that was refused leaves the tables as they are
+abbrev pub tables_by : Bool → ℕ → Change → Tables → Tables
+tables_by refused d m tables = if refused then tables else with_table d (rows_with m) tables
+
+-- The message that was asked is a change. It was sent to its switch, which is joined, and waited for. What came is kept behind the others, but for
+-- what the wait is about: a notice of an entry that was deleted is held for the turn.
+pub record Changes {Own : Type 0} (asked : ℕ × List ℕ) (from to : Holding Own) : Type 0 where
+  pub xid : ℕ
+  pub change : Change
+  pub read : reading_of asked.1 ≡ Ok (enveloped xid (FlowMod change))
   pub waited : Waited from.seen.history to.seen.history
-  pub was_in : from.joined waited.awaited.dpid ≡ true
-  pub joined : SameJoined from to
+  pub of_switch : waited.awaited.dpid ≡ asked.0
+  pub notices : waited.awaited.notices ≡ notices.Held
+  pub sent : waited.sent ≡ message_bytes waited.awaited.first (as_sent (FlowMod change)) ∷ []
+  pub was_in : is_in asked.0 from.tables ≡ true
+  pub tables : SameTables (tables_by (is_refused waited.awaited waited.got) asked.0 change from.tables) to.tables
   pub kept : to.kept ≡ from.kept ++ kept_of waited.awaited waited.got
   pub queue : to.queue ≡ from.queue
 
--- A packet was released to a switch that is joined: what came becomes events at once.
+-- A packet was released to a switch that is joined: what came becomes events at once, each notice too.
 pub record Releases {Own : Type 0} (from to : Holding Own) : Type 0 where
   pub waited : Waited from.seen.history to.seen.history
-  pub was_in : from.joined waited.awaited.dpid ≡ true
-  pub joined : SameJoined from to
+  pub notices : waited.awaited.notices ≡ notices.Kept
+  pub was_in : is_in waited.awaited.dpid from.tables ≡ true
+  pub tables : SameTables (tables_behind (kept_of waited.awaited waited.got) from.tables) to.tables
   pub kept : to.kept ≡ from.kept
-  pub events : List Event
-  pub made : MessagesMake (kept_of waited.awaited waited.got) events
-  pub queued : AreQueued events from to
+  pub queued : AreQueued (all_events (kept_of waited.awaited waited.got) from.tables) from to
 
 -- ---- Switches that are lost
+
+-- a Leave event of the switch
+abbrev pub IsLeaveOf : ℕ → Event → Type 0
+IsLeaveOf d event = (event.kind ≡ kinds.Leave) × (event.dpid ≡ d)
 
 -- A call of the link of this switch failed, and all calls were of it. So nothing came but of this switch. What was kept of it goes, and all else
 -- that was kept stays.
@@ -82,24 +112,33 @@ pub record Loses {Own : Type 0} (from to : Holding Own) : Type 0 where
   pub steps : List WorldStep
   pub history : to.seen.history ≡ from.seen.history ++ steps
   pub each : AllByRecursion (IsStepOf dpid) steps
-  pub out : to.joined dpid ≡ false
-  pub others : SameBut dpid from to
+  pub out : to.tables dpid ≡ None
+  pub others : SameBut dpid from.tables to.tables
   pub kept : to.kept ≡ filter (λ m. not (m.0 == dpid)) from.kept
   pub events : List Event
+  pub leave : AllByRecursion (IsLeaveOf dpid) events
   pub queued : AreQueued events from to
 
 -- each switch that is joined is joined by what the history tells
 abbrev pub AreJoined : {Own : Type 0} → Holding Own → Type 0
-AreJoined from = (d : ℕ) → from.joined d ≡ true → is_joined d (state from.seen) ≡ true
+AreJoined from = (d : ℕ) → is_in d from.tables ≡ true → is_joined d (state from.seen) ≡ true
 
--- The changes of a turn were undone. Switches may be lost in it, which the history tells, where it tells of each joined switch that it joined. What
--- came is of switches that were joined, and is kept where there is room.
+-- the inverse for the key was sent to the switch by these steps
+abbrev pub HasInverse : ℕ → List WorldStep → Key → Type 0
+HasInverse d steps key = (xid : ℕ) × WasSent d xid key steps
+
+-- The changes of a turn were undone: of each switch that stays these keys are gone, for each of which the inverse was sent. Switches may be lost in
+-- it, which the history tells, where it tells of each joined switch that it joined. What came is of switches that were joined, and is kept where
+-- there is room.
 pub record TakesBack {Own : Type 0} (from to : Holding Own) : Type 0 where
   pub lost : List ℕ
   pub told : AreJoined from → lost_of to.seen ≡ lost_of from.seen ++ lost
-  pub joined : (d : ℕ) → to.joined d ≡ (from.joined d && not (is_one_of lost d))
   pub steps : List WorldStep
   pub history : to.seen.history ≡ from.seen.history ++ steps
+  pub keys : ℕ → List Key
+  pub inverses : (d : ℕ) → is_one_of lost d ≡ false → is_in d from.tables ≡ true → AllByRecursion (HasInverse d steps) (keys d)
+  pub out : (d : ℕ) → is_one_of lost d ≡ true → to.tables d ≡ None
+  pub tables : (d : ℕ) → is_one_of lost d ≡ false → to.tables d ≡ option_map (rows_without (keys d)) (from.tables d)
   pub were_in : OfJoined from (got_in steps)
   pub kept : AreKept lost (got_in steps) (but_of lost from.kept) to.kept
   pub queue : to.queue ≡ from.queue
@@ -111,31 +150,86 @@ pub record IsTold (item : WorldStep) (before after : List WorldStep) : Type 0 wh
   pub begun : Option WorldStim
   pub history : after ≡ before ++ (stim_steps begun ++ item ∷ [])
 
--- A switch joins. It is greeted by messages and a barrier, and its event waits behind the others.
+-- by another message no switch joins
+abbrev pub is_features : Message → Bool
+is_features (FeaturesReply features) = true
+is_features other = false
+
+abbrev pub IsNoJoin : Result Envelope WireFault → Type 0
+IsNoJoin (Ok e) = is_features e.message ≡ false
+IsNoJoin (Err fault) = Unit {0}
+
+-- A message, or the leave, of a switch that is not joined; the join of one that is, or by another message; a moment; or that nothing comes.
+abbrev pub IsIgnored : Tables → WorldStep → Type 0
+IsIgnored tables (From d bytes) = is_in d tables ≡ false
+IsIgnored tables (Joined d bytes) = (is_in d tables ≡ true) ⊎ IsNoJoin (reading_of bytes)
+IsIgnored tables (Left d) = is_in d tables ≡ false
+IsIgnored tables (Moment t) = Unit {0}
+IsIgnored tables Idle = Unit {0}
+IsIgnored tables End = Unit {0}
+IsIgnored tables other = ⊥
+
+pub record Ignores {Own : Type 0} (from to : Holding Own) : Type 0 where
+  pub item : WorldStep
+  pub told : IsTold item from.seen.history to.seen.history
+  pub ignored : IsIgnored from.tables item
+  pub still : HoldsStill from to
+
+-- A message of a switch that is joined is taken; an ECHO_REQUEST is answered. What it makes waits behind the others.
+pub record Takes {Own : Type 0} (from to : Holding Own) : Type 0 where
+  pub dpid : ℕ
+  pub bytes : List ℕ
+  pub mid : List WorldStep
+  pub told : IsTold (From dpid bytes) from.seen.history mid
+  pub answered : GotNone mid to.seen.history
+  pub was_in : is_in dpid from.tables ≡ true
+  pub tables : SameTables (tables_read dpid (reading_of bytes) from.tables) to.tables
+  pub kept : to.kept ≡ from.kept
+  pub queued : AreQueued (events_read dpid (from.tables dpid) (reading_of bytes)) from to
+
+-- A switch joins, by its FEATURES_REPLY. It is greeted by messages and a barrier, its table is empty, and its event waits behind the others.
 pub record Joins {Own : Type 0} (from to : Holding Own) : Type 0 where
   pub dpid : ℕ
   pub bytes : List ℕ
   pub mid : List WorldStep
   pub told : IsTold (Joined dpid bytes) from.seen.history mid
+  pub xid : ℕ
+  pub features : Features
+  pub read : reading_of bytes ≡ Ok (enveloped xid (FeaturesReply features))
   pub waited : Waited mid to.seen.history
   pub of_switch : waited.awaited.dpid ≡ dpid
-  pub was_out : from.joined dpid ≡ false
-  pub is_in : to.joined dpid ≡ true
-  pub others : SameBut dpid from to
+  pub notices : waited.awaited.notices ≡ notices.Dropped
+  pub was_out : is_in dpid from.tables ≡ false
+  pub empty : to.tables dpid ≡ Some []
+  pub others : SameBut dpid from.tables to.tables
   pub kept : to.kept ≡ from.kept ++ kept_of waited.awaited waited.got
-  pub body : List ℕ
-  pub queued : AreQueued (record { kind = kinds.Join; dpid = dpid; body = body } ∷ []) from to
+  pub queued : AreQueued (record { kind = kinds.Join; dpid = dpid; body = message_bytes 0 (FeaturesReply features) } ∷ []) from to
 
 -- A switch leaves, with what was kept of it, and its event waits behind the others.
 pub record Leaves {Own : Type 0} (from to : Holding Own) : Type 0 where
   pub dpid : ℕ
   pub told : IsTold (Left dpid) from.seen.history to.seen.history
-  pub was_in : from.joined dpid ≡ true
-  pub out : to.joined dpid ≡ false
-  pub others : SameBut dpid from to
+  pub was_in : is_in dpid from.tables ≡ true
+  pub out : to.tables dpid ≡ None
+  pub others : SameBut dpid from.tables to.tables
   pub kept : to.kept ≡ filter (λ m. not (m.0 == dpid)) from.kept
   pub body : List ℕ
   pub queued : AreQueued (record { kind = kinds.Leave; dpid = dpid; body = body } ∷ []) from to
+
+-- a message of this switch, which is joined, or its join
+abbrev pub MayLose : ℕ → Tables → WorldStep → Type 0
+MayLose d tables (From e bytes) = (e ≡ d) × (is_in d tables ≡ true)
+MayLose d tables (Joined e bytes) = (e ≡ d) × (is_in d tables ≡ false)
+MayLose d tables other = ⊥
+
+-- A switch is lost as this is told: it could not be greeted, or its ECHO_REQUEST not be answered.
+pub record LosesTold {Own : Type 0} (from to : Holding Own) : Type 0 where
+  pub item : WorldStep
+  pub mid : Holding Own
+  pub told : IsTold item from.seen.history mid.seen.history
+  pub still : HoldsStill from mid
+  pub loses : Loses mid to
+  pub of_switch : MayLose loses.dpid from.tables item
 
 -- ---- One move after the other
 
@@ -149,29 +243,8 @@ pub record OneByOne {Own : Type 0} (Move : Holding Own → Holding Own → Type 
 
 -- what an item that is told makes
 abbrev pub ItemMove : {Own : Type 0} → Holding Own → Holding Own → Type 0
-ItemMove from to = Calls from to ⊎ Joins from to ⊎ Leaves from to ⊎ Loses from to
+ItemMove from to = Ignores from to ⊎ Takes from to ⊎ Joins from to ⊎ Leaves from to ⊎ LosesTold from to
 
--- what a turn makes, with its end
-abbrev pub TurnMove : {Own : Type 0} → Holding Own → Holding Own → Type 0
-TurnMove from to = Calls from to ⊎ Keeps from to ⊎ Releases from to ⊎ Loses from to ⊎ TakesBack from to
-
--- ---- A turn
-
--- the application is given the frame, or is gone by then
-pub record IsGiven {Own : Type 0} (app : ℕ) (frame : List ℕ) (from to : Holding Own) : Type 0 where
-  pub history : (to.seen.history ≡ from.seen.history ++ Acted (Gave app frame) ∷ []) ⊎ (to.seen.history ≡ from.seen.history ++ Acted (Gone app frame) ∷ [])
-  pub joined : SameJoined from to
-  pub kept : to.kept ≡ from.kept
-  pub queue : to.queue ≡ from.queue
-
--- It is given the event, with its number, and then its turn goes on to its end.
-pub record HasTurn {Own : Type 0} (number : ℕ) (event : Event) (app : ℕ) (from to : Holding Own) : Type 0 where
-  pub moment : ℕ
-  pub mid : Holding Own
-  pub given : IsGiven app (event_frame number moment event) from mid
-  pub moves : OneByOne TurnMove mid to
-
--- these applications have their turns, one after the other
-abbrev pub HaveTurns : {Own : Type 0} → ℕ → Event → List ℕ → Holding Own → Holding Own → Type 0
-HaveTurns number event [] from to = to ≡ from
-HaveTurns number event (app ∷ more) from to = (mid : Holding _) × HasTurn number event app from mid × HaveTurns number event more mid to
+-- what the end of a turn makes
+abbrev pub EndMove : {Own : Type 0} → Holding Own → Holding Own → Type 0
+EndMove from to = Calls from to ⊎ Notes from to ⊎ Releases from to ⊎ Loses from to ⊎ TakesBack from to

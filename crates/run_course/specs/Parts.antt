@@ -1,18 +1,22 @@
 -- The course of a run, in any world that tells: it goes from part to part. In a batch the messages that were kept come first, oldest first,
 -- before all that is told in it; then the oldest of the events that wait is given to applications, one event after the other. So what was kept
 -- is handled in the next batch, and what comes of it is given in its turn, and printed. All of this is our own.
-use Rattle.std.specs.Prelude.{◌≡◌, ◌⊎◌, ℕ, ◌+◌, ◌≤◌, false, List, [], ◌∷◌, ◌++◌, length, Option}
+use Rattle.std.specs.Prelude.{◌≡◌, ◌⊎◌, ℕ, ◌+◌, ◌≤◌, List, [], ◌∷◌, ◌++◌, length, Option, None}
 use Rattle.std.specs.Io.KnownBytes.{append_known}
 use Rattle.lego_io.specs.Sink.{TookPart}
 use Rattle.app_frames.specs.declared.frame.Event.{Event}
 use Rattle.outside.specs.Seen.{Seen, Longer}
 use Rattle.lego_model.specs.RunReport.{event_line}
-use Rattle.run_course.specs.Messages.{GotNone, MessagesMake}
-use Rattle.run_course.specs.Moves.{Holding, SameJoined, AreQueued, OneByOne, ItemMove, HaveTurns}
+use Rattle.run_course.specs.Tables.{SameTables}
+use Rattle.run_course.specs.Messages.{GotNone, all_events, tables_behind}
+use Rattle.run_course.specs.Asked.{HasGiven}
+use Rattle.run_course.specs.Moves.{Holding, HoldsStill, AreQueued, OneByOne, ItemMove}
+use Rattle.run_course.specs.Turns.{HaveTurns}
 
--- how a run stands: what it holds, how many events were given, and what was written
+-- how a run stands: what it holds, which bytes of each application were taken and not read, how many events were given, and what was written
 pub record Standing (Own : Type 0) : Type 0 where
   pub holding : Holding Own
+  pub unread : ℕ → List ℕ
   pub events : ℕ
   pub written : Option (List ℕ)
 
@@ -25,16 +29,15 @@ pub record KeptComeFirst {Own : Type 0} (from to : Holding Own) : Type 0 where
   pub kept : from.kept ≡ taken ++ to.kept
   pub all : (to.kept ≡ []) ⊎ (1000000 ≤ length taken)
   pub history : to.seen.history ≡ from.seen.history
-  pub joined : SameJoined from to
-  pub events : List Event
-  pub made : MessagesMake taken events
-  pub queued : AreQueued events from to
+  pub tables : SameTables (tables_behind taken from.tables) to.tables
+  pub queued : AreQueued (all_events taken from.tables) from to
 
 -- and then what is told, item by item; its lines are written
 pub record TakesBatch {Own : Type 0} (from to : Standing Own) : Type 0 where
   pub mid : Holding Own
   pub first : KeptComeFirst from.holding mid
   pub items : OneByOne ItemMove mid to.holding
+  pub unread : (app : ℕ) → to.unread app ≡ from.unread app
   pub events : to.events ≡ from.events
   pub noted : List ℕ
   pub written : to.written ≡ append_known from.written noted
@@ -47,19 +50,18 @@ pub record GivesOldest {Own : Type 0} (from to : Standing Own) : Type 0 where
   pub later : List Event
   pub waits : from.holding.queue ≡ event ∷ later
   pub apps : List ℕ
-  pub turns : HaveTurns (from.events + 1) event apps (record from.holding { queue = later }) to.holding
+  pub turns : HaveTurns (from.events + 1) event apps from.unread to.unread (record from.holding { queue = later }) to.holding
   pub events : to.events ≡ from.events + 1
   pub turn_text : List ℕ
   pub written : to.written ≡ append_known from.written (event_line (from.events + 1) event.kind event.dpid ++ turn_text)
 
 -- ---- The start
 
--- the applications were started, and their lines written
+-- The applications were started, and their lines written. Unread are then some of the bytes that each gave meanwhile, or none.
 pub record Starts {Own : Type 0} (from to : Standing Own) : Type 0 where
   pub got_none : GotNone from.holding.seen.history to.holding.seen.history
-  pub joined : SameJoined from.holding to.holding
-  pub kept : to.holding.kept ≡ from.holding.kept
-  pub queue : to.holding.queue ≡ from.holding.queue
+  pub still : HoldsStill from.holding to.holding
+  pub unread : (app : ℕ) → HasGiven app (to.unread app) from.holding.seen.history to.holding.seen.history
   pub events : to.events ≡ from.events
   pub text : List ℕ
   pub written : to.written ≡ append_known from.written text
@@ -74,9 +76,15 @@ abbrev pub Goes : {Own : Type 0} → List (Standing Own) → Standing Own → St
 Goes [] from to = to ≡ from
 Goes (mid ∷ more) from to = Part from mid × Goes more mid to
 
--- nothing is kept yet, and no event waits
-abbrev pub at_first : {Own : Type 0} → Seen Own → Option (List ℕ) → Standing Own
-at_first seen written = record { holding = record { seen = seen; joined = λ d. false; kept = []; queue = [] }; events = 0; written = written }
+-- no switch is joined, nothing is kept or unread yet, no event waits, and none was given
+pub record Begins {Own : Type 0} (seen : Seen Own) (written : Option (List ℕ)) (at : Standing Own) : Type 0 where
+  pub seen_is : at.holding.seen ≡ seen
+  pub none_joined : (d : ℕ) → at.holding.tables d ≡ None
+  pub none_kept : at.holding.kept ≡ []
+  pub none_waits : at.holding.queue ≡ []
+  pub none_unread : (app : ℕ) → at.unread app ≡ []
+  pub none_given : at.events ≡ 0
+  pub written_is : at.written ≡ written
 
 -- Where the sink failed: it took a part of the lines of one part more, or of the end of the report, where no event waits.
 pub record WritesPart {Own : Type 0} (last : Standing Own) (written : Option (List ℕ)) : Type 0 where
@@ -88,8 +96,10 @@ pub record WritesPart {Own : Type 0} (last : Standing Own) (written : Option (Li
 pub record TakesCourse {Own : Type 0} (old new : Seen Own) (contents : Option (List ℕ)) (Stands : Standing Own → Type 0) : Type 0 where
   pub opened : Seen Own
   pub opening : GotNone old.history opened.history
+  pub first : Standing Own
+  pub begins : Begins opened contents first
   pub stops : List (Standing Own)
   pub last : Standing Own
-  pub parts : Goes stops (at_first opened contents) last
+  pub parts : Goes stops first last
   pub later : Longer last.holding.seen.history new.history
   pub stands : Stands last

@@ -30,10 +30,14 @@ pub mod OrderlyRunLaws
 pub mod CutLaws
 pub mod EchoLaws
 pub mod CourseLaws
+pub mod TableHoldingLaws
 pub mod MadeEventLaws
 pub mod HoldingLaws
 pub mod UndoHoldingLaws
 pub mod ItemHoldingLaws
+pub mod AskedMessageLaws
+pub mod TurnCallLaws
+pub mod UnreadLaws
 pub mod TurnHoldingLaws
 pub mod KeptJoinedLaws
 pub mod PartHoldingLaws

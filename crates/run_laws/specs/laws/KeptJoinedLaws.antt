@@ -1,17 +1,26 @@
 -- In the course of a run each message that is kept is of a switch that is joined: a wait is for such a switch, and what was kept of a switch goes
 -- with it. So each of them makes its events when it is taken.
-use Rattle.std.specs.Prelude.{◌==◌, ◌&&◌, filter, not}
-use Rattle.std.proofs.Common.{◌≡◌, ◌≢◌, ℕ, ◌+◌, Bool, true, false, List, [], ◌∷◌, ◌++◌, refl, sym, ap, ◌∙◌, subst, inl, inr, if◌then◌else◌}
+use Rattle.std.specs.Prelude.{◌==◌, filter, not, is_some}
+use Rattle.std.specs.Option.{option_map}
+use Rattle.std.proofs.Common.{◌≡◌, ◌≢◌, ℕ, ◌+◌, Bool, true, false, List, [], ◌∷◌, ◌++◌, Option, Some, None, Result, Ok, Err, refl, sym, ap, ◌∙◌, subst, inl, inr, if◌then◌else◌}
 use Rattle.std.specs.List.{AllByRecursion}
 use Rattle.std.proofs.lemmas.Bool.{cases_eq, not-true, eqb-false}
+use Rattle.of_wire.specs.declared.message.Message.{Message}
+use Rattle.of_wire.specs.declared.message.Message.TheVariants as messages
+use Rattle.of_wire.specs.declared.message.Envelope.{Envelope}
+use Rattle.of_wire.specs.declared.fault.WireFault.{WireFault}
+use Rattle.of_wire.specs.Reading.{reading_of}
+use Rattle.flow_table.specs.declared.view.ViewRow.{ViewRow}
 use Rattle.app_frames.specs.declared.frame.Event.{Event}
 use Rattle.lego_model.specs.declared.wait.Awaited.{Awaited}
 use Rattle.lego_model.specs.declared.wait.Heard.{Heard}
 use Rattle.lego_model.specs.declared.wait.Heard.TheVariants.{Reply, Refused, Notice, Echo, Other}
 use Rattle.lego_model.specs.BarrierWaits.{heard, kept_by, kept_of}
 use Rattle.net_txn.specs.laws.SaidLaws.{all_two, all_behind, all_weaker}
-use Rattle.run_course.specs.Messages.{is_one_of, but_of, AreKept}
-use Rattle.run_course.specs.Moves.{Holding, OfJoined, Calls, Keeps, Releases, Loses, TakesBack, Joins, Leaves, Go, OneByOne, ItemMove, TurnMove, HaveTurns}
+use Rattle.run_course.specs.Tables.{Tables, is_in, with_table, rows_with, rows_without}
+use Rattle.run_course.specs.Messages.{is_refused, tables_left, tables_read, tables_behind, is_one_of, but_of, AreKept}
+use Rattle.run_course.specs.Moves.{Holding, OfJoined, HoldsStill, Notes, tables_by, Changes, Releases, Loses, TakesBack, Takes, Joins, Leaves, Go, OneByOne, ItemMove, EndMove}
+use Rattle.run_course.specs.Turns.{TalkMove, Talk, HaveTurns}
 use Rattle.run_course.specs.Parts.{Standing, KeptComeFirst, Part, Goes}
 
 -- ---- Messages of some switches
@@ -32,10 +41,66 @@ left_out : (a b : ℕ → Bool) (m : ℕ × List ℕ) (rest : List (ℕ × List 
 left_out a b m rest true is all = (is refl, all)
 left_out a b m rest false is all = all
 
+-- ---- Which switches are joined, behind a change of rows
+
+abbrev joined_in : Tables → ℕ → Bool
+joined_in tables d = is_in d tables
+
+mapped_in : (change : List ViewRow → List ViewRow) (o : Option (List ViewRow)) → is_some (option_map change o) ≡ is_some o
+mapped_in change None = refl
+mapped_in change (Some rows) = refl
+
+if_in : (here : Bool) (change : List ViewRow → List ViewRow) (o : Option (List ViewRow)) → is_some (if here then option_map change o else o) ≡ is_some o
+if_in true change o = mapped_in change o
+if_in false change o = refl
+
+changed_in : (d e : ℕ) (change : List ViewRow → List ViewRow) (tables : Tables) → is_in e (with_table d change tables) ≡ is_in e tables
+changed_in d e change tables = if_in (e == d) change (tables e)
+
+by_in : (refused : Bool) (a : Tables) (d e : ℕ) (m : _) → is_in e (tables_by refused d m a) ≡ is_in e a
+by_in true a d e m = refl
+by_in false a d e m = changed_in d e (rows_with m) a
+
+left_in : (d e : ℕ) (m : Message) (tables : Tables) → is_in e (tables_left d m tables) ≡ is_in e tables
+left_in d e (messages.FlowRemoved f) tables = changed_in d e (rows_without (record { priority = f.priority; matching = f.matching } ∷ [])) tables
+left_in d e (messages.Hello payload) tables = refl
+left_in d e (messages.EchoRequest payload) tables = refl
+left_in d e (messages.EchoReply payload) tables = refl
+left_in d e (messages.Vendor payload) tables = refl
+left_in d e messages.FeaturesRequest tables = refl
+left_in d e (messages.FeaturesReply features) tables = refl
+left_in d e messages.GetConfigRequest tables = refl
+left_in d e (messages.GetConfigReply config) tables = refl
+left_in d e (messages.SetConfig config) tables = refl
+left_in d e (messages.PacketIn packet) tables = refl
+left_in d e (messages.PortStatus status) tables = refl
+left_in d e (messages.PacketOut packet) tables = refl
+left_in d e (messages.FlowMod change) tables = refl
+left_in d e (messages.PortMod port) tables = refl
+left_in d e (messages.StatsRequest stats) tables = refl
+left_in d e (messages.StatsReply stats) tables = refl
+left_in d e messages.BarrierRequest tables = refl
+left_in d e messages.BarrierReply tables = refl
+left_in d e (messages.QueueGetConfigRequest payload) tables = refl
+left_in d e (messages.QueueGetConfigReply payload) tables = refl
+left_in d e (messages.Error kind code payload) tables = refl
+
+read_in : (d e : ℕ) (r : Result Envelope WireFault) (tables : Tables) → is_in e (tables_read d r tables) ≡ is_in e tables
+read_in d e (Ok x) tables = left_in d e x.message tables
+read_in d e (Err fault) tables = refl
+
+behind_in : (ms : List (ℕ × List ℕ)) (e : ℕ) (tables : Tables) → is_in e (tables_behind ms tables) ≡ is_in e tables
+behind_in [] e tables = refl
+behind_in (m ∷ more) e tables = behind_in more e (tables_read m.0 (reading_of m.1) tables) ∙ read_in m.0 e (reading_of m.1) tables
+
+-- by tables that are the same
+same_in : (a b : Tables) (e : ℕ) → b e ≡ a e → is_in e b ≡ is_in e a
+same_in a b e same = ap (λ (o : Option (List ViewRow)). is_some o) same
+
 -- ---- Any call but a wait, and calls of a wait
 
-calls_keep : {Own : Type 0} (from to : Holding Own) → Calls from to → OfJoined from from.kept → OfJoined to to.kept
-calls_keep from to calls all = subst (Of to.joined) (sym calls.kept) (of_same from.joined to.joined from.kept calls.joined all)
+still_keep : {Own : Type 0} (from to : Holding Own) → HoldsStill from to → OfJoined from from.kept → OfJoined to to.kept
+still_keep from to still all = subst (Of (joined_in to.tables)) (sym still.kept) (of_same (joined_in from.tables) (joined_in to.tables) from.kept (λ e. same_in from.tables to.tables e (still.tables e)) all)
 
 wait_by : (joined : ℕ → Bool) (d : ℕ) (bytes : List ℕ) (h : Heard) (rest : List (ℕ × List ℕ)) → joined d ≡ true → Of joined rest → Of joined (kept_by d h bytes ++ rest)
 wait_by joined d bytes Reply rest is all = all
@@ -49,14 +114,22 @@ wait_of : (joined : ℕ → Bool) (a : Awaited) (got : List (List ℕ)) → join
 wait_of joined a [] is = tt
 wait_of joined a (b ∷ bs) is = wait_by joined a.dpid b (heard a b) (kept_of a bs) is (wait_of joined a bs is)
 
-keeps_keep : {Own : Type 0} (from to : Holding Own) → Keeps from to → OfJoined from from.kept → OfJoined to to.kept
-keeps_keep from to keeps all =
-    let came = kept_of keeps.waited.awaited keeps.waited.got in
-    let is = keeps.joined keeps.waited.awaited.dpid ∙ keeps.was_in in
-    subst (Of to.joined) (sym keeps.kept) (all_two (λ m. to.joined m.0 ≡ true) from.kept came (of_same from.joined to.joined from.kept keeps.joined all) (wait_of to.joined keeps.waited.awaited keeps.waited.got is))
+changes_keep : {Own : Type 0} (asked : ℕ × List ℕ) (from to : Holding Own) → Changes asked from to → OfJoined from from.kept → OfJoined to to.kept
+changes_keep asked from to changes all =
+    let a = changes.waited.awaited in
+    let came = kept_of a changes.waited.got in
+    let stays : (e : ℕ) → is_in e to.tables ≡ is_in e from.tables =
+    λ e. same_in (tables_by (is_refused a changes.waited.got) asked.0 changes.change from.tables) to.tables e (changes.tables e) ∙ by_in (is_refused a changes.waited.got) from.tables asked.0 e changes.change in
+    let is = ap (joined_in to.tables) changes.of_switch ∙ (stays asked.0 ∙ changes.was_in) in
+    subst (Of (joined_in to.tables)) (sym changes.kept) (all_two (λ m. is_in m.0 to.tables ≡ true) from.kept came (of_same (joined_in from.tables) (joined_in to.tables) from.kept stays all) (wait_of (joined_in to.tables) a changes.waited.got is))
+
+notes_keep : {Own : Type 0} (from to : Holding Own) → Notes from to → OfJoined from from.kept → OfJoined to to.kept
+notes_keep from to notes all = subst (Of (joined_in to.tables)) (sym notes.kept) (of_same (joined_in from.tables) (joined_in to.tables) from.kept (λ e. same_in from.tables to.tables e (notes.tables e)) all)
 
 releases_keep : {Own : Type 0} (from to : Holding Own) → Releases from to → OfJoined from from.kept → OfJoined to to.kept
-releases_keep from to releases all = subst (Of to.joined) (sym releases.kept) (of_same from.joined to.joined from.kept releases.joined all)
+releases_keep from to releases all =
+    let came = kept_of releases.waited.awaited releases.waited.got in
+    subst (Of (joined_in to.tables)) (sym releases.kept) (of_same (joined_in from.tables) (joined_in to.tables) from.kept (λ e. same_in (tables_behind came from.tables) to.tables e (releases.tables e) ∙ behind_in came e from.tables) all)
 
 -- ---- A switch that is lost, or leaves, goes with what was kept of it.
 
@@ -66,10 +139,15 @@ others_of a b d (m ∷ ms) others all =
     left_out a b m (filter (λ x. not (x.0 == d)) ms) (not (m.0 == d)) (λ stays. others m.0 (eqb-false m.0 d (not-true (m.0 == d) stays)) ∙ all.0) (others_of a b d ms others all.1)
 
 loses_keep : {Own : Type 0} (from to : Holding Own) → Loses from to → OfJoined from from.kept → OfJoined to to.kept
-loses_keep from to loses all = subst (Of to.joined) (sym loses.kept) (others_of from.joined to.joined loses.dpid from.kept loses.others all)
+loses_keep from to loses all = subst (Of (joined_in to.tables)) (sym loses.kept) (others_of (joined_in from.tables) (joined_in to.tables) loses.dpid from.kept (λ e other. same_in from.tables to.tables e (loses.others e other)) all)
 
 leaves_keep : {Own : Type 0} (from to : Holding Own) → Leaves from to → OfJoined from from.kept → OfJoined to to.kept
-leaves_keep from to leaves all = subst (Of to.joined) (sym leaves.kept) (others_of from.joined to.joined leaves.dpid from.kept leaves.others all)
+leaves_keep from to leaves all = subst (Of (joined_in to.tables)) (sym leaves.kept) (others_of (joined_in from.tables) (joined_in to.tables) leaves.dpid from.kept (λ e other. same_in from.tables to.tables e (leaves.others e other)) all)
+
+takes_keep : {Own : Type 0} (from to : Holding Own) → Takes from to → OfJoined from from.kept → OfJoined to to.kept
+takes_keep from to takes all =
+    let r = reading_of takes.bytes in
+    subst (Of (joined_in to.tables)) (sym takes.kept) (of_same (joined_in from.tables) (joined_in to.tables) from.kept (λ e. same_in (tables_read takes.dpid r from.tables) to.tables e (takes.tables e) ∙ read_in takes.dpid e r from.tables) all)
 
 -- ---- A switch joins.
 
@@ -81,44 +159,57 @@ joined_still a b d e is others was = elim (cases_eq e d) [
 
 joins_keep : {Own : Type 0} (from to : Holding Own) → Joins from to → OfJoined from from.kept → OfJoined to to.kept
 joins_keep from to joins all =
+    let was = joined_in from.tables in
+    let now = joined_in to.tables in
+    let is_now : now joins.dpid ≡ true = ap (λ (o : Option (List ViewRow)). is_some o) joins.empty in
     let came = kept_of joins.waited.awaited joins.waited.got in
-    let before = all_weaker (λ m. from.joined m.0 ≡ true) (λ m. to.joined m.0 ≡ true) (λ m was. joined_still from.joined to.joined joins.dpid m.0 joins.is_in joins.others was) from.kept all in
-    subst (Of to.joined) (sym joins.kept) (all_two (λ m. to.joined m.0 ≡ true) from.kept came before (wait_of to.joined joins.waited.awaited joins.waited.got (ap to.joined joins.of_switch ∙ joins.is_in)))
+    let before = all_weaker (λ m. was m.0 ≡ true) (λ m. now m.0 ≡ true) (λ m is. joined_still was now joins.dpid m.0 is_now (λ e other. same_in from.tables to.tables e (joins.others e other)) is) from.kept all in
+    subst (Of now) (sym joins.kept) (all_two (λ m. now m.0 ≡ true) from.kept came before (wait_of now joins.waited.awaited joins.waited.got (ap now joins.of_switch ∙ is_now)))
 
 -- ---- An undo
 
-both_so : (a b : Bool) → a ≡ true → b ≡ true → (a && b) ≡ true
-both_so a b first second = rw (first, second) refl
+-- one that is not lost is joined still
+stays_joined : {Own : Type 0} (from to : Holding Own) (takes : TakesBack from to) (d : ℕ) → is_one_of takes.lost d ≡ false → is_in d from.tables ≡ true → is_in d to.tables ≡ true
+stays_joined from to takes d stays is =
+    same_in (λ e. option_map (rows_without (takes.keys e)) (from.tables e)) to.tables d (takes.tables d stays) ∙ (mapped_in (rows_without (takes.keys d)) (from.tables d) ∙ is)
 
-stay_of : (a b : ℕ → Bool) (lost : List ℕ) (ms : List (ℕ × List ℕ)) → ((d : ℕ) → b d ≡ (a d && not (is_one_of lost d))) → Of a ms → Of b (but_of lost ms)
-stay_of a b lost [] joined all = tt
-stay_of a b lost (m ∷ ms) joined all =
-    left_out a b m (but_of lost ms) (not (is_one_of lost m.0)) (λ stays. joined m.0 ∙ both_so (a m.0) (not (is_one_of lost m.0)) all.0 stays) (stay_of a b lost ms joined all.1)
+stay_of : (a b : ℕ → Bool) (lost : List ℕ) (ms : List (ℕ × List ℕ)) → ((d : ℕ) → is_one_of lost d ≡ false → a d ≡ true → b d ≡ true) → Of a ms → Of b (but_of lost ms)
+stay_of a b lost [] stays all = tt
+stay_of a b lost (m ∷ ms) stays all =
+    left_out a b m (but_of lost ms) (not (is_one_of lost m.0)) (λ is. stays m.0 (not-true (is_one_of lost m.0) is) all.0) (stay_of a b lost ms stays all.1)
 
-came_of : (a b : ℕ → Bool) (lost : List ℕ) (came kept now_kept : List (ℕ × List ℕ)) → ((d : ℕ) → b d ≡ (a d && not (is_one_of lost d))) → Of a came → Of b kept → AreKept lost came kept now_kept → Of b now_kept
-came_of a b lost [] kept now_kept joined of_came all are = subst (Of b) (sym are) all
-came_of a b lost (m ∷ more) kept now_kept joined of_came all (inl one) =
-    let is = joined m.0 ∙ both_so (a m.0) (not (is_one_of lost m.0)) of_came.0 (ap not one.0) in
-    came_of a b lost more (kept ++ m ∷ []) now_kept joined of_came.1 (all_two (λ x. b x.0 ≡ true) kept (m ∷ []) all (is, tt)) one.1
-came_of a b lost (m ∷ more) kept now_kept joined of_came all (inr dropped) = came_of a b lost more kept now_kept joined of_came.1 all dropped.1
+came_of : (a b : ℕ → Bool) (lost : List ℕ) (came kept now_kept : List (ℕ × List ℕ)) → ((d : ℕ) → is_one_of lost d ≡ false → a d ≡ true → b d ≡ true) → Of a came → Of b kept → AreKept lost came kept now_kept → Of b now_kept
+came_of a b lost [] kept now_kept stays of_came all are = subst (Of b) (sym are) all
+came_of a b lost (m ∷ more) kept now_kept stays of_came all (inl one) =
+    came_of a b lost more (kept ++ m ∷ []) now_kept stays of_came.1 (all_two (λ x. b x.0 ≡ true) kept (m ∷ []) all (stays m.0 one.0 of_came.0, tt)) one.1
+came_of a b lost (m ∷ more) kept now_kept stays of_came all (inr dropped) = came_of a b lost more kept now_kept stays of_came.1 all dropped.1
 
-takes_keep : {Own : Type 0} (from to : Holding Own) → TakesBack from to → OfJoined from from.kept → OfJoined to to.kept
-takes_keep from to takes all = came_of from.joined to.joined takes.lost _ (but_of takes.lost from.kept) to.kept takes.joined takes.were_in (stay_of from.joined to.joined takes.lost from.kept takes.joined all) takes.kept
+takes_back_keep : {Own : Type 0} (from to : Holding Own) → TakesBack from to → OfJoined from from.kept → OfJoined to to.kept
+takes_back_keep from to takes all =
+    let stays = stays_joined from to takes in
+    came_of (joined_in from.tables) (joined_in to.tables) takes.lost _ (but_of takes.lost from.kept) to.kept stays takes.were_in (stay_of (joined_in from.tables) (joined_in to.tables) takes.lost from.kept stays all) takes.kept
 
 -- ---- Moves
 
 item_keeps : {Own : Type 0} (from to : Holding Own) → ItemMove from to → OfJoined from from.kept → OfJoined to to.kept
-item_keeps from to (inl calls) all = calls_keep from to calls all
-item_keeps from to (inr (inl joins)) all = joins_keep from to joins all
-item_keeps from to (inr (inr (inl leaves))) all = leaves_keep from to leaves all
-item_keeps from to (inr (inr (inr loses))) all = loses_keep from to loses all
+item_keeps from to (inl ignores) all = still_keep from to ignores.still all
+item_keeps from to (inr (inl takes)) all = takes_keep from to takes all
+item_keeps from to (inr (inr (inl joins))) all = joins_keep from to joins all
+item_keeps from to (inr (inr (inr (inl leaves)))) all = leaves_keep from to leaves all
+item_keeps from to (inr (inr (inr (inr loses)))) all = loses_keep loses.mid to loses.loses (still_keep from loses.mid loses.still all)
 
-turn_keeps : {Own : Type 0} (from to : Holding Own) → TurnMove from to → OfJoined from from.kept → OfJoined to to.kept
-turn_keeps from to (inl calls) all = calls_keep from to calls all
-turn_keeps from to (inr (inl keeps)) all = keeps_keep from to keeps all
-turn_keeps from to (inr (inr (inl releases))) all = releases_keep from to releases all
-turn_keeps from to (inr (inr (inr (inl loses)))) all = loses_keep from to loses all
-turn_keeps from to (inr (inr (inr (inr takes)))) all = takes_keep from to takes all
+end_keeps : {Own : Type 0} (from to : Holding Own) → EndMove from to → OfJoined from from.kept → OfJoined to to.kept
+end_keeps from to (inl calls) all = still_keep from to calls.still all
+end_keeps from to (inr (inl notes)) all = notes_keep from to notes all
+end_keeps from to (inr (inr (inl releases))) all = releases_keep from to releases all
+end_keeps from to (inr (inr (inr (inl loses)))) all = loses_keep from to loses all
+end_keeps from to (inr (inr (inr (inr takes)))) all = takes_back_keep from to takes all
+
+talk_keeps : {Own : Type 0} (asked : Option (ℕ × List ℕ)) (from to : Holding Own) → TalkMove asked from to → OfJoined from from.kept → OfJoined to to.kept
+talk_keeps None from to calls all = still_keep from to calls.still all
+talk_keeps (Some asked) from to (inl calls) all = still_keep from to calls.still all
+talk_keeps (Some asked) from to (inr (inl changes)) all = changes_keep asked from to changes all
+talk_keeps (Some asked) from to (inr (inr loses)) all = loses_keep from to loses all
 
 go_keeps : {Own : Type 0} (Move : Holding Own → Holding Own → Type 0) → ((a b : Holding Own) → Move a b → OfJoined a a.kept → OfJoined b b.kept) → (stops : List (Holding Own)) (from to : Holding Own) → Go Move stops from to → OfJoined from from.kept → OfJoined to to.kept
 go_keeps Move keeps [] from to go all = subst (λ (h : Holding _). OfJoined h h.kept) (sym go) all
@@ -129,17 +220,21 @@ moves_keep Move keeps from to moves all = go_keeps Move keeps moves.stops from t
 
 -- ---- Parts
 
-turns_keep : {Own : Type 0} (number : ℕ) (event : Event) (apps : List ℕ) (from to : Holding Own) → HaveTurns number event apps from to → OfJoined from from.kept → OfJoined to to.kept
-turns_keep number event [] from to turns all = subst (λ (h : Holding _). OfJoined h h.kept) (sym turns) all
-turns_keep number event (app ∷ more) from to turns all =
-    let given = turns.1.given in
-    let first = subst (Of turns.1.mid.joined) (sym given.kept) (of_same from.joined turns.1.mid.joined from.kept given.joined all) in
-    turns_keep number event more turns.0 to turns.2 (moves_keep TurnMove turn_keeps turns.1.mid turns.0 turns.1.moves first)
+talks_keep : {Own : Type 0} (moves : List (Option (ℕ × List ℕ) × Holding Own)) (from to : Holding Own) → Talk moves from to → OfJoined from from.kept → OfJoined to to.kept
+talks_keep [] from to talk all = subst (λ (h : Holding _). OfJoined h h.kept) (sym talk) all
+talks_keep (move ∷ more) from to talk all = talks_keep more move.1 to talk.1 (talk_keeps move.0 from move.1 talk.0 all)
+
+turns_keep : {Own : Type 0} (number : ℕ) (event : Event) (apps : List ℕ) (unread now_unread : ℕ → List ℕ) (from to : Holding Own) → HaveTurns number event apps unread now_unread from to → OfJoined from from.kept → OfJoined to to.kept
+turns_keep number event [] unread now_unread from to turns all = subst (λ (h : Holding _). OfJoined h h.kept) (sym turns.0) all
+turns_keep number event (app ∷ more) unread now_unread from to turns all =
+    let turn = turns.1.1.0 in
+    turns_keep number event more turns.1.0 now_unread turns.0 to turns.1.1.1 (moves_keep EndMove end_keeps turn.talked turns.0 turn.ends (talks_keep turn.talk turn.begun turn.talked turn.talks (still_keep from turn.begun turn.given.still all)))
 
 -- those that are not taken yet
 first_keeps : {Own : Type 0} (from to : Holding Own) → KeptComeFirst from to → OfJoined from from.kept → OfJoined to to.kept
 first_keeps from to first all =
-    all_behind (λ m. to.joined m.0 ≡ true) first.taken to.kept (subst (Of to.joined) first.kept (of_same from.joined to.joined from.kept first.joined all))
+    let stays : (e : ℕ) → is_in e to.tables ≡ is_in e from.tables = λ e. same_in (tables_behind first.taken from.tables) to.tables e (first.tables e) ∙ behind_in first.taken e from.tables in
+    all_behind (λ m. is_in m.0 to.tables ≡ true) first.taken to.kept (subst (Of (joined_in to.tables)) first.kept (of_same (joined_in from.tables) (joined_in to.tables) from.kept stays all))
 
 -- those that are taken
 pub taken_joined : (joined : ℕ → Bool) (kept taken rest : List (ℕ × List ℕ)) → kept ≡ taken ++ rest → AllByRecursion (λ m. joined m.0 ≡ true) kept → AllByRecursion (λ m. joined m.0 ≡ true) taken
@@ -151,8 +246,8 @@ KeepsOfJoined at = OfJoined at.holding at.holding.kept
 
 pub part_keeps : {Own : Type 0} (from to : Standing Own) → Part from to → KeepsOfJoined from → KeepsOfJoined to
 part_keeps from to (inl batch) all = moves_keep ItemMove item_keeps batch.mid to.holding batch.items (first_keeps from.holding batch.mid batch.first all)
-part_keeps from to (inr (inl gives)) all = turns_keep (from.events + 1) gives.event gives.apps (record from.holding { queue = gives.later }) to.holding gives.turns all
-part_keeps from to (inr (inr starts)) all = subst (Of to.holding.joined) (sym starts.kept) (of_same from.holding.joined to.holding.joined from.holding.kept starts.joined all)
+part_keeps from to (inr (inl gives)) all = turns_keep (from.events + 1) gives.event gives.apps from.unread to.unread (record from.holding { queue = gives.later }) to.holding gives.turns all
+part_keeps from to (inr (inr starts)) all = still_keep from.holding to.holding starts.still all
 
 pub goes_keeps : {Own : Type 0} (stops : List (Standing Own)) (from to : Standing Own) → Goes stops from to → KeepsOfJoined from → KeepsOfJoined to
 goes_keeps [] from to goes all = subst KeepsOfJoined (sym goes) all

@@ -1,48 +1,51 @@
 -- The parts of a run of the engine are those of the course of a run.
-use Rattle.std.specs.Prelude.{map}
+use Rattle.std.specs.Prelude.{◌==◌, map, is_some, if◌then◌else◌}
 use Rattle.std.specs.List.{AllByRecursion}
-use Rattle.std.proofs.Common.{◌≡◌, ℕ, ◌+◌, Bool, true, List, [], ◌∷◌, Option, sym, ap, ◌∙◌, inl, inr}
+use Rattle.std.proofs.Common.{◌≡◌, ℕ, ◌+◌, Bool, true, false, List, [], ◌∷◌, Option, refl, ap, ◌∙◌, inl, inr}
 use Rattle.std.specs.Io.KnownBytes.{append_known}
 use Rattle.flow_table.specs.View.{TableView}
 use Rattle.crash_policy.specs.Policies.{AppValue}
 use Rattle.app_frames.specs.declared.frame.Event.{Event}
 use Rattle.outside.specs.Seen.{Seen}
 use Rattle.net_txn.specs.Net.{NetState}
-use Rattle.net_txn.specs.Views.{is_viewed}
-use Rattle.net_txn.specs.laws.SaidLaws.{all_weaker}
-use Rattle.net_txn.specs.laws.ViewLaws.{viewed}
+use Rattle.net_txn.specs.Views.{rows_at}
 use Rattle.batch_laws.specs.Knowledge.{Knowledge, knowledge_of, is_known}
 use Rattle.run_course.specs.Messages.{GotNone}
 use Rattle.run_course.specs.Parts as course
 use Rattle.run_course.specs.Parts.{Standing, TakesCourse}
+use Rattle.run_laws.specs.Engine.{Application}
 use Rattle.run_laws.specs.Facts.{between}
+use Rattle.run_laws.specs.First.{app_at_first}
 use Rattle.run_laws.specs.Course.{KeptComesFirst, Stage, TakesBatch, GivesOldest, Starts, IsPart, Part, Course, WritesPart, RunsOn, first_stage}
-use Rattle.run_laws.specs.laws.MadeEventLaws.{kept_makes, kept_known}
-use Rattle.run_laws.specs.laws.HoldingLaws.{holding_of}
+use Rattle.run_laws.specs.laws.MadeEventLaws.{kept_events, kept_tables}
+use Rattle.run_laws.specs.laws.HoldingLaws.{holding_of, holds_still}
 use Rattle.run_laws.specs.laws.ItemHoldingLaws.{items_move}
 use Rattle.run_laws.specs.laws.KeptJoinedLaws.{taken_joined, KeepsOfJoined, part_keeps, goes_keeps}
-use Rattle.run_laws.specs.laws.TurnHoldingLaws.{starts_none, offers_turns}
+use Rattle.run_laws.specs.laws.UnreadLaws.{unread_over}
+use Rattle.run_laws.specs.laws.TurnCallLaws.{starts_none}
+use Rattle.run_laws.specs.laws.TurnHoldingLaws.{starts_given, offers_turns}
+
+-- which bytes of each application were taken and not read: none of one that there is not
+abbrev pub unread_of : List Application → ℕ → List ℕ
+unread_of apps = unread_over 0 apps (λ app. [])
 
 -- how the run stands, by what the engine keeps
 abbrev pub standing_of : {Own : Type 0} → Stage Own → Standing Own
-standing_of s = record { holding = holding_of s.seen s.engine.net s.engine.queue; events = s.engine.events; written = s.written }
+standing_of s = record { holding = holding_of s.seen s.engine.net s.engine.queue; unread = unread_of s.engine.apps; events = s.engine.events; written = s.written }
 
 -- ---- A batch
 
-kept_first : {Own Tells : Type 0} (old new : Seen Own) (net now_net : NetState) (queue now_queue : List Event) → Tells → AllByRecursion (λ m. is_viewed m.0 net.views ≡ true) net.kept → KeptComesFirst Tells old new net now_net queue now_queue → course.KeptComeFirst (holding_of old net queue) (holding_of new now_net now_queue)
+kept_first : {Own Tells : Type 0} (old new : Seen Own) (net now_net : NetState) (queue now_queue : List Event) → Tells → AllByRecursion (λ m. is_some (rows_at m.0 net.views) ≡ true) net.kept → KeptComesFirst Tells old new net now_net queue now_queue → course.KeptComeFirst (holding_of old net queue) (holding_of new now_net now_queue)
 kept_first old new net now_net queue now_queue told joined first =
     let k = knowledge_of net queue in
-    let known = all_weaker (λ m. is_viewed m.0 net.views ≡ true) (λ m. is_known m.0 k ≡ true) (λ m is. sym (viewed m.0 net.views) ∙ is) first.taken (taken_joined (λ e. is_viewed e net.views) net.kept first.taken now_net.kept first.kept_is joined) in
-    let makes = kept_makes first.taken k known in
+    let known = taken_joined (λ e. is_known e k) net.kept first.taken now_net.kept first.kept_is joined in
     record {
       taken = first.taken;
       kept = first.kept_is;
       all = first.all;
       history = first.told told;
-      joined = λ e. viewed e now_net.views ∙ ap (λ (x : Knowledge). is_known e x) first.knowledge ∙ kept_known e first.taken k ∙ sym (viewed e net.views);
-      events = makes.events;
-      made = makes.made;
-      queued = ap (λ (x : Knowledge). x.queue) first.knowledge ∙ makes.queue_is;
+      tables = λ e. ap (λ (x : Knowledge). rows_at e x.views) first.knowledge ∙ kept_tables first.taken k known e;
+      queued = ap (λ (x : Knowledge). x.queue) first.knowledge ∙ kept_events first.taken k known;
     }
 
 batch_part : {Own Tells : Type 0} (from to : Stage Own) → Tells → KeepsOfJoined (standing_of from) → TakesBatch Tells from to → course.TakesBatch (standing_of from) (standing_of to)
@@ -52,6 +55,7 @@ batch_part from to told joined batch =
       mid = holding_of taken.mid.seen taken.mid.net taken.mid.queue;
       first = kept_first from.seen taken.mid.seen from.engine.net taken.mid.net from.engine.queue taken.mid.queue told joined taken.first;
       items = items_move taken.items taken.mid (between to.seen to.engine) told taken.told;
+      unread = λ app. ap (λ (apps : List Application). unread_of apps app) batch.apps;
       events = batch.events;
       noted = batch.noted;
       written = batch.written;
@@ -63,7 +67,7 @@ event_part : {Own Tells : Type 0} {accepts : List TableView → Bool} (from to :
 event_part {Tells = Tells} {accepts = accepts} from to told gives =
     let d = gives.dispatches in
     let e = record from.engine { queue = gives.later } in
-    let turned = offers_turns Tells accepts gives.event (from.engine.events + 1) 0 from.engine.apps d.turn_text (between from.seen e) (between to.seen to.engine) to.engine.apps d.stopped told d.offers in
+    let turned = offers_turns Tells accepts gives.event (from.engine.events + 1) 0 from.engine.apps d.turn_text (between from.seen e) (between to.seen to.engine) to.engine.apps d.stopped (λ app. []) told d.offers in
     record {
       event = gives.event;
       later = gives.later;
@@ -82,15 +86,22 @@ start_part {Tells = Tells} from to told starts =
     let all = starts.all in
     record {
       got_none = starts_none Tells 0 from.engine.apps starts.text from.seen to.seen from.engine.net from.engine.queue from.engine.events to.engine.apps told all.all;
-      joined = λ e. ap (λ (n : NetState). is_viewed e n.views) all.net;
-      kept = ap (λ (n : NetState). n.kept) all.net;
-      queue = all.queue;
+      still = holds_still from.seen to.seen from.engine.net to.engine.net from.engine.queue to.engine.queue (ap (λ (n : NetState). n.views) all.net) (ap (λ (n : NetState). n.kept) all.net) all.queue;
+      unread = λ app. starts_given Tells 0 from.engine.apps starts.text from.seen to.seen from.engine.net from.engine.queue from.engine.events to.engine.apps app told all.all;
       events = all.events;
       text = starts.text;
       written = starts.written;
     }
 
 -- ---- The course
+
+none_unread : (i : ℕ) (rules : List AppValue) (j : ℕ) → unread_over i (map app_at_first rules) (λ app. []) j ≡ []
+none_unread i [] j = refl
+none_unread i (rule ∷ rules) j = if_none (j == i) (unread_over (i + 1) (map app_at_first rules) (λ app. []) j) (none_unread (i + 1) rules j)
+  where
+    if_none : (here : Bool) (rest : List ℕ) → rest ≡ [] → (if here then [] else rest) ≡ []
+    if_none true rest none = refl
+    if_none false rest none = none
 
 part_is : {Own Tells : Type 0} (accepts : List TableView → Bool) (from to : Stage Own) → Tells → KeepsOfJoined (standing_of from) → IsPart Tells accepts from to → course.Part (standing_of from) (standing_of to)
 part_is accepts from to told joined (inl batch) = inl (batch_part from to told joined batch)
@@ -125,6 +136,8 @@ module _ {Own Tells : Type 0} (accepts : List TableView → Bool) (rules : List 
   takes_course old Stands opening stands = record {
     opened = opened;
     opening = opening;
+    first = standing_of (first_stage rules opened contents);
+    begins = record { seen_is = refl; none_joined = λ d. refl; none_kept = refl; none_waits = refl; none_unread = none_unread 0 rules; none_given = refl; written_is = refl };
     stops = map standing_of runs.course.stages;
     last = standing_of last;
     parts = goes_on;

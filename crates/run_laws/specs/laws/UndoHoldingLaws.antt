@@ -1,11 +1,14 @@
 -- An undo in which no switch failed but by its loss, as the course of a run says it: what came is kept where there was room.
-use Rattle.std.specs.Prelude.{◌==◌, ◌&&◌, not, map, length, nat_lt, nat_le, if◌then◌else◌}
-use Rattle.std.proofs.Common.{◌≡◌, ℕ, ◌+◌, Bool, true, false, List, [], ◌∷◌, ◌++◌, drop, None, Ok, refl, sym, ap, ◌∙◌, subst, inl, inr, arith}
+use Rattle.std.specs.Prelude.{◌==◌, ◌&&◌, not, map, length, nat_lt, nat_le, is_some, if◌then◌else◌}
+use Rattle.std.proofs.Common.{◌≡◌, ℕ, ◌+◌, Bool, true, false, List, [], ◌∷◌, ◌++◌, drop, None, Ok, refl, sym, ap, ◌∙◌, subst, inl, inr, arith, append_assoc, true≢false}
 use Rattle.std.specs.List.{AllByRecursion, flat_map}
 use Rattle.std.proofs.lemmas.List.{append-nil, length-append}
-use Rattle.std.proofs.lemmas.List.Elements.{filter-append}
-use Rattle.std.proofs.lemmas.Bool.{cases_Bool, eq-eqb, ltb-false, leb-false}
+use Rattle.std.specs.List.Sorted.{IsPermutation}
+use Rattle.std.proofs.lemmas.List.Elements.{filter-append, All-from_recursion, recursion_from_All}
+use Rattle.std.proofs.lemmas.List.Sorted.{IsPermutation-sym, All-permutation}
+use Rattle.std.proofs.lemmas.Bool.{cases_Bool, eq-eqb, eqb-true, ltb-false, leb-false}
 use Rattle.of_types.specs.declared.journal.Act.TheVariants.{Stim, Started, Gave, Gone, Took, Ended, Sent, Got, Lost as WasLost}
+use Rattle.of_match.specs.declared.key.Key.{Key}
 use Rattle.of_wire.specs.declared.message.Message.TheVariants.{BarrierReply}
 use Rattle.of_wire.specs.Spelling.{message_bytes}
 use Rattle.app_frames.specs.declared.frame.Event.{Event}
@@ -16,22 +19,24 @@ use Rattle.lego_model.specs.declared.wait.Awaited.{Awaited}
 use Rattle.lego_model.specs.declared.wait.Heard.{Heard}
 use Rattle.lego_model.specs.declared.wait.Heard.TheVariants.{Reply, Refused, Notice, Echo, Other}
 use Rattle.lego_model.specs.BarrierWaits.{heard, steps_by, kept_by, kept_of, heard_steps, wait_steps, reply_got}
-use Rattle.lego_model.specs.UndoFaults.{IsStepOf}
+use Rattle.lego_model.specs.UndoFaults.{inverse_bytes, IsStepOf}
 use Rattle.net_txn.specs.Net.{NetState}
-use Rattle.net_txn.specs.Views.{is_viewed}
+use Rattle.net_txn.specs.Views.{rows_at}
 use Rattle.net_txn.specs.MessageStore.{bytes_kept, fits, KeptWhereFit}
 use Rattle.net_txn.specs.Losing.{is_among}
-use Rattle.net_txn.specs.Undos.{Part, Inverse, BarrierPassed, Stuck, alone, part_steps, steps_of, parts_of, key_logged, undone_net, next_free, fault_in, first_fault, lost_in, lost_parts, KeepsOne, Keeps, Undoes}
-use Rattle.net_txn.specs.laws.LinkPresenceLaws.{among-front, stays_in}
+use Rattle.net_txn.specs.Undos.{Part, Inverse, BarrierPassed, Stuck, alone, part_steps, steps_of, parts_of, inverses_of, key_logged, keys_of, undone_net, next_free, fault_in, first_fault, lost_in, lost_parts, KeepsOne, Keeps, Undoes}
+use Rattle.net_txn.specs.laws.LinkPresenceLaws.{among-front}
 use Rattle.net_txn.specs.laws.AgreeLaws.{both_none}
-use Rattle.net_txn.specs.laws.AbreastLaws.{lose_all-viewed, without_keys-viewed}
+use Rattle.net_txn.specs.laws.ViewLaws.{viewed}
 use Rattle.net_txn.specs.laws.HeardLaws.{heard-reply}
 use Rattle.net_txn.specs.laws.LoseAllLaws.{lose_all-so}
 use Rattle.net_txn.specs.laws.OutLaws.{ended_none, stuck_lost}
-use Rattle.net_txn.specs.laws.SaidLaws.{all_two}
+use Rattle.net_txn.specs.laws.SaidLaws.{all_two, all_weaker}
 use Rattle.net_txn.specs.laws.RestoreLaws.{part_of, AllRun, runs_here, runs_older}
 use Rattle.run_course.specs.Messages.{got_in, is_one_of, but_of, HasNoRoom, IsFull, IsNotKept, AreKept}
-use Rattle.run_course.specs.Moves.{TakesBack}
+use Rattle.switch_laws.specs.laws.LossLaws.{lose_all-rows, lose_all-rows_gone}
+use Rattle.run_course.specs.Moves.{HasInverse, TakesBack}
+use Rattle.run_laws.specs.laws.TableHoldingLaws.{keys_gone}
 use Rattle.run_laws.specs.laws.HoldingLaws.{holding_of, got_append}
 
 -- ---- Some messages and then others
@@ -198,6 +203,62 @@ parts_joined old new joined (p ∷ older) runs none =
     subst (AllByRecursion (λ m. joined m.0 ≡ true)) (sym (got_append (steps_of older) (part_steps p.0 p.1)))
     (all_two (λ m. joined m.0 ≡ true) (got_in (steps_of older)) (got_in (part_steps p.0 p.1)) before (steps_of_switch joined p.0 (part_steps p.0 p.1) (here_joined (joined p.0) p.0 p.1 older (none p.0)) here))
 
+-- ---- The keys that go: the inverse was sent for each of them.
+
+inverse_still : (d : ℕ) (steps more : List WorldStep) (k : Key) → HasInverse d steps k → HasInverse d (steps ++ more) k
+inverse_still d steps more k has =
+    let sent = has.1 in
+    (has.0, record { before = sent.before; behind = sent.behind ++ more; steps_is = ap (λ (xs : List WorldStep). xs ++ more) sent.steps_is ∙ append_assoc sent.before (Acted (Sent d (inverse_bytes has.0 k)) ∷ sent.behind) more })
+
+-- the keys whose inverses were sent to a switch
+abbrev keys_sent : List Part → List Key
+keys_sent parts = map (λ p. p.1) (inverses_of parts)
+
+part_inverses : (d : ℕ) (p : Part) (older : List Part) (steps : List WorldStep) → AllByRecursion (HasInverse d steps) (keys_sent older) → AllByRecursion (HasInverse d (steps ++ part_steps d p)) (keys_sent (p ∷ older))
+part_inverses d (Inverse xid k) older steps all =
+    let step = part_steps d (Inverse xid k) in
+    ((xid, record { before = steps; behind = []; steps_is = refl }), all_weaker (HasInverse d steps) (HasInverse d (steps ++ step)) (λ key has. inverse_still d steps step key has) (keys_sent older) all)
+part_inverses d (BarrierPassed xid got) older steps all =
+    let more = part_steps d (BarrierPassed xid got) in
+    all_weaker (HasInverse d steps) (HasInverse d (steps ++ more)) (λ key has. inverse_still d steps more key has) (keys_sent older) all
+part_inverses d (Stuck xid halt stuck) older steps all =
+    all_weaker (HasInverse d steps) (HasInverse d (steps ++ stuck)) (λ key has. inverse_still d steps stuck key has) (keys_sent older) all
+
+were_sent : (d : ℕ) (parts : List (ℕ × Part)) → AllByRecursion (HasInverse d (steps_of parts)) (keys_sent (parts_of d parts))
+were_sent d [] = tt
+were_sent d (p ∷ older) = elim (cases_Bool (p.0 == d)) [
+  | inl here ↦
+      let now : AllByRecursion (HasInverse d (steps_of older ++ part_steps p.0 p.1)) (keys_sent (p.1 ∷ parts_of d older)) =
+      subst (λ (c : ℕ). AllByRecursion (HasInverse d (steps_of older ++ part_steps c p.1)) (keys_sent (p.1 ∷ parts_of d older))) (sym (eqb-true p.0 d here)) (part_inverses d p.1 (parts_of d older) (steps_of older) (were_sent d older)) in
+      rw here now
+  | inr other ↦
+      let more = part_steps p.0 p.1 in
+      rw other (all_weaker (HasInverse d (steps_of older)) (HasInverse d (steps_of older ++ more)) (λ key has. inverse_still d (steps_of older) more key has) (keys_sent (parts_of d older)) (were_sent d older))
+]
+
+-- the keys of one switch, in another order
+
+abbrev IfOf : ℕ → (Key → Type 0) → ℕ × Key → Type 0
+IfOf d P p = p.0 ≡ d → P p.1
+
+keys_all : (d : ℕ) (P : Key → Type 0) (ps : List (ℕ × Key)) → AllByRecursion P (keys_of d ps) → AllByRecursion (IfOf d P) ps
+keys_all d P [] all = tt
+keys_all d P (p ∷ ps) all = elim (cases_Bool (p.0 == d)) [
+  | inl here ↦ let both : AllByRecursion P (p.1 ∷ keys_of d ps) = subst (λ (b : Bool). AllByRecursion P (if b then p.1 ∷ keys_of d ps else keys_of d ps)) here all in ((λ is. both.0), keys_all d P ps both.1)
+  | inr other ↦ ((λ is. absurd (true≢false (sym (eq-eqb p.0 d is) ∙ other))), keys_all d P ps (subst (λ (b : Bool). AllByRecursion P (if b then p.1 ∷ keys_of d ps else keys_of d ps)) other all))
+]
+
+all_keys : (d : ℕ) (P : Key → Type 0) (ps : List (ℕ × Key)) → AllByRecursion (IfOf d P) ps → AllByRecursion P (keys_of d ps)
+all_keys d P [] all = tt
+all_keys d P (p ∷ ps) all = elim (cases_Bool (p.0 == d)) [
+  | inl here ↦ rw here (all.0 (eqb-true p.0 d here), all_keys d P ps all.1)
+  | inr other ↦ rw other (all_keys d P ps all.1)
+]
+
+keys_moved : (d : ℕ) (P : Key → Type 0) (logged keys : List (ℕ × Key)) → IsPermutation logged keys → AllByRecursion P (keys_of d keys) → AllByRecursion P (keys_of d logged)
+keys_moved d P logged keys moved all =
+    all_keys d P logged (recursion_from_All (IfOf d P) logged (All-permutation (IfOf d P) keys logged (IsPermutation-sym logged keys moved) (All-from_recursion (IfOf d P) keys (keys_all d P keys all))))
+
 -- ---- The whole
 
 pub undo_moves : {Own Tells : Type 0} {start : ℕ} (old new : Seen Own) (net now_net : NetState) (queue : List Event) → Tells → Undoes Tells start old new net now_net (Ok tt) → TakesBack (holding_of old net queue) (holding_of new now_net queue)
@@ -205,13 +266,18 @@ undo_moves {start = start} old new net now_net queue told u =
     let lost = lost_parts u.parts in
     let runs : AllRun old.counts new.counts u.parts = λ d. (u.each d).run in
     let left = record (undone_net start net) { xid = next_free net.xid u.parts; kept = u.kept; room = now_net.room } in
+    let logged = map key_logged (drop start net.log) in
     record {
       lost = lost;
-      told = λ joined. u.losses told joined;
-      joined = λ e. ap (λ (n : NetState). is_viewed e n.views) u.net_is ∙ lose_all-viewed e lost left ∙ ap (stays_in e lost) (without_keys-viewed e (map key_logged (drop start net.log)) net.views);
+      told = λ joined. u.losses told (λ d is. joined d (sym (viewed d net.views) ∙ is));
       steps = steps_of u.parts;
       history = u.told told;
-      were_in = parts_joined old.counts new.counts (λ e. is_viewed e net.views) u.parts runs (λ d. (u.each d).unknown);
+      keys = λ d. keys_of d logged;
+      inverses = λ d stays is. keys_moved d (HasInverse d (steps_of u.parts)) logged u.keys u.ordered.same
+          (subst (AllByRecursion (HasInverse d (steps_of u.parts))) ((u.each d).keys_is (viewed d net.views ∙ is) (u.none_failed refl d ∙ stays)) (were_sent d u.parts));
+      out = λ d goes. ap (λ (n : NetState). rows_at d n.views) u.net_is ∙ lose_all-rows_gone lost d left goes;
+      tables = λ d stays. ap (λ (n : NetState). rows_at d n.views) u.net_is ∙ (lose_all-rows lost d left stays ∙ keys_gone d logged net.views);
+      were_in = parts_joined old.counts new.counts (λ e. is_some (rows_at e net.views)) u.parts runs (λ d out. (u.each d).unknown (viewed d net.views ∙ out));
       kept = subst (AreKept lost (got_in (steps_of u.parts)) (but_of lost net.kept)) (sym (ap (λ (n : NetState). n.kept) u.net_is ∙ ap (λ (n : NetState). n.kept) (lose_all-so lost left)))
           (parts_kept old.counts new.counts lost u.parts net.kept u.kept runs (ended_none (first_fault u.parts) u.result_is) (λ e is. is) u.keeps);
       queue = refl;
