@@ -3,7 +3,7 @@
 -- the room, is our own choice.
 use Rattle.std.specs.Prelude.{◌≡◌, ◌==◌, ◌⊎◌, ℕ, ◌<◌, ◌≤◌, Bool, true, false, not, List, [], ◌∷◌, ◌++◌, length, map, filter, filter_map, Option, Some, None, Result, Ok, Err, if◌then◌else◌}
 use Rattle.std.specs.List.{list_any, flat_map}
-use Rattle.of_types.specs.Fields.{number_at, number_bytes}
+use Rattle.of_types.specs.Fields.{number_bytes}
 use Rattle.of_types.specs.declared.journal.Act.TheVariants.{Sent, Got}
 use Rattle.of_wire.specs.declared.message.Message.{Message}
 use Rattle.of_wire.specs.declared.message.Message.TheVariants.{FlowRemoved, Error}
@@ -19,7 +19,7 @@ use Rattle.lego_model.specs.declared.wait.Awaited.{Awaited}
 use Rattle.lego_model.specs.declared.wait.Heard.{Heard}
 use Rattle.lego_model.specs.declared.wait.Heard.TheVariants.{Refused}
 use Rattle.lego_model.specs.Events.{event_of_message}
-use Rattle.lego_model.specs.BarrierWaits.{next_xid, heard, kept_by, barrier_sent, wait_steps, reply_got}
+use Rattle.lego_model.specs.BarrierWaits.{heard, kept_by, barrier_sent, wait_steps, reply_got}
 use Rattle.run_course.specs.Tables.{Tables, with_table, key_of, asks, rows_without}
 
 -- ---- The events that a message makes
@@ -76,11 +76,7 @@ pub record GotNone (before after : List WorldStep) : Type 0 where
 
 -- ---- A wait for the reply to a barrier
 
--- It was sent behind these messages. No refusal of them is awaited, or there is one alone, whose refusal is.
-abbrev pub IsBehind : Awaited → List (List ℕ) → Type 0
-IsBehind a sent = (a.first ≡ a.barrier) ⊎ ((frame : List ℕ) × (sent ≡ frame ∷ []) × (a.first ≡ number_at 4 4 frame) × (a.barrier ≡ next_xid a.first))
-
--- some message before the reply refuses one of those messages
+-- some message that came is an ERROR that refuses what the wait is about (5.4.4 Error Message)
 abbrev pub is_refusal : Heard → Bool
 is_refusal (Refused refusal) = true
 is_refusal _ = false
@@ -95,7 +91,6 @@ sent_steps d sent = map (λ bytes. Acted (Sent d bytes)) sent
 pub record Waited (before after : List WorldStep) : Type 0 where
   pub awaited : Awaited
   pub sent : List (List ℕ)
-  pub behind : IsBehind awaited sent
   pub got : List (List ℕ)
   pub history : after ≡ before ++ (sent_steps awaited.dpid sent ++ (barrier_sent awaited ∷ (wait_steps awaited got ++ reply_got awaited ∷ [])))
 

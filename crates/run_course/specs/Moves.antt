@@ -24,7 +24,7 @@ use Rattle.outside.specs.State.{state, is_joined}
 use Rattle.outside.specs.Calls.{stim_steps}
 use Rattle.lego_model.specs.declared.wait.Notices.TheVariants as notices
 use Rattle.lego_model.specs.Answers.{as_sent}
-use Rattle.lego_model.specs.BarrierWaits.{kept_of}
+use Rattle.lego_model.specs.BarrierWaits.{next_xid, kept_of}
 use Rattle.lego_model.specs.History.{lost_of}
 use Rattle.lego_model.specs.UndoFaults.{WasSent, IsStepOf}
 use Rattle.run_course.specs.Tables.{Tables, is_in, SameTables, SameBut, with_table, rows_with, rows_without}
@@ -75,13 +75,14 @@ abbrev pub tables_by : Bool → ℕ → Change → Tables → Tables
 tables_by refused d m tables = if refused then tables else with_table d (rows_with m) tables
 
 -- The message that was asked is a change. It was sent to its switch, which is joined, and waited for. What came is kept behind the others, but for
--- what the wait is about: a notice of an entry that was deleted is held for the turn.
+-- what the wait is about: an ERROR that refuses the change, and a notice of an entry that was deleted, which is held for the turn.
 pub record Changes {Own : Type 0} (asked : ℕ × List ℕ) (from to : Holding Own) : Type 0 where
   pub xid : ℕ
   pub change : Change
   pub read : reading_of asked.1 ≡ Ok (enveloped xid (FlowMod change))
   pub waited : Waited from.seen.history to.seen.history
   pub of_switch : waited.awaited.dpid ≡ asked.0
+  pub barrier : waited.awaited.barrier ≡ next_xid waited.awaited.first
   pub notices : waited.awaited.notices ≡ notices.Held
   pub sent : waited.sent ≡ message_bytes waited.awaited.first (as_sent (FlowMod change)) ∷ []
   pub was_in : is_in asked.0 from.tables ≡ true
@@ -89,9 +90,10 @@ pub record Changes {Own : Type 0} (asked : ℕ × List ℕ) (from to : Holding O
   pub kept : to.kept ≡ from.kept ++ kept_of waited.awaited waited.got
   pub queue : to.queue ≡ from.queue
 
--- A packet was released to a switch that is joined: what came becomes events at once, each notice too.
+-- A packet was released to a switch that is joined: what came becomes events at once, an ERROR or a notice as any other message.
 pub record Releases {Own : Type 0} (from to : Holding Own) : Type 0 where
   pub waited : Waited from.seen.history to.seen.history
+  pub no_refusal : waited.awaited.first ≡ waited.awaited.barrier
   pub notices : waited.awaited.notices ≡ notices.Kept
   pub was_in : is_in waited.awaited.dpid from.tables ≡ true
   pub tables : SameTables (tables_behind (kept_of waited.awaited waited.got) from.tables) to.tables
@@ -198,6 +200,7 @@ pub record Joins {Own : Type 0} (from to : Holding Own) : Type 0 where
   pub read : reading_of bytes ≡ Ok (enveloped xid (FeaturesReply features))
   pub waited : Waited mid to.seen.history
   pub of_switch : waited.awaited.dpid ≡ dpid
+  pub no_refusal : waited.awaited.first ≡ waited.awaited.barrier
   pub notices : waited.awaited.notices ≡ notices.Dropped
   pub was_out : is_in dpid from.tables ≡ false
   pub empty : to.tables dpid ≡ Some []

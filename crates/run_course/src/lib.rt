@@ -1,5 +1,6 @@
 //! The course of a run, in any world that tells: what is kept of the messages that come while something else is awaited, and which events wait.
 //!
-//! There are definitions alone: `specs/Messages.antt` has what becomes of messages, `specs/Moves.antt` the moves of a run, and `specs/Parts.antt`
-//! its parts, one behind the other.
+//! There are definitions alone: `specs/Tables.antt` has the tables as the owners of their entries see them, `specs/Messages.antt` what becomes of
+//! messages, `specs/Moves.antt` the moves of a run, `specs/Asked.antt` what an application asks, `specs/Turns.antt` its turn, and
+//! `specs/Parts.antt` the parts of a run, one behind the other.
 #![tactic(auto)]

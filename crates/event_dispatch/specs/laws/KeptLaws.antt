@@ -8,7 +8,6 @@ use Rattle.of_types.specs.Fields.{number_at}
 use Rattle.of_types.specs.declared.port_desc.PortDesc.{PortDesc}
 use Rattle.of_wire.specs.Reading.{reading_of}
 use Rattle.of_wire.specs.declared.message.Message.{Message}
-use Rattle.of_wire.specs.declared.message.Message.TheVariants as messages
 use Rattle.of_wire.specs.declared.message.Message.TheVariants.{BarrierReply}
 use Rattle.of_wire.specs.Spelling.{message_bytes}
 use Rattle.of_wire.specs.declared.message.Envelope.{Envelope}

@@ -1,5 +1,5 @@
 -- Laws of the transaction ids of the engine's own messages, over parts of a run that follow one another.
-use Rattle.std.specs.Prelude.{◌≡◌, ◌≤◌, ◌^◌, ℕ, ◌++◌, Bool, true, List, [], ◌∷◌, Option, Some, None, IsOk, IsErr, Result, Ok, Err, refl}
+use Rattle.std.specs.Prelude.{◌≡◌, ◌≤◌, ◌^◌, ℕ, ◌++◌, Bool, List, [], ◌∷◌, Option, Some, None, IsOk, IsErr, Result, Ok, Err, refl}
 use Rattle.std.proofs.Common.{sym, ap, ◌∙◌, subst, append_assoc, arith, true≢false}
 use Rattle.std.proofs.lemmas.List.{append-nil}
 use Rattle.of_types.specs.declared.journal.WorldStim.{WorldStim}

@@ -28,7 +28,6 @@ use Rattle.lego_model.specs.declared.wait.Heard.TheVariants.{Reply, Refused, Not
 use Rattle.lego_model.specs.Answers.{as_sent}
 use Rattle.lego_model.specs.Packets.{Held}
 use Rattle.lego_model.specs.BarrierWaits.{heard, barrier_sent, wait_steps, reply_got}
-use Rattle.lego_model.specs.laws.OwnIdLaws.{xid_sent}
 use Rattle.net_txn.specs.declared.ports.KnownPorts.{KnownPorts}
 use Rattle.net_txn.specs.Net.{NetState, awaited_from}
 use Rattle.net_txn.specs.Views.{rows_at, is_viewed, with_row, row_in, with_added, rows_after}
@@ -44,7 +43,7 @@ use Rattle.switch_laws.specs.laws.AskedLaws.{asked}
 use Rattle.switch_laws.specs.laws.LossLaws.{rows-gone, rows-stay}
 use Rattle.batch_laws.specs.Knowledge.{left_events, ports_lost}
 use Rattle.run_course.specs.Tables.{rows_with, row_asked}
-use Rattle.run_course.specs.Messages.{got_in, GotNone, is_refusal, is_refused, all_events, tables_behind, IsBehind, sent_steps, Waited}
+use Rattle.run_course.specs.Messages.{got_in, GotNone, is_refusal, is_refused, all_events, tables_behind, sent_steps, Waited}
 use Rattle.run_course.specs.Moves as course
 use Rattle.run_course.specs.Moves.{Holding, HoldsStill, Calls, tables_by, Releases, IsLeaveOf, Loses, Go, OneByOne, EndMove}
 use Rattle.run_course.specs.Turns.{TalkMove}
@@ -93,12 +92,11 @@ moves_then Move a b c before after = record { stops = before.stops ++ after.stop
 
 -- ---- A wait
 
-abbrev pub waited_by : {Own Tells : Type 0} {a : Awaited} {old new : Seen Own} {kept now_kept : List (ℕ × List ℕ)} {answer : Brought} (sent : List (List ℕ)) → IsBehind a sent → Tells
+abbrev pub waited_by : {Own Tells : Type 0} {a : Awaited} {old new : Seen Own} {kept now_kept : List (ℕ × List ℕ)} {answer : Brought} (sent : List (List ℕ)) → Tells
     → Waits Tells a (sent_steps a.dpid sent ++ barrier_sent a ∷ []) old new kept now_kept answer → Waited old.history new.history
-waited_by {a = a} {old = old} sent behind told waits = record {
+waited_by {a = a} {old = old} sent told waits = record {
   awaited = a;
   sent = sent;
-  behind = behind;
   got = waits.got;
   history = waits.hears.told told ∙ ap (λ (steps : List WorldStep). old.history ++ steps) (append_assoc (sent_steps a.dpid sent) (barrier_sent a ∷ []) (wait_steps a waits.got ++ reply_got a ∷ []));
 }
@@ -205,8 +203,9 @@ change_asked {d = d} bytes net now_net queue answer told changes host =
       xid = change.xid;
       change = change.change;
       read = change.read;
-      waited = waited_by (frame ∷ []) (inr (frame, refl, sym (xid_sent net.xid (as_sent (FlowMod change.change)) asks.is_xid.1), refl)) told asks.waits;
+      waited = waited_by (frame ∷ []) told asks.waits;
       of_switch = refl;
+      barrier = refl;
       notices = refl;
       sent = refl;
       was_in = asked_joined d bytes net (rows_at d net.views) refl host;
@@ -244,7 +243,8 @@ packet_sent held old new net now_net queue now_queue told joined sends =
     let first : Knows = (record net { xid = _ }, queue) in
     let came_is = sends.waits.hears.kept_is in
     record {
-      waited = waited_by (message_bytes net.xid (PacketOut held.1) ∷ []) (inl refl) told sends.waits;
+      waited = waited_by (message_bytes net.xid (PacketOut held.1) ∷ []) told sends.waits;
+      no_refusal = refl;
       notices = refl;
       was_in = sym (viewed held.0 net.views) ∙ joined;
       tables = λ e. ap (λ (k : Knows). rows_at e k.0.views) sends.taken ∙ came_tables sends.came first e ∙ ap (λ (ms : List (ℕ × List ℕ)). tables_behind ms (tables_of net.views) e) came_is;

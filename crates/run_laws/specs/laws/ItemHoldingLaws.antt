@@ -139,8 +139,9 @@ joins_so d xid bytes features old mid new net now_net queue now_queue told item 
       xid = xid;
       features = features;
       read = read;
-      waited = waited_by (message_bytes net.xid (messages.FlowMod delete_all) ∷ message_bytes (next_xid net.xid) (messages.SetConfig first_config) ∷ []) (inl refl) told joins.waits;
+      waited = waited_by (message_bytes net.xid (messages.FlowMod delete_all) ∷ message_bytes (next_xid net.xid) (messages.SetConfig first_config) ∷ []) told joins.waits;
       of_switch = refl;
+      no_refusal = refl;
       notices = refl;
       was_out = out;
       empty = ap (rows_at d) joins.views ∙ rows_at-with_view d net.views;
