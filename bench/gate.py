@@ -1,5 +1,5 @@
 #!/usr/bin/env python3
-"""What the gate costs: bench/gate.py [--kept] [--write] [CRATE ..]
+"""What the gate costs: bench/gate.py [--kept] [--write] [CRATE ..]; on two processors: taskset -c 0,1 bench/gate.py ..
 
 Clones the last commit into a temporary folder and runs `rt ci` there, from nothing: with `--anew`, if this kit's `rt ci` keeps what earlier
 runs passed. Where it takes names, only these crates and those below them are run if any are named.
@@ -212,7 +212,7 @@ def measured(names, room, is_kept):
     others = max(busy() - before - whole, 0)
     text = ["Commit %s, `%s`: %s." % (commit, " ".join(words), last), ""]
     text += ["%.0f processor seconds in all, %.0f minutes by the clock on %d processors. Other work kept %.1f of the processors busy meanwhile, so that %s." % (
-        whole, seconds / 60, os.cpu_count(), others / seconds, "the figures are those of a quiet machine" if others < seconds / 10 else "they are higher than on a quiet machine"), ""]
+        whole, seconds / 60, len(os.sched_getaffinity(0)), others / seconds, "the figures are those of a quiet machine" if others < seconds / 10 else "they are higher than on a quiet machine"), ""]
     if is_kept:
         text += ["What this run took from earlier ones has the figures, and the commit, of the run that proved it.", ""]
     rows = joined(watch.figures(), figures_before() if is_kept else {}, commit)
