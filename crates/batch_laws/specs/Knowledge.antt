@@ -2,9 +2,10 @@
 -- of tables, ports and the moment (OpenFlow 1.0.0, 5.4 Asynchronous Messages). All of this is our own.
 use Rattle.std.specs.Prelude.{◌≡◌, ◌==◌, ℕ, Bool, true, false, not, List, [], ◌∷◌, ◌++◌, filter, map, Option, Some, None, Result, Ok, Err, is_some, if◌then◌else◌}
 use Rattle.std.specs.List.{flat_map}
+use Rattle.lego_model.specs.Echoes.{IsEchoRead}
 use Rattle.lego_model.specs.RunReport.{lost_line}
 use Rattle.of_wire.specs.declared.message.Message.{Message}
-use Rattle.of_wire.specs.declared.message.Message.TheVariants.{EchoRequest, FlowRemoved, PortStatus, FeaturesReply}
+use Rattle.of_wire.specs.declared.message.Message.TheVariants.{FlowRemoved, PortStatus, FeaturesReply}
 use Rattle.of_wire.specs.declared.message.Envelope.{Envelope}
 use Rattle.of_wire.specs.declared.fault.WireFault.{WireFault}
 use Rattle.of_wire.specs.Reading.{reading_of}
@@ -104,14 +105,6 @@ handled_all [] k = k
 handled_all (item ∷ items) k = handled_all items (handled item k)
 
 -- ---- A switch is lost: at its joining, which makes no event then; or where its ECHO_REQUEST could not be answered (5.5.2 Echo Request)
-
-abbrev pub IsEcho : Message → Type 0
-IsEcho (EchoRequest payload) = Unit {0}
-IsEcho other = ⊥
-
-abbrev pub IsEchoRead : Result Envelope WireFault → Type 0
-IsEchoRead (Ok e) = IsEcho e.message
-IsEchoRead (Err fault) = ⊥
 
 -- the switch of the number may be lost at this item
 abbrev pub LosesAt : ℕ → WorldStep → Knowledge → Type 0

@@ -17,6 +17,9 @@ pub mod Scripted
 pub mod Answers
 pub mod SessionFacts
 pub mod BarrierWaits
+pub mod KeptMessages
+pub mod Echoes
+pub mod ViewRows
 pub mod FlowQueries
 pub mod History
 pub mod Application

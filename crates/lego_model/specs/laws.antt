@@ -4,3 +4,4 @@ pub mod SessionWordLaws
 pub mod SessionTextLaws
 pub mod SwitchFaultLaws
 pub mod OwnIdLaws
+pub mod KeptMessageLaws

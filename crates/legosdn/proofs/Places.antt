@@ -9,6 +9,7 @@ use Rattle.outside.specs.declared.step.WorldStep.{WorldStep}
 use Rattle.outside.specs.declared.step.WorldStep.TheVariants.{Acted, TookInto, From, Joined, Left, Moment, Idle, End, Opened, NotOpened, NextFailed, SendLost, RecvLost, SendFailed, RecvFailed}
 use Rattle.outside.specs.Seen.{Given, Seen, act_of}
 use Rattle.outside.specs.State.{State, at_first, after_step, after_steps, state, is_running}
+use Rattle.net_txn.specs.laws.SaidLaws.{all_two}
 use Rattle.net_txn.specs.LinkSteps.{MakesNoStrayCall}
 use Rattle.lego_model.specs.UndoFaults.{IsExpectedOnLink, AreExpectedOnLinks}
 use Rattle.app_visor.specs.Dialogues.{KeepsOrder as IsInPlaceOf, CallsKeepOrder as AreInPlaceOf}
@@ -52,13 +53,9 @@ pub all_among : (number : ℕ) (steps : List WorldStep) → AllByRecursion (IsOr
 all_among number [] so = tt
 all_among number (step ∷ steps) so = (step_among number step so.0, all_among number steps so.1)
 
-both_among : (number : ℕ) (xs ys : List WorldStep) → AllByRecursion (IsCallAmong number) xs → AllByRecursion (IsCallAmong number) ys → AllByRecursion (IsCallAmong number) (xs ++ ys)
-both_among number [] ys first rest = rest
-both_among number (x ∷ xs) ys first rest = (first.0, both_among number xs ys first.1 rest)
-
 -- as far as a place all steps were in order, and behind it all calls are for these applications
 pub behind_among : {Own : Type 0} {last seen : Seen Own} (number : ℕ) → AllByRecursion (IsOrderly number) last.history → CallsAmong number last seen → AllByRecursion (IsCallAmong number) seen.history
-behind_among {last} {seen} number ordered own = subst (AllByRecursion (IsCallAmong number)) (sym own.history) (both_among number last.history own.steps (all_among number last.history ordered) own.all)
+behind_among {last} {seen} number ordered own = subst (AllByRecursion (IsCallAmong number)) (sym own.history) (all_two (IsCallAmong number) last.history own.steps (all_among number last.history ordered) own.all)
 
 -- ---- Each step
 

@@ -2,10 +2,10 @@
 use Rattle.std.specs.Prelude.{Bool, true, false, ◌&&◌, nat_lt, nat_le, ◌⊎◌, if◌then◌else◌}
 use Rattle.std.proofs.Common.{inl, inr}
 use Rattle.std.proofs.lemmas.Bool.{ltb-true, leb-true, le-leb, lt-ltb}
-use Rattle.net_txn.specs.Waits.{KeptMore}
 use Rattle.std.proofs.Common.{◌≡◌, ℕ, ◌+◌, ◌-◌, ◌<◌, ◌≤◌, List, [], ◌∷◌, ◌++◌, length, take, drop, refl, sym, ap, ◌∙◌, arith, length-append, length-drop, append_assoc, append-nil, add-one, drop-cons, drop_of_length-le, get_or, subst}
 use Rattle.std.proofs.lemmas.List.{take-append-le, drop-append-le, take_all, drop-drop, length-take-le}
-use Rattle.net_txn.specs.MessageStore.{messages_in, sizes, bytes_kept, fits}
+use Rattle.lego_model.specs.KeptMessages.{bytes_kept, fits}
+use Rattle.net_txn.specs.MessageStore.{messages_in, sizes}
 
 pub length-messages : (es : List (ℕ × ℕ)) (bytes : List ℕ) → length (messages_in es bytes) ≡ length es
 length-messages [] bytes = refl
@@ -102,15 +102,14 @@ fits_last ms ns message is =
 pub record PutLast (d : ℕ) (message : List ℕ) (kept now_kept : List (ℕ × List ℕ)) : Type 0 where
   pub one_or_none : (now_kept ≡ kept ++ (d, message) ∷ []) ⊎ (now_kept ≡ kept)
   pub one : fits kept message ≡ true → now_kept ≡ kept ++ (d, message) ∷ []
-  pub more : KeptMore d kept now_kept
 
 put_if : (fit : Bool) (ms ns now : List (ℕ × List ℕ)) (d : ℕ) (message : List ℕ) → now ≡ (if fit then ns ++ (d, message) ∷ [] else ns) → (fits (ms ++ ns) message ≡ true → fit ≡ true) → PutLast d message (ms ++ ns) (ms ++ now)
 put_if true ms ns now d message is when =
     let added : ms ++ now ≡ (ms ++ ns) ++ (d, message) ∷ [] = ap (λ (k : List (ℕ × List ℕ)). ms ++ k) is ∙ sym (append_assoc ms ns ((d, message) ∷ [])) in
-    record { one_or_none = inl added; one = λ fit. added; more = (message ∷ [], added) }
+    record { one_or_none = inl added; one = λ fit. added }
 put_if false ms ns now d message is when =
     let same : ms ++ now ≡ ms ++ ns = ap (λ (k : List (ℕ × List ℕ)). ms ++ k) is in
-    record { one_or_none = inr same; one = λ fit. absurd (not_true (when fit)); more = ([], same ∙ sym (append-nil (ms ++ ns))) }
+    record { one_or_none = inr same; one = λ fit. absurd (not_true (when fit)) }
 
 pub put_last : (ms ns now kept : List (ℕ × List ℕ)) (d : ℕ) (message : List ℕ) → ms ++ ns ≡ kept → now ≡ (if fits ns message then ns ++ (d, message) ∷ [] else ns) → PutLast d message kept (ms ++ now)
 put_last ms ns now kept d message viewed is =

@@ -129,9 +129,6 @@ pub record Becomes {Own : Type 0} (Tells : Type 0) (d xid : ℕ) (m : Message) (
   pub net_is : now_net ≡ net_after d m net
   pub told : Tells → new.history ≡ old.history ++ arrival_steps d xid m
 
-abbrev pub IsEcho : Message → Type 0
-IsEcho m = (payload : List ℕ) × (m ≡ EchoRequest payload)
-
 -- it is an ECHO_REQUEST that could not be answered: its switch is lost
 pub record ArrivesLost {Own : Type 0} (Tells : Type 0) (d : ℕ) (m : Message) (old new : Seen Own) (net now_net : NetState) (event : Option Event) : Type 0 where
   pub payload : List ℕ
@@ -144,7 +141,7 @@ pub record ArrivesLost {Own : Type 0} (Tells : Type 0) (d : ℕ) (m : Message) (
 -- why it was not taken in: it is an ECHO_REQUEST that could not be answered, or memory ran out
 pub record ArrivalHalts {Own : Type 0} (Tells : Type 0) (d : ℕ) (m : Message) (old new : Seen Own) (halt : Halt) : Type 0 where
   pub halts : SaysHalt Tells d old new halt
-  pub request : halt ≡ Lost → IsEcho m
+  pub request : halt ≡ Lost → (payload : List ℕ) × (m ≡ EchoRequest payload)
 
 -- what a message that was read is taken in as
 pub record TakesIn {Own : Type 0} (Tells : Type 0) (d xid : ℕ) (m : Message) (old new : Seen Own) (net now_net : NetState) (result : Result (Option Event) TxnFault) : Type 0 where

@@ -1,6 +1,7 @@
 -- Messages in a store of fixed size: their bytes, one message behind the other, and of each the switch and the number of bytes.
 -- All of this is our own.
-use Rattle.std.specs.Prelude.{◌≡◌, ◌⊎◌, ℕ, ◌+◌, Bool, false, ◌&&◌, nat_lt, nat_le, List, [], ◌∷◌, ◌++◌, length, take, drop}
+use Rattle.std.specs.Prelude.{◌≡◌, ◌⊎◌, ℕ, ◌+◌, false, List, [], ◌∷◌, ◌++◌, take, drop}
+use Rattle.lego_model.specs.KeptMessages.{fits}
 
 -- the messages, oldest first
 abbrev pub messages_in : List (ℕ × ℕ) → List ℕ → List (ℕ × List ℕ)
@@ -11,15 +12,6 @@ messages_in (e ∷ es) bytes = (e.0, take e.1 bytes) ∷ messages_in es (drop e.
 abbrev pub sizes : List (ℕ × ℕ) → ℕ
 sizes [] = 0
 sizes (e ∷ es) = e.1 + sizes es
-
--- how many bytes messages have together
-abbrev pub bytes_kept : List (ℕ × List ℕ) → ℕ
-bytes_kept [] = 0
-bytes_kept (m ∷ ms) = length m.1 + bytes_kept ms
-
--- A message fits behind others where it is at most the 16,384th, and they have at most 1,048,576 bytes with it.
-abbrev pub fits : List (ℕ × List ℕ) → List ℕ → Bool
-fits kept message = nat_lt (length kept) 16384 && nat_le (bytes_kept kept + length message) 1048576
 
 -- messages come behind others, one after the other: each is kept, or dropped where it does not fit
 abbrev pub KeptWhereFit : List (ℕ × List ℕ) → List (ℕ × List ℕ) → List (ℕ × List ℕ) → Type 0

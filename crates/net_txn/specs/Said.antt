@@ -170,13 +170,13 @@ pub record Treats {Own : Type 0} (Tells : Type 0) (a : Awaited) (storage : Stora
   pub kept_is : KeptAs storage kept (kept_by a.dpid (heard a bytes) bytes) now_kept
   pub answer_is : now_answer ≡ with_heard a.notices (heard a bytes) bytes answer
 
--- it was not: the answer could not be sent, or no memory was left to keep it
-abbrev pub IsUntreated : Storage → Trouble → Type 0
-IsUntreated storage troubles.Full = storage ≡ Growing
-IsUntreated storage trouble = IsOfLink trouble
+-- it was not: the answer to an ECHO_REQUEST could not be sent, or no memory was left to keep it
+abbrev pub IsUntreated : Storage → Heard → Trouble → Type 0
+IsUntreated storage h troubles.Full = storage ≡ Growing
+IsUntreated storage h trouble = IsOfLink trouble × (h ≡ Echo)
 
-pub record TreatsNot {Own : Type 0} (Tells : Type 0) (a : Awaited) (storage : Storage) (old new : Seen Own) (kept now_kept : List (ℕ × List ℕ)) (t : Trouble) : Type 0 where
-  pub why : IsUntreated storage t
+pub record TreatsNot {Own : Type 0} (Tells : Type 0) (a : Awaited) (storage : Storage) (bytes : List ℕ) (old new : Seen Own) (kept now_kept : List (ℕ × List ℕ)) (t : Trouble) : Type 0 where
+  pub why : IsUntreated storage (heard a bytes) t
   pub calls : Calls Tells a.dpid (unsaid a.dpid t) old new
   pub kept_is : now_kept ≡ kept
 
@@ -191,15 +191,15 @@ abbrev pub last_said : ℕ → Option (List ℕ) → Trouble → List ℕ → Li
 last_said d None t buf = unheard d t buf
 last_said d (Some bytes) t buf = Hears d bytes ∷ unsaid d t
 
-abbrev pub IsBreakBehind : List (ℕ × Key) → Storage → List ℕ → Trouble → List ℕ → Type 0
-IsBreakBehind sent storage bytes (troubles.Refused key xid n) buf = (bytes ≡ take n buf) × (key_refused sent bytes ≡ Some key) × (xid ≡ number_at 4 4 bytes)
-IsBreakBehind sent storage bytes trouble buf = IsUntreated storage trouble
+abbrev pub IsBreakBehind : Awaited → List (ℕ × Key) → Storage → List ℕ → Trouble → List ℕ → Type 0
+IsBreakBehind a sent storage bytes (troubles.Refused key xid n) buf = (bytes ≡ take n buf) × (key_refused sent bytes ≡ Some key) × (xid ≡ number_at 4 4 bytes)
+IsBreakBehind a sent storage bytes trouble buf = IsUntreated storage (heard a bytes) trouble
 
 -- behind so many messages
-abbrev pub IsBreak : List (ℕ × Key) → Storage → ℕ → Option (List ℕ) → Trouble → List ℕ → Type 0
-IsBreak sent storage n (Some bytes) trouble buf = IsRead bytes × IsBreakBehind sent storage bytes trouble buf
-IsBreak sent storage n None troubles.Flooded buf = n ≡ flood
-IsBreak sent storage n None trouble buf = IsOfHearing trouble
+abbrev pub IsBreak : Awaited → List (ℕ × Key) → Storage → ℕ → Option (List ℕ) → Trouble → List ℕ → Type 0
+IsBreak a sent storage n (Some bytes) trouble buf = IsRead bytes × IsBreakBehind a sent storage bytes trouble buf
+IsBreak a sent storage n None troubles.Flooded buf = n ≡ flood
+IsBreak a sent storage n None trouble buf = IsOfHearing trouble
 
 -- one message was got, and what was to be done with it was done
 pub record HearsNext {Own : Type 0} (Tells : Type 0) (a : Awaited) (storage : Storage) (sent : List (ℕ × Key)) (old new : Seen Own) (kept now_kept : List (ℕ × List ℕ)) (answer now_answer : Brought) (ended : Bool) : Type 0 where
@@ -213,7 +213,7 @@ pub record HearsNext {Own : Type 0} (Tells : Type 0) (a : Awaited) (storage : St
 
 pub record HearsLast {Own : Type 0} (Tells : Type 0) (a : Awaited) (storage : Storage) (sent : List (ℕ × Key)) (old new : Seen Own) (kept now_kept : List (ℕ × List ℕ)) (buf : List ℕ) (t : Trouble) : Type 0 where
   pub by : Option (List ℕ)
-  pub why : IsBreak sent storage 0 by t buf
+  pub why : IsBreak a sent storage 0 by t buf
   pub calls : Calls Tells a.dpid (last_said a.dpid by t buf) old new
   pub kept_is : now_kept ≡ kept
 
@@ -254,7 +254,7 @@ pub record Unreplied {Own : Type 0} (Tells : Type 0) (a : Awaited) (frames : Lis
   pub before : AreHeard a sent got
   pub kept_is : KeptAs storage kept (kept_of a got) now_kept
   pub by : Option (List ℕ)
-  pub why : IsBreak sent storage (length got) by t buf
+  pub why : IsBreak a sent storage (length got) by t buf
   pub calls : Calls Tells a.dpid (frames_said a.dpid frames ++ (wait_said a got ++ last_said a.dpid by t buf)) old new
 
 -- Only the first of the messages were sent.

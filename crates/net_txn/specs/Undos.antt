@@ -31,6 +31,7 @@ use Rattle.net_txn.specs.declared.halt.Halt.TheVariants.{Lost, Fault}
 use Rattle.lego_model.specs.Packets.{nothing_held}
 use Rattle.lego_model.specs.declared.wait.Awaited.{Awaited}
 use Rattle.lego_model.specs.declared.wait.Notices.TheVariants as notices
+use Rattle.lego_model.specs.declared.wait.Heard.TheVariants.{Echo}
 use Rattle.net_txn.specs.declared.logged.UndoProgress.{UndoProgress}
 use Rattle.net_txn.specs.declared.logged.Logged.{Logged}
 use Rattle.net_txn.specs.declared.trouble.Trouble.{Trouble}
@@ -38,14 +39,14 @@ use Rattle.net_txn.specs.declared.trouble.Trouble.TheVariants as troubles
 use Rattle.lego_model.specs.OwnIds.{own_ids, AscendWithin}
 use Rattle.net_txn.specs.Causes.{IsPlain}
 pub use Rattle.net_txn.specs.Causes.{halt_by}
-use Rattle.lego_model.specs.BarrierWaits.{flood, next_xid, kept_of, wait_steps, barrier_sent, reply_got}
+use Rattle.lego_model.specs.BarrierWaits.{flood, next_xid, heard, kept_of, wait_steps, barrier_sent, reply_got}
+use Rattle.lego_model.specs.KeptMessages.{got_in}
 use Rattle.net_txn.specs.LinkSteps.{OnLinks, MakesNoStrayCall}
 use Rattle.lego_model.specs.UndoFaults.{inverse_bytes, AreBefore, EndsBy, Refuses, Overruns, IsStepOf, GoesWithoutStrays}
 use Rattle.net_txn.specs.Views.{with_rows, is_viewed}
 use Rattle.net_txn.specs.Arriving.{without_key}
 use Rattle.net_txn.specs.Net.{NetState, no_progress}
 use Rattle.lego_model.specs.AfterFault.{FailsInUndo}
-use Rattle.net_txn.specs.Waits.{KeptMore}
 use Rattle.net_txn.specs.MessageStore.{KeptWhereFit}
 use Rattle.net_txn.specs.Agrees.{Agrees}
 use Rattle.net_txn.specs.Losing.{is_among, lose_all}
@@ -111,9 +112,36 @@ pub record HasIdAtMost (xid : ℕ) (halt : Halt) (steps : List WorldStep) : Type
   pub ids : xid + 1 < 2 ^ 32 → AscendWithin xid (own_ids (journal steps)) (xid + 1)
   pub some : halt ≡ Lost → 1 ≤ length steps
 
+-- the fault of a switch, where it is not lost
+abbrev pub fault_by : Halt → Option TxnFault
+fault_by Lost = None
+fault_by (Fault fault) = Some fault
+
+-- A message ended a wait and is not kept: it is what the fault names, or an ECHO_REQUEST that could not be answered.
+abbrev pub IsUnkept : Awaited → Option TxnFault → List ℕ → Type 0
+IsUnkept a (Some (SwitchBroke e bytes)) m = m ≡ bytes
+IsUnkept a (Some (Diverged e inverse bytes)) m = m ≡ bytes
+IsUnkept a (Some (Flooded e n)) m = ⊥
+IsUnkept a (Some NoMemory) m = heard a m ≡ Echo
+IsUnkept a None m = heard a m ≡ Echo
+
+-- By these steps one such message came, or none.
+abbrev pub EndsWait : Awaited → Option TxnFault → List WorldStep → Type 0
+EndsWait a fault steps = (got_in steps ≡ []) ⊎ ((m : List ℕ) × (got_in steps ≡ (a.dpid, m) ∷ []) × IsUnkept a fault m)
+
+-- What these steps leave kept, the last of which failed: of all messages that came those that are nothing to the wait, where they fit.
+pub record KeepsUntil (a : Awaited) (fault : Option TxnFault) (steps : List WorldStep) (kept now_kept : List (ℕ × List ℕ)) : Type 0 where
+  pub front : List WorldStep
+  pub got : List (List ℕ)
+  pub last : List WorldStep
+  pub steps_is : steps ≡ front ++ (wait_steps a got ++ last)
+  pub none_before : got_in front ≡ []
+  pub ends : EndsWait a fault last
+  pub kept_is : KeptWhereFit kept (kept_of a got) now_kept
+
 -- Calls of one switch, the last of which failed, all in place, by which no packet is released; in a world that tells it is lost by them where
 -- it was joined.
-pub record Fails {Own : Type 0} (Tells : Type 0) (d xid : ℕ) (sent : List (ℕ × Key)) (old new : Seen Own) (halt : Halt) : Type 0 where
+pub record Fails {Own : Type 0} (Tells : Type 0) (d xid : ℕ) (sent : List (ℕ × Key)) (old new : Seen Own) (kept now_kept : List (ℕ × List ℕ)) (halt : Halt) : Type 0 where
   pub steps : List WorldStep
   pub ids : HasIdAtMost xid halt steps
   pub moves : Moves Tells d steps old new
@@ -121,6 +149,7 @@ pub record Fails {Own : Type 0} (Tells : Type 0) (d xid : ℕ) (sent : List (ℕ
   pub places : GoesWithoutStrays d steps
   pub quiet : released (journal steps) ≡ []
   pub loses : Tells → is_joined d (state old) ≡ true → LosesBy d halt steps
+  pub keeps : KeepsUntil (alone d xid) (fault_by halt) steps kept now_kept
 
 -- a barrier whose reply was got, at most 65,535 messages before it
 pub record AwaitsReplies {Own : Type 0} (Tells : Type 0) (a : Awaited) (front : List WorldStep) (sent : List (ℕ × Key)) (old new : Seen Own) (kept now_kept : List (ℕ × List ℕ)) : Type 0 where
@@ -130,11 +159,10 @@ pub record AwaitsReplies {Own : Type 0} (Tells : Type 0) (a : Awaited) (front : 
   pub before : AreBefore a sent got
   pub moves : Moves Tells a.dpid (front ++ (wait_steps a got ++ reply_got a ∷ [])) old new
 
--- a barrier, whose reply was got or not, and what was kept before it
+-- a barrier, whose reply was got or not
 pub record PassesBarrier {Own : Type 0} (Tells : Type 0) (d xid : ℕ) (sent : List (ℕ × Key)) (old new : Seen Own) (kept now_kept : List (ℕ × List ℕ)) (buf : List ℕ) (result : Result (Unit {0}) Trouble) : Type 0 where
   pub replied : OnOk result (AwaitsReplies Tells (alone d xid) (barrier_sent (alone d xid) ∷ []) sent old new kept now_kept)
-  pub failed : IfErr result (λ t. Fails Tells d xid sent old new (halt_by d t buf))
-  pub kept_more : KeptMore d kept now_kept
+  pub failed : IfErr result (λ t. Fails Tells d xid sent old new kept now_kept (halt_by d t buf))
 
 -- ---- The parts of an undo, each with its switch, the last one first
 
@@ -173,12 +201,11 @@ abbrev pub AreNumbered : ℕ → List (ℕ × Part) → Type 0
 AreNumbered xid [] = Unit {0}
 AreNumbered xid (p ∷ older) = (xid_of p.1 ≡ next_free xid older) × AreNumbered xid older
 
--- What a part keeps: of the messages before a reply those that are nothing to the wait, where they fit. Of a switch that fails some
--- may be kept.
+-- What a part keeps: of the messages that came those that are nothing to a wait, where they fit.
 abbrev pub KeepsOne : ℕ → Part → List (ℕ × List ℕ) → List (ℕ × List ℕ) → Type 0
 KeepsOne d (Inverse xid k) kept now_kept = now_kept ≡ kept
 KeepsOne d (BarrierPassed xid got) kept now_kept = KeptWhereFit kept (kept_of (alone d xid) got) now_kept
-KeepsOne d (Stuck xid halt steps) kept now_kept = KeptMore d kept now_kept
+KeepsOne d (Stuck xid halt steps) kept now_kept = KeepsUntil (alone d xid) (fault_by halt) steps kept now_kept
 
 abbrev pub Keeps : List (ℕ × List ℕ) → List (ℕ × Part) → List (ℕ × List ℕ) → Type 0
 Keeps kept [] now_kept = now_kept ≡ kept
@@ -202,7 +229,7 @@ IsThinned (x ∷ xs) (y ∷ ys) = ((x ≡ y) × IsThinned xs ys) ⊎ IsThinned (
 
 -- the first fault of all
 abbrev pub fault_in : Part → Option TxnFault
-fault_in (Stuck xid (Fault fault) steps) = Some fault
+fault_in (Stuck xid halt steps) = fault_by halt
 fault_in other = None
 
 abbrev pub first_fault_of : Option TxnFault → Option TxnFault → Option TxnFault
@@ -362,11 +389,6 @@ pub record Further {Own : Type 0} (Tells : Type 0) (views : List TableView) (old
   pub few : (d : ℕ) → since_of (parts_of d parts) < 4096
   pub fault_is : fault ≡ first_fault parts
   pub ports_is : now_ports ≡ ports_lost (lost_parts parts) ports
-
--- the fault of a switch, where it is not lost
-abbrev pub fault_by : Halt → Option TxnFault
-fault_by Lost = None
-fault_by (Fault fault) = Some fault
 
 abbrev pub fault_of : ℕ → Result (Unit {0}) Trouble → List ℕ → Option TxnFault
 fault_of d (Ok x) buf = None

@@ -1,7 +1,8 @@
 //! A store of fixed size for messages that are kept where no memory may be taken.
 
 ghost use Rattle.std.specs.Prelude.{◌≡◌, ◌==◌, ◌≤◌, ◌<◌, ◌+◌, vec_capacity, ◌&&◌, not, nat_lt, nat_le, [], ◌∷◌, ◌++◌, length, filter, IfOk, if◌then◌else◌};
-ghost use Rattle.net_txn.specs.MessageStore.{fits, messages_in, sizes};
+ghost use Rattle.lego_model.specs.KeptMessages.{fits};
+ghost use Rattle.net_txn.specs.MessageStore.{messages_in, sizes};
 
 use of_types::{ByteList, Dpid};
 use std::alloc::{AllocError, Global};

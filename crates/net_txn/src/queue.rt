@@ -1,8 +1,7 @@
 //! Events, and messages of switches, in the order in which they came.
 
-ghost use Rattle.std.specs.Prelude.{◌≡◌, ◌==◌, ◌↔◌, ◌⊎◌, true, not, filter, [], ◌∷◌, ◌++◌, drop, length, slice_get, IsTrue, IfOk, IfErr, OnOk, OnErr};
-ghost use Rattle.net_txn.specs.MessageStore.{fits, KeptWhereFit};
-ghost use Rattle.net_txn.specs.Waits.{KeptMore};
+ghost use Rattle.std.specs.Prelude.{◌≡◌, ◌==◌, ◌↔◌, not, filter, [], ◌∷◌, ◌++◌, drop, length, slice_get, IsTrue, IfOk, IfErr, OnOk, OnErr};
+ghost use Rattle.net_txn.specs.MessageStore.{KeptWhereFit};
 ghost use Rattle.net_txn.specs.declared.queue.Storage.TheVariants.{Growing};
 ghost use Rattle.net_txn.specs.Said.{KeptAs};
 
@@ -183,10 +182,7 @@ impl MessageQueue {
     /// Appends a copy of a message where there is room for it that was taken before, else drops it; takes no memory.
     /// There is room at least where it and all that is kept are at most 16,384 messages of 1,048,576 bytes together.
     pub(crate) fn keep_or_drop(&mut self, dpid: Dpid, message: &[u8])
-        ensures kept_or_dropped { (self.new ≡ self.old ++ (dpid, message.now) ∷ []) ⊎ (self.new ≡ self.old) }
-        ensures fits { fits self.old message.now ≡ true → self.new ≡ self.old ++ (dpid, message.now) ∷ [] }
-        ensures where_fit { KeptWhereFit self.old ((dpid, message.now) ∷ []) self.new }
-        ensures more { KeptMore dpid self.old self.new }
+        ensures { KeptWhereFit self.old ((dpid, message.now) ∷ []) self.new }
     {
         self.store.keep_or_drop(dpid, message);
     }

@@ -90,7 +90,7 @@ fn treat<W: World>(
     requires read { IsOk (reading_of message.old) }
     requires growing { awaited.now.notices ≡ Held → storage ≡ Growing }
     ensures { MatchResult result (Treats W.Tells awaited.now storage message.old (W.seen world.old) (W.seen world.new) kept.old kept.new answer.old answer.new)
-        (TreatsNot W.Tells awaited.now storage (W.seen world.old) (W.seen world.new) kept.old kept.new) }
+        (TreatsNot W.Tells awaited.now storage message.old (W.seen world.old) (W.seen world.new) kept.old kept.new) }
 {
     match classify(message, awaited) {
         Heard::Reply => Ok(true),

@@ -1,10 +1,10 @@
 -- What becomes of the messages that switches send: the events that they make, those that are kept where something else is awaited, and those
 -- that find no room in an undo (OpenFlow 1.0.0, 4.2 Message Handling, 5.3.7 Barrier Message and 5.4 Asynchronous Messages). What is kept, and
 -- the room, is our own choice.
-use Rattle.std.specs.Prelude.{◌≡◌, ◌==◌, ◌⊎◌, ℕ, ◌<◌, ◌≤◌, Bool, true, false, not, List, [], ◌∷◌, ◌++◌, length, map, filter, filter_map, Option, Some, None, Result, Ok, Err, if◌then◌else◌}
-use Rattle.std.specs.List.{list_any, flat_map}
+use Rattle.std.specs.Prelude.{◌≡◌, ◌==◌, ◌⊎◌, ℕ, Bool, true, false, not, List, [], ◌∷◌, ◌++◌, map, filter, Option, Some, None, Result, Ok, Err, if◌then◌else◌}
+use Rattle.std.specs.List.{list_any}
 use Rattle.of_types.specs.Fields.{number_bytes}
-use Rattle.of_types.specs.declared.journal.Act.TheVariants.{Sent, Got}
+use Rattle.of_types.specs.declared.journal.Act.TheVariants.{Sent}
 use Rattle.of_wire.specs.declared.message.Message.{Message}
 use Rattle.of_wire.specs.declared.message.Message.TheVariants.{FlowRemoved, Error}
 use Rattle.of_wire.specs.declared.message.Envelope.{Envelope}
@@ -16,11 +16,14 @@ use Rattle.app_frames.specs.declared.frame.EventKind.TheVariants as kinds
 use Rattle.outside.specs.declared.step.WorldStep.{WorldStep}
 use Rattle.outside.specs.declared.step.WorldStep.TheVariants.{Acted}
 use Rattle.lego_model.specs.declared.wait.Awaited.{Awaited}
+use Rattle.lego_model.specs.declared.wait.Notices.TheVariants as notices
 use Rattle.lego_model.specs.declared.wait.Heard.{Heard}
 use Rattle.lego_model.specs.declared.wait.Heard.TheVariants.{Refused}
 use Rattle.lego_model.specs.Events.{event_of_message}
 use Rattle.lego_model.specs.BarrierWaits.{heard, kept_by, barrier_sent, wait_steps, reply_got}
-use Rattle.run_course.specs.Tables.{Tables, with_table, key_of, asks, rows_without}
+use Rattle.lego_model.specs.KeptMessages.{got_in, fits}
+use Rattle.lego_model.specs.ViewRows.{rows_without}
+use Rattle.run_course.specs.Tables.{Tables, with_table, key_of, asks}
 
 -- ---- The events that a message makes
 
@@ -59,16 +62,7 @@ tables_behind (m ∷ more) tables = tables_behind more (tables_read m.0 (reading
 
 -- ---- Steps of a history
 
--- the message that came by this step, where one was awaited
-abbrev pub got_of : WorldStep → Option (ℕ × List ℕ)
-got_of (Acted (Got d bytes)) = Some (d, bytes)
-got_of step = None
-
--- all of them, in order, each with its switch
-abbrev pub got_in : List WorldStep → List (ℕ × List ℕ)
-got_in steps = filter_map got_of steps
-
--- the history went on, and none came
+-- the history went on, and no message came that was awaited
 pub record GotNone (before after : List WorldStep) : Type 0 where
   pub steps : List WorldStep
   pub history : after ≡ before ++ steps
@@ -104,29 +98,17 @@ is_one_of switches d = list_any (λ e. e == d) switches
 abbrev pub but_of : List ℕ → List (ℕ × List ℕ) → List (ℕ × List ℕ)
 but_of switches messages = filter (λ m. not (is_one_of switches m.0)) messages
 
--- With the message there would be more than 16,384, or more than 1,048,576 bytes.
-abbrev pub HasNoRoom : List (ℕ × List ℕ) → ℕ × List ℕ → Type 0
-HasNoRoom stored m = (16384 ≤ length stored) ⊎ (1048576 < length (flat_map (λ x. x.1) (stored ++ m ∷ [])))
-
--- A store has no room for it, in which these messages stand, and besides them none but of the switches that are lost.
-pub record IsFull (lost : List ℕ) (kept : List (ℕ × List ℕ)) (m : ℕ × List ℕ) : Type 0 where
-  pub stored : List (ℕ × List ℕ)
-  pub stored_is : but_of lost stored ≡ kept
-  pub no_room : HasNoRoom stored m
-
--- A wait keeps it not that awaits no refusal: it is the reply to a barrier, or an ECHO_REQUEST, which is answered, or a notice of an entry that
--- was deleted.
-pub record IsNotKept (m : ℕ × List ℕ) : Type 0 where
+-- An undo awaits the reply to a barrier alone, and this is kept of a message that comes meanwhile: nothing of the reply, of an ECHO_REQUEST, which
+-- is answered, and of a notice of an entry that was deleted; all others are kept.
+pub record HeardInUndo (m : ℕ × List ℕ) (kept : List (ℕ × List ℕ)) : Type 0 where
   pub awaited : Awaited
   pub of_switch : awaited.dpid ≡ m.0
   pub no_refusal : awaited.first ≡ awaited.barrier
-  pub none : kept_by m.0 (heard awaited m.1) m.1 ≡ []
+  pub notices : awaited.notices ≡ notices.Dropped
+  pub kept_is : kept ≡ kept_by m.0 (heard awaited m.1) m.1
 
-abbrev pub IsDropped : List ℕ → List (ℕ × List ℕ) → ℕ × List ℕ → Type 0
-IsDropped lost kept m = (is_one_of lost m.0 ≡ true) ⊎ IsNotKept m ⊎ IsFull lost kept m
-
--- Of messages that came behind others these are kept, none of them of a switch that is lost, and the others are dropped.
-abbrev pub AreKept : List ℕ → List (ℕ × List ℕ) → List (ℕ × List ℕ) → List (ℕ × List ℕ) → Type 0
-AreKept lost [] kept now_kept = now_kept ≡ kept
-AreKept lost (m ∷ more) kept now_kept =
-    ((is_one_of lost m.0 ≡ false) × AreKept lost more (kept ++ m ∷ []) now_kept) ⊎ (IsDropped lost kept m × AreKept lost more kept now_kept)
+-- Each of the messages that came is put behind those that are stored, but for those that are not kept, and those for which there is no room.
+abbrev pub AreStored : List (ℕ × List ℕ) → List (ℕ × List ℕ) → List (ℕ × List ℕ) → Type 0
+AreStored [] stored now_stored = now_stored ≡ stored
+AreStored (m ∷ more) stored now_stored =
+    (HeardInUndo m (m ∷ []) × AreStored more (stored ++ m ∷ []) now_stored) ⊎ (HeardInUndo m [] × AreStored more stored now_stored) ⊎ ((fits stored m.1 ≡ false) × AreStored more stored now_stored)

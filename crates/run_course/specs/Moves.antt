@@ -27,8 +27,11 @@ use Rattle.lego_model.specs.Answers.{as_sent}
 use Rattle.lego_model.specs.BarrierWaits.{next_xid, kept_of}
 use Rattle.lego_model.specs.History.{lost_of}
 use Rattle.lego_model.specs.UndoFaults.{WasSent, IsStepOf}
-use Rattle.run_course.specs.Tables.{Tables, is_in, SameTables, SameBut, with_table, rows_with, rows_without}
-use Rattle.run_course.specs.Messages.{got_in, GotNone, is_refused, Waited, events_read, tables_read, all_events, tables_behind, AreKept, is_one_of, but_of}
+use Rattle.lego_model.specs.Echoes.{IsEchoRead}
+use Rattle.lego_model.specs.KeptMessages.{got_in}
+use Rattle.lego_model.specs.ViewRows.{rows_without}
+use Rattle.run_course.specs.Tables.{Tables, is_in, SameTables, SameBut, with_table, rows_with}
+use Rattle.run_course.specs.Messages.{GotNone, is_refused, Waited, events_read, tables_read, all_events, tables_behind, is_one_of, but_of, AreStored}
 
 pub record Holding (Own : Type 0) : Type 0 where
   pub seen : Seen Own
@@ -131,7 +134,7 @@ HasInverse d steps key = (xid : ℕ) × WasSent d xid key steps
 
 -- The changes of a turn were undone: of each switch that stays these keys are gone, for each of which the inverse was sent. Switches may be lost in
 -- it, which the history tells, where it tells of each joined switch that it joined. What came is of switches that were joined, and is kept where
--- there is room.
+-- there is room; then those of the switches that are lost go.
 pub record TakesBack {Own : Type 0} (from to : Holding Own) : Type 0 where
   pub lost : List ℕ
   pub told : AreJoined from → lost_of to.seen ≡ lost_of from.seen ++ lost
@@ -142,7 +145,9 @@ pub record TakesBack {Own : Type 0} (from to : Holding Own) : Type 0 where
   pub out : (d : ℕ) → is_one_of lost d ≡ true → to.tables d ≡ None
   pub tables : (d : ℕ) → is_one_of lost d ≡ false → to.tables d ≡ option_map (rows_without (keys d)) (from.tables d)
   pub were_in : OfJoined from (got_in steps)
-  pub kept : AreKept lost (got_in steps) (but_of lost from.kept) to.kept
+  pub stored : List (ℕ × List ℕ)
+  pub came : AreStored (got_in steps) from.kept stored
+  pub kept : to.kept ≡ but_of lost stored
   pub queue : to.queue ≡ from.queue
 
 -- ---- What is told next
@@ -219,9 +224,9 @@ pub record Leaves {Own : Type 0} (from to : Holding Own) : Type 0 where
   pub body : List ℕ
   pub queued : AreQueued (record { kind = kinds.Leave; dpid = dpid; body = body } ∷ []) from to
 
--- a message of this switch, which is joined, or its join
+-- an ECHO_REQUEST of this switch, which is joined, or its join
 abbrev pub MayLose : ℕ → Tables → WorldStep → Type 0
-MayLose d tables (From e bytes) = (e ≡ d) × (is_in d tables ≡ true)
+MayLose d tables (From e bytes) = (e ≡ d) × (is_in d tables ≡ true) × IsEchoRead (reading_of bytes)
 MayLose d tables (Joined e bytes) = (e ≡ d) × (is_in d tables ≡ false)
 MayLose d tables other = ⊥
 

@@ -1,7 +1,7 @@
 -- The tables of the switches that are joined, as the owners of their entries see them, and what a change, a notice and an undo make of them
 -- (OpenFlow 1.0.0, 4.6 Flow Table Modification Messages, 5.3.3 Modify State Messages and 5.4.2 Flow Removed Message). That the tables are kept
 -- is our own choice.
-use Rattle.std.specs.Prelude.{◌≡◌, ◌≢◌, ◌==◌, ◌&&◌, ℕ, ◌%◌, Bool, false, List, [], ◌∷◌, Option, Some, None, is_some, if◌then◌else◌}
+use Rattle.std.specs.Prelude.{◌≡◌, ◌≢◌, ◌==◌, ◌&&◌, ℕ, ◌%◌, Bool, false, List, Option, Some, None, is_some, if◌then◌else◌}
 use Rattle.std.specs.List.{list_any}
 use Rattle.std.specs.Option.{option_map}
 use Rattle.of_match.specs.declared.key.Key.{Key}
@@ -9,7 +9,7 @@ use Rattle.of_match.specs.Key.{key_number}
 use Rattle.of_wire.specs.declared.bodies.FlowMod.{FlowMod}
 use Rattle.of_wire.specs.declared.bodies.FlowRemoved.{FlowRemoved}
 use Rattle.flow_table.specs.declared.view.ViewRow.{ViewRow}
-use Rattle.flow_table.specs.Sorted.{row_place, with_item, without_place}
+use Rattle.flow_table.specs.Sorted.{row_place, with_item}
 use Rattle.flow_table.specs.Change.{asks_notice, is_delete, key_in}
 
 -- of each switch its rows in key order, while it is joined
@@ -49,9 +49,3 @@ key_of f = record { priority = f.priority; matching = f.matching }
 abbrev pub asks : Key → Option (List ViewRow) → Bool
 asks k None = false
 asks k (Some rows) = list_any (λ r. row_place r == key_number k && asks_notice r.flags) rows
-
--- ---- Rows that go
-
-abbrev pub rows_without : List Key → List ViewRow → List ViewRow
-rows_without [] rows = rows
-rows_without (k ∷ ks) rows = rows_without ks (without_place row_place (key_number k) rows)

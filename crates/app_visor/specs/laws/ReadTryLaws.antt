@@ -28,7 +28,7 @@ use Rattle.app_visor.specs.laws.JournalLaws.{acts_append}
 
 -- ---- The acts of one attempt
 
-abbrev all_of_try : ℕ → Bool → Attempt → List Act
+abbrev pub all_of_try : ℕ → Bool → Attempt → List Act
 all_of_try app running attempt = end_acts running app ++ Started app attempt.stands ∷ attempt.acts
 
 pub calls_end : (app : ℕ) (running : Bool) → Calls app (end_acts running app)

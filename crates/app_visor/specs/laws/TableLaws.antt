@@ -47,7 +47,7 @@ done_is table false xs s end stop checkpoint rest answers outcome agrees allows 
 
 -- ---- A message that was not asked next
 
-told_none : {Own : Type 0} (gone : Bool) (answer : Answer) (later : Played (Asking Own)) → later.state ≡ None → (told_to gone (answer, None) later).state ≡ None
+pub told_none : {Own : Type 0} (gone : Bool) (answer : Answer) (later : Played (Asking Own)) → later.state ≡ None → (told_to gone (answer, None) later).state ≡ None
 told_none true answer later none = refl
 told_none false answer later none = none
 
@@ -55,7 +55,7 @@ done_none : {Own : Type 0} (judged : Bool) (stop : Bool) (checkpoint : Option (L
 done_none true stop checkpoint rest = refl
 done_none false stop checkpoint rest = refl
 
-none_stays : (Own : Type 0) (judged : Bool) (left : ℕ) (given : Option ℕ) (end : End) (next : Next) → (turn_from {State = Asking Own} (oracle judged) left given end [] None next).state ≡ None
+pub none_stays : (Own : Type 0) (judged : Bool) (left : ℕ) (given : Option ℕ) (end : End) (next : Next) → (turn_from {State = Asking Own} (oracle judged) left given end [] None next).state ≡ None
 unfolding turn_from oracle
 none_stays Own judged zero given end (Framed frame rest pieces) = refl
 none_stays Own judged zero given end (Faulty fault) = refl
@@ -75,7 +75,7 @@ no_none {Own = Own} played answers outcome none is = let e : played.state ≡ So
 
 -- ---- A message that was asked next
 
-same_bytes_is : (xs ys : List ℕ) → same_bytes xs ys ≡ true → xs ≡ ys
+pub same_bytes_is : (xs ys : List ℕ) → same_bytes xs ys ≡ true → xs ≡ ys
 same_bytes_is [] [] is = refl
 same_bytes_is [] (y ∷ ys) is = absurd cc
 same_bytes_is (x ∷ xs) [] is = absurd cc

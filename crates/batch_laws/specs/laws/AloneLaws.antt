@@ -26,7 +26,7 @@ use Rattle.outside.specs.declared.step.WorldStep.{WorldStep}
 use Rattle.outside.specs.declared.step.WorldStep.TheVariants.{From, Joined, Left, Moment}
 use Rattle.outside.specs.State.{Link, State, link_of, with_link, link_joined, link_left, switch_of, is_joined, join_due, stimulus_sends, after_stim, upcoming}
 use Rattle.batch_laws.specs.Alone.{EchoAlone, JoinAlone}
-use Rattle.batch_laws.specs.Knowledge.{IsEchoRead}
+use Rattle.lego_model.specs.Echoes.{IsEchoRead}
 use Rattle.batch_laws.specs.LinkTells.{items_of}
 use Rattle.batch_laws.specs.Waiting.{NoneWait}
 use Rattle.batch_laws.specs.laws.FrameTellLaws.{front-kind, frame-sent}

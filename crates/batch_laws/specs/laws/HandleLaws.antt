@@ -20,7 +20,8 @@ use Rattle.net_txn.specs.declared.ports.KnownPorts.{KnownPorts}
 use Rattle.net_txn.specs.LinkSteps.{OnLinks, AsksWithoutStrays}
 use Rattle.net_txn.specs.Losing.{lost_net}
 use Rattle.net_txn.specs.Arriving.{net_after, Becomes, ArrivesLost, Arrives}
-use Rattle.batch_laws.specs.Knowledge.{Knowledge, knowledge_of, with_event, views_by, ports_by, told_message, joined_read, left_by, handled, IsEchoRead, left_events, lost_text, ports_lost, lost_by}
+use Rattle.lego_model.specs.Echoes.{IsEchoRead}
+use Rattle.batch_laws.specs.Knowledge.{Knowledge, knowledge_of, with_event, views_by, ports_by, told_message, joined_read, left_by, handled, left_events, lost_text, ports_lost, lost_by}
 use Rattle.batch_laws.specs.Items.{answers, DoesLeft, kept_left, Departs, EntersStill, EntersNot, Enters, HandlesStill, HandlesLost, Handles}
 
 -- ---- Of a switch that has a view, or none

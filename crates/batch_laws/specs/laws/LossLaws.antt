@@ -38,7 +38,8 @@ use Rattle.switch_laws.specs.Since.{ports_known}
 use Rattle.switch_laws.specs.Sound.{Sound}
 use Rattle.switch_laws.specs.laws.LossLaws.{rows-gone, rows-stay, known-gone, known-stay, left-known, known-shown}
 use Rattle.switch_laws.specs.laws.PlaceLaws.{switch_at-declared, with_place-places}
-use Rattle.batch_laws.specs.Knowledge.{known_by, Knowledge, knowledge_of, is_known, told_message, told_read, joined_by, joined_read, handled, handled_all, IsEcho, IsEchoRead, LosesAt, left_events, ports_lost, lost_by, known_lost}
+use Rattle.lego_model.specs.Echoes.{IsEcho, IsEchoRead}
+use Rattle.batch_laws.specs.Knowledge.{known_by, Knowledge, knowledge_of, is_known, told_message, told_read, joined_by, joined_read, handled, handled_all, LosesAt, left_events, ports_lost, lost_by, known_lost}
 use Rattle.batch_laws.specs.Batches.{Standing}
 use Rattle.batch_laws.specs.Calm.{Calm}
 use Rattle.batch_laws.specs.InBatch.{BatchLost}
@@ -245,7 +246,7 @@ joined-handled : (d : ℕ) (bytes : List ℕ) (k : Knowledge) → is_known d k �
 unfolding handled
 joined-handled d bytes k out = rw out (read-joins d (reading_of bytes) k)
 
-unknown-rows : (rows : Option (List ViewRow)) → is_some rows ≡ false → rows ≡ None
+pub unknown-rows : (rows : Option (List ViewRow)) → is_some rows ≡ false → rows ≡ None
 unknown-rows None is = refl
 unknown-rows (Some rows) is = absurd (true≢false is)
 

@@ -43,9 +43,6 @@ use Rattle.event_dispatch.specs.laws.DispatchStrayLaws.{links_quietly}
 
 -- ---- Links
 
-pub links_none : {Own : Type 0} (Tells : Type 0) (seen : Seen Own) → OnLinks Tells seen seen
-links_none Tells seen = OnLinks-refl Tells seen
-
 pub links_then : {Own : Type 0} (Tells : Type 0) (a b c : Seen Own) → OnLinks Tells a b → OnLinks Tells b c → OnLinks Tells a c
 links_then Tells a b c first second = OnLinks-trans Tells a b c first second
 
@@ -145,7 +142,7 @@ handled_reads Tells item buf old mid new net now_net queue now_queue call handle
 -- the batch is over
 pub over_reads : {Own : Type 0} (Tells : Type 0) (item : Item) (buf : List ℕ) (old mid : Seen Own) (net : NetState) → net.left ≡ [] → (item ≡ items.Idle) ⊎ (item ≡ items.End) → Nexts Tells old mid (Ok item) buf → Reads Tells old mid net net
 over_reads Tells item buf old mid net none over call =
-    handled_reads Tells item buf old mid mid net net [] [] call (rest_handles item buf mid net [] none over) (links_none Tells mid) (only_none Tells mid)
+    handled_reads Tells item buf old mid mid net net [] [] call (rest_handles item buf mid net [] none over) (OnLinks-refl Tells mid) (only_none Tells mid)
 
 pub handled_quietly : {Own : Type 0} {number : ℕ} (Tells : Type 0) (old mid new : Seen Own) → Continues Tells mid new → NextPoint Tells number old mid → OnLinks Tells mid new → NextPoint Tells number old new
 handled_quietly Tells old mid new later next links = record {

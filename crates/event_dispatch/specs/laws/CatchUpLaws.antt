@@ -29,7 +29,8 @@ use Rattle.net_txn.specs.Views.{rows_at, is_viewed}
 use Rattle.net_txn.specs.Joining.{with_view}
 use Rattle.net_txn.specs.laws.AgreeLaws.{viewed}
 use Rattle.net_txn.specs.laws.AbreastLaws.{links-stay, links-due, with_rows-viewed, with_view-viewed, with_view-viewed-other, abreast-out, arrival_none_lost}
-use Rattle.batch_laws.specs.Knowledge.{Knowledge, knowledge_of, is_known, views_by, told_read, joined_read, left_by, handled, IsEchoRead}
+use Rattle.lego_model.specs.Echoes.{IsEchoRead}
+use Rattle.batch_laws.specs.Knowledge.{Knowledge, knowledge_of, is_known, views_by, told_read, joined_read, left_by, handled}
 use Rattle.batch_laws.specs.Items.{answers, DoesFrom, DoesJoined, DoesLeft, TakesInBy, TakesInAs, Handles, HandlesStill, HandlesLost}
 use Rattle.event_dispatch.specs.Told.{IsTold, CatchesUp}
 

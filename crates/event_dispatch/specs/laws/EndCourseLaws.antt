@@ -10,7 +10,8 @@ use Rattle.outside.specs.laws.SeenLaws.{Continues-refl}
 use Rattle.run_laws.specs.Engine.{Engine}
 use Rattle.run_laws.specs.First.{engine_at_first}
 use Rattle.run_laws.specs.Course.{Stage, PartByPart, RunsOn, WritesPart, first_stage}
-use Rattle.run_course.specs.Messages.{got_in, GotNone}
+use Rattle.lego_model.specs.KeptMessages.{got_in}
+use Rattle.run_course.specs.Messages.{GotNone}
 use Rattle.run_laws.specs.laws.HoldingLaws.{none_got_as, none_got_by}
 use Rattle.run_laws.specs.laws.CourseLaws.{follows-one, runs-on, runs-later, runs-still}
 use Rattle.event_dispatch.specs.declared.fault.Fault.{Fault}

@@ -10,10 +10,11 @@ use Rattle.outside.specs.declared.step.WorldStep.{WorldStep}
 use Rattle.outside.specs.declared.step.WorldStep.TheVariants.{Acted, TookInto, From, Joined, Left, Moment, Idle, End, Opened, NotOpened, NextFailed, SendLost, RecvLost, SendFailed, RecvFailed}
 use Rattle.outside.specs.Seen.{Seen, Continues, journal}
 use Rattle.outside.specs.State.{State, state, at_first, is_running, after_stim, after_act, after_step, after_steps}
-use Rattle.outside.specs.laws.SeenLaws.{Continues-trans}
+use Rattle.outside.specs.laws.SeenLaws.{Continues-trans, Ends-continues}
 use Rattle.outside.specs.laws.StateLaws.{state-append}
 use Rattle.outside.specs.Calls.{end_steps, Ends}
 use Rattle.outside.specs.InOrder.{MessagesSince}
+use Rattle.run_laws.specs.laws.CutLaws.{leaves-nothing}
 use Rattle.net_txn.specs.LinkSteps.{MakesNoStrayCall}
 use Rattle.outside.specs.laws.InOrderLaws.{InOrder-before, messages-none, messages-then}
 use Rattle.net_txn.specs.Net.{NetState}
@@ -32,7 +33,6 @@ use Rattle.lego_model.specs.History.{lost_of}
 use Rattle.run_laws.specs.Endings.{Leaves}
 use Rattle.switch_laws.specs.laws.OrderlyLaws.{orderly-then}
 use Rattle.run_laws.specs.laws.LeaveLaws.{end-leaves}
-use Rattle.event_dispatch.specs.laws.WhyLaws.{ends_continue}
 use Rattle.event_dispatch.specs.laws.TalkingLaws.{keeps_none, keeps_then, keeps_ended}
 use Rattle.event_dispatch.specs.laws.SteadyLaws.{places_none, quietly_none, quietly_then, none_move, none_move_then, calls_then}
 use Rattle.event_dispatch.specs.laws.ReadLaws.{end_quietly, end_places, end_messages}
@@ -121,19 +121,6 @@ pub record EndedSoFar {Own : Type 0} (Tells : Type 0) (number n : ℕ) (old new 
   pub leaves : Tells → Leaves number [] old new
   pub talks : KeepsTalking Tells old new
 
-leaves_none : {Own : Type 0} (number : ℕ) (seen : Seen Own) → Leaves number [] seen seen
-leaves_none number seen = record {
-  given = refl;
-  told = λ app. record { starts = refl; replies = refl; inputs = refl };
-  stimuli = refl;
-  released = refl;
-  lost_is = sym (append-nil (lost_of seen));
-  marks = refl;
-  switches = λ d. refl;
-  at_once = λ app said. said;
-  orderly = record { steps = []; history = sym (append-nil seen.history); orderly = tt };
-}
-
 leaves_then : {Own : Type 0} {number : ℕ} (old mid new : Seen Own) → Leaves number [] old mid → Leaves number [] mid new → Leaves number [] old new
 leaves_then {number = number} old mid new first second = record {
   given = second.given ∙ first.given;
@@ -159,7 +146,7 @@ ended_none {number = number} Tells seen = record {
   none_sent = λ told. none_sent_none seen;
   ended = λ told app small. absurd (omega (arith, small));
   none_moves = none_move Tells seen;
-  leaves = λ told. leaves_none number seen;
+  leaves = λ told. leaves-nothing number seen;
   talks = keeps_none Tells seen;
 }
 
@@ -175,8 +162,8 @@ end_none_sent app false = refl
 pub ended_next : {Own : Type 0} {Tells : Type 0} {number : ℕ} (n : ℕ) (old mid new : Seen Own) → n < number → Continues Tells old mid → EndedSoFar Tells number n old mid → Ends Tells n mid new → EndedSoFar Tells number (n + 1) old new
 ended_next {Tells = Tells} {number = number} n old mid new small before first ends = record {
   no_point = quietly_then Tells old mid new first.no_point (end_quietly Tells n mid new small ends);
-  places = λ told. no_strays_then old mid new told before (ends_continue ends) (first.places told) (end_places Tells n mid new ends told);
-  messages = λ told. messages-then old mid new told before (ends_continue ends) (first.messages told) (end_messages Tells n mid new ends told);
+  places = λ told. no_strays_then old mid new told before (Ends-continues ends) (first.places told) (end_places Tells n mid new ends told);
+  messages = λ told. messages-then old mid new told before (Ends-continues ends) (first.messages told) (end_messages Tells n mid new ends told);
   none_sent = λ told. none_sent_then (first.none_sent told) (record { steps = end_steps n (is_running n (state mid)); history = (ends.told told).history; none = end_none_sent n (is_running n (state mid)) });
   ended = λ told app less. elim (cases_eq app n) [
     | inl same ↦ subst (λ (i : ℕ). is_running i (state new) ≡ false) (sym same) (ends_is Tells n mid new ends told)

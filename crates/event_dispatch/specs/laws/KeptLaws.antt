@@ -31,6 +31,7 @@ use Rattle.net_txn.specs.Arriving.{Becomes, ArrivesLost, Arrives}
 use Rattle.net_txn.specs.Joining.{JoinsOrNot}
 use Rattle.net_txn.specs.Losing.{is_among, lost_net, lose_all}
 use Rattle.net_txn.specs.Undos.{Part, Inverse, BarrierPassed, Stuck, alone, fault_in, first_fault, KeepsOne, Keeps, Undoes, lost_in, lost_parts, undone_net, next_free}
+use Rattle.net_txn.specs.laws.UndoWaitLaws.{until_more}
 use Rattle.net_txn.specs.laws.LinkPresenceLaws.{among-front}
 use Rattle.net_txn.specs.Releases.{Commits}
 use Rattle.app_visor.specs.Beats.{Beat, Talk, Asks as AskedNow, Chain}
@@ -161,8 +162,9 @@ part_read old new d (BarrierPassed xid got) older kept now_kept runs none keeps 
     fit_read (IsReadBut (lost_parts older ++ [])) kept (kept_of (alone d xid) got) now_kept keeps (but_more (lost_parts older) [] kept read) (read_but (lost_parts older ++ []) (kept_of (alone d xid) got) (kept_read (alone d xid) got run.0.before.read))
 part_read old new d (Stuck xid halt steps) older kept now_kept runs none keeps read =
     let lost = lost_parts ((d, Stuck xid halt steps) ∷ older) in
-    subst (AllByRecursion (IsReadBut lost)) (sym keeps.1)
-    (all_two (IsReadBut lost) kept (map (λ b. (d, b)) keeps.0) (but_more (lost_parts older) (lost_in d (Stuck xid halt steps)) kept read) (gone_all d lost (stuck_lost old new d (Stuck xid halt steps) older (λ rest. refl) runs none) keeps.0))
+    let more = until_more d xid _ steps kept now_kept keeps in
+    subst (AllByRecursion (IsReadBut lost)) (sym more.1)
+    (all_two (IsReadBut lost) kept (map (λ b. (d, b)) more.0) (but_more (lost_parts older) (lost_in d (Stuck xid halt steps)) kept read) (gone_all d lost (stuck_lost old new d (Stuck xid halt steps) older (λ rest. refl) runs none) more.0))
 
 keeps_read : (old new : Counts) (kept : List (ℕ × List ℕ)) (parts : List (ℕ × Part)) (now_kept : List (ℕ × List ℕ)) → AllRun old new parts → first_fault parts ≡ None → Keeps kept parts now_kept → AreRead kept → AllByRecursion (IsReadBut (lost_parts parts)) now_kept
 keeps_read old new kept [] now_kept runs none keeps read = subst (AllByRecursion (IsReadBut [])) (sym keeps) (read_but [] kept read)

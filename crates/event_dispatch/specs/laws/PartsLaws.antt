@@ -4,7 +4,7 @@ use Rattle.lego_io.specs.Count.{NeverFell}
 use Rattle.flow_table.specs.View.{TableView}
 use Rattle.crash_policy.specs.Policies.{AppValue}
 use Rattle.outside.specs.Seen.{Seen, Continues}
-use Rattle.outside.specs.laws.SeenLaws.{Continues-refl}
+use Rattle.outside.specs.laws.SeenLaws.{Continues-refl, Continues-trans}
 use Rattle.net_txn.specs.Net.{NetState}
 use Rattle.run_laws.specs.Engine.{Engine}
 use Rattle.run_laws.specs.First.{engine_at_first}
@@ -29,7 +29,7 @@ use Rattle.event_dispatch.specs.laws.PlainLaws.{whole_anyway, whole_finish, whol
 use Rattle.event_dispatch.specs.laws.ReadLaws.{read_none, read_of, reads_as, reads_by, went_read, ended_read}
 use Rattle.event_dispatch.specs.laws.SteadyLaws.{places_none, places_then}
 use Rattle.event_dispatch.specs.laws.WholeLaws.{finishes_by, goes_by, runs_short, runs_by}
-use Rattle.event_dispatch.specs.laws.WhyLaws.{continues_then, why_behind, why_still, fell_then, same_fell}
+use Rattle.event_dispatch.specs.laws.WhyLaws.{why_behind, why_still, fell_then, same_fell}
 
 -- ---- Parts that write to the sink
 
@@ -107,7 +107,7 @@ pub served_then : {Own A F T Tells : Type 0} {number k l m : ℕ} {old mid new :
     → PassesOn {T = A} {E = F} Tells number old mid net mid_net k l (Ok x) → PassesServed Tells number mid new mid_net l m result
     → PassesServed Tells number old new net k m result
 served_then {Tells = Tells} {k = k} {l = l} {m = m} {old = old} {mid = mid} {new = new} {net = net} {mid_net = mid_net} {result = result} first second = record {
-  continues = continues_then Tells old mid new first.passes.continues second.continues;
+  continues = Continues-trans Tells old mid new first.passes.continues second.continues;
   places = places_then old mid new net mid_net first.passes.continues second.continues first.passes.places first.passes.reads second.places;
   reads = went_read Tells result old mid new net mid_net first.passes.continues second.continues first.passes.reads second.reads;
   numbers = numbers_then second.continues first.passes.reads first.passes.numbers second.numbers;
@@ -125,7 +125,7 @@ pub ended_then : {Own T Tells : Type 0} {number k l : ℕ} {old mid new : Seen O
     → PassesServed Tells number old mid net k l result → Continues Tells mid new → IsEnded Tells number mid new
     → PassesEnded Tells number old new net k l result
 ended_then {Tells = Tells} {old = old} {mid = mid} {new = new} {net = net} {result = result} first later last = record {
-  continues = continues_then Tells old mid new first.continues later;
+  continues = Continues-trans Tells old mid new first.continues later;
   none_runs = none_runs_then old mid new net first.continues later first.places last;
   reads = ended_read Tells result old mid new net first.continues later last.messages first.reads;
   numbers = end_ended later last.none_sent first.numbers;
@@ -192,7 +192,7 @@ pub went_fails : {Own Tells : Type 0} (accepts : List TableView → Bool) (most 
 went_fails accepts most a b c d k l m old begun last new r r1 r2 (Ok x) went later fell fails = tt
 went_fails {Tells = Tells} accepts most a b c d k l m old begun last new r r1 r2 (Err end) went later fell fails = record {
   cut = went_cut Tells accepts most (Err end) a b c d old begun last new r r1 r2 went later fails.cut;
-  why = why_behind old last new k l m end (continues_then Tells old begun last went.first went.on) fell fails.why;
+  why = why_behind old last new k l m end (Continues-trans Tells old begun last went.first went.on) fell fails.why;
   plain = whole_finish old begun last new r r1 r2 (Err end) went.begins went.on went.rounds later fails.plain;
 }
 

@@ -3,14 +3,13 @@ use Rattle.std.specs.Prelude.{◌≡◌, ℕ, List, length, Result, Ok, Err, OnO
 use Rattle.std.proofs.Common.{sym, ap, subst, true≢false}
 use Rattle.checkpoint_store.specs.Slots.{Slot}
 use Rattle.outside.specs.Seen.{Seen}
-use Rattle.outside.specs.laws.SeenLaws.{Continues-refl}
+use Rattle.outside.specs.laws.SeenLaws.{Continues-refl, Continues-trans}
 use Rattle.net_txn.specs.Net.{NetState}
 use Rattle.net_txn.specs.LinkSteps.{OnLinks}
 use Rattle.event_dispatch.specs.declared.engine_core.Core.{Core}
 use Rattle.event_dispatch.specs.Runs.{Waits}
 use Rattle.event_dispatch.specs.Passes.{Passes, PassesQuietly, PassesSoFar, PassesQuietlySoFar}
 use Rattle.event_dispatch.specs.laws.NumberLaws.{same_numbers, end_none, end_done, numbers_end, numbers_failed, numbers_then, numbers_as}
-use Rattle.event_dispatch.specs.laws.WhyLaws.{continues_then}
 use Rattle.event_dispatch.specs.laws.SteadyLaws.{places_none, places_then, places_number, reads_none, reads_then, reads_as, quietly_none, quietly_then, quietly_number}
 use Rattle.event_dispatch.specs.laws.DispatchStrayLaws.{links_quietly}
 use Rattle.event_dispatch.specs.laws.TalkingLaws.{keeps_none, keeps_then, keeps_links}
@@ -87,13 +86,13 @@ pub passes_then : {Own A F T E Tells : Type 0} {number : ℕ} {old mid new : See
     → Passes {T = A} {E = F} Tells number old mid net mid_net (Ok x) → Passes Tells number mid new mid_net now_net result
     → Passes Tells number old new net now_net result
 passes_then {Tells = Tells} {old = old} {mid = mid} {new = new} {net = net} {mid_net = mid_net} {now_net = now_net} {result = Ok y} first second = record {
-  continues = continues_then Tells old mid new first.continues second.continues;
+  continues = Continues-trans Tells old mid new first.continues second.continues;
   places = places_then old mid new net mid_net first.continues second.continues first.places first.reads second.places;
   reads = reads_then old mid new net mid_net now_net first.continues second.continues first.reads second.reads;
   numbers = numbers_then second.continues first.reads first.numbers second.numbers;
 }
 passes_then {Tells = Tells} {old = old} {mid = mid} {new = new} {net = net} {mid_net = mid_net} {result = Err fault} first second = record {
-  continues = continues_then Tells old mid new first.continues second.continues;
+  continues = Continues-trans Tells old mid new first.continues second.continues;
   places = places_then old mid new net mid_net first.continues second.continues first.places first.reads second.places;
   reads = tt;
   numbers = numbers_then second.continues first.reads first.numbers second.numbers;

@@ -13,6 +13,7 @@ use Rattle.outside.specs.Seen.{Seen, Continues, journal}
 use Rattle.outside.specs.laws.SeenLaws.{journal-append}
 use Rattle.outside.specs.laws.InOrderLaws.{InOrder-before, messages-none, messages-then}
 use Rattle.outside.specs.laws.QuiescenceLaws.{none_since-none, none_since-then, last_quiescent-of}
+use Rattle.net_txn.specs.laws.SaidLaws.{all_two}
 use Rattle.net_txn.specs.Net.{NetState}
 use Rattle.net_txn.specs.laws.LinkStrayLaws.{no_strays_none, no_strays_then}
 use Rattle.net_txn.specs.Views.{is_viewed}
@@ -26,10 +27,6 @@ use Rattle.event_dispatch.specs.Steady.{NoStray, Reads, NoPoint, AtMostThisPoint
 
 -- ---- Calls for some applications
 
-among_append : (number : ℕ) (xs ys : List WorldStep) → AllByRecursion (IsCallAmong number) xs → AllByRecursion (IsCallAmong number) ys → AllByRecursion (IsCallAmong number) (xs ++ ys)
-among_append number [] ys all rest = rest
-among_append number (x ∷ xs) ys all rest = (all.0, among_append number xs ys all.1 rest)
-
 pub calls_none : {Own : Type 0} (number : ℕ) (seen : Seen Own) → CallsAmong number seen seen
 calls_none number seen = record { steps = []; history = sym (append-nil seen.history); all = tt }
 
@@ -37,7 +34,7 @@ pub calls_then : {Own : Type 0} {number : ℕ} {old mid new : Seen Own} → Call
 calls_then {number = number} {old = old} first second = record {
   steps = first.steps ++ second.steps;
   history = second.history ∙ ap (λ (h : List WorldStep). h ++ second.steps) first.history ∙ append_assoc old.history first.steps second.steps;
-  all = among_append number first.steps second.steps first.all second.all;
+  all = all_two (IsCallAmong number) first.steps second.steps first.all second.all;
 }
 
 -- calls for one of them

@@ -10,8 +10,9 @@ use Rattle.outside.specs.declared.item.Item.{Item}
 use Rattle.outside.specs.declared.item.Item.TheVariants as items
 use Rattle.outside.specs.declared.step.WorldStep.{WorldStep}
 use Rattle.outside.specs.Seen.{Seen, Continues}
-use Rattle.outside.specs.laws.SeenLaws.{Continues-refl, Nexts-continues}
+use Rattle.outside.specs.laws.SeenLaws.{Continues-refl, Nexts-continues, Continues-trans}
 use Rattle.outside.specs.Calls.{Nexts, item_step}
+use Rattle.net_txn.specs.laws.LinkStepLaws.{OnLinks-refl}
 use Rattle.net_txn.specs.Net.{NetState}
 use Rattle.net_txn.specs.Views.{rows_at}
 use Rattle.net_txn.specs.LinkSteps.{OnLinks, AsksWithoutStrays}
@@ -26,7 +27,6 @@ use Rattle.event_dispatch.specs.Batch.{standing_of, rest_by, IsAsBefore, TakesKe
 use Rattle.event_dispatch.specs.Steady.{Reads}
 use Rattle.event_dispatch.specs.Told.{BatchPoint}
 use Rattle.event_dispatch.specs.Taking.{PassesOnLinks, OnLinksSoFar, UsesLinksAt, UsesLinksOf, AsksNext, PassesNext, ItemDone, HandledNext}
-use Rattle.event_dispatch.specs.laws.WhyLaws.{continues_then}
 use Rattle.event_dispatch.specs.laws.BatchLaws.{rest_handles}
 use Rattle.lego_model.specs.OwnIds.{IsShortRun, OwnIdsSoFar}
 use Rattle.net_txn.specs.OwnIds.{KeepsIds}
@@ -38,14 +38,14 @@ use Rattle.event_dispatch.specs.laws.NumberLaws.{ids_ascend, ids_of, ids_failed,
 use Rattle.event_dispatch.specs.laws.PassesLaws.{SameNext, same_next, if_failed, waits_none, passes_none, passes_then, passes_fails, passes_as, passes_waits, so_far}
 use Rattle.event_dispatch.specs.laws.TalkingLaws.{keeps_none, keeps_then, keeps_links, keeps_next}
 use Rattle.event_dispatch.specs.laws.NextPointLaws.{next_quietly, next_in_place}
-use Rattle.event_dispatch.specs.laws.BatchSteadyLaws.{links_none, links_then, arrived_places, arrived_reads, puts_none, next_places, handled_places, over_reads, handled_quietly, over_begun, goes_begun, here_kept}
+use Rattle.event_dispatch.specs.laws.BatchSteadyLaws.{links_then, arrived_places, arrived_reads, puts_none, next_places, handled_places, over_reads, handled_quietly, over_begun, goes_begun, here_kept}
 
 -- ---- Links alone were used
 
 -- nothing was done
 pub on_links_none : {Own T E : Type 0} {number : ℕ} (Tells : Type 0) (seen : Seen Own) (net now_net : NetState) (result : Result T E)
     → SameNext net now_net → PassesOnLinks Tells number seen seen net now_net result
-on_links_none Tells seen net now_net result same = record { passes = passes_none Tells seen net now_net result same; talks = keeps_none Tells seen; links = links_none Tells seen }
+on_links_none Tells seen net now_net result same = record { passes = passes_none Tells seen net now_net result same; talks = keeps_none Tells seen; links = OnLinks-refl Tells seen }
 
 pub on_links_then : {Own A F T E Tells : Type 0} {number : ℕ} {old mid new : Seen Own} {net mid_net now_net : NetState} {x : A} {result : Result T E}
     → PassesOnLinks {T = A} {E = F} Tells number old mid net mid_net (Ok x) → PassesOnLinks Tells number mid new mid_net now_net result
@@ -160,7 +160,7 @@ pub next_handled : {Own A F T E Tells : Type 0} {number : ℕ} {used : Result A 
     → OnOk result (Reads Tells old new net now_net) → PassesNext Tells number old new net now_net buf now_buf result
 next_handled {Tells = Tells} {number = number} {used = used} {old = old} {mid = mid} {new = new} {now_buf = now_buf} {net = net} item now_net result asks nexts uses failed reads = record {
   passes = record {
-    continues = continues_then Tells old mid new asks.continues uses.continues;
+    continues = Continues-trans Tells old mid new asks.continues uses.continues;
     places = handled_places Tells item now_buf old mid new net nexts uses.continues (asks.no_point number) uses.links uses.places;
     reads = reads;
     numbers = λ told order abreast short before.
@@ -190,7 +190,7 @@ handled_done {Tells = Tells} item buf old mid new run now_run goes fit nexts use
 -- ---- An item, and a switch that joins
 
 pub uses_none : {Own T E : Type 0} {number : ℕ} (Tells : Type 0) (step : WorldStep) (seen : Seen Own) (net now_net : NetState) (result : Result T E) → now_net.xid ≡ net.xid → UsesLinksAt Tells number step seen seen net now_net result
-uses_none Tells step seen net now_net result same = record { numbers = λ told order at short before. ids_of result seen now_net.xid short (subst (λ (n : ℕ). OwnIdsSoFar 0 seen n) (sym same) before); continues = Continues-refl Tells seen; talks = keeps_none Tells seen; links = links_none Tells seen; places = puts_none Tells step seen net }
+uses_none Tells step seen net now_net result same = record { numbers = λ told order at short before. ids_of result seen now_net.xid short (subst (λ (n : ℕ). OwnIdsSoFar 0 seen n) (sym same) before); continues = Continues-refl Tells seen; talks = keeps_none Tells seen; links = OnLinks-refl Tells seen; places = puts_none Tells step seen net }
 
 -- nothing was done, and it failed
 pub uses_not : {Own T E : Type 0} {number : ℕ} (Tells : Type 0) (step : WorldStep) (seen : Seen Own) (net now_net : NetState) (result : Result T E) → IsErr result → UsesLinksAt Tells number step seen seen net now_net result
@@ -198,12 +198,12 @@ uses_not Tells step seen net now_net result failed = record {
   numbers = λ told order at short before. ids_failed result seen now_net.xid failed (so_far_ascends seen net.xid 0 short (omega arith) before);
   continues = Continues-refl Tells seen;
   talks = keeps_none Tells seen;
-  links = links_none Tells seen;
+  links = OnLinks-refl Tells seen;
   places = puts_none Tells step seen net;
 }
 
 pub joins_none : {Own T E : Type 0} (Tells : Type 0) (d : ℕ) (seen : Seen Own) (net now_net : NetState) (result : Result T E) → now_net.xid ≡ net.xid → UsesLinksOf Tells d seen seen net now_net result
-joins_none Tells d seen net now_net result same = record { numbers = λ told short before. ids_of result seen now_net.xid short (subst (λ (n : ℕ). OwnIdsSoFar 0 seen n) (sym same) before); continues = Continues-refl Tells seen; talks = keeps_none Tells seen; links = links_none Tells seen; places = λ told order joined. no_strays_none seen }
+joins_none Tells d seen net now_net result same = record { numbers = λ told short before. ids_of result seen now_net.xid short (subst (λ (n : ℕ). OwnIdsSoFar 0 seen n) (sym same) before); continues = Continues-refl Tells seen; talks = keeps_none Tells seen; links = OnLinks-refl Tells seen; places = λ told order joined. no_strays_none seen }
 
 pub joins_on_links : {Own A F T E : Type 0} (Tells : Type 0) (d : ℕ) (old new : Seen Own) (net mid_net now_net : NetState) (joined : Result A F) (result : Result T E) → Continues Tells old new → OnLinks Tells old new
     → AsksWithoutStrays Tells d old new → KeepsIds Tells 3 old new net.xid mid_net.xid joined → (IsErr joined → IsErr result) → IsErr result ⊎ (now_net.xid ≡ mid_net.xid) → UsesLinksOf Tells d old new net now_net result

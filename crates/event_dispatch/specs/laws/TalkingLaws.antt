@@ -1,5 +1,5 @@
 -- Laws of what goes on with the dialogue with the application.
-use Rattle.std.proofs.Common.{◌≡◌, ◌<◌, ◌+◌, ℕ, zero, suc, true, Bool, List, [], ◌∷◌, ◌++◌, filter, length, Option, Some, None, Result, Ok, Err, refl, sym, ap, ◌∙◌, subst, arith, inl, inr}
+use Rattle.std.proofs.Common.{◌≡◌, ◌<◌, ◌+◌, ℕ, true, Bool, List, [], ◌∷◌, ◌++◌, filter, length, Option, Some, None, Result, Ok, Err, refl, sym, ap, ◌∙◌, subst, arith, inl, inr}
 use Rattle.std.proofs.lemmas.Bool.{cases_eq}
 use Rattle.of_types.specs.declared.journal.WorldStim.{WorldStim}
 use Rattle.std.specs.Prelude.{OnErr}
@@ -17,6 +17,7 @@ use Rattle.outside.specs.declared.step.WorldStep.{WorldStep}
 use Rattle.outside.specs.Seen.{Seen, journal}
 use Rattle.outside.specs.State.{state, is_running}
 use Rattle.outside.specs.Calls.{Nexts, Ends, next_steps, stim_steps, item_step}
+use Rattle.run_laws.specs.laws.FinishLaws.{each-at}
 use Rattle.net_txn.specs.LinkSteps.{OnLinks}
 use Rattle.net_txn.specs.Net.{NetState}
 use Rattle.app_visor.specs.declared.state.TurnEnd.{TurnEnd}
@@ -162,15 +163,9 @@ turn_closed {Tells = Tells} {accepts = accepts} {budget = budget} {number = numb
 
 -- ---- Behind parts of a run that were done
 
--- one of those from an index on
-pub each_at : (P : ℕ → Application → Type 0) (i : ℕ) (apps : List Application) (k n : ℕ) → n ≡ i + k → k < length apps → EachFrom P i apps → (a : Application) × P n a
-each_at P i [] k n same less each = absurd (omega (arith, less))
-each_at P i (a ∷ more) zero n same less each = let here : n ≡ i = omega (arith, same) in (a, subst (λ (m : ℕ). P m a) (sym here) each.0)
-each_at P i (a ∷ more) (suc k) n same less each = each_at P (i + 1) more k n (omega (arith, same)) (omega (arith, less)) each.1
-
 -- each is at rest, so that all that happened is a dialogue with it
 pub rests_at_once : {Own : Type 0} (seen : Seen Own) (apps : List Application) (app : ℕ) → EachFrom (IsAtRest seen) 0 apps → app < length apps → AtOnce app (journal seen.history)
-rests_at_once seen apps app each less = (each_at (IsAtRest seen) 0 apps app app (omega arith) less each).1.at_once
+rests_at_once seen apps app each less = (each-at (IsAtRest seen) 0 apps app app (omega arith) less each).1.at_once
 
 pub goes_none : {Own : Type 0} (Tells : Type 0) (seen : Seen Own) (e : Engine) → GoesOnTalking Tells seen seen e
 goes_none Tells seen e = record { talks = λ told each app less. rests_at_once seen e.apps app each less }

@@ -8,7 +8,6 @@ use Rattle.app_frames.specs.declared.frame.Event.{Event}
 use Rattle.crash_policy.specs.Policies.{AppValue, app_value}
 use Rattle.crash_policy.specs.declared.policy_file.AppRule.{AppRule}
 use Rattle.lego_model.specs.Places.{Place}
-use Rattle.lego_model.specs.History.{lost_of}
 use Rattle.outside.specs.declared.step.WorldStep.{WorldStep}
 use Rattle.outside.specs.declared.step.WorldStep.TheVariants.{Opened, NotOpened}
 use Rattle.outside.specs.declared.faults.OpenFault.{OpenFault}
@@ -17,7 +16,7 @@ use Rattle.outside.specs.Seen.{Seen, Continues}
 use Rattle.outside.specs.Calls.{open_steps, ToldOpen, Opens}
 use Rattle.outside.specs.laws.SeenLaws.{Continues-trans}
 use Rattle.outside.specs.laws.StateLaws.{Conforming-before}
-use Rattle.switch_laws.specs.laws.OrderlyLaws.{orderly-none}
+use Rattle.run_laws.specs.laws.CutLaws.{leaves-nothing}
 use Rattle.run_laws.specs.Engine.{Engine}
 use Rattle.run_laws.specs.laws.FirstLaws.{settled-first}
 use Rattle.run_laws.specs.First.{IsOpened, app_at_first, engine_at_first}
@@ -132,19 +131,6 @@ went_full {Own} Tells accepts most left a b c d old begun last new r r1 r2 now_r
     later = later;
   };
 }
-  where
-    leaves-nothing : (n : ℕ) (seen : Seen Own) → Leaves n [] seen seen
-    leaves-nothing n seen = record {
-      given = refl;
-      told = λ app. record { starts = refl; replies = refl; inputs = refl };
-      stimuli = refl;
-      released = refl;
-      lost_is = sym (append-nil (lost_of seen));
-      marks = refl;
-      switches = λ d. refl;
-      at_once = λ app said. said;
-      orderly = orderly-none n seen;
-    }
 
 -- as many applications at the end as at first
 pub number_then : (r r2 : Run) → Going r → Going r2 → length r2.core.store ≡ length r.core.store → length (engine_of r2).apps ≡ length (engine_of r).apps

@@ -5,8 +5,6 @@ use Rattle.lego_io.specs.laws.CountLaws.{Rose-after, Rose-before}
 use Rattle.of_wire.specs.Reading.{reading_of}
 use Rattle.outside.specs.declared.step.WorldStep.{WorldStep}
 use Rattle.outside.specs.Seen.{NoneFell, Seen, Longer, Continues}
-use Rattle.outside.specs.Calls.{Ends}
-use Rattle.outside.specs.laws.SeenLaws.{Continues-trans, Ends-continues}
 use Rattle.lego_model.specs.declared.fault.TxnFault.{TxnFault}
 use Rattle.lego_model.specs.declared.fault.TxnFault.TheVariants.{SwitchBroke, Diverged, Flooded, NoMemory}
 use Rattle.event_dispatch.specs.declared.served.Served.{Served}
@@ -122,9 +120,6 @@ IsWhy-sink Tells a b k m ends.NoMemory up why = tt
 
 -- ---- Over what is seen
 
-pub continues_then : {Own : Type 0} (Tells : Type 0) (a b c : Seen Own) → Continues Tells a b → Continues Tells b c → Continues Tells a c
-continues_then Tells a b c first rest = Continues-trans Tells a b c first rest
-
 pub why_then : {Own : Type 0} {Tells : Type 0} (a b c : Seen Own) (end : Served) → Continues Tells a b → IsWhy Tells b c 0 0 end → IsWhy Tells a c 0 0 end
 why_then a b c end first why = IsWhy-behind a b c 0 0 0 end first (omega arith) why
 
@@ -157,9 +152,6 @@ pub same_fell : (k : ℕ) → NeverFell k k
 same_fell k = omega arith
 
 -- ---- The end of the application
-
-pub ends_continue : {Own : Type 0} {Tells : Type 0} {app : ℕ} {old new : Seen Own} → Ends Tells app old new → Continues Tells old new
-ends_continue ends = Ends-continues ends
 
 -- a cause stays one behind calls of the world alone
 pub why_still : {Own : Type 0} {Tells : Type 0} (a b c : Seen Own) (k l : ℕ) (end : Served) → Continues Tells a b → Continues Tells b c → NeverFell k l → IsWhy Tells a b k l end → IsWhy Tells a c k l end

@@ -16,9 +16,10 @@ use Rattle.outside.specs.State.{state, switch_of, waits_of}
 use Rattle.outside.specs.laws.StateLaws.{Conforming-rest, state-append}
 use Rattle.outside.specs.Conforming.{Conforming}
 use Rattle.undo_laws.specs.Removal.{without}
+use Rattle.lego_model.specs.ViewRows.{rows_without}
 use Rattle.lego_model.specs.declared.fault.TxnFault.{TxnFault}
 use Rattle.net_txn.specs.Views.{rows_at, with_rows, is_viewed}
-use Rattle.net_txn.specs.laws.ViewLaws.{rows_at-same, rows_at-other, with_rows-none}
+use Rattle.net_txn.specs.laws.ViewLaws.{rows_at-changed, rows_at-other}
 pub use Rattle.net_txn.specs.laws.ViewLaws.{viewed}
 use Rattle.net_txn.specs.Arriving.{without_key}
 use Rattle.net_txn.specs.ChangeSteps.{Agrees}
@@ -79,33 +80,28 @@ either_way (k ∷ ks) rows = one_later ks k rows ∙ ap (pairs_without k) (eithe
 
 -- ---- The views
 
-abbrev rows_without : List Key → List ViewRow → List ViewRow
-rows_without [] rows = rows
-rows_without (k ∷ ks) rows = rows_without ks (without_key k rows)
-
 shown_without : (ks : List Key) (rows : List ViewRow) → rows_of_view (rows_without ks rows) ≡ first_to_last ks (rows_of_view rows)
 shown_without [] rows = refl
 shown_without (k ∷ ks) rows = shown_without ks (without_key k rows) ∙ ap (first_to_last ks) (view_without k rows)
 
-none_without : (d : ℕ) (ps : List (ℕ × Key)) (views : List TableView) → rows_at d views ≡ None → rows_at d (without_keys ps views) ≡ None
-none_without d [] views none = none
-none_without d (p ∷ ps) views none =
-    none_without d ps (with_rows p.0 (without_key p.1) views) (elim (cases_eq p.0 d) [
-      | inl same ↦ (let gone : rows_at p.0 views ≡ None = ap (λ (n : ℕ). rows_at n views) same ∙ none in ap (rows_at d) (with_rows-none p.0 (without_key p.1) views gone) ∙ none)
-      | inr other ↦ rows_at-other p.0 d (without_key p.1) views (λ is. other (sym is)) ∙ none
-    ])
+mapped_twice : (f g : List ViewRow → List ViewRow) (o : Option (List ViewRow)) → option_map g (option_map f o) ≡ option_map (λ rows. g (f rows)) o
+mapped_twice f g None = refl
+mapped_twice f g (Some rows) = refl
 
-some_without : (d : ℕ) (ps : List (ℕ × Key)) (views : List TableView) (rows : List ViewRow) → rows_at d views ≡ Some rows → rows_at d (without_keys ps views) ≡ Some (rows_without (keys_of d ps) rows)
-some_without d [] views rows is = is
-some_without d (p ∷ ps) views rows is =
+mapped_still : (o : Option (List ViewRow)) → o ≡ option_map (rows_without []) o
+mapped_still None = refl
+mapped_still (Some rows) = refl
+
+pub rows_left : (d : ℕ) (ps : List (ℕ × Key)) (views : List TableView) → rows_at d (without_keys ps views) ≡ option_map (rows_without (keys_of d ps)) (rows_at d views)
+rows_left d [] views = mapped_still (rows_at d views)
+rows_left d (p ∷ ps) views =
     let next = with_rows p.0 (without_key p.1) views in
     elim (cases_eq p.0 d) [
       | inl same ↦
-          (let here : rows_at d next ≡ Some (without_key p.1 rows) = ap (λ (n : ℕ). rows_at d (with_rows n (without_key p.1) views)) same ∙ rows_at-same d (without_key p.1) views rows is in
-          rw (eq-eqb p.0 d same) (some_without d ps next (without_key p.1 rows) here))
+          (let here : rows_at d next ≡ option_map (without_key p.1) (rows_at d views) = ap (λ (n : ℕ). rows_at d (with_rows n (without_key p.1) views)) same ∙ rows_at-changed d (without_key p.1) views in
+          rw (eq-eqb p.0 d same) (rows_left d ps next ∙ (ap (option_map (rows_without (keys_of d ps))) here ∙ mapped_twice (without_key p.1) (rows_without (keys_of d ps)) (rows_at d views))))
       | inr other ↦
-          (let there : rows_at d next ≡ Some rows = rows_at-other p.0 d (without_key p.1) views (λ same. other (sym same)) ∙ is in
-          rw (ne_eqb p.0 d other) (some_without d ps next rows there))
+          rw (ne_eqb p.0 d other) (rows_left d ps next ∙ ap (option_map (rows_without (keys_of d ps))) (rows_at-other p.0 d (without_key p.1) views (λ same. other (sym same))))
     ]
 
 -- ---- The table
@@ -130,7 +126,7 @@ table_agrees_by old new d views now_views all parts None given told each lost fr
     let no_rows : rows_at d views ≡ None = none_from rows_of_view (rows_at d views) (before ∙ ap (option_map shown_by) is) in
     let unknown : is_viewed d views ≡ false = viewed d views ∙ ap is_some no_rows in
     let same = others_stay old new d parts given told (λ c. (each c).run) ((each d).unknown unknown) in
-    let gone : rows_at d now_views ≡ None = lost ∙ none_without d all views no_rows in
+    let gone : rows_at d now_views ≡ None = lost ∙ rows_left d all views ∙ ap (option_map (rows_without (keys_of d all))) no_rows in
     rw (gone, same.0, is) refl
 table_agrees_by old new d views now_views all parts (Some s) given told each lost free before is =
     let there = map_some rows_of_view (rows_at d views) (shown_by s) (before ∙ ap (option_map shown_by) is) in
@@ -139,7 +135,7 @@ table_agrees_by old new d views now_views all parts (Some s) given told each los
     let keys = keys_of d all in
     let after = state-append old new (steps_of parts) given told in
     let now : switch_of d (state new) ≡ Some (with_entries (entries_left (parts_of d parts) s.table.entries) s) = ap (switch_of d) after ∙ table_left old.counts new.counts d s parts (state old) (λ c. (each c).run) free is in
-    let shown : rows_at d now_views ≡ Some (rows_without keys rows) = lost ∙ some_without d all views rows there.1 in
+    let shown : rows_at d now_views ≡ Some (rows_without keys rows) = lost ∙ rows_left d all views ∙ ap (option_map (rows_without keys)) there.1 in
     let same : rows_of_view (rows_without keys rows) ≡ rows_of_table (entries_left (parts_of d parts) s.table.entries) =
     shown_without keys rows ∙ ap (first_to_last keys) there.2 ∙ either_way keys (shown_by s) ∙ ap (λ (ks : List Key). last_to_first ks (shown_by s)) (sym ((each d).keys_is known free)) ∙ sym (table_left_rows (parts_of d parts) s.table.entries) in
     rw (shown, now) (ap some_rows same)

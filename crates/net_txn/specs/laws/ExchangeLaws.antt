@@ -7,7 +7,7 @@ use Rattle.of_match.specs.declared.key.Key.{Key}
 use Rattle.outside.specs.Seen.{Seen}
 use Rattle.lego_model.specs.declared.wait.Awaited.{Awaited}
 use Rattle.lego_model.specs.declared.wait.Heard.{Heard}
-use Rattle.lego_model.specs.declared.wait.Heard.TheVariants.{Reply}
+use Rattle.lego_model.specs.declared.wait.Heard.TheVariants.{Reply, Echo}
 use Rattle.lego_model.specs.BarrierWaits.{flood, heard, is_reply, kept_by, kept_of}
 use Rattle.net_txn.specs.declared.queue.Storage.{Storage}
 use Rattle.net_txn.specs.declared.queue.Storage.TheVariants.{Growing, Reserved}
@@ -37,29 +37,29 @@ none_kept Reserved kept = refl
 -- ---- One message
 
 -- the link failed, or the world's memory ran out
-pub untreated_by : (storage : Storage) (t : Trouble) → IsOfLink t → IsUntreated storage t
-untreated_by storage troubles.Link is = tt
-untreated_by storage (troubles.Broke n) is = absurd is
-untreated_by storage (troubles.Refused k x n) is = absurd is
-untreated_by storage troubles.Flooded is = absurd is
-untreated_by storage troubles.Short is = tt
-untreated_by storage troubles.Full is = absurd is
+pub untreated_by : (storage : Storage) (h : Heard) (t : Trouble) → h ≡ Echo → IsOfLink t → IsUntreated storage h t
+untreated_by storage h troubles.Link echo is = (tt, echo)
+untreated_by storage h (troubles.Broke n) echo is = absurd is
+untreated_by storage h (troubles.Refused k x n) echo is = absurd is
+untreated_by storage h troubles.Flooded echo is = absurd is
+untreated_by storage h troubles.Short echo is = (tt, echo)
+untreated_by storage h troubles.Full echo is = absurd is
 
-unheard_by : (sent : List (ℕ × Key)) (storage : Storage) (t : Trouble) (buf : List ℕ) → IsOfHearing t → IsBreak sent storage 0 None t buf
-unheard_by sent storage troubles.Link buf is = tt
-unheard_by sent storage (troubles.Broke n) buf is = tt
-unheard_by sent storage (troubles.Refused k x n) buf is = absurd is
-unheard_by sent storage troubles.Flooded buf is = absurd is
-unheard_by sent storage troubles.Short buf is = tt
-unheard_by sent storage troubles.Full buf is = absurd is
+unheard_by : (a : Awaited) (sent : List (ℕ × Key)) (storage : Storage) (t : Trouble) (buf : List ℕ) → IsOfHearing t → IsBreak a sent storage 0 None t buf
+unheard_by a sent storage troubles.Link buf is = tt
+unheard_by a sent storage (troubles.Broke n) buf is = tt
+unheard_by a sent storage (troubles.Refused k x n) buf is = absurd is
+unheard_by a sent storage troubles.Flooded buf is = absurd is
+unheard_by a sent storage troubles.Short buf is = tt
+unheard_by a sent storage troubles.Full buf is = absurd is
 
-untreated_breaks : (sent : List (ℕ × Key)) (storage : Storage) (bytes : List ℕ) (t : Trouble) (buf : List ℕ) → IsUntreated storage t → IsBreakBehind sent storage bytes t buf
-untreated_breaks sent storage bytes troubles.Link buf is = tt
-untreated_breaks sent storage bytes (troubles.Broke n) buf is = absurd is
-untreated_breaks sent storage bytes (troubles.Refused k x n) buf is = absurd is
-untreated_breaks sent storage bytes troubles.Flooded buf is = absurd is
-untreated_breaks sent storage bytes troubles.Short buf is = tt
-untreated_breaks sent storage bytes troubles.Full buf is = is
+untreated_breaks : (a : Awaited) (sent : List (ℕ × Key)) (storage : Storage) (bytes : List ℕ) (t : Trouble) (buf : List ℕ) → IsUntreated storage (heard a bytes) t → IsBreakBehind a sent storage bytes t buf
+untreated_breaks a sent storage bytes troubles.Link buf is = is
+untreated_breaks a sent storage bytes (troubles.Broke n) buf is = absurd is.0
+untreated_breaks a sent storage bytes (troubles.Refused k x n) buf is = absurd is.0
+untreated_breaks a sent storage bytes troubles.Flooded buf is = is
+untreated_breaks a sent storage bytes troubles.Short buf is = is
+untreated_breaks a sent storage bytes troubles.Full buf is = is
 
 -- what a message is to the wait was done
 pub treats_by : {Own : Type 0} {Tells : Type 0} {a : Awaited} {storage : Storage} {bytes : List ℕ} {old new : Seen Own} {kept now_kept : List (ℕ × List ℕ)} {answer now_answer : Brought} {ended : Bool} (h : Heard) → heard a bytes ≡ h → ended ≡ is_reply h
@@ -74,7 +74,7 @@ treats_by {Tells = Tells} {a = a} {storage = storage} {bytes = bytes} {old = old
 -- none came
 pub hears_none : {Own : Type 0} {Tells : Type 0} {a : Awaited} {old new : Seen Own} (storage : Storage) (sent : List (ℕ × Key)) (buf : List ℕ) (kept : List (ℕ × List ℕ)) (t : Trouble)
     → (IsOfHearing t × Calls Tells a.dpid (unheard a.dpid t buf) old new) → HearsLast Tells a storage sent old new kept kept buf t
-hears_none storage sent buf kept t h = record { by = None; why = unheard_by sent storage t buf h.0; calls = h.1; kept_is = refl }
+hears_none {a = a} storage sent buf kept t h = record { by = None; why = unheard_by a sent storage t buf h.0; calls = h.1; kept_is = refl }
 
 -- one refused an inverse
 pub hears_refusal : {Own : Type 0} {Tells : Type 0} {a : Awaited} {old new : Seen Own} {buf : List ℕ} {n : ℕ} (storage : Storage) (sent : List (ℕ × Key)) (kept : List (ℕ × List ℕ)) (key : Key) (xid : ℕ)
@@ -84,7 +84,7 @@ hears_refusal {buf = buf} {n = n} storage sent kept key xid h refused is = recor
 -- one was treated, or not
 pub hears_then : {Own : Type 0} {Tells : Type 0} {old mid : Seen Own} {buf : List ℕ} {n : ℕ} (a : Awaited) (new : Seen Own) (storage : Storage) (sent : List (ℕ × Key)) (kept now_kept : List (ℕ × List ℕ)) (answer now_answer : Brought) (result : Result Bool Trouble)
     → HearsMessage Tells a.dpid old mid buf n → None ≡ key_refused sent (take n buf) → (now_buf : List ℕ)
-    → MatchResult result (Treats Tells a storage (take n buf) mid new kept now_kept answer now_answer) (TreatsNot Tells a storage mid new kept now_kept)
+    → MatchResult result (Treats Tells a storage (take n buf) mid new kept now_kept answer now_answer) (TreatsNot Tells a storage (take n buf) mid new kept now_kept)
     → MatchResult result (HearsNext Tells a storage sent old new kept now_kept answer now_answer) (HearsLast Tells a storage sent old new kept now_kept now_buf)
 hears_then {buf = buf} {n = n} a new storage sent kept now_kept answer now_answer (Ok ended) h unrefused now_buf treated = record {
   bytes = take n buf;
@@ -97,7 +97,7 @@ hears_then {buf = buf} {n = n} a new storage sent kept now_kept answer now_answe
 }
 hears_then {buf = buf} {n = n} a new storage sent kept now_kept answer now_answer (Err t) h unrefused now_buf treated = record {
   by = Some (take n buf);
-  why = (h.read, untreated_breaks sent storage (take n buf) t now_buf treated.why);
+  why = (h.read, untreated_breaks a sent storage (take n buf) t now_buf treated.why);
   calls = Calls-then h.calls treated.calls;
   kept_is = treated.kept_is;
 }
@@ -153,14 +153,14 @@ replied {a = a} {storage = storage} {kept = kept} {kept1 = kept1} {kept2 = kept2
       calls = Calls-then w.calls (Calls-same (reply_said a b (sym h.ends)) h.calls);
     }
 
-later_break : (sent : List (ℕ × Key)) (storage : Storage) (n : ℕ) (by : Option (List ℕ)) (t : Trouble) (buf : List ℕ) → IsBreak sent storage 0 by t buf → IsBreak sent storage n by t buf
-later_break sent storage n (Some b) t buf why = why
-later_break sent storage n None troubles.Link buf why = tt
-later_break sent storage n None (troubles.Broke m) buf why = tt
-later_break sent storage n None (troubles.Refused k x m) buf why = absurd why
-later_break sent storage n None troubles.Flooded buf why = absurd (omega (arith, why))
-later_break sent storage n None troubles.Short buf why = tt
-later_break sent storage n None troubles.Full buf why = absurd why
+later_break : (a : Awaited) (sent : List (ℕ × Key)) (storage : Storage) (n : ℕ) (by : Option (List ℕ)) (t : Trouble) (buf : List ℕ) → IsBreak a sent storage 0 by t buf → IsBreak a sent storage n by t buf
+later_break a sent storage n (Some b) t buf why = why
+later_break a sent storage n None troubles.Link buf why = tt
+later_break a sent storage n None (troubles.Broke m) buf why = tt
+later_break a sent storage n None (troubles.Refused k x m) buf why = absurd why
+later_break a sent storage n None troubles.Flooded buf why = absurd (omega (arith, why))
+later_break a sent storage n None troubles.Short buf why = tt
+later_break a sent storage n None troubles.Full buf why = absurd why
 
 -- it failed
 pub unreplied : {Own : Type 0} {Tells : Type 0} {a : Awaited} {storage : Storage} {sent : List (ℕ × Key)} {old mid new : Seen Own} {kept kept1 kept2 : List (ℕ × List ℕ)} {answer : Brought} {n : ℕ} {buf : List ℕ} {t : Trouble}
@@ -171,7 +171,7 @@ unreplied {a = a} {storage = storage} {sent = sent} {kept = kept} {buf = buf} {t
   before = w.before;
   kept_is = subst (λ (k : List (ℕ × List ℕ)). KeptAs storage kept (kept_of a w.got) k) (sym h.kept_is) w.kept_is;
   by = h.by;
-  why = later_break sent storage (length w.got) h.by t buf h.why;
+  why = later_break a sent storage (length w.got) h.by t buf h.why;
   calls = Calls-then w.calls h.calls;
 })
 

@@ -15,12 +15,11 @@ use Rattle.net_txn.specs.declared.halt.Halt.TheVariants.{Lost, Fault}
 use Rattle.net_txn.specs.declared.logged.Logged.{Logged}
 use Rattle.lego_model.specs.UndoFaults.{inverse_bytes, AreBefore}
 use Rattle.lego_model.specs.BarrierWaits.{next_xid, barrier_sent}
-use Rattle.net_txn.specs.Waits.{KeptMore}
 use Rattle.net_txn.specs.laws.ProgressLaws.{progress_of-other, inverses_in-other}
 use Rattle.net_txn.specs.laws.UndoWaitLaws.{IsHaltOf-behind}
 use Rattle.net_txn.specs.laws.TableBackLaws.{stays_joined}
 use Rattle.net_txn.specs.Ports.{PortLists, lost_ports, ports_lost}
-use Rattle.net_txn.specs.Undos.{Undoing, is_lost, is_stuck, lost_in, lost_parts, fault_in, fault_by, ports_by, CanBeSent, alone, Moves, Fails, AwaitsReplies, Part, Inverse, BarrierPassed, Stuck, parts_of, since_of, inverses_of, first_fault, first_fault_of, progress_of, inverses_in, key_logged, Further, Pending, IsRoomLeft, IsThinned, sent_in}
+use Rattle.net_txn.specs.Undos.{Undoing, is_lost, is_stuck, lost_in, lost_parts, fault_by, ports_by, CanBeSent, alone, Moves, Fails, AwaitsReplies, Part, Inverse, BarrierPassed, Stuck, parts_of, since_of, inverses_of, first_fault, first_fault_of, progress_of, inverses_in, key_logged, Further, Pending, IsRoomLeft, IsThinned, sent_in}
 use Rattle.net_txn.specs.Views.{is_viewed}
 use Rattle.net_txn.specs.laws.PartOrderLaws.{EndsStep, ends_none, ends_more}
 use Rattle.net_txn.specs.laws.UndoLaws.{out_of_stuck, SameFor, Undoing-part, Undoing-none, Undoing-skipped, Stands-inverse, Stands-stuck, Stands-barred}
@@ -112,10 +111,6 @@ Further-barred {views = views} {base = base} {now = now} {next = next} {ps = ps}
 
 -- it failed, or was lost
 
-first_of_stuck : (d y : ℕ) (halt : Halt) (steps : List WorldStep) → fault_in (Stuck y halt steps) ≡ fault_by halt
-first_of_stuck d y Lost steps = refl
-first_of_stuck d y (Fault fault) steps = refl
-
 ports_of_stuck : (d y : ℕ) (halt : Halt) (steps : List WorldStep) (qs : PortLists) → ports_lost (lost_in d (Stuck y halt steps)) qs ≡ ports_by d halt qs
 ports_of_stuck d y Lost steps qs = refl
 ports_of_stuck d y (Fault fault) steps qs = refl
@@ -127,11 +122,11 @@ joined_still {base = base} {now = now} {parts = parts} d u free told joined = st
 
 pub Further-stuck : {Own : Type 0} {Tells : Type 0} {views : List TableView} {base now next : Seen Own} {kept kept1 kept2 : List (ℕ × List ℕ)} {ps qs : PortLists} {x y : ℕ} {switches more : List ℕ} {reverted : List Logged} {before : Option TxnFault} (d : ℕ) (later : List Logged) (halt : Halt)
     → Pending Tells views base now kept kept1 ps qs x y switches reverted before d → is_viewed d views ≡ true → (progress_of d later).failed ≡ true → (progress_of d later).lost ≡ is_lost halt → ((c : ℕ) → c ≢ d → SameFor c later reverted)
-    → KeptMore d kept1 kept2 → ((xs : List (ℕ × Key)) → IsThinned xs (map key_logged reverted) → IsThinned xs (map key_logged later)) → EndsStep d switches more → Fails Tells d y (inverses_in d reverted) now next halt
+    → ((xs : List (ℕ × Key)) → IsThinned xs (map key_logged reverted) → IsThinned xs (map key_logged later)) → EndsStep d switches more → Fails Tells d y (inverses_in d reverted) now next kept1 kept2 halt
     → Further Tells views base next kept kept2 ps (ports_by d halt qs) x (next_xid y) more later (first_fault_of before (fault_by halt))
-Further-stuck {Tells = Tells} {views = views} {base = base} {now = now} {next = next} {ps = ps} {qs = qs} {y = y} {switches = switches} {more = more} {reverted = reverted} d later halt p known failed out others some thinned step g =
+Further-stuck {Tells = Tells} {views = views} {base = base} {now = now} {next = next} {kept1 = kept1} {kept2 = kept2} {ps = ps} {qs = qs} {y = y} {switches = switches} {more = more} {reverted = reverted} d later halt p known failed out others thinned step g =
     let s = p.undoing.stands d in
-    let f = subst (λ (xs : List (ℕ × Key)). Fails Tells d y xs now next halt) (s.inverses known p.free) g in
+    let f = subst (λ (xs : List (ℕ × Key)). Fails Tells d y xs now next kept1 kept2 halt) (s.inverses known p.free) g in
     let cause = IsHaltOf-behind d (inverses_of (parts_of d p.parts)) base.counts now.counts next.counts f.steps halt p.undoing.continues.none_fell f.cause in
     let part = Stuck y halt f.steps in
     record {
@@ -140,9 +135,9 @@ Further-stuck {Tells = Tells} {views = views} {base = base} {now = now} {next = 
           (Stands-stuck (is_viewed d views) d y base.counts now.counts next.counts (parts_of d p.parts) reverted later halt f.steps p.undoing.continues.none_fell f.moves.continues.none_fell s known p.free (record { ids = f.ids; each = f.moves.each; cause = cause; places = f.places; quiet = f.quiet }) failed
           (out ∙ sym (out_of_stuck y halt f.steps (parts_of d p.parts))))
           (λ told joined. f.loses told (joined_still d p.undoing p.free told (joined d known)))
-          some (thinned (sent_in p.parts) p.undoing.order) (ends_more d part switches more p.parts refl step p.undoing.ends);
+          f.keeps (thinned (sent_in p.parts) p.undoing.order) (ends_more d part switches more p.parts refl step p.undoing.ends);
       few = λ c. elim (cases_eq c d) [ inl mine ↦ rw (eq-eqb d c (sym mine)) (omega arith) | inr other ↦ rw (ne_eqb d c (λ is. other (sym is))) (p.few c other) ];
-      fault_is = ap (λ (o : Option TxnFault). first_fault_of o (fault_by halt)) p.fault_is ∙ ap (λ (o : Option TxnFault). first_fault_of (first_fault p.parts) o) (sym (first_of_stuck d y halt f.steps));
+      fault_is = ap (λ (o : Option TxnFault). first_fault_of o (fault_by halt)) p.fault_is;
       ports_is = ap (ports_by d halt) p.ports_is ∙ sym (ports_of_stuck d y halt f.steps (ports_lost (lost_parts p.parts) ps)) ∙ sym (ports_lost-append (lost_parts p.parts) (lost_in d part) ps);
     }
 

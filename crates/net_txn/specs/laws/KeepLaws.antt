@@ -22,6 +22,7 @@ use Rattle.net_txn.specs.laws.NoticeLaws.{with_entries, notices_alone, notices_k
 use Rattle.net_txn.specs.declared.halt.Halt.TheVariants.{Lost, Fault}
 use Rattle.net_txn.specs.Losing.{is_among}
 use Rattle.net_txn.specs.Waits.{KeptMore}
+use Rattle.net_txn.specs.laws.UndoWaitLaws.{until_more}
 use Rattle.net_txn.specs.Undos.{lost_in, lost_parts, alone, Part, Inverse, BarrierPassed, Stuck, part_steps, steps_of, parts_of, fault_in, first_fault, ended_by, IsRun, IsBarrierPassed, inverses_of, Keeps, KeepsOne, StandsReady}
 use Rattle.net_txn.specs.Views.{is_viewed}
 use Rattle.net_txn.specs.laws.AgreeLaws.{both_none, no_fault}
@@ -57,7 +58,7 @@ part_keeps : (declared : List Declared) (old new : Counts) (keep : ℕ → Bool)
     → KeepsOne d p kept now_kept → (is_among d (lost_in d p) ≡ true → keep d ≡ false) → kept_in keep now_kept ≡ kept_in keep kept
 part_keeps declared old new keep d (Inverse xid k) s older t kept now_kept run none may l some lost = ap (kept_in keep) some
 part_keeps declared old new keep d (BarrierPassed xid got) s older t kept now_kept run none may l some lost = ap (kept_in keep) (barred_keeps declared d xid got s older t kept now_kept run.0 may l some)
-part_keeps declared old new keep d (Stuck xid Lost steps) s older t kept now_kept run none may l some lost = more_none keep d kept now_kept some (lost (rw (eq-eqb d d refl) refl))
+part_keeps declared old new keep d (Stuck xid Lost steps) s older t kept now_kept run none may l some lost = more_none keep d kept now_kept (until_more d xid None steps kept now_kept some) (lost (rw (eq-eqb d d refl) refl))
 part_keeps declared old new keep d (Stuck xid (Fault fault) steps) s older t kept now_kept run none may l some lost = absurd cc
 
 -- ---- Switches that stand ready

@@ -413,7 +413,7 @@ front_none d frames xs ys same none =
     first_none (packets_said (frames_said d xs)) (packets_said (frames_said d ys)) (sym (frames_append d xs ys) ∙ ap (λ (fs : List (List ℕ)). packets_said (frames_said d fs)) (sym same) ∙ none)
 
 unreplied_lost : {Own : Type 0} {Tells : Type 0} {old new : Seen Own} (a : Awaited) (frames got : List (List ℕ)) (by : Option (List ℕ)) (buf : List ℕ) (n : ℕ) → packets_said (frames_said a.dpid frames) ≡ [] → AllByRecursion IsRead got
-    → IsBreak [] Growing n by troubles.Link buf → Calls Tells a.dpid (frames_said a.dpid frames ++ (wait_said a got ++ last_said a.dpid by troubles.Link buf)) old new → IsLost Tells a.dpid [] old new × (Tells → MessagesSince old new)
+    → IsBreak a [] Growing n by troubles.Link buf → Calls Tells a.dpid (frames_said a.dpid frames ++ (wait_said a got ++ last_said a.dpid by troubles.Link buf)) old new → IsLost Tells a.dpid [] old new × (Tells → MessagesSince old new)
 unreplied_lost {Tells = Tells} {old = old} {new = new} a frames got None buf n none read why c =
     let d = a.dpid in
     let xs = frames_said d frames in

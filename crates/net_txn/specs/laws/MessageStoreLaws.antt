@@ -1,7 +1,8 @@
 -- Messages that come behind others, one after the other.
 use Rattle.std.specs.Prelude.{◌≡◌, ◌⊎◌, ℕ, Bool, true, false, List, [], ◌∷◌, ◌++◌, refl}
 use Rattle.std.proofs.Common.{subst, inl, inr}
-use Rattle.net_txn.specs.MessageStore.{fits, KeptWhereFit}
+use Rattle.lego_model.specs.KeptMessages.{fits}
+use Rattle.net_txn.specs.MessageStore.{KeptWhereFit}
 
 pub where_fit_then : (ms ns : List (ℕ × List ℕ)) (kept mid now : List (ℕ × List ℕ)) → KeptWhereFit kept ms mid → KeptWhereFit mid ns now → KeptWhereFit kept (ms ++ ns) now
 where_fit_then [] ns kept mid now first second = subst (λ (k : List (ℕ × List ℕ)). KeptWhereFit k ns now) first second

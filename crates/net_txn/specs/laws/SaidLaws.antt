@@ -40,6 +40,10 @@ pub all_two : {X : Type 0} (P : X → Type 0) (xs ys : List X) → AllByRecursio
 all_two P [] ys all rest = rest
 all_two P (x ∷ xs) ys all rest = (all.0, all_two P xs ys all.1 rest)
 
+pub all_front : {X : Type 0} (P : X → Type 0) (xs ys : List X) → AllByRecursion P (xs ++ ys) → AllByRecursion P xs
+all_front P [] ys all = tt
+all_front P (x ∷ xs) ys all = (all.0, all_front P xs ys all.1)
+
 pub all_behind : {X : Type 0} (P : X → Type 0) (xs ys : List X) → AllByRecursion P (xs ++ ys) → AllByRecursion P ys
 all_behind P [] ys all = all
 all_behind P (x ∷ xs) ys all = all_behind P xs ys all.1

@@ -195,25 +195,25 @@ none_refused bytes key is = neither (number_at 1 1 bytes == 1) is
     neither true is = absurd cc
     neither false is = absurd cc
 
-unreplied_cause : {Own : Type 0} {Tells : Type 0} (d : ℕ) (xs ys : List Said) (old new : Seen Own) (n : ℕ) (by : Option (List ℕ)) (t : Trouble) (buf : List ℕ) → IsBreak [] Growing n by t buf → Calls Tells d (xs ++ (ys ++ last_said d by t buf)) old new
+unreplied_cause : {Own : Type 0} {Tells : Type 0} (a : Awaited) (d : ℕ) (xs ys : List Said) (old new : Seen Own) (n : ℕ) (by : Option (List ℕ)) (t : Trouble) (buf : List ℕ) → IsBreak a [] Growing n by t buf → Calls Tells d (xs ++ (ys ++ last_said d by t buf)) old new
     → IsHaltCause Tells d old new (halt_by d t buf)
-unreplied_cause d xs ys old new n None troubles.Link buf why c = (last_of xs ys _ c).0.1
-unreplied_cause d xs ys old new n None (troubles.Broke m) buf why c = (refl, (last_of xs ys _ c).0.1, ends_by xs ys (take m buf) c)
-unreplied_cause d xs ys old new n None (troubles.Refused k x m) buf why c = absurd why
-unreplied_cause d xs ys old new n None troubles.Flooded buf why c = (refl, refl)
-unreplied_cause d xs ys old new n None troubles.Short buf why c = tt
-unreplied_cause d xs ys old new n None troubles.Full buf why c = tt
-unreplied_cause d xs ys old new n (Some b) troubles.Link buf why c = (last_of xs ys _ c).1.0.1
-unreplied_cause d xs ys old new n (Some b) (troubles.Broke m) buf why c = absurd why.1
-unreplied_cause d xs ys old new n (Some b) (troubles.Refused k x m) buf why c = absurd (none_refused b k why.1.1)
-unreplied_cause d xs ys old new n (Some b) troubles.Flooded buf why c = absurd why.1
-unreplied_cause d xs ys old new n (Some b) troubles.Short buf why c = tt
-unreplied_cause d xs ys old new n (Some b) troubles.Full buf why c = tt
+unreplied_cause a d xs ys old new n None troubles.Link buf why c = (last_of xs ys _ c).0.1
+unreplied_cause a d xs ys old new n None (troubles.Broke m) buf why c = (refl, (last_of xs ys _ c).0.1, ends_by xs ys (take m buf) c)
+unreplied_cause a d xs ys old new n None (troubles.Refused k x m) buf why c = absurd why
+unreplied_cause a d xs ys old new n None troubles.Flooded buf why c = (refl, refl)
+unreplied_cause a d xs ys old new n None troubles.Short buf why c = tt
+unreplied_cause a d xs ys old new n None troubles.Full buf why c = tt
+unreplied_cause a d xs ys old new n (Some b) troubles.Link buf why c = (last_of xs ys _ c).1.0.1
+unreplied_cause a d xs ys old new n (Some b) (troubles.Broke m) buf why c = absurd why.1.0
+unreplied_cause a d xs ys old new n (Some b) (troubles.Refused k x m) buf why c = absurd (none_refused b k why.1.1)
+unreplied_cause a d xs ys old new n (Some b) troubles.Flooded buf why c = absurd why.1.0
+unreplied_cause a d xs ys old new n (Some b) troubles.Short buf why c = tt
+unreplied_cause a d xs ys old new n (Some b) troubles.Full buf why c = tt
 
 breaks_cause : {Own : Type 0} {Tells : Type 0} (a : Awaited) (frames : List (List ℕ)) (old new : Seen Own) (kept now_kept : List (ℕ × List ℕ)) (buf : List ℕ) (t : Trouble) → Breaks Tells a frames Growing [] old new kept now_kept buf t
     → IsHaltCause Tells a.dpid old new (halt_by a.dpid t buf)
 breaks_cause {Tells = Tells} a frames old new kept now_kept buf t (inl u) = unsent_is Tells a.dpid old new t buf u.why (unsent_cause a.dpid u.first old new t buf u.why u.calls)
-breaks_cause a frames old new kept now_kept buf t (inr u) = unreplied_cause a.dpid (frames_said a.dpid frames) (wait_said a u.got) old new (length u.got) u.by t buf u.why u.calls
+breaks_cause a frames old new kept now_kept buf t (inr u) = unreplied_cause a a.dpid (frames_said a.dpid frames) (wait_said a u.got) old new (length u.got) u.by t buf u.why u.calls
 
 -- as the trouble says, or want of memory for its fault
 halt_of : (P : Halt → Type 0) (halt is : Halt) → (halt ≡ is) ⊎ (halt ≡ Fault NoMemory) → P is → P (Fault NoMemory) → P halt
@@ -264,13 +264,13 @@ flooded_by a first old new kept now_kept buf troubles.Flooded (inr u) = record {
     joined : Bool
     joined = is_joined a.dpid (state old)
 
-    many : (by : Option (List ℕ)) → IsBreak [] Growing (length u.got) by troubles.Flooded buf → length u.got ≡ flood
+    many : (by : Option (List ℕ)) → IsBreak a [] Growing (length u.got) by troubles.Flooded buf → length u.got ≡ flood
     many None why = why
-    many (Some b) why = absurd why.1
+    many (Some b) why = absurd why.1.0
 
-    none_last : (by : Option (List ℕ)) → IsBreak [] Growing (length u.got) by troubles.Flooded buf → said_steps (is_joined a.dpid (state old)) (last_said a.dpid by troubles.Flooded buf) ≡ []
+    none_last : (by : Option (List ℕ)) → IsBreak a [] Growing (length u.got) by troubles.Flooded buf → said_steps (is_joined a.dpid (state old)) (last_said a.dpid by troubles.Flooded buf) ≡ []
     none_last None why = refl
-    none_last (Some b) why = absurd why.1
+    none_last (Some b) why = absurd why.1.0
 flooded_by a first old new kept now_kept buf troubles.Short b = tt
 flooded_by a first old new kept now_kept buf troubles.Full b = tt
 

@@ -70,7 +70,7 @@ inverse_sent d xid key (p ∷ older) is =
     ]
 
 -- all inverses of its parts were sent
-abbrev WereSent : ℕ → List WorldStep → List (ℕ × Key) → Type 0
+abbrev pub WereSent : ℕ → List WorldStep → List (ℕ × Key) → Type 0
 WereSent d steps sent = AllByRecursion (λ p. WasSent d p.0 p.1 steps) sent
 
 sent_before : (d : ℕ) (steps more : List WorldStep) (sent : List (ℕ × Key)) → WereSent d steps sent → WereSent d (steps ++ more) sent
@@ -82,7 +82,7 @@ sent_here c d (Inverse xid k) parts steps of_switch all = (sent_last c d xid xid
 sent_here c d (BarrierPassed xid got) parts steps of_switch all = sent_before d steps (part_steps c (BarrierPassed xid got)) (inverses_of parts) all
 sent_here c d (Stuck xid fault stuck) parts steps of_switch all = sent_before d steps (part_steps c (Stuck xid fault stuck)) (inverses_of parts) all
 
-were_sent : (d : ℕ) (parts : List (ℕ × Part)) → WereSent d (steps_of parts) (inverses_of (parts_of d parts))
+pub were_sent : (d : ℕ) (parts : List (ℕ × Part)) → WereSent d (steps_of parts) (inverses_of (parts_of d parts))
 were_sent d [] = tt
 were_sent d (p ∷ older) =
     elim (cases_Bool (p.0 == d)) [

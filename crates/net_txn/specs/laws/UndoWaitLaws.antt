@@ -1,5 +1,5 @@
 -- Laws of the wait of an undo: what was said leaves the steps of its switch, and a failure has its cause in them.
-use Rattle.std.specs.Prelude.{◌≡◌, ℕ, ◌+◌, ◌^◌, ◌<◌, ◌≤◌, Bool, true, false, List, [], ◌∷◌, ◌++◌, length, map, Option, Some, None, Ok, Err, IsOk, refl}
+use Rattle.std.specs.Prelude.{◌≡◌, ℕ, ◌+◌, ◌^◌, ◌<◌, ◌≤◌, Bool, true, false, List, [], ◌∷◌, ◌++◌, length, map, take, Option, Some, None, Ok, Err, IsOk, refl}
 use Rattle.std.specs.List.{AllByRecursion}
 use Rattle.std.proofs.Common.{sym, ap, ◌∙◌, subst, append_assoc, inl, inr, arith}
 use Rattle.std.proofs.lemmas.List.{append-nil}
@@ -23,6 +23,7 @@ use Rattle.lego_model.specs.declared.fault.TxnFault.TheVariants.{SwitchBroke, Di
 use Rattle.lego_model.specs.declared.wait.Awaited.{Awaited}
 use Rattle.lego_model.specs.Journal.{losses, released}
 use Rattle.lego_model.specs.BarrierWaits.{kept_of, wait_steps, reply_got, barrier_sent}
+use Rattle.lego_model.specs.KeptMessages.{got_in}
 use Rattle.net_txn.specs.declared.halt.Halt.{Halt}
 use Rattle.net_txn.specs.declared.halt.Halt.TheVariants.{Lost, Fault}
 use Rattle.net_txn.specs.declared.queue.Storage.TheVariants.{Reserved}
@@ -32,7 +33,7 @@ use Rattle.lego_model.specs.UndoFaults.{inverse_bytes, Goes, GoesWithoutStrays, 
 use Rattle.lego_model.specs.OwnIds.{own_ids, AscendWithin}
 use Rattle.net_txn.specs.MessageStore.{KeptWhereFit}
 use Rattle.net_txn.specs.Waits.{Brought, IsRead, KeptMore}
-use Rattle.net_txn.specs.Undos.{halt_by, alone, Moves, IsFaultOf, IsHaltOf, GoesOutBy, LosesBy, Fails, AwaitsReplies, PassesBarrier}
+use Rattle.net_txn.specs.Undos.{halt_by, fault_by, alone, Moves, IsFaultOf, IsHaltOf, GoesOutBy, LosesBy, EndsWait, KeepsUntil, Fails, AwaitsReplies, PassesBarrier}
 use Rattle.net_txn.specs.Said.{Said, Says, Hears, HearsNoise, CannotSay, CannotHear, LacksMemory, ids_said, IsSaid, Calls, steps_in, said_steps, unsaid, unheard, wait_said, last_said, IsOfLink, IsBreak, AreHeard, frames_said, barrier_of, reply_heard, Replied, Breaks}
 use Rattle.net_txn.specs.laws.WaitLaws.{of_switch, kept_of_more}
 use Rattle.net_txn.specs.laws.LinkPresenceLaws.{steps_stay, losses_by, lost_none_all}
@@ -103,9 +104,10 @@ stays_by d troubles.Short buf said none fine = none_by said fine
 stays_by d troubles.Full buf said none fine = none_by said fine
 
 -- what failed, by what was said
-fails_by : {Own : Type 0} {Tells : Type 0} {old new : Seen Own} (d xid : ℕ) (sent : List (ℕ × Key)) (said : List Said) (steps : List WorldStep) (halt : Halt) → Calls Tells d said old new → said_steps (is_joined d (state old)) said ≡ steps → IsHaltOf d sent old.counts new.counts steps halt
-    → GoesWithoutStrays d (said_steps true said) → packets_said said ≡ [] → LosesBy d halt (said_steps true said) → (xid + 1 < 2 ^ 32 → AscendWithin xid (ids_said said) (xid + 1)) → (halt ≡ Lost → 1 ≤ length steps) → Fails Tells d xid sent old new halt
-fails_by {old = old} {new = new} d xid sent said steps halt c same cause goes none loses ascends some =
+fails_by : {Own : Type 0} {Tells : Type 0} {old new : Seen Own} {kept now_kept : List (ℕ × List ℕ)} (d xid : ℕ) (sent : List (ℕ × Key)) (said : List Said) (steps : List WorldStep) (halt : Halt) → Calls Tells d said old new → said_steps (is_joined d (state old)) said ≡ steps → IsHaltOf d sent old.counts new.counts steps halt
+    → GoesWithoutStrays d (said_steps true said) → packets_said said ≡ [] → LosesBy d halt (said_steps true said) → (xid + 1 < 2 ^ 32 → AscendWithin xid (ids_said said) (xid + 1)) → (halt ≡ Lost → 1 ≤ length steps) → KeepsUntil (alone d xid) (fault_by halt) steps kept now_kept
+    → Fails Tells d xid sent old new kept now_kept halt
+fails_by {old = old} {new = new} d xid sent said steps halt c same cause goes none loses ascends some keeps =
     let b = is_joined d (state old) in
     record {
       steps = steps;
@@ -115,6 +117,7 @@ fails_by {old = old} {new = new} d xid sent said steps halt c same cause goes no
       places = subst (GoesWithoutStrays d) same (said_goes d said old.counts new.counts b c.each goes);
       quiet = ap (λ (s : List WorldStep). released (journal s)) (sym same) ∙ said_released b said ∙ none;
       loses = λ tells joined. subst (LosesBy d halt) (ap (λ (j : Bool). said_steps j said) (sym joined) ∙ same) loses;
+      keeps = keeps;
     }
 
 -- ---- What was kept
@@ -126,12 +129,31 @@ fit_more d (m ∷ ms) kept now (inl one) =
     (m ∷ more.0, more.1 ∙ append_assoc kept ((d, m) ∷ []) (map (of_switch d) more.0))
 fit_more d (m ∷ ms) kept now (inr none) = fit_more d ms kept now none.1
 
-kept_fit : (a : Awaited) (got : List (List ℕ)) (kept now : List (ℕ × List ℕ)) → KeptWhereFit kept (kept_of a got) now → KeptMore a.dpid kept now
+pub kept_fit : (a : Awaited) (got : List (List ℕ)) (kept now : List (ℕ × List ℕ)) → KeptWhereFit kept (kept_of a got) now → KeptMore a.dpid kept now
 kept_fit a got kept now is =
     let more = kept_of_more a got in
     fit_more a.dpid more.0 kept now (subst (λ (ms : List (ℕ × List ℕ)). KeptWhereFit kept ms now) more.1 is)
 
+-- a switch that fails keeps messages of its own
+pub until_more : (d xid : ℕ) (fault : Option TxnFault) (steps : List WorldStep) (kept now : List (ℕ × List ℕ)) → KeepsUntil (alone d xid) fault steps kept now → KeptMore d kept now
+until_more d xid fault steps kept now keeps = kept_fit (alone d xid) keeps.got kept now keeps.kept_is
+
+-- where none came
+keeps_none : {kept now_kept : List (ℕ × List ℕ)} (a : Awaited) (fault : Option TxnFault) (steps : List WorldStep) → now_kept ≡ kept → got_in steps ≡ [] → KeepsUntil a fault steps kept now_kept
+keeps_none a fault steps same none = record { front = steps; got = []; last = []; steps_is = sym (append-nil steps); none_before = none; ends = inl refl; kept_is = same }
+
 -- ---- One message
+
+-- what is sent brings none
+unsent_brings : (d : ℕ) (frames : List (List ℕ)) (t : Trouble) (b : Bool) → got_in (said_steps b (frames_said d frames ++ unsaid d t)) ≡ []
+unsent_brings d [] troubles.Link true = refl
+unsent_brings d [] troubles.Link false = refl
+unsent_brings d [] (troubles.Broke n) b = refl
+unsent_brings d [] (troubles.Refused k x n) b = refl
+unsent_brings d [] troubles.Flooded b = refl
+unsent_brings d [] troubles.Short b = refl
+unsent_brings d [] troubles.Full b = refl
+unsent_brings d (frame ∷ frames) t b = unsent_brings d frames t b
 
 pub says_moves : {Own : Type 0} {Tells : Type 0} {d : ℕ} {frame : List ℕ} {old new : Seen Own} → Calls Tells d (frames_said d (frame ∷ [])) old new → Moves Tells d (Acted (Sent d frame) ∷ []) old new
 says_moves {d = d} {frame = frame} c = Calls-moves (Acted (Sent d frame) ∷ []) refl c
@@ -179,15 +201,17 @@ unsent_some d frames troubles.Flooded buf b lost = absurd cc
 unsent_some d frames troubles.Short buf b lost = absurd cc
 unsent_some d frames troubles.Full buf b lost = absurd cc
 
-unsent_fails : {Own : Type 0} {Tells : Type 0} (d xid : ℕ) (sent : List (ℕ × Key)) (frames : List (List ℕ)) (old new : Seen Own) (t : Trouble) (buf : List ℕ) → packets_said (frames_said d frames) ≡ [] → IsOfLink t → Calls Tells d (frames_said d frames ++ unsaid d t) old new
-    → (xid + 1 < 2 ^ 32 → AscendWithin xid (ids_said (frames_said d frames ++ unsaid d t)) (xid + 1)) → Fails Tells d xid sent old new (halt_by d t buf)
-unsent_fails d xid sent frames old new t buf none why c ascends =
+unsent_fails : {Own : Type 0} {Tells : Type 0} {kept now_kept : List (ℕ × List ℕ)} (d xid : ℕ) (sent : List (ℕ × Key)) (frames : List (List ℕ)) (old new : Seen Own) (t : Trouble) (buf : List ℕ) → now_kept ≡ kept → packets_said (frames_said d frames) ≡ [] → IsOfLink t → Calls Tells d (frames_said d frames ++ unsaid d t) old new
+    → (xid + 1 < 2 ^ 32 → AscendWithin xid (ids_said (frames_said d frames ++ unsaid d t)) (xid + 1)) → Fails Tells d xid sent old new kept now_kept (halt_by d t buf)
+unsent_fails d xid sent frames old new t buf same none why c ascends =
+    let b = is_joined d (state old) in
     fails_by d xid sent (frames_said d frames ++ unsaid d t) _ (halt_by d t buf) c refl (unsent_halt d sent frames old new t buf (is_joined d (state old)) why c) (unsent_goes d frames t)
-    (none_two (frames_said d frames) (unsaid d t) none (none_unsaid d t)) (unsent_loses d frames t buf why) ascends (unsent_some d frames t buf (is_joined d (state old)))
+    (none_two (frames_said d frames) (unsaid d t) none (none_unsaid d t)) (unsent_loses d frames t buf why) ascends (unsent_some d frames t buf b)
+    (keeps_none (alone d xid) (fault_by (halt_by d t buf)) (said_steps b (frames_said d frames ++ unsaid d t)) same (unsent_brings d frames t b))
 
-pub says_fails : {Own : Type 0} {Tells : Type 0} {d : ℕ} {old new : Seen Own} (xid : ℕ) (sent : List (ℕ × Key)) (t : Trouble) (buf : List ℕ) → (IsOfLink t × Calls Tells d (unsaid d t) old new) → Fails Tells d xid sent old new (halt_by d t buf)
+pub says_fails : {Own : Type 0} {Tells : Type 0} {d : ℕ} {old new : Seen Own} {kept : List (ℕ × List ℕ)} (xid : ℕ) (sent : List (ℕ × Key)) (t : Trouble) (buf : List ℕ) → (IsOfLink t × Calls Tells d (unsaid d t) old new) → Fails Tells d xid sent old new kept kept (halt_by d t buf)
 says_fails {d = d} {old = old} {new = new} xid sent t buf s =
-    unsent_fails d xid sent [] old new t buf packets_none s.0 s.1 (λ small. subst (λ (ids : List ℕ). AscendWithin xid ids (xid + 1)) (sym (unsaid_ids d t)) (omega arith))
+    unsent_fails d xid sent [] old new t buf refl packets_none s.0 s.1 (λ small. subst (λ (ids : List ℕ). AscendWithin xid ids (xid + 1)) (sym (unsaid_ids d t)) (omega arith))
 
 -- ---- A barrier and the wait behind it
 
@@ -216,7 +240,7 @@ heard_read : (a : Awaited) (got : List (List ℕ)) (last : List Said) → AllByR
 heard_read a got last read end = (tt, all_two IsReadSaid (wait_said a got) last (wait_read a got read) end)
 
 unreplied_halt : {Own : Type 0} {Tells : Type 0} (a : Awaited) (sent : List (ℕ × Key)) (got : List (List ℕ)) (old new : Seen Own) (by : Option (List ℕ)) (t : Trouble) (buf : List ℕ) (b : Bool) → a.barrier < 2 ^ 32 → AreHeard a sent got
-    → IsBreak sent Reserved (length got) by t buf → Calls Tells a.dpid (waited_said a got by t buf) old new → IsHaltOf a.dpid sent old.counts new.counts (waited b a got by t buf) (halt_by a.dpid t buf)
+    → IsBreak a sent Reserved (length got) by t buf → Calls Tells a.dpid (waited_said a got by t buf) old new → IsHaltOf a.dpid sent old.counts new.counts (waited b a got by t buf) (halt_by a.dpid t buf)
 unreplied_halt a sent got old new None troubles.Link buf b small h why c = (
   (last_of (frames_said a.dpid (barrier_of a ∷ [])) (wait_said a got) _ c).0.1,
   subst BringMessages (whole_steps b a [] got (CannotHear a.dpid ∷ [])) (said_brings b (waited_said a got None troubles.Link buf) (heard_read a got (CannotHear a.dpid ∷ []) h.read (tt, tt))),
@@ -245,7 +269,7 @@ unreplied_halt a sent got old new (Some m) troubles.Link buf b small h why c = (
   (last_of (frames_said a.dpid (barrier_of a ∷ [])) (wait_said a got) _ c).1.0.1,
   subst BringMessages (whole_steps b a [] got (Hears a.dpid m ∷ CannotSay a.dpid ∷ [])) (said_brings b (waited_said a got (Some m) troubles.Link buf) (heard_read a got (Hears a.dpid m ∷ CannotSay a.dpid ∷ []) h.read (why.0.1, (tt, tt)))),
 )
-unreplied_halt a sent got old new (Some m) (troubles.Broke n) buf b small h why c = absurd why.1
+unreplied_halt a sent got old new (Some m) (troubles.Broke n) buf b small h why c = absurd why.1.0
 unreplied_halt a sent got old new (Some m) (troubles.Refused k x n) buf b small h why c = (
   refl,
   record {
@@ -260,7 +284,7 @@ unreplied_halt a sent got old new (Some m) (troubles.Refused k x n) buf b small 
     steps_is = ap (λ (bytes : List ℕ). barrier_sent a ∷ (wait_steps a got ++ Acted (Got a.dpid bytes) ∷ [])) why.1.0;
   },
 )
-unreplied_halt a sent got old new (Some m) troubles.Flooded buf b small h why c = absurd why.1
+unreplied_halt a sent got old new (Some m) troubles.Flooded buf b small h why c = absurd why.1.0
 unreplied_halt a sent got old new (Some m) troubles.Short buf b small h why c =
     let last = (last_of (frames_said a.dpid (barrier_of a ∷ [])) (wait_said a got) _ c).1.0 in
     (last.1, last.2)
@@ -305,35 +329,56 @@ unreplied_loses a got by troubles.Full buf = waited_stays a got by troubles.Full
 barrier_ascends : (a : Awaited) → a.barrier < 2 ^ 32 → FramesAscend a.barrier 1 a (barrier_of a ∷ [])
 barrier_ascends a small few = one_ascends a.barrier (a.barrier + 1) a.dpid (barrier_of a) (barrier_id a.barrier small) (omega arith)
 
-breaks_fails : {Own : Type 0} {Tells : Type 0} (a : Awaited) (sent : List (ℕ × Key)) (old new : Seen Own) (kept now_kept : List (ℕ × List ℕ)) (buf : List ℕ) (t : Trouble) → a.barrier < 2 ^ 32 → Breaks Tells a (barrier_of a ∷ []) Reserved sent old new kept now_kept buf t
-    → Fails Tells a.dpid a.barrier sent old new (halt_by a.dpid t buf)
-breaks_fails a sent old new kept now_kept buf t small (inl u) =
-    unsent_fails a.dpid a.barrier sent u.first old new t buf (front_none a.dpid (barrier_of a ∷ []) u.first u.rest u.frames_is (barrier_none a.dpid a.barrier small)) u.why u.calls
+-- the message that ended it
+last_ends : (a : Awaited) (sent : List (ℕ × Key)) (n : ℕ) (by : Option (List ℕ)) (t : Trouble) (buf : List ℕ) (b : Bool) → IsBreak a sent Reserved n by t buf → EndsWait a (fault_by (halt_by a.dpid t buf)) (said_steps b (last_said a.dpid by t buf))
+last_ends a sent n None troubles.Link buf true why = inl refl
+last_ends a sent n None troubles.Link buf false why = inl refl
+last_ends a sent n None (troubles.Broke m) buf b why = inr (take m buf, refl, refl)
+last_ends a sent n None (troubles.Refused k x m) buf b why = absurd why
+last_ends a sent n None troubles.Flooded buf b why = inl refl
+last_ends a sent n None troubles.Short buf b why = inl refl
+last_ends a sent n None troubles.Full buf b why = absurd why
+last_ends a sent n (Some bytes) troubles.Link buf true why = inr (bytes, refl, why.1.1)
+last_ends a sent n (Some bytes) troubles.Link buf false why = inr (bytes, refl, why.1.1)
+last_ends a sent n (Some bytes) (troubles.Broke m) buf b why = absurd why.1.0
+last_ends a sent n (Some bytes) (troubles.Refused k x m) buf b why = inr (bytes, refl, why.1.0)
+last_ends a sent n (Some bytes) troubles.Flooded buf b why = absurd why.1.0
+last_ends a sent n (Some bytes) troubles.Short buf b why = inr (bytes, refl, why.1.1)
+last_ends a sent n (Some bytes) troubles.Full buf b why = absurd cc
+
+breaks_fails : {Own : Type 0} {Tells : Type 0} (d xid : ℕ) (sent : List (ℕ × Key)) (old new : Seen Own) (kept now_kept : List (ℕ × List ℕ)) (buf : List ℕ) (t : Trouble) → xid < 2 ^ 32 → Breaks Tells (alone d xid) (barrier_of (alone d xid) ∷ []) Reserved sent old new kept now_kept buf t
+    → Fails Tells d xid sent old new kept now_kept (halt_by d t buf)
+breaks_fails d xid sent old new kept now_kept buf t small (inl u) =
+    let a = alone d xid in
+    unsent_fails d xid sent u.first old new t buf u.kept_is (front_none a.dpid (barrier_of a ∷ []) u.first u.rest u.frames_is (barrier_none a.dpid a.barrier small)) u.why u.calls
     (front_ascend a.barrier 1 a (barrier_of a ∷ []) u.first u.rest t u.frames_is (barrier_ascends a small))
-breaks_fails a sent old new kept now_kept buf t small (inr u) =
-    let b = is_joined a.dpid (state old) in
-    fails_by a.dpid a.barrier sent (waited_said a u.got u.by t buf) (waited b a u.got u.by t buf) (halt_by a.dpid t buf) u.calls (whole_steps b a [] u.got (last_said a.dpid u.by t buf))
+breaks_fails d xid sent old new kept now_kept buf t small (inr u) =
+    let a = alone d xid in
+    let b = is_joined d (state old) in
+    fails_by d xid sent (waited_said a u.got u.by t buf) (waited b a u.got u.by t buf) (halt_by a.dpid t buf) u.calls (whole_steps b a [] u.got (last_said a.dpid u.by t buf))
     (unreplied_halt a sent u.got old new u.by t buf b u.is_xid u.before u.why u.calls) (whole_goes a [] u.got u.by t buf u.is_xid u.before.before_reply)
     (none_two (frames_said a.dpid (barrier_of a ∷ [])) (wait_said a u.got ++ last_said a.dpid u.by t buf) (barrier_none a.dpid a.barrier small) (none_two (wait_said a u.got) (last_said a.dpid u.by t buf) (wait_none a u.got u.before.read) (none_last a.dpid u.by t buf)))
     (unreplied_loses a u.got u.by t buf) (whole_ascend a.barrier 1 a (barrier_of a ∷ []) u.got (last_said a.dpid u.by t buf) (last_ids a.dpid u.by t buf) (barrier_ascends a small)) (λ lost. omega arith)
-
-breaks_kept : {Own : Type 0} {Tells : Type 0} (a : Awaited) (sent : List (ℕ × Key)) (old new : Seen Own) (kept now_kept : List (ℕ × List ℕ)) (buf : List ℕ) (t : Trouble) → Breaks Tells a (barrier_of a ∷ []) Reserved sent old new kept now_kept buf t
-    → KeptMore a.dpid kept now_kept
-breaks_kept a sent old new kept now_kept buf t (inl u) = ([], u.kept_is ∙ sym (append-nil kept))
-breaks_kept a sent old new kept now_kept buf t (inr u) = kept_fit a u.got kept now_kept u.kept_is
+    (record {
+      front = barrier_sent a ∷ [];
+      got = u.got;
+      last = said_steps b (last_said a.dpid u.by t buf);
+      steps_is = refl;
+      none_before = refl;
+      ends = last_ends a sent (length u.got) u.by t buf b u.why;
+      kept_is = u.kept_is;
+    })
 
 pub passes_ok : {Own : Type 0} {Tells : Type 0} {sent : List (ℕ × Key)} {old new : Seen Own} {kept now_kept : List (ℕ × List ℕ)} (d xid : ℕ) (answer : Brought) (buf : List ℕ) → Replied Tells (alone d xid) (barrier_of (alone d xid) ∷ []) Reserved sent old new kept now_kept answer
     → PassesBarrier Tells d xid sent old new kept now_kept buf (Ok tt)
 passes_ok {sent = sent} {old = old} {new = new} {kept = kept} {now_kept = now_kept} d xid answer buf r = record {
   replied = replies (alone d xid) sent old new kept now_kept answer r;
   failed = tt;
-  kept_more = kept_fit (alone d xid) r.got kept now_kept r.kept_is;
 }
 
 pub passes_err : {Own : Type 0} {Tells : Type 0} {sent : List (ℕ × Key)} {old new : Seen Own} {kept now_kept : List (ℕ × List ℕ)} (d xid : ℕ) (t : Trouble) (buf : List ℕ) → xid < 2 ^ 32 → Breaks Tells (alone d xid) (barrier_of (alone d xid) ∷ []) Reserved sent old new kept now_kept buf t
     → PassesBarrier Tells d xid sent old new kept now_kept buf (Err t)
 passes_err {sent = sent} {old = old} {new = new} {kept = kept} {now_kept = now_kept} d xid t buf small b = record {
   replied = tt;
-  failed = breaks_fails (alone d xid) sent old new kept now_kept buf t small b;
-  kept_more = breaks_kept (alone d xid) sent old new kept now_kept buf t b;
+  failed = breaks_fails d xid sent old new kept now_kept buf t small b;
 }

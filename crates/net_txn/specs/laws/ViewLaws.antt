@@ -1,7 +1,7 @@
 -- Laws of views: lookup, and where a change stands.
 use Rattle.std.specs.Prelude.{◌≡◌, ◌≢◌, ◌==◌, ℕ, ◌<◌, ◌≤◌, Bool, true, false, ◌||◌, List, [], ◌∷◌, length, Option, Some, None, if◌then◌else◌, refl}
 use Rattle.std.specs.List.{insert}
-use Rattle.std.specs.Option.{is_some}
+use Rattle.std.specs.Option.{is_some, option_map}
 use Rattle.std.proofs.Common.{zero, suc, get_or, set, sym, ap, ◌∙◌, eqb, ltb, arith, eq-eqb, subst}
 use Rattle.std.proofs.lemmas.Bool.{eqb-true, ne_eqb, lt-ltb, le-ltb}
 use Rattle.of_match.specs.Key.{key_number}
@@ -55,6 +55,14 @@ same_at d change v vs rows false e rest is = rw e (rest is)
 pub rows_at-same : (d : ℕ) (change : List ViewRow → List ViewRow) (vs : List TableView) (rows : List ViewRow) → rows_at d vs ≡ Some rows → rows_at d (with_rows d change vs) ≡ Some (change rows)
 rows_at-same d change [] rows is = absurd cc
 rows_at-same d change (v ∷ vs) rows is = same_at d change v vs rows (v.dpid == d) refl (rows_at-same d change vs rows) is
+
+changed_at : (d : ℕ) (change : List ViewRow → List ViewRow) (vs : List TableView) (o : Option (List ViewRow)) → rows_at d vs ≡ o → rows_at d (with_rows d change vs) ≡ option_map change (rows_at d vs)
+changed_at d change vs (Some rows) is = rows_at-same d change vs rows is ∙ sym (ap (option_map change) is)
+changed_at d change vs None is = ap (rows_at d) (with_rows-none d change vs is) ∙ (is ∙ sym (ap (option_map change) is))
+
+-- whether it is joined or not
+pub rows_at-changed : (d : ℕ) (change : List ViewRow → List ViewRow) (vs : List TableView) → rows_at d (with_rows d change vs) ≡ option_map change (rows_at d vs)
+rows_at-changed d change vs = changed_at d change vs (rows_at d vs) refl
 
 other_at : (d e : ℕ) (change : List ViewRow → List ViewRow) (v : TableView) (vs : List TableView) (here : Bool) → e ≢ d → (v.dpid == d) ≡ here → rows_at e (with_rows d change vs) ≡ rows_at e vs
     → rows_at e (if here then record v { rows = change v.rows } ∷ vs else v ∷ with_rows d change vs) ≡ (if v.dpid == e then Some v.rows else rows_at e vs)

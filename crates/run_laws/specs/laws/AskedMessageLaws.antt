@@ -10,6 +10,7 @@ use Rattle.app_frames.specs.declared.cause.Cause.TheVariants as causes
 use Rattle.lego_model.specs.Journal.{End, Closes, Stalls, Untold, pieces, reply_of}
 use Rattle.lego_model.specs.Turns.{Next, Framed, Faulty, Over, next_of, Outcome, Completed, Failed, ended_by, Played, over, done_by, one_fewer, is_none_left, told_to, turn_from, turn_of}
 use Rattle.app_visor.specs.Beats.{Exchange, Beat, acts_in}
+use Rattle.app_visor.specs.laws.TableLaws.{same_bytes_is, told_none, none_stays}
 use Rattle.app_visor.specs.Turns.{same_bytes, Asking, oracle, reply_by}
 use Rattle.run_course.specs.Asked.{IsLeft, AreAsked}
 
@@ -17,9 +18,9 @@ abbrev pub message_of : {Own : Type 0} → Exchange Own → ℕ × List ℕ
 message_of x = (x.dpid, x.bytes)
 
 -- what is left unread where it completed
-abbrev pub left_by : Outcome → List ℕ
-left_by (Completed stop checkpoint rest) = rest
-left_by (Failed cause) = []
+abbrev pub unread_by : Outcome → List ℕ
+unread_by (Completed stop checkpoint rest) = rest
+unread_by (Failed cause) = []
 
 -- ---- Where nothing more is asked
 
@@ -33,63 +34,28 @@ nothing_left (Framed Ready rest pieces) = refl
 nothing_left (Faulty fault) = refl
 nothing_left Over = refl
 
-ended_left : (end : End) (next : Next) → IsLeft (left_by (ended_by end)) next
+ended_left : (end : End) (next : Next) → IsLeft (unread_by (ended_by end)) next
 ended_left Closes next = nothing_left next
 ended_left Stalls next = nothing_left next
 ended_left Untold next = nothing_left next
 
 -- all that is to be asked was asked
-over_asked : {Own : Type 0} (xs : List (Exchange Own)) (outcome : Outcome) (next : Next) → IsLeft (left_by outcome) next → (over {State = Asking Own} (Some xs) outcome).state ≡ Some [] → AreAsked (map message_of xs) (left_by outcome) next
+over_asked : {Own : Type 0} (xs : List (Exchange Own)) (outcome : Outcome) (next : Next) → IsLeft (unread_by outcome) next → (over {State = Asking Own} (Some xs) outcome).state ≡ Some [] → AreAsked (map message_of xs) (unread_by outcome) next
 over_asked [] outcome next left asked = left
 over_asked (x ∷ xs) outcome next left asked = absurd cc
 
 done_asked : {Own : Type 0} (judged stop : Bool) (checkpoint : Option (List ℕ)) (rest : List ℕ) (pieces : List (List ℕ)) (xs : List (Exchange Own)) → (done_by {State = Asking Own} judged (Some xs) stop checkpoint rest).state ≡ Some []
-    → AreAsked (map message_of xs) (left_by (done_by {State = Asking Own} judged (Some xs) stop checkpoint rest).outcome) (Framed (Done stop checkpoint) rest pieces)
+    → AreAsked (map message_of xs) (unread_by (done_by {State = Asking Own} judged (Some xs) stop checkpoint rest).outcome) (Framed (Done stop checkpoint) rest pieces)
 done_asked true stop checkpoint rest pieces xs asked = over_asked xs (Completed stop checkpoint rest) (Framed (Done stop checkpoint) rest pieces) (inl refl) asked
 done_asked false stop checkpoint rest pieces xs asked = over_asked xs (Failed causes.Judged) (Framed (Done stop checkpoint) rest pieces) (inr refl) asked
 
--- ---- A message that no exchange is of: from then on none is asked.
-
-none_told : {Own : Type 0} (gone : Bool) (later : Played (Asking Own)) → later.state ≡ None → (told_to gone (Unknown, None) later).state ≡ None
-none_told true later none = refl
-none_told false later none = none
-
-none_done : {Own : Type 0} (judged stop : Bool) (checkpoint : Option (List ℕ)) (rest : List ℕ) → (done_by {State = Asking Own} judged None stop checkpoint rest).state ≡ None
-none_done true stop checkpoint rest = refl
-none_done false stop checkpoint rest = refl
-
-none_stays : {Own : Type 0} (judged : Bool) (left : ℕ) (answers : Option ℕ) (end : End) (next : Next) → (turn_from {State = Asking Own} (oracle {Own = Own} judged) left answers end [] None next).state ≡ None
-unfolding turn_from oracle
-none_stays judged zero answers end (Framed frame rest pieces) = refl
-none_stays judged zero answers end (Faulty fault) = refl
-none_stays judged zero answers end Over = refl
-none_stays {Own = Own} judged (suc left) answers end (Framed (Message dpid bytes) rest pieces) =
-    none_told (is_none_left answers) (turn_from {State = Asking Own} (oracle {Own = Own} judged) left (one_fewer answers) end [] None (next_of rest pieces)) (none_stays {Own = Own} judged left (one_fewer answers) end (next_of rest pieces))
-none_stays {Own = Own} judged (suc left) answers end (Framed (Done stop checkpoint) rest pieces) = none_done {Own = Own} judged stop checkpoint rest
-none_stays judged (suc left) answers end (Framed Save rest pieces) = refl
-none_stays judged (suc left) answers end (Framed Keep rest pieces) = refl
-none_stays judged (suc left) answers end (Framed Undo rest pieces) = refl
-none_stays judged (suc left) answers end (Framed Ready rest pieces) = refl
-none_stays judged (suc left) answers end (Faulty fault) = refl
-none_stays judged (suc left) answers end Over = refl
+-- ---- A message that is asked next
 
 no_more : {X : Type 0} (o : Option (List X)) → o ≡ None → o ≡ Some [] → ⊥
 no_more o none some = let e : None ≡ Some [] = sym none ∙ some in cc
 
--- ---- A message that is asked next
-
-same_bytes_is : (xs ys : List ℕ) → same_bytes xs ys ≡ true → xs ≡ ys
-same_bytes_is [] [] is = refl
-same_bytes_is [] (y ∷ ys) is = absurd cc
-same_bytes_is (x ∷ xs) [] is = absurd cc
-same_bytes_is (x ∷ xs) (y ∷ ys) is =
-    let both = and_parts (x == y) (same_bytes xs ys) is in
-    let first : x ≡ y = eqb-true x y both.0 in
-    let more : xs ≡ ys = same_bytes_is xs ys both.1 in
-    cc
-
-told_asked : {Own : Type 0} (gone : Bool) (answer : Answer) (xs : List (Exchange Own)) (later : Played (Asking Own)) (next : Next) → (later.state ≡ Some [] → AreAsked (map message_of xs) (left_by later.outcome) next)
-    → (told_to gone (answer, Some xs) later).state ≡ Some [] → AreAsked (map message_of xs) (left_by (told_to gone (answer, Some xs) later).outcome) next
+told_asked : {Own : Type 0} (gone : Bool) (answer : Answer) (xs : List (Exchange Own)) (later : Played (Asking Own)) (next : Next) → (later.state ≡ Some [] → AreAsked (map message_of xs) (unread_by later.outcome) next)
+    → (told_to gone (answer, Some xs) later).state ≡ Some [] → AreAsked (map message_of xs) (unread_by (told_to gone (answer, Some xs) later).outcome) next
 told_asked true answer xs later next more asked = over_asked xs (Failed causes.Closed) next (nothing_left next) asked
 told_asked false answer xs later next more asked = more asked
 
@@ -98,29 +64,29 @@ abbrev answer_if : {Own : Type 0} → Bool → Exchange Own → List (Exchange O
 answer_if same x xs = if same then (x.answer, Some xs) else (Unknown, None)
 
 message_asked : {Own : Type 0} (same gone : Bool) (dpid : ℕ) (bytes : List ℕ) (x : Exchange Own) (xs : List (Exchange Own)) (later : Asking Own → Played (Asking Own)) (next : Next) → (x.dpid == dpid && same_bytes x.bytes bytes) ≡ same → (later None).state ≡ None
-    → ((later (Some xs)).state ≡ Some [] → AreAsked (map message_of xs) (left_by (later (Some xs)).outcome) next) → (told_to gone (answer_if same x xs) (later (answer_if same x xs).1)).state ≡ Some []
-    → (message_of x ≡ (dpid, bytes)) × AreAsked (map message_of xs) (left_by (told_to gone (answer_if same x xs) (later (answer_if same x xs).1)).outcome) next
+    → ((later (Some xs)).state ≡ Some [] → AreAsked (map message_of xs) (unread_by (later (Some xs)).outcome) next) → (told_to gone (answer_if same x xs) (later (answer_if same x xs).1)).state ≡ Some []
+    → (message_of x ≡ (dpid, bytes)) × AreAsked (map message_of xs) (unread_by (told_to gone (answer_if same x xs) (later (answer_if same x xs).1)).outcome) next
 message_asked true gone dpid bytes x xs later next is none more asked =
     let both = and_parts (x.dpid == dpid) (same_bytes x.bytes bytes) is in
     let d : x.dpid ≡ dpid = eqb-true x.dpid dpid both.0 in
     let b : x.bytes ≡ bytes = same_bytes_is x.bytes bytes both.1 in
     (ap (λ (n : ℕ). (n, x.bytes)) d ∙ ap (λ (bs : List ℕ). (dpid, bs)) b, told_asked gone x.answer xs (later (Some xs)) next more asked)
-message_asked false gone dpid bytes x xs later next is none more asked = absurd (no_more (told_to gone (Unknown, None) (later None)).state (none_told gone (later None) none) asked)
+message_asked false gone dpid bytes x xs later next is none more asked = absurd (no_more (told_to gone (Unknown, None) (later None)).state (told_none gone Unknown (later None) none) asked)
 
 -- ---- The turn from a place on
 
 asked_from : {Own : Type 0} (judged : Bool) (left : ℕ) (answers : Option ℕ) (end : End) (xs : List (Exchange Own)) (next : Next) → (turn_from {State = Asking Own} (oracle {Own = Own} judged) left answers end [] (Some xs) next).state ≡ Some []
-    → AreAsked (map message_of xs) (left_by (turn_from {State = Asking Own} (oracle {Own = Own} judged) left answers end [] (Some xs) next).outcome) next
+    → AreAsked (map message_of xs) (unread_by (turn_from {State = Asking Own} (oracle {Own = Own} judged) left answers end [] (Some xs) next).outcome) next
 unfolding turn_from oracle
 asked_from judged zero answers end xs (Framed frame rest pieces) asked = over_asked xs (Failed causes.Budget) (Framed frame rest pieces) (nothing_left (Framed frame rest pieces)) asked
 asked_from judged zero answers end xs (Faulty fault) asked = over_asked xs (Failed (causes.Garbled fault)) (Faulty fault) refl asked
 asked_from judged zero answers end xs Over asked = over_asked xs (ended_by end) Over (ended_left end Over) asked
 asked_from {Own = Own} judged (suc left) answers end [] (Framed (Message dpid bytes) rest pieces) asked =
     let later = turn_from {State = Asking Own} (oracle {Own = Own} judged) left (one_fewer answers) end [] None (next_of rest pieces) in
-    absurd (no_more (told_to (is_none_left answers) (Unknown, None) later).state (none_told (is_none_left answers) later (none_stays {Own = Own} judged left (one_fewer answers) end (next_of rest pieces))) asked)
+    absurd (no_more (told_to (is_none_left answers) (Unknown, None) later).state (told_none (is_none_left answers) Unknown later (none_stays Own judged left (one_fewer answers) end (next_of rest pieces))) asked)
 asked_from {Own = Own} judged (suc left) answers end (x ∷ xs) (Framed (Message dpid bytes) rest pieces) asked =
     message_asked (x.dpid == dpid && same_bytes x.bytes bytes) (is_none_left answers) dpid bytes x xs (λ state. turn_from {State = Asking Own} (oracle {Own = Own} judged) left (one_fewer answers) end [] state (next_of rest pieces)) (next_of rest pieces) refl
-    (none_stays {Own = Own} judged left (one_fewer answers) end (next_of rest pieces)) (asked_from {Own = Own} judged left (one_fewer answers) end xs (next_of rest pieces)) asked
+    (none_stays Own judged left (one_fewer answers) end (next_of rest pieces)) (asked_from {Own = Own} judged left (one_fewer answers) end xs (next_of rest pieces)) asked
 asked_from judged (suc left) answers end xs (Framed (Done stop checkpoint) rest pieces) asked = done_asked judged stop checkpoint rest pieces xs asked
 asked_from judged (suc left) answers end xs (Framed Save rest pieces) asked = over_asked xs (Failed causes.Unbalanced) (Framed Save rest pieces) refl asked
 asked_from judged (suc left) answers end xs (Framed Keep rest pieces) asked = over_asked xs (Failed causes.Unbalanced) (Framed Keep rest pieces) refl asked
@@ -132,7 +98,7 @@ asked_from judged (suc left) answers end xs Over asked = over_asked xs (ended_by
 -- ---- The whole turn
 
 pub turn_asked : {Own : Type 0} (judged given : Bool) (budget : ℕ) (rest : List ℕ) (trace : List (Beat Own)) (xs : List (Exchange Own)) → (turn_of {State = Asking Own} (oracle {Own = Own} judged) budget rest (reply_by given trace) (Some xs)).state ≡ Some []
-    → AreAsked (map message_of xs) (left_by (turn_of {State = Asking Own} (oracle {Own = Own} judged) budget rest (reply_by given trace) (Some xs)).outcome) (next_of rest (pieces (acts_in trace)))
+    → AreAsked (map message_of xs) (unread_by (turn_of {State = Asking Own} (oracle {Own = Own} judged) budget rest (reply_by given trace) (Some xs)).outcome) (next_of rest (pieces (acts_in trace)))
 unfolding turn_of reply_of
 turn_asked {Own = Own} judged true budget rest trace xs asked = asked_from {Own = Own} judged budget _ _ xs (next_of rest (pieces (acts_in trace))) asked
 turn_asked judged false budget rest trace xs asked = over_asked xs (Failed causes.Closed) (next_of rest (pieces (acts_in trace))) (nothing_left (next_of rest (pieces (acts_in trace)))) asked

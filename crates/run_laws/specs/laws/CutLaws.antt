@@ -217,7 +217,7 @@ ran-before rules f g later xs ys text more first mid last e1 e2 said is m n are 
 
 -- ---- The point up to which all is alike
 
-leaves-nothing : {Own : Type 0} (number : ℕ) (seen : Seen Own) → Leaves number [] seen seen
+pub leaves-nothing : {Own : Type 0} (number : ℕ) (seen : Seen Own) → Leaves number [] seen seen
 leaves-nothing number seen = record {
   given = refl;
   told = λ app. record { starts = refl; replies = refl; inputs = refl };

@@ -16,7 +16,7 @@ use Rattle.of_wire.specs.declared.fault.WireFault.{WireFault}
 use Rattle.of_wire.specs.Kinds.{kind_of_number}
 use Rattle.of_wire.specs.Reading.{has_length, if_sized, front_of, body_of, packet_out_of, flow_mod_of, of_actions, reading_of}
 use Rattle.net_txn.specs.Arriving.{arrival_steps}
-use Rattle.batch_laws.specs.Knowledge.{IsEcho, IsEchoRead}
+use Rattle.lego_model.specs.Echoes.{IsEcho, IsEchoRead}
 use Rattle.batch_laws.specs.Items.{answers}
 
 -- ---- The type

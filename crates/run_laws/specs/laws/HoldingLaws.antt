@@ -4,7 +4,6 @@ use Rattle.std.specs.List.{AllByRecursion}
 use Rattle.std.specs.Option.{is_some, option_map}
 use Rattle.std.proofs.Common.{◌≡◌, ℕ, Bool, true, false, List, [], ◌∷◌, ◌++◌, Option, Some, None, Result, Ok, Err, refl, sym, ap, ◌∙◌, subst, inl, inr, append_assoc}
 use Rattle.std.proofs.lemmas.List.{append-nil}
-use Rattle.std.proofs.lemmas.List.Elements.{filter_map-append}
 use Rattle.std.proofs.lemmas.Bool.{cases_Bool, eqb-true}
 use Rattle.of_match.specs.Key.{key_number}
 use Rattle.of_wire.specs.declared.bodies.FlowMod.{FlowMod as Change}
@@ -43,7 +42,9 @@ use Rattle.switch_laws.specs.laws.AskedLaws.{asked}
 use Rattle.switch_laws.specs.laws.LossLaws.{rows-gone, rows-stay}
 use Rattle.batch_laws.specs.Knowledge.{left_events, ports_lost}
 use Rattle.run_course.specs.Tables.{rows_with, row_asked}
-use Rattle.run_course.specs.Messages.{got_in, GotNone, is_refusal, is_refused, all_events, tables_behind, sent_steps, Waited}
+use Rattle.lego_model.specs.KeptMessages.{got_in}
+use Rattle.lego_model.specs.laws.KeptMessageLaws.{got_append}
+use Rattle.run_course.specs.Messages.{GotNone, is_refusal, is_refused, all_events, tables_behind, sent_steps, Waited}
 use Rattle.run_course.specs.Moves as course
 use Rattle.run_course.specs.Moves.{Holding, HoldsStill, Calls, tables_by, Releases, IsLeaveOf, Loses, Go, OneByOne, EndMove}
 use Rattle.run_course.specs.Turns.{TalkMove}
@@ -55,9 +56,6 @@ abbrev pub holding_of : {Own : Type 0} → Seen Own → NetState → List Event 
 holding_of seen net queue = record { seen = seen; tables = tables_of net.views; kept = net.kept; queue = queue }
 
 -- ---- Steps
-
-pub got_append : (front rest : List WorldStep) → got_in (front ++ rest) ≡ got_in front ++ got_in rest
-got_append front rest = filter_map-append _ front rest
 
 pub none_got : (h : List WorldStep) → GotNone h h
 none_got h = record { steps = []; history = sym (append-nil h); none = refl }

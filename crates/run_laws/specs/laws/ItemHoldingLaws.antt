@@ -1,6 +1,6 @@
 -- What is told next, item by item, as the course of a run says it.
 use Rattle.std.specs.Prelude.{take, is_some, if◌then◌else◌}
-use Rattle.std.proofs.Common.{◌≡◌, ℕ, Bool, true, false, List, [], ◌∷◌, Option, Some, None, Result, Ok, Err, refl, sym, ap, ◌∙◌, subst, inl, inr, true≢false}
+use Rattle.std.proofs.Common.{◌≡◌, ℕ, Bool, true, false, List, [], ◌∷◌, Result, Ok, Err, refl, sym, ap, ◌∙◌, subst, inl, inr}
 use Rattle.std.proofs.lemmas.List.{append-nil}
 use Rattle.of_wire.specs.declared.bodies.FeaturesReply.{FeaturesReply as Features}
 use Rattle.of_wire.specs.declared.message.Message.{Message}
@@ -10,7 +10,6 @@ use Rattle.of_wire.specs.declared.fault.WireFault.{WireFault}
 use Rattle.of_wire.specs.Grammar.{enveloped}
 use Rattle.of_wire.specs.Reading.{reading_of}
 use Rattle.of_wire.specs.Spelling.{message_bytes}
-use Rattle.flow_table.specs.declared.view.ViewRow.{ViewRow}
 use Rattle.flow_table.specs.Switch.{first_config}
 use Rattle.app_frames.specs.declared.frame.Event.{Event}
 use Rattle.outside.specs.declared.item.Item.{Item}
@@ -20,6 +19,7 @@ use Rattle.outside.specs.declared.step.WorldStep.TheVariants.{From, Joined, Left
 use Rattle.outside.specs.Seen.{Seen}
 use Rattle.outside.specs.Calls.{Nexts, item_step, next_steps}
 use Rattle.lego_model.specs.BarrierWaits.{next_xid}
+use Rattle.batch_laws.specs.laws.LossLaws.{unknown-rows}
 use Rattle.net_txn.specs.Net.{NetState}
 use Rattle.net_txn.specs.Views.{rows_at}
 use Rattle.net_txn.specs.Joining.{delete_all}
@@ -29,7 +29,7 @@ use Rattle.net_txn.specs.laws.JoiningLaws.{rows_at-with_view, rows_at-with_view-
 use Rattle.switch_laws.specs.laws.LossLaws.{rows-gone, rows-stay}
 use Rattle.batch_laws.specs.Knowledge.{Knowledge, knowledge_of, is_known, left_by, joined_by, joined_read, handled}
 use Rattle.batch_laws.specs.Items.{Untouched, TakesMessage, TakesIn, TakesInBy, TakesInAs, DoesFrom, DoesJoined, DoesLeft, answers, HandlesStill, HandlesLost, Handles, TakesNext}
-use Rattle.run_course.specs.Messages.{got_in}
+use Rattle.lego_model.specs.KeptMessages.{got_in}
 use Rattle.run_course.specs.Moves.{IsTold, is_features, IsNoJoin, IsIgnored, Takes, Joins, LosesTold, OneByOne, ItemMove}
 use Rattle.run_laws.specs.Facts.{Between}
 use Rattle.run_laws.specs.Course.{TakesItems}
@@ -38,10 +38,6 @@ use Rattle.run_laws.specs.laws.MadeEventLaws.{from_makes}
 use Rattle.run_laws.specs.laws.HoldingLaws.{holding_of, none_got_by, no_move, one_move, moves_then, waited_by, loses_told, holds_still}
 
 -- ---- What is told next
-
-none_of_out : (rows : Option (List ViewRow)) → is_some rows ≡ false → rows ≡ None
-none_of_out None out = refl
-none_of_out (Some rows) out = absurd (true≢false out)
 
 next_told : {Own Tells : Type 0} (item : Item) (buf : List ℕ) (old mid : Seen Own) → Tells → Nexts Tells old mid (Ok item) buf → IsTold (item_step item buf) old.history mid.history
 unfolding next_steps
@@ -122,7 +118,7 @@ from_lost d bytes old mid new net now_net queue now_queue told item lost =
       told = item;
       still = holds_still old mid net net queue queue refl refl refl;
       loses = loses_told lost.dpid mid new net now_net queue told lost.is_lost (ap (λ (x : Knowledge). x.views) lost.knowledge) lost.kept;
-      of_switch = (lost.at.0, lost.at.1);
+      of_switch = lost.at;
     })
 
 -- ---- A switch joins
@@ -214,7 +210,7 @@ module _ {Own Tells : Type 0} (d : ℕ) (bytes : List ℕ) (old mid new : Seen O
           steps = calls.steps;
           history = calls.history;
           each = calls.each;
-          out = ap (rows_at lost.dpid) views ∙ none_of_out (rows_at lost.dpid net.views) lost.at.1;
+          out = ap (rows_at lost.dpid) views ∙ unknown-rows (rows_at lost.dpid net.views) lost.at.1;
           others = λ e other. ap (rows_at e) views;
           kept = lost.kept;
           events = [];

@@ -16,9 +16,11 @@ use Rattle.lego_model.specs.declared.wait.Awaited.{Awaited}
 use Rattle.lego_model.specs.declared.wait.Heard.{Heard}
 use Rattle.lego_model.specs.declared.wait.Heard.TheVariants.{Reply, Refused, Notice, Echo, Other}
 use Rattle.lego_model.specs.BarrierWaits.{heard, kept_by, kept_of}
-use Rattle.net_txn.specs.laws.SaidLaws.{all_two, all_behind, all_weaker}
-use Rattle.run_course.specs.Tables.{Tables, is_in, with_table, rows_with, rows_without}
-use Rattle.run_course.specs.Messages.{is_refused, tables_left, tables_read, tables_behind, is_one_of, but_of, AreKept}
+use Rattle.net_txn.specs.laws.SaidLaws.{all_front, all_two, all_behind, all_weaker}
+use Rattle.lego_model.specs.KeptMessages.{got_in}
+use Rattle.lego_model.specs.ViewRows.{rows_without}
+use Rattle.run_course.specs.Tables.{Tables, is_in, with_table, rows_with}
+use Rattle.run_course.specs.Messages.{is_refused, tables_left, tables_read, tables_behind, is_one_of, but_of, AreStored}
 use Rattle.run_course.specs.Moves.{Holding, OfJoined, HoldsStill, Notes, tables_by, Changes, Releases, Loses, TakesBack, Takes, Joins, Leaves, Go, OneByOne, ItemMove, EndMove}
 use Rattle.run_course.specs.Turns.{TalkMove, Talk, HaveTurns}
 use Rattle.run_course.specs.Parts.{Standing, KeptComeFirst, Part, Goes}
@@ -30,10 +32,6 @@ Of joined messages = AllByRecursion (λ m. joined m.0 ≡ true) messages
 
 of_same : (a b : ℕ → Bool) (ms : List (ℕ × List ℕ)) → ((d : ℕ) → b d ≡ a d) → Of a ms → Of b ms
 of_same a b ms same all = all_weaker (λ m. a m.0 ≡ true) (λ m. b m.0 ≡ true) (λ m is. same m.0 ∙ is) ms all
-
-of_front : (a : ℕ → Bool) (xs ys : List (ℕ × List ℕ)) → Of a (xs ++ ys) → Of a xs
-of_front a [] ys all = tt
-of_front a (x ∷ xs) ys all = (all.0, of_front a xs ys all.1)
 
 -- those of one switch, or of some, are left out
 
@@ -178,16 +176,17 @@ stay_of a b lost [] stays all = tt
 stay_of a b lost (m ∷ ms) stays all =
     left_out a b m (but_of lost ms) (not (is_one_of lost m.0)) (λ is. stays m.0 (not-true (is_one_of lost m.0) is) all.0) (stay_of a b lost ms stays all.1)
 
-came_of : (a b : ℕ → Bool) (lost : List ℕ) (came kept now_kept : List (ℕ × List ℕ)) → ((d : ℕ) → is_one_of lost d ≡ false → a d ≡ true → b d ≡ true) → Of a came → Of b kept → AreKept lost came kept now_kept → Of b now_kept
-came_of a b lost [] kept now_kept stays of_came all are = subst (Of b) (sym are) all
-came_of a b lost (m ∷ more) kept now_kept stays of_came all (inl one) =
-    came_of a b lost more (kept ++ m ∷ []) now_kept stays of_came.1 (all_two (λ x. b x.0 ≡ true) kept (m ∷ []) all (stays m.0 one.0 of_came.0, tt)) one.1
-came_of a b lost (m ∷ more) kept now_kept stays of_came all (inr dropped) = came_of a b lost more kept now_kept stays of_came.1 all dropped.1
+stored_of : (a : ℕ → Bool) (came stored now_stored : List (ℕ × List ℕ)) → Of a came → Of a stored → AreStored came stored now_stored → Of a now_stored
+stored_of a [] stored now_stored of_came all are = subst (Of a) (sym are) all
+stored_of a (m ∷ more) stored now_stored of_came all (inl one) = stored_of a more (stored ++ m ∷ []) now_stored of_came.1 (all_two (λ x. a x.0 ≡ true) stored (m ∷ []) all (of_came.0, tt)) one.1
+stored_of a (m ∷ more) stored now_stored of_came all (inr (inl none)) = stored_of a more stored now_stored of_came.1 all none.1
+stored_of a (m ∷ more) stored now_stored of_came all (inr (inr full)) = stored_of a more stored now_stored of_came.1 all full.1
 
 takes_back_keep : {Own : Type 0} (from to : Holding Own) → TakesBack from to → OfJoined from from.kept → OfJoined to to.kept
 takes_back_keep from to takes all =
-    let stays = stays_joined from to takes in
-    came_of (joined_in from.tables) (joined_in to.tables) takes.lost _ (but_of takes.lost from.kept) to.kept stays takes.were_in (stay_of (joined_in from.tables) (joined_in to.tables) takes.lost from.kept stays all) takes.kept
+    let was = joined_in from.tables in
+    let now = joined_in to.tables in
+    subst (Of now) (sym takes.kept) (stay_of was now takes.lost takes.stored (stays_joined from to takes) (stored_of was (got_in takes.steps) from.kept takes.stored takes.were_in all takes.came))
 
 -- ---- Moves
 
@@ -238,7 +237,7 @@ first_keeps from to first all =
 
 -- those that are taken
 pub taken_joined : (joined : ℕ → Bool) (kept taken rest : List (ℕ × List ℕ)) → kept ≡ taken ++ rest → AllByRecursion (λ m. joined m.0 ≡ true) kept → AllByRecursion (λ m. joined m.0 ≡ true) taken
-taken_joined joined kept taken rest is all = of_front joined taken rest (subst (Of joined) is all)
+taken_joined joined kept taken rest is all = all_front (λ m. joined m.0 ≡ true) taken rest (subst (Of joined) is all)
 
 -- each message that is kept is of a switch that is joined
 abbrev pub KeepsOfJoined : {Own : Type 0} → Standing Own → Type 0

@@ -16,7 +16,7 @@ use Rattle.run_course.specs.Parts.{Standing, TakesCourse}
 use Rattle.run_laws.specs.Engine.{Application}
 use Rattle.run_laws.specs.Facts.{between}
 use Rattle.run_laws.specs.First.{app_at_first}
-use Rattle.run_laws.specs.Course.{KeptComesFirst, Stage, TakesBatch, GivesOldest, Starts, IsPart, Part, Course, WritesPart, RunsOn, first_stage}
+use Rattle.run_laws.specs.Course.{KeptComesFirst, Stage, TakesBatch, GivesOldest, Starts, IsPart, Course, WritesPart, RunsOn, first_stage}
 use Rattle.run_laws.specs.laws.MadeEventLaws.{kept_events, kept_tables}
 use Rattle.run_laws.specs.laws.HoldingLaws.{holding_of, holds_still}
 use Rattle.run_laws.specs.laws.ItemHoldingLaws.{items_move}

@@ -1,9 +1,8 @@
 -- The tables that the course of a run tells are the views that the host keeps.
 use Rattle.std.specs.Prelude.{◌==◌, if◌then◌else◌}
 use Rattle.std.specs.Option.{option_map}
-use Rattle.std.proofs.Common.{◌≡◌, ℕ, List, [], ◌∷◌, ◌++◌, Option, Some, None, Result, Ok, Err, refl, sym, ap, ◌∙◌, subst, inl, inr}
+use Rattle.std.proofs.Common.{◌≡◌, ℕ, List, [], ◌∷◌, ◌++◌, Option, Result, Ok, Err, refl, sym, ap, ◌∙◌, subst, inl, inr}
 use Rattle.std.proofs.lemmas.Bool.{cases_eq, eq-eqb, ne_eqb}
-use Rattle.of_match.specs.declared.key.Key.{Key}
 use Rattle.of_wire.specs.declared.message.Message.{Message}
 use Rattle.of_wire.specs.declared.message.Message.TheVariants as messages
 use Rattle.of_wire.specs.declared.message.Envelope.{Envelope}
@@ -13,10 +12,9 @@ use Rattle.flow_table.specs.declared.view.ViewRow.{ViewRow}
 use Rattle.flow_table.specs.View.{TableView}
 use Rattle.app_frames.specs.declared.frame.Event.{Event}
 use Rattle.net_txn.specs.Views.{rows_at, with_rows}
-use Rattle.net_txn.specs.Undos.{without_keys, keys_of}
-use Rattle.net_txn.specs.Arriving.{without_key}
-use Rattle.net_txn.specs.laws.ViewLaws.{with_rows-none, rows_at-same, rows_at-other}
-use Rattle.run_course.specs.Tables.{Tables, with_table, rows_without}
+use Rattle.net_txn.specs.laws.ViewLaws.{rows_at-changed, rows_at-other}
+use Rattle.lego_model.specs.ViewRows.{rows_without}
+use Rattle.run_course.specs.Tables.{Tables, with_table}
 use Rattle.run_course.specs.Messages.{tables_left, tables_read, events_read, all_events, tables_behind}
 
 abbrev pub tables_of : List TableView → Tables
@@ -24,37 +22,11 @@ tables_of views = λ d. rows_at d views
 
 -- ---- Rows of one switch that change
 
-changed_here : (d : ℕ) (change : List ViewRow → List ViewRow) (views : List TableView) (rows : Option (List ViewRow)) → rows_at d views ≡ rows → rows_at d (with_rows d change views) ≡ option_map change (rows_at d views)
-changed_here d change views (Some rows) is = rows_at-same d change views rows is ∙ sym (ap (option_map change) is)
-changed_here d change views None is = ap (rows_at d) (with_rows-none d change views is) ∙ (is ∙ sym (ap (option_map change) is))
-
 pub table_changed : (d e : ℕ) (change : List ViewRow → List ViewRow) (views : List TableView) → rows_at e (with_rows d change views) ≡ with_table d change (tables_of views) e
 table_changed d e change views = elim (cases_eq e d) [
-  | inl same ↦ rw (eq-eqb e d same) (subst (λ (n : ℕ). rows_at n (with_rows d change views) ≡ option_map change (rows_at n views)) (sym same) (changed_here d change views (rows_at d views) refl))
+  | inl same ↦ rw (eq-eqb e d same) (subst (λ (n : ℕ). rows_at n (with_rows d change views) ≡ option_map change (rows_at n views)) (sym same) (rows_at-changed d change views))
   | inr other ↦ rw (ne_eqb e d other) (rows_at-other d e change views other)
 ]
-
--- keys that go
-
-mapped_twice : (f g : List ViewRow → List ViewRow) (o : Option (List ViewRow)) → option_map g (option_map f o) ≡ option_map (λ rows. g (f rows)) o
-mapped_twice f g None = refl
-mapped_twice f g (Some rows) = refl
-
-mapped_still : (o : Option (List ViewRow)) → o ≡ option_map (rows_without []) o
-mapped_still None = refl
-mapped_still (Some rows) = refl
-
-pub keys_gone : (d : ℕ) (ps : List (ℕ × Key)) (views : List TableView) → rows_at d (without_keys ps views) ≡ option_map (rows_without (keys_of d ps)) (rows_at d views)
-keys_gone d [] views = mapped_still (rows_at d views)
-keys_gone d (p ∷ ps) views =
-    let next = with_rows p.0 (without_key p.1) views in
-    elim (cases_eq p.0 d) [
-      | inl same ↦
-          (let here : rows_at d next ≡ option_map (without_key p.1) (rows_at d views) = ap (λ (n : ℕ). rows_at d (with_rows n (without_key p.1) views)) same ∙ changed_here d (without_key p.1) views (rows_at d views) refl in
-          rw (eq-eqb p.0 d same) (keys_gone d ps next ∙ (ap (option_map (rows_without (keys_of d ps))) here ∙ mapped_twice (without_key p.1) (rows_without (keys_of d ps)) (rows_at d views))))
-      | inr other ↦
-          rw (ne_eqb p.0 d other) (keys_gone d ps next ∙ ap (option_map (rows_without (keys_of d ps))) (rows_at-other p.0 d (without_key p.1) views (λ same. other (sym same))))
-    ]
 
 -- ---- Tables that are the same make the same of messages.
 

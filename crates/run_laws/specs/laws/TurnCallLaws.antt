@@ -17,11 +17,13 @@ use Rattle.net_txn.specs.Net.{NetState}
 use Rattle.journal_laws.specs.Readings.{is_within, Within, end_acts}
 use Rattle.app_visor.specs.Talks.{step_of}
 use Rattle.app_visor.specs.Attempts.{OneTry, IsTry, AreTries}
-use Rattle.run_course.specs.Messages.{got_in, GotNone}
+use Rattle.lego_model.specs.KeptMessages.{got_in}
+use Rattle.run_course.specs.Messages.{GotNone}
 use Rattle.run_laws.specs.Engine.{Application, Focus, focus}
 use Rattle.run_laws.specs.Facts.{StartsAgain, GoesAway, Follows, StartsFrom}
 use Rattle.run_laws.specs.laws.ChainLaws.{try_own}
-use Rattle.run_laws.specs.laws.HoldingLaws.{got_append, none_got_as, none_got_by, none_got_then}
+use Rattle.lego_model.specs.laws.KeptMessageLaws.{got_append}
+use Rattle.run_laws.specs.laws.HoldingLaws.{none_got_as, none_got_by, none_got_then}
 
 -- ---- Calls for an application
 

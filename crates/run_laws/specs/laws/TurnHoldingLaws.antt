@@ -34,7 +34,7 @@ use Rattle.run_laws.specs.Engine.{Application, Focus, focus}
 use Rattle.run_laws.specs.Facts.{StartsAgain, Follows, all_told, StaysDone, IsUndone, IsClosed, TakesTurn, is_taking, Between, IsOffered, AreLeftOut, if_stopped, Offers, StartsFrom}
 use Rattle.run_laws.specs.laws.HoldingLaws.{holding_of, none_got_by, one_move, moves_then, calls_still, change_moves, commit_moves}
 use Rattle.run_laws.specs.laws.UndoHoldingLaws.{undo_moves}
-use Rattle.run_laws.specs.laws.AskedMessageLaws.{message_of, left_by, turn_asked}
+use Rattle.run_laws.specs.laws.AskedMessageLaws.{message_of, unread_by, turn_asked}
 use Rattle.run_laws.specs.laws.TurnCallLaws.{act_none, Rests, starts_again, follows_by, starts_none}
 use Rattle.run_laws.specs.laws.UnreadLaws.{given_later, given_before, none_given, tries_given, unread_over, with_unread, over_first, over_here, over_others}
 
@@ -92,7 +92,7 @@ done_moves mid new mid_net e now_e told stays =
     (one_move EndMove (holding_of new stays.net stays.queue) (holding_of new now_e.net now_e.queue)
     (inr (inl (subst (λ (f : Focus). Notes (holding_of new stays.net stays.queue) (holding_of new f.net f.queue)) (sym stays.engine) (told_notes new stays.net stays.queue)))))
 
-done_unread : {Own Tells : Type 0} {checkpoint : Option (List ℕ)} {unread : List ℕ} {stop : Bool} {text : List ℕ} {start : ℕ} (outcome : Outcome) (mid new : Seen Own) (mid_net : NetState) (e now_e : Focus) → IsEnd (ends.Done stop) unread outcome → StaysDone Tells checkpoint unread stop text start mid new mid_net e now_e → Unread e.index now_e.rest (left_by outcome) mid new
+done_unread : {Own Tells : Type 0} {checkpoint : Option (List ℕ)} {unread : List ℕ} {stop : Bool} {text : List ℕ} {start : ℕ} (outcome : Outcome) (mid new : Seen Own) (mid_net : NetState) (e now_e : Focus) → IsEnd (ends.Done stop) unread outcome → StaysDone Tells checkpoint unread stop text start mid new mid_net e now_e → Unread e.index now_e.rest (unread_by outcome) mid new
 done_unread (Completed stops checkpoint rest) mid new mid_net e now_e end stays = inl (ap (λ (f : Focus). f.rest) stays.engine ∙ end.1)
 done_unread (Failed cause) mid new mid_net e now_e end stays = absurd end
 
@@ -127,9 +127,9 @@ closed_moves : {Own Tells : Type 0} (kind : EventKind) (checkpoint : Option (Lis
 closed_moves kind checkpoint unread text start (ends.Done stop) mid new mid_net e now_e told closed = done_moves mid new mid_net e now_e told closed
 closed_moves kind checkpoint unread text start (ends.Failed cause) mid new mid_net e now_e told closed = undone_moves mid new mid_net e now_e told closed
 
-closed_unread : {Own Tells : Type 0} (kind : EventKind) (checkpoint : Option (List ℕ)) (unread text : List ℕ) (start : ℕ) (end : TurnEnd) (outcome : Outcome) (mid new : Seen Own) (mid_net : NetState) (e now_e : Focus) → Tells → IsEnd end unread outcome → IsClosed Tells kind end checkpoint unread text start mid new mid_net e now_e → Unread e.index now_e.rest (left_by outcome) mid new
+closed_unread : {Own Tells : Type 0} (kind : EventKind) (checkpoint : Option (List ℕ)) (unread text : List ℕ) (start : ℕ) (end : TurnEnd) (outcome : Outcome) (mid new : Seen Own) (mid_net : NetState) (e now_e : Focus) → Tells → IsEnd end unread outcome → IsClosed Tells kind end checkpoint unread text start mid new mid_net e now_e → Unread e.index now_e.rest (unread_by outcome) mid new
 closed_unread kind checkpoint unread text start (ends.Done stop) outcome mid new mid_net e now_e told is closed = done_unread outcome mid new mid_net e now_e is closed
-closed_unread kind checkpoint unread text start (ends.Failed cause) outcome mid new mid_net e now_e told is closed = undone_unread (left_by outcome) mid new mid_net e now_e told closed
+closed_unread kind checkpoint unread text start (ends.Failed cause) outcome mid new mid_net e now_e told is closed = undone_unread (unread_by outcome) mid new mid_net e now_e told closed
 
 -- ---- A turn, from its event on
 
@@ -147,7 +147,7 @@ turn_moves {Tells = Tells} {accepts = accepts} event old new e now_e unread now_
     let talk = chain_talks e.index turns.trace next takes.mid e.net takes.mid_net e.queue told chain.1.1.1 in
     let acts = chain_told Tells e.index turns.trace next takes.mid e.net takes.mid_net chain.1.1.1 told in
     let asked = turn_asked (accepts takes.mid_net.views) turns.given e.rule.budget e.rest turns.trace (exchanges_in turns.trace) (ap (λ (p : Played (Asking _)). p.state) turns.played) in
-    let left_is = ap (λ (p : Played (Asking _)). left_by p.outcome) turns.played in
+    let left_is = ap (λ (p : Played (Asking _)). unread_by p.outcome) turns.played in
     record {
       moment = e.net.moment;
       begun = holding_of next e.net e.queue;
@@ -157,10 +157,10 @@ turn_moves {Tells = Tells} {accepts = accepts} event old new e now_e unread now_
       talks = talk.talks;
       steps = acts.steps;
       history = acts.history;
-      left = left_by turns.outcome;
-      asked = asked_of (asked_in talk.moves) (map message_of (exchanges_in turns.trace)) (left_by turns.outcome) _ (unread e.index) e.rest _ (pieces (acts_in turns.trace)) talk.asked (sym left_is) here (ap pieces acts.acts_is) asked;
+      left = unread_by turns.outcome;
+      asked = asked_of (asked_in talk.moves) (map message_of (exchanges_in turns.trace)) (unread_by turns.outcome) _ (unread e.index) e.rest _ (pieces (acts_in turns.trace)) talk.asked (sym left_is) here (ap pieces acts.acts_is) asked;
       ends = closed_moves event.kind _ takes.unread _ _ takes.end takes.mid new takes.mid_net e now_e told takes.closed;
-      unread_is = unread_as e.index (now_unread e.index) now_e.rest (left_by turns.outcome) takes.mid new there (closed_unread event.kind _ takes.unread _ _ takes.end turns.outcome takes.mid new takes.mid_net e now_e told turns.ends takes.closed);
+      unread_is = unread_as e.index (now_unread e.index) now_e.rest (unread_by turns.outcome) takes.mid new there (closed_unread event.kind _ takes.unread _ _ takes.end turns.outcome takes.mid new takes.mid_net e now_e told turns.ends takes.closed);
       others = others;
     }
   where

@@ -1,12 +1,11 @@
 -- An undo in which no switch failed but by its loss, as the course of a run says it: what came is kept where there was room.
-use Rattle.std.specs.Prelude.{◌==◌, ◌&&◌, not, map, length, nat_lt, nat_le, is_some, if◌then◌else◌}
-use Rattle.std.proofs.Common.{◌≡◌, ℕ, ◌+◌, Bool, true, false, List, [], ◌∷◌, ◌++◌, drop, None, Ok, refl, sym, ap, ◌∙◌, subst, inl, inr, arith, append_assoc, true≢false}
-use Rattle.std.specs.List.{AllByRecursion, flat_map}
-use Rattle.std.proofs.lemmas.List.{append-nil, length-append}
+use Rattle.std.specs.Prelude.{◌==◌, map, is_some, if◌then◌else◌}
+use Rattle.std.proofs.Common.{◌≡◌, ℕ, ◌+◌, Bool, true, false, List, [], ◌∷◌, ◌++◌, drop, Option, None, Ok, refl, sym, ap, ◌∙◌, subst, inl, inr, true≢false}
+use Rattle.std.specs.List.{AllByRecursion}
 use Rattle.std.specs.List.Sorted.{IsPermutation}
-use Rattle.std.proofs.lemmas.List.Elements.{filter-append, All-from_recursion, recursion_from_All}
+use Rattle.std.proofs.lemmas.List.Elements.{All-from_recursion, recursion_from_All}
 use Rattle.std.proofs.lemmas.List.Sorted.{IsPermutation-sym, All-permutation}
-use Rattle.std.proofs.lemmas.Bool.{cases_Bool, eq-eqb, eqb-true, ltb-false, leb-false}
+use Rattle.std.proofs.lemmas.Bool.{cases_Bool, eq-eqb, eqb-true}
 use Rattle.of_types.specs.declared.journal.Act.TheVariants.{Stim, Started, Gave, Gone, Took, Ended, Sent, Got, Lost as WasLost}
 use Rattle.of_match.specs.declared.key.Key.{Key}
 use Rattle.of_wire.specs.declared.message.Message.TheVariants.{BarrierReply}
@@ -15,108 +14,57 @@ use Rattle.app_frames.specs.declared.frame.Event.{Event}
 use Rattle.outside.specs.declared.step.WorldStep.{WorldStep}
 use Rattle.outside.specs.declared.step.WorldStep.TheVariants.{Acted, TookInto, From, Joined, Left, Moment, Idle, End, Opened, NotOpened, NextFailed, SendLost, RecvLost, SendFailed, RecvFailed}
 use Rattle.outside.specs.Seen.{Counts, Seen}
-use Rattle.lego_model.specs.declared.wait.Awaited.{Awaited}
 use Rattle.lego_model.specs.declared.wait.Heard.{Heard}
 use Rattle.lego_model.specs.declared.wait.Heard.TheVariants.{Reply, Refused, Notice, Echo, Other}
-use Rattle.lego_model.specs.BarrierWaits.{heard, steps_by, kept_by, kept_of, heard_steps, wait_steps, reply_got}
-use Rattle.lego_model.specs.UndoFaults.{inverse_bytes, IsStepOf}
+use Rattle.lego_model.specs.BarrierWaits.{heard, kept_by, kept_of, wait_steps, reply_got}
+use Rattle.lego_model.specs.declared.fault.TxnFault.{TxnFault}
+use Rattle.lego_model.specs.KeptMessages.{got_in}
+use Rattle.lego_model.specs.UndoFaults.{IsStepOf}
+use Rattle.lego_model.specs.laws.KeptMessageLaws.{got_append, got_wait}
 use Rattle.net_txn.specs.Net.{NetState}
 use Rattle.net_txn.specs.Views.{rows_at}
-use Rattle.net_txn.specs.MessageStore.{bytes_kept, fits, KeptWhereFit}
-use Rattle.net_txn.specs.Losing.{is_among}
-use Rattle.net_txn.specs.Undos.{Part, Inverse, BarrierPassed, Stuck, alone, part_steps, steps_of, parts_of, inverses_of, key_logged, keys_of, undone_net, next_free, fault_in, first_fault, lost_in, lost_parts, KeepsOne, Keeps, Undoes}
-use Rattle.net_txn.specs.laws.LinkPresenceLaws.{among-front}
-use Rattle.net_txn.specs.laws.AgreeLaws.{both_none}
+use Rattle.net_txn.specs.MessageStore.{KeptWhereFit}
+use Rattle.net_txn.specs.Undos.{EndsWait, KeepsUntil, Part, Inverse, BarrierPassed, Stuck, alone, part_steps, steps_of, parts_of, inverses_of, key_logged, keys_of, undone_net, next_free, fault_in, first_fault, lost_parts, KeepsOne, Keeps, Undoes}
+use Rattle.net_txn.specs.laws.AgreeLaws.{both_none, rows_left}
+use Rattle.net_txn.specs.laws.UndoFailureLaws.{WereSent, were_sent}
 use Rattle.net_txn.specs.laws.ViewLaws.{viewed}
 use Rattle.net_txn.specs.laws.HeardLaws.{heard-reply}
 use Rattle.net_txn.specs.laws.LoseAllLaws.{lose_all-so}
-use Rattle.net_txn.specs.laws.OutLaws.{ended_none, stuck_lost}
-use Rattle.net_txn.specs.laws.SaidLaws.{all_two, all_weaker}
+use Rattle.net_txn.specs.laws.OutLaws.{ended_none}
+use Rattle.net_txn.specs.laws.SaidLaws.{all_two}
 use Rattle.net_txn.specs.laws.RestoreLaws.{part_of, AllRun, runs_here, runs_older}
-use Rattle.run_course.specs.Messages.{got_in, is_one_of, but_of, HasNoRoom, IsFull, IsNotKept, AreKept}
+use Rattle.run_course.specs.Messages.{HeardInUndo, AreStored}
 use Rattle.switch_laws.specs.laws.LossLaws.{lose_all-rows, lose_all-rows_gone}
 use Rattle.run_course.specs.Moves.{HasInverse, TakesBack}
-use Rattle.run_laws.specs.laws.TableHoldingLaws.{keys_gone}
-use Rattle.run_laws.specs.laws.HoldingLaws.{holding_of, got_append}
+use Rattle.run_laws.specs.laws.HoldingLaws.{holding_of}
 
 -- ---- Some messages and then others
 
-kept_then : (lost : List ℕ) (first second : List (ℕ × List ℕ)) (a b c : List (ℕ × List ℕ)) → AreKept lost first a b → AreKept lost second b c → AreKept lost (first ++ second) a c
-kept_then lost [] second a b c before after = subst (λ (kept : List (ℕ × List ℕ)). AreKept lost second kept c) before after
-kept_then lost (m ∷ more) second a b c (inl one) after = inl (one.0, kept_then lost more second (a ++ m ∷ []) b c one.1 after)
-kept_then lost (m ∷ more) second a b c (inr none) after = inr (none.0, kept_then lost more second a b c none.1 after)
-
--- all of a switch that is lost go
-kept_none : (lost : List ℕ) (came kept : List (ℕ × List ℕ)) → AllByRecursion (λ m. is_one_of lost m.0 ≡ true) came → AreKept lost came kept kept
-kept_none lost [] kept all = refl
-kept_none lost (m ∷ more) kept all = inr (inl all.0, kept_none lost more kept all.1)
+stored_then : (first second : List (ℕ × List ℕ)) (a b c : List (ℕ × List ℕ)) → AreStored first a b → AreStored second b c → AreStored (first ++ second) a c
+stored_then [] second a b c before after = subst (λ (stored : List (ℕ × List ℕ)). AreStored second stored c) before after
+stored_then (m ∷ more) second a b c (inl one) after = inl (one.0, stored_then more second (a ++ m ∷ []) b c one.1 after)
+stored_then (m ∷ more) second a b c (inr (inl none)) after = inr (inl (none.0, stored_then more second a b c none.1 after))
+stored_then (m ∷ more) second a b c (inr (inr full)) after = inr (inr (full.0, stored_then more second a b c full.1 after))
 
 -- ---- The messages of a wait
 
-got_by : (d : ℕ) (h : Heard) (bytes : List ℕ) → got_in (steps_by d h bytes) ≡ []
-got_by d Reply bytes = refl
-got_by d (Refused refusal) bytes = refl
-got_by d Notice bytes = refl
-got_by d Echo bytes = refl
-got_by d Other bytes = refl
-
-got_wait : (a : Awaited) (got : List (List ℕ)) → got_in (wait_steps a got) ≡ map (λ b. (a.dpid, b)) got
-got_wait a [] = refl
-got_wait a (b ∷ bs) =
-    got_append (heard_steps a b) (wait_steps a bs)
-    ∙ ap (λ (ms : List (ℕ × List ℕ)). ((a.dpid, b) ∷ ms) ++ got_in (wait_steps a bs)) (got_by a.dpid (heard a b) b)
-    ∙ ap (λ (ms : List (ℕ × List ℕ)). (a.dpid, b) ∷ ms) (got_wait a bs)
-
--- ---- Room
-
-bytes_are : (kept : List (ℕ × List ℕ)) → bytes_kept kept ≡ length (flat_map (λ x. x.1) kept)
-bytes_are [] = refl
-bytes_are (m ∷ more) = ap (λ (n : ℕ). length m.1 + n) (bytes_are more) ∙ sym (length-append m.1 (flat_map (λ x. x.1) more))
-
-bytes_last : (kept : List (ℕ × List ℕ)) (m : ℕ × List ℕ) → length (flat_map (λ x. x.1) (kept ++ m ∷ [])) ≡ length (flat_map (λ x. x.1) kept) + length m.1
-bytes_last [] m = omega (arith, ap length (append-nil m.1))
-bytes_last (x ∷ more) m = omega (arith, length-append x.1 (flat_map (λ y. y.1) (more ++ m ∷ [])), length-append x.1 (flat_map (λ y. y.1) more), bytes_last more m)
-
-no_room : (kept : List (ℕ × List ℕ)) (m : ℕ × List ℕ) (few small : Bool) → nat_lt (length kept) 16384 ≡ few → nat_le (bytes_kept kept + length m.1) 1048576 ≡ small → (few && small) ≡ false → HasNoRoom kept m
-no_room kept m false small number bytes full = inl (ltb-false (length kept) 16384 number)
-no_room kept m true false number bytes full = inr (omega (arith, leb-false (bytes_kept kept + length m.1) 1048576 bytes, bytes_are kept, bytes_last kept m))
-no_room kept m true true number bytes full = absurd cc
-
-is_full : (lost : List ℕ) (kept : List (ℕ × List ℕ)) (m : ℕ × List ℕ) → fits kept m.1 ≡ false → IsFull lost (but_of lost kept) m
-is_full lost kept m full = record { stored = kept; stored_is = refl; no_room = no_room kept m (nat_lt (length kept) 16384) (nat_le (bytes_kept kept + length m.1) 1048576) refl refl full }
-
--- ---- One message before the reply
-
-one_more : (lost : List ℕ) (kept : List (ℕ × List ℕ)) (m : ℕ × List ℕ) → is_one_of lost m.0 ≡ false → but_of lost (kept ++ m ∷ []) ≡ but_of lost kept ++ m ∷ []
-one_more lost kept m stays = filter-append (λ x. not (is_one_of lost x.0)) kept (m ∷ []) ∙ rw stays refl
-
-one_gone : (lost : List ℕ) (kept : List (ℕ × List ℕ)) (m : ℕ × List ℕ) → is_one_of lost m.0 ≡ true → but_of lost (kept ++ m ∷ []) ≡ but_of lost kept
-one_gone lost kept m goes = filter-append (λ x. not (is_one_of lost x.0)) kept (m ∷ []) ∙ rw goes (append-nil (but_of lost kept))
-
-not_kept : (a : Awaited) (bytes : List ℕ) → a.first ≡ a.barrier → kept_by a.dpid (heard a bytes) bytes ≡ [] → IsNotKept (a.dpid, bytes)
-not_kept a bytes no_refusal none = record { awaited = a; of_switch = refl; no_refusal = no_refusal; none = none }
-
--- it was kept where it fits, and then the others
-other_kept : (lost : List ℕ) (d : ℕ) (bytes : List ℕ) (more : List (ℕ × List ℕ)) (kept now_kept : List (ℕ × List ℕ)) → AreKept lost more (but_of lost (kept ++ (d, bytes) ∷ [])) (but_of lost now_kept) → AreKept lost ((d, bytes) ∷ more) (but_of lost kept) (but_of lost now_kept)
-other_kept lost d bytes more kept now_kept rest = elim (cases_Bool (is_one_of lost d)) [
-  | inl goes ↦ inr (inl goes, subst (λ (k : List (ℕ × List ℕ)). AreKept lost more k (but_of lost now_kept)) (one_gone lost kept (d, bytes) goes) rest)
-  | inr stays ↦ inl (stays, subst (λ (k : List (ℕ × List ℕ)). AreKept lost more k (but_of lost now_kept)) (one_more lost kept (d, bytes) stays) rest)
-]
+heard_as : (d xid : ℕ) (bytes : List ℕ) (h : Heard) → heard (alone d xid) bytes ≡ h → HeardInUndo (d, bytes) (kept_by d h bytes)
+heard_as d xid bytes h is = record { awaited = alone d xid; of_switch = refl; no_refusal = refl; notices = refl; kept_is = ap (λ (x : Heard). kept_by d x bytes) (sym is) }
 
 -- one, and then the others
-one_kept : (lost : List ℕ) (a : Awaited) (b : List ℕ) (more later kept now_kept : List (ℕ × List ℕ)) → a.first ≡ a.barrier → ((k : List (ℕ × List ℕ)) → KeptWhereFit k later now_kept → AreKept lost more (but_of lost k) (but_of lost now_kept)) → (h : Heard) → heard a b ≡ h
-    → KeptWhereFit kept (kept_by a.dpid h b ++ later) now_kept → AreKept lost ((a.dpid, b) ∷ more) (but_of lost kept) (but_of lost now_kept)
-one_kept lost a b more later kept now_kept no_refusal rest Reply is fits = inr (inr (inl (not_kept a b no_refusal (rw is refl))), rest kept fits)
-one_kept lost a b more later kept now_kept no_refusal rest (Refused refusal) is fits = inr (inr (inl (not_kept a b no_refusal (rw is refl))), rest kept fits)
-one_kept lost a b more later kept now_kept no_refusal rest Notice is fits = inr (inr (inl (not_kept a b no_refusal (rw is refl))), rest kept fits)
-one_kept lost a b more later kept now_kept no_refusal rest Echo is fits = inr (inr (inl (not_kept a b no_refusal (rw is refl))), rest kept fits)
-one_kept lost a b more later kept now_kept no_refusal rest Other is (inl one) = other_kept lost a.dpid b more kept now_kept (rest (kept ++ (a.dpid, b) ∷ []) one)
-one_kept lost a b more later kept now_kept no_refusal rest Other is (inr over) = inr (inr (inr (is_full lost kept (a.dpid, b) over.0)), rest kept over.1)
+one_stored : (d xid : ℕ) (b : List ℕ) (more later kept now_kept : List (ℕ × List ℕ)) → ((k : List (ℕ × List ℕ)) → KeptWhereFit k later now_kept → AreStored more k now_kept) → (h : Heard) → heard (alone d xid) b ≡ h
+    → KeptWhereFit kept (kept_by d h b ++ later) now_kept → AreStored ((d, b) ∷ more) kept now_kept
+one_stored d xid b more later kept now_kept rest Reply is fit = inr (inl (heard_as d xid b Reply is, rest kept fit))
+one_stored d xid b more later kept now_kept rest (Refused refusal) is fit = inr (inl (heard_as d xid b (Refused refusal) is, rest kept fit))
+one_stored d xid b more later kept now_kept rest Notice is fit = inr (inl (heard_as d xid b Notice is, rest kept fit))
+one_stored d xid b more later kept now_kept rest Echo is fit = inr (inl (heard_as d xid b Echo is, rest kept fit))
+one_stored d xid b more later kept now_kept rest Other is (inl one) = inl (heard_as d xid b Other is, rest (kept ++ (d, b) ∷ []) one)
+one_stored d xid b more later kept now_kept rest Other is (inr over) = inr (inr (over.0, rest kept over.1))
 
-wait_kept : (lost : List ℕ) (a : Awaited) (got : List (List ℕ)) (kept now_kept : List (ℕ × List ℕ)) → a.first ≡ a.barrier → KeptWhereFit kept (kept_of a got) now_kept → AreKept lost (map (λ b. (a.dpid, b)) got) (but_of lost kept) (but_of lost now_kept)
-wait_kept lost a [] kept now_kept no_refusal fit = ap (but_of lost) fit
-wait_kept lost a (b ∷ bs) kept now_kept no_refusal fit =
-    one_kept lost a b (map (λ c. (a.dpid, c)) bs) (kept_of a bs) kept now_kept no_refusal (λ k fits. wait_kept lost a bs k now_kept no_refusal fits) (heard a b) refl fit
+wait_stored : (d xid : ℕ) (got : List (List ℕ)) (kept now_kept : List (ℕ × List ℕ)) → KeptWhereFit kept (kept_of (alone d xid) got) now_kept → AreStored (map (λ b. (d, b)) got) kept now_kept
+wait_stored d xid [] kept now_kept fit = fit
+wait_stored d xid (b ∷ bs) kept now_kept fit =
+    one_stored d xid b (map (λ c. (d, c)) bs) (kept_of (alone d xid) bs) kept now_kept (λ k fits. wait_stored d xid bs k now_kept fits) (heard (alone d xid) b) refl fit
 
 -- ---- The parts of an undo
 
@@ -151,32 +99,37 @@ steps_of_switch P d [] so all = tt
 steps_of_switch P d (step ∷ steps) so all =
     subst (AllByRecursion (λ m. P m.0 ≡ true)) (sym (got_append (step ∷ []) steps)) (step_of_switch P d step (got_in steps) so all.0 (steps_of_switch P d steps so all.1))
 
-none_of : (lost : List ℕ) (d : ℕ) (more : List (List ℕ)) → is_one_of lost d ≡ true → but_of lost (map (λ b. (d, b)) more) ≡ []
-none_of lost d [] goes = refl
-none_of lost d (b ∷ more) goes = rw goes (none_of lost d more goes)
+-- the ECHO_REQUEST that could not be answered, if the switch was lost by it
+last_stored : (d xid : ℕ) (last : List WorldStep) (kept : List (ℕ × List ℕ)) → EndsWait (alone d xid) None last → AreStored (got_in last) kept kept
+last_stored d xid last kept (inl none) = rw none refl
+last_stored d xid last kept (inr one) = rw one.1 (inr (inl (heard_as d xid one.0 Echo one.2, refl)))
 
-part_kept : (old new : Counts) (lost : List ℕ) (d : ℕ) (p : Part) (older : List (ℕ × Part)) (kept now_kept : List (ℕ × List ℕ)) → AllRun old new ((d, p) ∷ older) → first_fault ((d, p) ∷ older) ≡ None → ((e : ℕ) → is_among e (lost_parts ((d, p) ∷ older)) ≡ true → is_one_of lost e ≡ true) → KeepsOne d p kept now_kept
-    → AreKept lost (got_in (part_steps d p)) (but_of lost kept) (but_of lost now_kept)
-part_kept old new lost d (Inverse xid k) older kept now_kept runs none among keeps = ap (but_of lost) keeps
-part_kept old new lost d (BarrierPassed xid got) older kept now_kept runs none among keeps =
+lost_stored : (d xid : ℕ) (steps : List WorldStep) (kept now_kept : List (ℕ × List ℕ)) → KeepsUntil (alone d xid) None steps kept now_kept → AreStored (got_in steps) kept now_kept
+lost_stored d xid steps kept now_kept keeps =
     let a = alone d xid in
-    subst (λ (ms : List (ℕ × List ℕ)). AreKept lost ms (but_of lost kept) (but_of lost now_kept)) (sym (got_append (wait_steps a got) (reply_got a ∷ []) ∙ ap (λ (ms : List (ℕ × List ℕ)). ms ++ got_in (reply_got a ∷ [])) (got_wait a got)))
-    (kept_then lost (map (λ b. (d, b)) got) (got_in (reply_got a ∷ [])) (but_of lost kept) (but_of lost now_kept) (but_of lost now_kept) (wait_kept lost a got kept now_kept refl keeps)
-    (inr (inr (inl (not_kept a (message_bytes a.barrier BarrierReply) refl (rw (heard-reply a) refl))), refl)))
-part_kept old new lost d (Stuck xid halt steps) older kept now_kept runs none among keeps =
-    let goes = among d (stuck_lost old new d (Stuck xid halt steps) older (λ rest. refl) runs none) in
-    let run = runs_here old new (d, Stuck xid halt steps) older runs in
-    subst (AreKept lost (got_in steps) (but_of lost kept)) (sym (ap (but_of lost) keeps.1 ∙ filter-append (λ x. not (is_one_of lost x.0)) kept (map (λ b. (d, b)) keeps.0) ∙ ap (λ (ms : List (ℕ × List ℕ)). but_of lost kept ++ ms) (none_of lost d keeps.0 goes) ∙ append-nil (but_of lost kept)))
-    (kept_none lost (got_in steps) (but_of lost kept) (steps_of_switch (is_one_of lost) d steps goes run.0.each))
+    let wait = wait_steps a keeps.got in
+    let came : got_in steps ≡ map (λ b. (d, b)) keeps.got ++ got_in keeps.last =
+    ap got_in keeps.steps_is ∙ got_append keeps.front (wait ++ keeps.last) ∙ ap (λ (ms : List (ℕ × List ℕ)). ms ++ got_in (wait ++ keeps.last)) keeps.none_before
+    ∙ got_append wait keeps.last ∙ ap (λ (ms : List (ℕ × List ℕ)). ms ++ got_in keeps.last) (got_wait a keeps.got) in
+    subst (λ (ms : List (ℕ × List ℕ)). AreStored ms kept now_kept) (sym came)
+    (stored_then (map (λ b. (d, b)) keeps.got) (got_in keeps.last) kept now_kept now_kept (wait_stored d xid keeps.got kept now_kept keeps.kept_is) (last_stored d xid keeps.last now_kept keeps.ends))
 
-parts_kept : (old new : Counts) (lost : List ℕ) (parts : List (ℕ × Part)) (kept now_kept : List (ℕ × List ℕ)) → AllRun old new parts → first_fault parts ≡ None → ((e : ℕ) → is_among e (lost_parts parts) ≡ true → is_one_of lost e ≡ true) → Keeps kept parts now_kept
-    → AreKept lost (got_in (steps_of parts)) (but_of lost kept) (but_of lost now_kept)
-parts_kept old new lost [] kept now_kept runs none among keeps = ap (but_of lost) keeps
-parts_kept old new lost (p ∷ older) kept now_kept runs none among keeps =
-    subst (λ (ms : List (ℕ × List ℕ)). AreKept lost ms (but_of lost kept) (but_of lost now_kept)) (sym (got_append (steps_of older) (part_steps p.0 p.1)))
-    (kept_then lost (got_in (steps_of older)) (got_in (part_steps p.0 p.1)) (but_of lost kept) (but_of lost keeps.0) (but_of lost now_kept)
-    (parts_kept old new lost older kept keeps.0 (runs_older old new p older runs) (both_none (first_fault older) (fault_in p.1) none).0 (λ e is. among e (among-front e (lost_parts older) (lost_in p.0 p.1) is)) keeps.1)
-    (part_kept old new lost p.0 p.1 older keeps.0 now_kept runs none among keeps.2))
+part_stored : (d : ℕ) (p : Part) (kept now_kept : List (ℕ × List ℕ)) → fault_in p ≡ None → KeepsOne d p kept now_kept → AreStored (got_in (part_steps d p)) kept now_kept
+part_stored d (Inverse xid k) kept now_kept none keeps = keeps
+part_stored d (BarrierPassed xid got) kept now_kept none keeps =
+    let a = alone d xid in
+    subst (λ (ms : List (ℕ × List ℕ)). AreStored ms kept now_kept) (sym (got_append (wait_steps a got) (reply_got a ∷ []) ∙ ap (λ (ms : List (ℕ × List ℕ)). ms ++ got_in (reply_got a ∷ [])) (got_wait a got)))
+    (stored_then (map (λ b. (d, b)) got) (got_in (reply_got a ∷ [])) kept now_kept now_kept (wait_stored d xid got kept now_kept keeps)
+    (inr (inl (heard_as d xid (message_bytes xid BarrierReply) Reply (heard-reply a), refl))))
+part_stored d (Stuck xid halt steps) kept now_kept none keeps =
+    lost_stored d xid steps kept now_kept (subst (λ (fault : Option TxnFault). KeepsUntil (alone d xid) fault steps kept now_kept) none keeps)
+
+parts_stored : (parts : List (ℕ × Part)) (kept now_kept : List (ℕ × List ℕ)) → first_fault parts ≡ None → Keeps kept parts now_kept → AreStored (got_in (steps_of parts)) kept now_kept
+parts_stored [] kept now_kept none keeps = keeps
+parts_stored (p ∷ older) kept now_kept none keeps =
+    let both = both_none (first_fault older) (fault_in p.1) none in
+    subst (λ (ms : List (ℕ × List ℕ)). AreStored ms kept now_kept) (sym (got_append (steps_of older) (part_steps p.0 p.1)))
+    (stored_then (got_in (steps_of older)) (got_in (part_steps p.0 p.1)) kept keeps.0 now_kept (parts_stored older kept keeps.0 both.0 keeps.1) (part_stored p.0 p.1 keeps.0 now_kept both.1 keeps.2))
 
 -- ---- All that came is of switches that were joined.
 
@@ -205,36 +158,9 @@ parts_joined old new joined (p ∷ older) runs none =
 
 -- ---- The keys that go: the inverse was sent for each of them.
 
-inverse_still : (d : ℕ) (steps more : List WorldStep) (k : Key) → HasInverse d steps k → HasInverse d (steps ++ more) k
-inverse_still d steps more k has =
-    let sent = has.1 in
-    (has.0, record { before = sent.before; behind = sent.behind ++ more; steps_is = ap (λ (xs : List WorldStep). xs ++ more) sent.steps_is ∙ append_assoc sent.before (Acted (Sent d (inverse_bytes has.0 k)) ∷ sent.behind) more })
-
--- the keys whose inverses were sent to a switch
-abbrev keys_sent : List Part → List Key
-keys_sent parts = map (λ p. p.1) (inverses_of parts)
-
-part_inverses : (d : ℕ) (p : Part) (older : List Part) (steps : List WorldStep) → AllByRecursion (HasInverse d steps) (keys_sent older) → AllByRecursion (HasInverse d (steps ++ part_steps d p)) (keys_sent (p ∷ older))
-part_inverses d (Inverse xid k) older steps all =
-    let step = part_steps d (Inverse xid k) in
-    ((xid, record { before = steps; behind = []; steps_is = refl }), all_weaker (HasInverse d steps) (HasInverse d (steps ++ step)) (λ key has. inverse_still d steps step key has) (keys_sent older) all)
-part_inverses d (BarrierPassed xid got) older steps all =
-    let more = part_steps d (BarrierPassed xid got) in
-    all_weaker (HasInverse d steps) (HasInverse d (steps ++ more)) (λ key has. inverse_still d steps more key has) (keys_sent older) all
-part_inverses d (Stuck xid halt stuck) older steps all =
-    all_weaker (HasInverse d steps) (HasInverse d (steps ++ stuck)) (λ key has. inverse_still d steps stuck key has) (keys_sent older) all
-
-were_sent : (d : ℕ) (parts : List (ℕ × Part)) → AllByRecursion (HasInverse d (steps_of parts)) (keys_sent (parts_of d parts))
-were_sent d [] = tt
-were_sent d (p ∷ older) = elim (cases_Bool (p.0 == d)) [
-  | inl here ↦
-      let now : AllByRecursion (HasInverse d (steps_of older ++ part_steps p.0 p.1)) (keys_sent (p.1 ∷ parts_of d older)) =
-      subst (λ (c : ℕ). AllByRecursion (HasInverse d (steps_of older ++ part_steps c p.1)) (keys_sent (p.1 ∷ parts_of d older))) (sym (eqb-true p.0 d here)) (part_inverses d p.1 (parts_of d older) (steps_of older) (were_sent d older)) in
-      rw here now
-  | inr other ↦
-      let more = part_steps p.0 p.1 in
-      rw other (all_weaker (HasInverse d (steps_of older)) (HasInverse d (steps_of older ++ more)) (λ key has. inverse_still d (steps_of older) more key has) (keys_sent (parts_of d older)) (were_sent d older))
-]
+have_inverses : (d : ℕ) (steps : List WorldStep) (sent : List (ℕ × Key)) → WereSent d steps sent → AllByRecursion (HasInverse d steps) (map (λ p. p.1) sent)
+have_inverses d steps [] all = tt
+have_inverses d steps (p ∷ ps) all = ((p.0, all.0), have_inverses d steps ps all.1)
 
 -- the keys of one switch, in another order
 
@@ -274,11 +200,12 @@ undo_moves {start = start} old new net now_net queue told u =
       history = u.told told;
       keys = λ d. keys_of d logged;
       inverses = λ d stays is. keys_moved d (HasInverse d (steps_of u.parts)) logged u.keys u.ordered.same
-          (subst (AllByRecursion (HasInverse d (steps_of u.parts))) ((u.each d).keys_is (viewed d net.views ∙ is) (u.none_failed refl d ∙ stays)) (were_sent d u.parts));
+          (subst (AllByRecursion (HasInverse d (steps_of u.parts))) ((u.each d).keys_is (viewed d net.views ∙ is) (u.none_failed refl d ∙ stays)) (have_inverses d (steps_of u.parts) (inverses_of (parts_of d u.parts)) (were_sent d u.parts)));
       out = λ d goes. ap (λ (n : NetState). rows_at d n.views) u.net_is ∙ lose_all-rows_gone lost d left goes;
-      tables = λ d stays. ap (λ (n : NetState). rows_at d n.views) u.net_is ∙ (lose_all-rows lost d left stays ∙ keys_gone d logged net.views);
+      tables = λ d stays. ap (λ (n : NetState). rows_at d n.views) u.net_is ∙ (lose_all-rows lost d left stays ∙ rows_left d logged net.views);
       were_in = parts_joined old.counts new.counts (λ e. is_some (rows_at e net.views)) u.parts runs (λ d out. (u.each d).unknown (viewed d net.views ∙ out));
-      kept = subst (AreKept lost (got_in (steps_of u.parts)) (but_of lost net.kept)) (sym (ap (λ (n : NetState). n.kept) u.net_is ∙ ap (λ (n : NetState). n.kept) (lose_all-so lost left)))
-          (parts_kept old.counts new.counts lost u.parts net.kept u.kept runs (ended_none (first_fault u.parts) u.result_is) (λ e is. is) u.keeps);
+      stored = u.kept;
+      came = parts_stored u.parts net.kept u.kept (ended_none (first_fault u.parts) u.result_is) u.keeps;
+      kept = ap (λ (n : NetState). n.kept) u.net_is ∙ ap (λ (n : NetState). n.kept) (lose_all-so lost left);
       queue = refl;
     }

@@ -24,6 +24,7 @@ use Rattle.lego_model.specs.Controller.{is_ready}
 use Rattle.lego_model.specs.Turns.{Next, Framed, Faulty, Over, next_read, next_of, first_frame, after_restore, outcome_of}
 use Rattle.journal_laws.specs.Readings.{Within, end_acts}
 use Rattle.journal_laws.specs.laws.ReadingLaws.{turns_within}
+use Rattle.app_visor.specs.laws.ReadTryLaws.{all_of_try}
 use Rattle.app_visor.specs.Talks.{step_of}
 use Rattle.app_visor.specs.Attempts.{OneTry, IsTry, AreTries, ready_rest}
 use Rattle.app_visor.specs.laws.TellingLaws.{journal_steps}
@@ -137,12 +138,9 @@ end_pieces : (running : Bool) (app : ℕ) (acts : List Act) → pieces (end_acts
 end_pieces true app acts = refl
 end_pieces false app acts = refl
 
-abbrev acts_tried : ℕ → Bool → Attempt → List Act
-acts_tried app running attempt = end_acts running app ++ Started app attempt.stands ∷ attempt.acts
-
-tried_pieces : (app : ℕ) (running : Bool) (attempt : Attempt) → AllByRecursion (λ act. is_of app act ≡ true) (acts_tried app running attempt) → pieces_of app (map step_of (acts_tried app running attempt)) ≡ pieces attempt.acts
+tried_pieces : (app : ℕ) (running : Bool) (attempt : Attempt) → AllByRecursion (λ act. is_of app act ≡ true) (all_of_try app running attempt) → pieces_of app (map step_of (all_of_try app running attempt)) ≡ pieces attempt.acts
 tried_pieces app running attempt own =
-    let acts = acts_tried app running attempt in
+    let acts = all_of_try app running attempt in
     ap (λ (xs : List Act). pieces (filter (is_of app) xs)) (journal_steps acts) ∙ (ap pieces (own_all app acts own) ∙ end_pieces running app (Started app attempt.stands ∷ attempt.acts))
 
 try_given : {Own Tells : Type 0} {app : ℕ} {kept : List ℕ} (t : OneTry Own) (old : Seen Own) → Tells → IsTry Tells app kept t.attempt t.tried t.rest old t.after → HasGiven app t.rest old.history t.after.history
@@ -150,7 +148,7 @@ try_given {app = app} t old told is =
     let running = is_running app (state old) in
     let stands = subst (λ (r : List ℕ). StandsIn r (joined (pieces t.attempt.acts))) (ap (λ (o : Tried × List ℕ). o.1) is.outcome) (attempt_stands app t.attempt is.within) in
     record {
-      steps = map step_of (acts_tried app running t.attempt);
+      steps = map step_of (all_of_try app running t.attempt);
       history = is.history told;
       front = stands.front;
       behind = stands.behind;

@@ -1,5 +1,6 @@
 use Rattle.std.proofs.Common.{rules, refl, sym, subst}
 use Rattle.journal_laws.specs.laws.FrameLaws.{event_is}
+use Rattle.outside.specs.laws.SeenLaws.{Continues-trans}
 use Rattle.event_dispatch.specs.TurnParts.{TurnFails}
 use Rattle.event_dispatch.specs.Why.{fault_of, ended_by}
 use Rattle.event_dispatch.specs.laws.DispatchStrayLaws.{later_links, later_own, turn_committed, turn_undone, stop_undone, played_places, played_reads}
@@ -12,7 +13,7 @@ use Rattle.event_dispatch.specs.laws.StoreLaws.{keeps_same, keeps_handed}
 use Rattle.event_dispatch.specs.laws.TalkingLaws.{turn_stops, turn_ends}
 use Rattle.event_dispatch.specs.laws.TurnLaws.{play_done, play_failed}
 use Rattle.event_dispatch.specs.laws.TurnPartLaws.{play_so}
-use Rattle.event_dispatch.specs.laws.WhyLaws.{continues_then, why_then, why_before}
+use Rattle.event_dispatch.specs.laws.WhyLaws.{why_then, why_before}
 use Rattle.event_dispatch.proofs.dispatch.play_turn.Goals as goal
 
 pub returns-in_ok-out-in-Ok-Done-clause-keeps : goal.returns-in_ok-out-in-Ok-Done-clause-keeps
@@ -30,7 +31,7 @@ returns-in_ok-out-in-Ok-Done-clause-done g c =
 
 pub returns-in_ok-out-in-Ok-Done-clause-passes : goal.returns-in_ok-out-in-Ok-Done-clause-passes
 returns-in_ok-out-in-Ok-Done-clause-passes g c = record {
-  continues = continues_then g.W.World.Tells (g.W.World.seen c.args.world.now) (g.W.World.seen c.turn.new.world) (g.W.World.seen c.commit.new.world)
+  continues = Continues-trans g.W.World.Tells (g.W.World.seen c.args.world.now) (g.W.World.seen c.turn.new.world) (g.W.World.seen c.commit.new.world)
       c.turn.ensures.continues c.in_ok-out-in-Ok-Done.ensures.continues;
   places = played_places _ _ _ (later_own c.args.app.now.index c.requires.place (returns-in_ok-out-in-Ok-Done-clause-keeps g c).later)
       (returns-in_ok-out-in-Ok-Done-clause-done g c).plays.plays;
@@ -53,7 +54,7 @@ returns-in_ok-abort-in-Ok-Failed-clause-done g c =
 
 pub returns-in_ok-abort-in-Ok-Failed-clause-passes : goal.returns-in_ok-abort-in-Ok-Failed-clause-passes
 returns-in_ok-abort-in-Ok-Failed-clause-passes g c = record {
-  continues = continues_then g.W.World.Tells (g.W.World.seen c.args.world.now) (g.W.World.seen c.turn.new.world) (g.W.World.seen c.abort.new.world)
+  continues = Continues-trans g.W.World.Tells (g.W.World.seen c.args.world.now) (g.W.World.seen c.turn.new.world) (g.W.World.seen c.abort.new.world)
       c.turn.ensures.continues c.abort.ensures.continues;
   places = played_places _ _ _ (later_own c.args.app.now.index c.requires.place (returns-in_ok-abort-in-Ok-Failed-clause-keeps g c).later)
       (returns-in_ok-abort-in-Ok-Failed-clause-done g c).plays.plays;
@@ -71,7 +72,7 @@ returns-in_err-out-in-Ok-Done-clause-keeps g c = record {
 
 pub returns-in_err-out-in-Ok-Done-clause-passes : goal.returns-in_err-out-in-Ok-Done-clause-passes
 returns-in_err-out-in-Ok-Done-clause-passes g c = record {
-  continues = continues_then g.W.World.Tells (g.W.World.seen c.args.world.now) (g.W.World.seen c.turn.new.world) (g.W.World.seen c.commit.new.world)
+  continues = Continues-trans g.W.World.Tells (g.W.World.seen c.args.world.now) (g.W.World.seen c.turn.new.world) (g.W.World.seen c.commit.new.world)
       c.turn.ensures.continues c.in_err-out-in-Ok-Done.ensures.continues;
   places = turn_committed c.args.net.now c.begin-txn.ensures.net
       (later_own c.args.app.now.index c.requires.place (returns-in_err-out-in-Ok-Done-clause-keeps g c).later) c.in-Ok-Done.ensures.ok.turns
@@ -112,7 +113,7 @@ returns-in_err-abort-in-Ok-Failed-clause-keeps g c = record {
 
 pub returns-in_err-abort-in-Ok-Failed-clause-passes : goal.returns-in_err-abort-in-Ok-Failed-clause-passes
 returns-in_err-abort-in-Ok-Failed-clause-passes g c = record {
-  continues = continues_then g.W.World.Tells (g.W.World.seen c.args.world.now) (g.W.World.seen c.turn.new.world) (g.W.World.seen c.abort.new.world)
+  continues = Continues-trans g.W.World.Tells (g.W.World.seen c.args.world.now) (g.W.World.seen c.turn.new.world) (g.W.World.seen c.abort.new.world)
       c.turn.ensures.continues c.abort.ensures.continues;
   places = turn_undone c.args.net.now c.begin-txn.ensures.net
       (later_own c.args.app.now.index c.requires.place (returns-in_err-abort-in-Ok-Failed-clause-keeps g c).later) c.in-Ok-Failed.ensures.ok.turns
@@ -151,7 +152,7 @@ returns-in-Err-clause-keeps g c = record {
 
 pub returns-in-Err-clause-passes : goal.returns-in-Err-clause-passes
 returns-in-Err-clause-passes g c = record {
-  continues = continues_then g.W.World.Tells (g.W.World.seen c.args.world.now) (g.W.World.seen c.turn.new.world) (g.W.World.seen c.abort-in-Err.new.world)
+  continues = Continues-trans g.W.World.Tells (g.W.World.seen c.args.world.now) (g.W.World.seen c.turn.new.world) (g.W.World.seen c.abort-in-Err.new.world)
       c.turn.ensures.continues c.abort-in-Err.ensures.continues;
   places = stop_undone c.args.net.now c.begin-txn.ensures.net (later_own c.args.app.now.index c.requires.place (returns-in-Err-clause-keeps g c).later)
       c.in-Err.ensures.err c.abort-in-Err.ensures;

@@ -1,5 +1,4 @@
-use Rattle.outside.specs.laws.SeenLaws.{Continues-refl}
-use Rattle.event_dispatch.specs.laws.WhyLaws.{continues_then}
+use Rattle.outside.specs.laws.SeenLaws.{Continues-refl, Continues-trans}
 use Rattle.event_dispatch.specs.laws.EndedLaws.{ended_none, ended_next, are_ended}
 use Rattle.event_dispatch.proofs.whole.end_all.Goals as goal
 
@@ -12,7 +11,7 @@ loop-app-init g c = record {
 
 pub loop-app-preserved : goal.loop-app-preserved
 loop-app-preserved g c = record {
-  continues = continues_then g.W.World.Tells (g.W.World.seen c.args.world.now) (g.W.World.seen c.loop-app.world) (g.W.World.seen c.end_one.new.world)
+  continues = Continues-trans g.W.World.Tells (g.W.World.seen c.args.world.now) (g.W.World.seen c.loop-app.world) (g.W.World.seen c.end_one.new.world)
       c.loop-app.invariant.continues c.end_one.ensures.continues;
   so_far = ended_next c.loop-app.app (g.W.World.seen c.args.world.now) (g.W.World.seen c.loop-app.world) (g.W.World.seen c.end_one.new.world)
       c.loop-app-test.true c.loop-app.invariant.continues c.loop-app.invariant.so_far c.end_one.ensures.ends;

@@ -1,5 +1,5 @@
-use Rattle.event_dispatch.specs.laws.WhyLaws.{ends_continue}
+use Rattle.outside.specs.laws.SeenLaws.{Ends-continues}
 use Rattle.event_dispatch.proofs.whole.end_one.Goals as goal
 
 pub returns : goal.returns
-returns g c = record { continues = ends_continue c.end.ensures; ends = c.end.ensures }
+returns g c = record { continues = Ends-continues c.end.ensures; ends = c.end.ensures }

@@ -1,5 +1,6 @@
 use Rattle.std.proofs.Common.{map, inl}
 use Rattle.crash_policy.specs.Policies.{app_value}
+use Rattle.outside.specs.laws.SeenLaws.{Continues-trans}
 use Rattle.event_dispatch.specs.laws.WholeLaws.{rules_own, cut_unopened, cut_failed, alike_unopened, alike_done, alike_failed}
 use Rattle.event_dispatch.specs.laws.PlainLaws.{unopened_plain, served_plain}
 use Rattle.event_dispatch.specs.laws.ReadLaws.{unopened_places, opened_places, unopened_read, all_read, failed_read}
@@ -7,7 +8,7 @@ use Rattle.run_laws.specs.First.{net_at_first}
 use Rattle.event_dispatch.specs.laws.EndedLaws.{unopened_ended, opened_ended}
 use Rattle.event_dispatch.specs.laws.NumberLaws.{unopened_ids, opened_ids}
 use Rattle.event_dispatch.specs.laws.EndCourseLaws.{course_unopened, course_done, course_failed}
-use Rattle.event_dispatch.specs.laws.WhyLaws.{continues_then, why_sink, why_behind, same_fell}
+use Rattle.event_dispatch.specs.laws.WhyLaws.{why_sink, why_behind, same_fell}
 use Rattle.event_dispatch.proofs.whole.serve.Goals as goal
 
 pub returns-in-Err-clause-continues : goal.returns-in-Err-clause-continues
@@ -21,14 +22,14 @@ returns-in-Err-clause-end_has_cause g c = why_sink g.W.World.Tells (g.W.World.se
     (g.K.Sink.faults c.args.sink.now) (g.K.Sink.faults c.args.sink.now) c.in-Err.served (same_fell (g.K.Sink.faults c.args.sink.now)) c.in-Err.ensures.why
 
 pub returns-in-Ok-clause-continues : goal.returns-in-Ok-clause-continues
-returns-in-Ok-clause-continues g c = continues_then g.W.World.Tells (g.W.World.seen c.args.world.now) (g.W.World.seen c.open.new.world)
+returns-in-Ok-clause-continues g c = Continues-trans g.W.World.Tells (g.W.World.seen c.args.world.now) (g.W.World.seen c.open.new.world)
     (g.W.World.seen c.run.new.world) c.open.ensures.continues c.in-Ok.ensures.passes.continues
 
 pub returns-in-Ok-clause-never_fell : goal.returns-in-Ok-clause-never_fell
 returns-in-Ok-clause-never_fell g c = c.in-Ok.ensures.passes.never_fell
 
 pub returns-in-Err-run-clause-continues : goal.returns-in-Err-run-clause-continues
-returns-in-Err-run-clause-continues g c = continues_then g.W.World.Tells (g.W.World.seen c.args.world.now) (g.W.World.seen c.open.new.world)
+returns-in-Err-run-clause-continues g c = Continues-trans g.W.World.Tells (g.W.World.seen c.args.world.now) (g.W.World.seen c.open.new.world)
     (g.W.World.seen c.run.new.world) c.open.ensures.continues c.in-Err-run.ensures.passes.continues
 
 pub returns-in-Err-run-clause-never_fell : goal.returns-in-Err-run-clause-never_fell

@@ -13,7 +13,7 @@ returns-clause-undoing g c = λ base views x first p q switches fault u known.
     let e = c.index-log-at.result in
     let s = c.await_at.ensures in
     await_expected c.args.dpid c.take_xid-id.result c.args.log.now c.await_at.new.log c.in-Some.at e c.await_at.result c.await_at.new.buf c.in-Some.ensures.place (s.marked e) (omega arith) c.take_xid-id.ensures.next c.take_xid-id.ensures.taken u known
-    c.if-log-at.false (s.passes e).kept_more (s.passes e).replied (s.passes e).failed
+    c.if-log-at.false (s.passes e).replied (s.passes e).failed
 
 pub returns-clause-barred : goal.returns-clause-barred
 returns-clause-barred g c = barred_here c.args.dpid c.args.log.now c.await_at.new.log c.in-Some.at c.index-log-at.result _ c.in-Some.ensures.place (c.await_at.ensures.marked c.index-log-at.result) refl

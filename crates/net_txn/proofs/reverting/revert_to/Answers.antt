@@ -30,4 +30,4 @@ returns-clause-undoing g c = λ base views x first ps qs fault e u known unfaile
     ap (λ (xs : List Logged). (get_or xs 0 e).dpid) (e1.marked e) ∙ ap (λ (l : Logged). l.dpid) (get_or-set_same c.args.log.now 0 sent e c.requires.place) in
     let lt : 0 < length c.send_first.new.log = subst (λ (xs : List Logged). 0 < length xs) (sym (e1.marked e)) (lt-length-set c.args.log.now 0 sent c.requires.place) in
     let s = c.await_at.ensures in
-    await_reverted d c.send_first.new.log c.await_at.new.log e c.await_at.result c.await_at.new.buf lt here (s.marked e) (omega arith) c.take_xid-id-2.ensures.next p known (s.passes e).kept_more (rw c.take_xid-id-2.ensures.taken at (s.passes e).replied) (rw c.take_xid-id-2.ensures.taken at (s.passes e).failed)
+    await_reverted d c.send_first.new.log c.await_at.new.log e c.await_at.result c.await_at.new.buf lt here (s.marked e) (omega arith) c.take_xid-id-2.ensures.next p known (rw c.take_xid-id-2.ensures.taken at (s.passes e).replied) (rw c.take_xid-id-2.ensures.taken at (s.passes e).failed)

@@ -1,6 +1,7 @@
 use Rattle.std.proofs.Common.{refl, sym, subst, ◌∙◌}
 use Rattle.std.proofs.lemmas.Result.{err_from_is_err_and}
 use Rattle.lego_model.specs.declared.wait.Heard.TheVariants as heards
+use Rattle.lego_model.specs.BarrierWaits.{heard}
 use Rattle.net_txn.specs.declared.trouble.Trouble.{Trouble}
 use Rattle.net_txn.specs.Waits.{held_notice}
 use Rattle.net_txn.specs.Said.{Calls, unsaid, IsUntreated}
@@ -32,7 +33,7 @@ returns-in_err-hold-in-Notice g c =
     let seen = g.W.World.seen c.args.world.now in
     let d = c.args.awaited.now.dpid in
     rw (p.1, p.2) (record {
-      why = subst (λ (t : Trouble). IsUntreated c.args.storage t) (sym e.full) (c.requires.growing e.err);
+      why = subst (λ (t : Trouble). IsUntreated c.args.storage (heard c.args.awaited.now c.args.message.now) t) (sym e.full) (c.requires.growing e.err);
       calls = subst (λ (t : Trouble). Calls g.W.World.Tells d (unsaid d t) seen seen) (sym e.full) (Calls-none g.W.World.Tells d seen);
       kept_is = refl;
     })
@@ -40,7 +41,7 @@ returns-in_err-hold-in-Notice g c =
 pub returns-in_err-send-in-Echo : goal.returns-in_err-send-in-Echo
 returns-in_err-send-in-Echo g c =
     let p = err_from_is_err_and c.from_residual-in_err-send-in-Echo.result c.from_residual-in_err-send-in-Echo.ensures.1 in
-    rw (p.1, p.2) (record { why = untreated_by c.args.storage c.in_err-send-in-Echo.field-0.0 c.in_err-send-in-Echo.ensures.0; calls = c.in_err-send-in-Echo.ensures.1; kept_is = refl })
+    rw (p.1, p.2) (record { why = untreated_by c.args.storage _ c.in_err-send-in-Echo.field-0.0 (sym c.classify.ensures ∙ c.in-Echo.is) c.in_err-send-in-Echo.ensures.0; calls = c.in_err-send-in-Echo.ensures.1; kept_is = refl })
 
 pub returns-in_ok-send-in-Echo : goal.returns-in_ok-send-in-Echo
 returns-in_ok-send-in-Echo g c =
@@ -57,7 +58,7 @@ returns-in_err-keep-in-Other g c =
     let seen = g.W.World.seen c.args.world.now in
     let d = c.args.awaited.now.dpid in
     rw (p.1, p.2) (record {
-      why = subst (λ (t : Trouble). IsUntreated c.args.storage t) (sym e.full) e.err.0;
+      why = subst (λ (t : Trouble). IsUntreated c.args.storage (heard c.args.awaited.now c.args.message.now) t) (sym e.full) e.err.0;
       calls = subst (λ (t : Trouble). Calls g.W.World.Tells d (unsaid d t) seen seen) (sym e.full) (Calls-none g.W.World.Tells d seen);
       kept_is = e.err.1;
     })
