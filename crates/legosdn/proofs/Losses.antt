@@ -21,6 +21,7 @@ use Rattle.lego_model.specs.Journal.{losses}
 use Rattle.lego_model.specs.History.{lost_of}
 use Rattle.lego_model.specs.SessionLines.{SessionValue}
 use Rattle.session_text.specs.Loading.{fail_of, given_by}
+use Rattle.switch_laws.specs.laws.LossLaws.{losses-nil}
 use Rattle.legosdn.specs.Input.{session_of}
 use Rattle.legosdn.specs.Live.{NoneStray}
 use Rattle.legosdn.specs.Headline.{RunsNoOther}
@@ -62,10 +63,6 @@ no_fault d s none = never_fails d s.links none
 
 -- ---- No step loses a switch
 
-none_at_first : losses (journal []) ≡ []
-unfolding losses journal
-none_at_first = refl
-
 no_both : (a b : Bool) → b ≡ false → IsTrue (a && b) → ⊥
 no_both true b none both = false≢true (sym none ∙ both)
 no_both false b none both = false≢true both
@@ -103,14 +100,14 @@ step_loses declared (SendFailed d) steps s none may is rest = rest
 step_loses declared (RecvFailed d) steps s none may is rest = rest
 
 steps_lose : (declared : List Declared) (steps : List WorldStep) (s : State) → AllByRecursion NoneToFail s.links → MayComeAll declared steps s → AreExpected steps s → losses (journal steps) ≡ []
-steps_lose declared [] s none may are = none_at_first
+steps_lose declared [] s none may are = losses-nil
 steps_lose declared (step ∷ steps) s none may are =
     step_loses declared step steps s none may.0 are.0 (steps_lose declared steps (after_step step s) (step-kept NoneToFail none_to_fail step s none) may.1 are.1)
 
 -- ---- The whole
 
 pub nothing_lost : {Own : Type 0} (seen : Seen Own) → seen.history ≡ [] → lost_of seen ≡ []
-nothing_lost seen none = ap (λ (steps : List WorldStep). losses (journal steps)) none ∙ none_at_first
+nothing_lost seen none = ap (λ (steps : List WorldStep). losses (journal steps)) none ∙ losses-nil
 
 pub none_is_lost : {Own : Type 0} (seen : Seen Own) → InOrder seen → NoneStray seen → seen.given.fails ≡ [] → lost_of seen ≡ []
 unfolding at_first

@@ -1,5 +1,5 @@
 -- No call of a run was a stray one.
-use Rattle.std.proofs.Common.{◌≡◌, ℕ, ◌==◌, ◌<◌, ◌≤◌, true, false, List, [], ◌∷◌, ◌++◌, refl, sym, ap, subst}
+use Rattle.std.proofs.Common.{◌≡◌, ℕ, ◌<◌, ◌≤◌, true, false, List, [], ◌∷◌, ◌++◌, refl, sym, ap, subst}
 use Rattle.std.specs.List.{AllByRecursion}
 use Rattle.std.proofs.lemmas.Bool.{eq-eqb}
 use Rattle.of_types.specs.declared.journal.Act.{Act}
@@ -67,15 +67,12 @@ AreInPlace number steps s = (i : ℕ) → i < number → AreInPlaceOf i steps s
 abbrev IsInPlaceThere : ℕ → WorldStep → State → Type 0
 IsInPlaceThere number step s = (i : ℕ) → i < number → IsInPlaceOf i (act_of step) (is_running i s)
 
-itself : (of : ℕ) → (of == of) ≡ true
-itself of = eq-eqb of of refl
-
 act_in_place : (number : ℕ) (act : Act) (s : State) → IsActAmong number act → IsInPlaceThere number (Acted act) s → IsActExpected act s
 act_in_place number (Stim x) s own so = tt
 act_in_place number (Started of true) s own so = tt
-act_in_place number (Started of false) s own so = so of own (itself of)
+act_in_place number (Started of false) s own so = so of own (eq-eqb of of refl)
 act_in_place number (Gave of bytes) s own so = tt
-act_in_place number (Gone of bytes) s own so = so of own (itself of)
+act_in_place number (Gone of bytes) s own so = so of own (eq-eqb of of refl)
 act_in_place number (Took of what) s own so = tt
 act_in_place number (Ended of) s own so = tt
 act_in_place number (Sent d bytes) s own so = tt
@@ -85,7 +82,7 @@ act_in_place number (Lost d) s own so = tt
 step_in_place : (number : ℕ) (step : WorldStep) (s : State) → IsCallAmong number step → IsInPlaceThere number step s → IsExpectedOnLink step s → IsExpected step s
 step_in_place number (Acted act) s own so link = act_in_place number act s own so
 step_in_place number (TookInto of (took.Bytes bytes) room) s own so link = tt
-step_in_place number (TookInto of took.Closed room) s own so link = so of own (itself of)
+step_in_place number (TookInto of took.Closed room) s own so link = so of own (eq-eqb of of refl)
 step_in_place number (TookInto of took.Silent room) s own so link = tt
 step_in_place number (From d bytes) s own so link = tt
 step_in_place number (Joined d bytes) s own so link = tt

@@ -36,6 +36,7 @@ use Rattle.outside.specs.Conforming.{AreDeclaredFrom, Conforming}
 use Rattle.lego_model.specs.declared.wait.Awaited.{Awaited}
 use Rattle.lego_model.specs.declared.wait.Heard.{Heard}
 use Rattle.lego_model.specs.declared.wait.Heard.TheVariants.{Reply, Refused, Notice, Echo, Other}
+use Rattle.switch_laws.specs.laws.LossLaws.{losses-nil}
 use Rattle.net_txn.specs.Net.{NetState}
 use Rattle.lego_model.specs.BarrierWaits.{heard, steps_by, echo_reply, wait_steps, reply_got}
 use Rattle.net_txn.specs.Views.{rows_at}
@@ -246,12 +247,8 @@ acts_none : (app : ℕ) (steps : List WorldStep) → AllByRecursion IsSentOrGot 
 acts_none app [] all = no_acts app
 acts_none app (step ∷ steps) all = (tells_by step all.0.0 all.0.1 all.0.2 steps app).1 ∙ acts_none app steps all.1
 
-no_losses : losses (journal []) ≡ []
-unfolding losses journal
-no_losses = refl
-
 losses_none : (steps : List WorldStep) → AllByRecursion IsSentOrGot steps → losses (journal steps) ≡ []
-losses_none [] all = no_losses
+losses_none [] all = losses-nil
 losses_none (step ∷ steps) all = (tells_by step all.0.0 all.0.1 all.0.2 steps 0).2 ∙ losses_none steps all.1
 
 -- ---- What an item leaves, from where it was told

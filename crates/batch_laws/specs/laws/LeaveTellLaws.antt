@@ -23,6 +23,7 @@ use Rattle.outside.specs.declared.step.WorldStep.TheVariants.{Left}
 use Rattle.outside.specs.Seen.{is_declared}
 use Rattle.outside.specs.State.{Link, State, link_of, switch_in, switch_of, with_link, link_left, after_stim, upcoming, declared_in}
 use Rattle.outside.specs.laws.LinkLaws.{link_of-same, link_of-other}
+use Rattle.net_txn.specs.laws.OrderLaws.{left-ascends}
 use Rattle.net_txn.specs.declared.ports.KnownPorts.{KnownPorts}
 use Rattle.net_txn.specs.Views.{rows_at, ViewsAscend}
 use Rattle.net_txn.specs.Leaving.{ports_at, ports_text}
@@ -105,14 +106,6 @@ views-less : (least most : ℕ) → least ≤ most → (views : List TableView) 
 views-less least most le [] h = tt
 views-less least most le (v ∷ vs) h = (omega (arith, le, h.0), h.1)
 
-pub filtered-order : (d least : ℕ) (views : List TableView) → ViewsAscend least views → ViewsAscend least (filter (λ v. not (v.dpid == d)) views)
-filtered-order d least [] h = tt
-filtered-order d least (v ∷ vs) h =
-    elim (cases_Bool (v.dpid == d)) [
-      | inl here ↦ rw here (filtered-order d least vs (views-less least (v.dpid + 1) (omega (arith, h.0)) vs h.1))
-      | inr other ↦ rw other (h.0, filtered-order d (v.dpid + 1) vs h.1)
-    ]
-
 gone-here : (d : ℕ) (ks : List KnownPorts) → known_ports d (filter (λ p. not (p.dpid == d)) ks) ≡ None
 gone-here d [] = refl
 gone-here d (k ∷ ks) =
@@ -194,7 +187,7 @@ leave-by d s k facts declared (Some y) is =
         agrees = ap (option_map rows_of_view) (rows-gone d k.views);
         ports = gone-here d k.ports;
       }));
-      order = filtered-order d 0 k.views facts.order;
+      order = left-ascends d 0 k.views facts.order;
       moment = facts.moment;
       sound = all-sound d s now k after facts only (subst SoundIn (sym (left-here d s)) tt);
     })

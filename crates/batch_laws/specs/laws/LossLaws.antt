@@ -28,6 +28,7 @@ use Rattle.outside.specs.declared.step.WorldStep.TheVariants.{From, Joined}
 use Rattle.outside.specs.Seen.{Seen, is_declared}
 use Rattle.outside.specs.State.{State, switch_of, after_stim, upcoming, state, links_after}
 use Rattle.outside.specs.Conforming.{AreDeclaredFrom, IsWorldStim, Conforming}
+use Rattle.net_txn.specs.laws.OrderLaws.{left-ascends}
 use Rattle.net_txn.specs.declared.ports.KnownPorts.{KnownPorts}
 use Rattle.net_txn.specs.Net.{NetState}
 use Rattle.net_txn.specs.ChangeSteps.{Agrees}
@@ -48,7 +49,6 @@ use Rattle.batch_laws.specs.Waiting.{NoneWait}
 use Rattle.batch_laws.specs.Tells.{FitsItem, FitsRead, StimulusHandled, StimulusLost}
 use Rattle.batch_laws.specs.laws.AloneLaws.{echo-alone, join-alone}
 use Rattle.batch_laws.specs.laws.HistoryLaws.{links-last, links-declared, stim-lasts, lasts_in}
-use Rattle.batch_laws.specs.laws.LeaveTellLaws.{filtered-order}
 use Rattle.batch_laws.specs.laws.StimulusLaws.{none-wait, stimulus-handled}
 
 -- ---- One switch goes out
@@ -211,7 +211,7 @@ echo-loss x d bytes first now l =
       others_rows = λ e other. rows-stay d e other k.views;
       ports = known-gone d k.ports;
       others_ports = λ e other. known-stay d e other k.ports;
-      order = filtered-order d 0 k.views l.calm.order;
+      order = left-ascends d 0 k.views l.calm.order;
       moment = refl;
     } in
     let left : left_events (ports_lost d k.ports) ≡ left_at x d after =

@@ -18,7 +18,7 @@ use Rattle.lego_model.specs.declared.fault.TxnFault.{TxnFault}
 use Rattle.net_txn.specs.Net.{NetState}
 use Rattle.net_txn.specs.Views.{rows_at}
 use Rattle.net_txn.specs.LinkSteps.{OnLinks, MakesNoStrayCall, AsksWithoutStrays}
-use Rattle.net_txn.specs.laws.LinkStepLaws.{OnLinks-refl, OnLinks-trans}
+use Rattle.net_txn.specs.laws.LinkStepLaws.{OnLinks-refl}
 use Rattle.net_txn.specs.laws.LinkStrayLaws.{no_strays_none, no_strays_then}
 use Rattle.net_txn.specs.Arriving.{Arrives}
 use Rattle.net_txn.specs.laws.AgreeLaws.{viewed}
@@ -42,9 +42,6 @@ use Rattle.event_dispatch.specs.laws.CatchUpLaws.{caught_up}
 use Rattle.event_dispatch.specs.laws.DispatchStrayLaws.{links_quietly}
 
 -- ---- Links
-
-pub links_then : {Own : Type 0} (Tells : Type 0) (a b c : Seen Own) → OnLinks Tells a b → OnLinks Tells b c → OnLinks Tells a c
-links_then Tells a b c first second = OnLinks-trans Tells a b c first second
 
 links_own : {Own : Type 0} {Tells : Type 0} {number : ℕ} {old new : Seen Own} → OnLinks Tells old new → Tells → CallsAmong number old new
 links_own {number = number} links told = links_among number (links told)

@@ -22,6 +22,7 @@ use Rattle.lego_model.specs.declared.fault.TxnFault.TheVariants.{SwitchBroke, Di
 use Rattle.lego_model.specs.declared.wait.Awaited.{Awaited}
 use Rattle.lego_model.specs.declared.wait.Heard.{Heard}
 use Rattle.lego_model.specs.declared.wait.Heard.TheVariants.{Reply, Refused, Notice, Echo, Other}
+use Rattle.run_laws.specs.laws.TurnCallLaws.{both_first}
 use Rattle.net_txn.specs.Net.{NetState}
 use Rattle.lego_model.specs.Packets.{Held}
 use Rattle.net_txn.specs.Releases.{packet_awaited, packet_steps, BreaksAt, committed, StopsRelease, UndoneForMemory, Commits}
@@ -120,10 +121,6 @@ second_of : (p q : Bool) → (p && q) ≡ true → q ≡ true
 second_of true q h = h
 second_of false q h = absurd (true≢false (sym h))
 
-first_of : (p q : Bool) → (p && q) ≡ true → p ≡ true
-first_of true q h = refl
-first_of false q h = absurd (true≢false (sym h))
-
 about_kind : (xid kind : ℕ) (bytes : List ℕ) → is_about xid kind bytes ≡ true → number_at 1 1 bytes ≡ kind
 unfolding is_about
 about_kind xid kind bytes h =
@@ -132,7 +129,7 @@ about_kind xid kind bytes h =
 about_xid : (xid kind : ℕ) (bytes : List ℕ) → is_about xid kind bytes ≡ true → number_at 4 4 bytes ≡ xid
 unfolding is_about
 about_xid xid kind bytes h =
-    eqb-true (number_at 4 4 bytes) xid (first_of (number_at 4 4 bytes == xid) (number_at 1 1 bytes == kind) (second_of (nat_le 12 (length bytes)) (number_at 4 4 bytes == xid && number_at 1 1 bytes == kind) h))
+    eqb-true (number_at 4 4 bytes) xid (both_first (number_at 4 4 bytes == xid) (number_at 1 1 bytes == kind) (second_of (nat_le 12 (length bytes)) (number_at 4 4 bytes == xid && number_at 1 1 bytes == kind) h))
 
 -- those of one kind
 abbrev about_in : ℕ → ℕ → ℕ × List ℕ → List (List ℕ)

@@ -12,6 +12,7 @@ use Rattle.lego_model.specs.AtOnce.{AtOnce}
 use Rattle.lego_model.specs.RunReport.{event_line}
 use Rattle.outside.specs.Seen.{Seen, Continues, journal}
 use Rattle.outside.specs.laws.SeenLaws.{Continues-refl}
+use Rattle.net_txn.specs.laws.RowLaws.{any_of_map}
 use Rattle.net_txn.specs.Net.{NetState}
 use Rattle.net_txn.specs.laws.SaidLaws.{all_two}
 use Rattle.checkpoint_store.specs.Slots.{Slot}
@@ -65,13 +66,6 @@ map_drop f (suc n) (x ∷ xs) = map_drop f n xs
 pub map_length : {A B : Type 0} (f : A → B) (xs : List A) → length (map f xs) ≡ length xs
 map_length f [] = refl
 map_length f (x ∷ xs) = ap suc (map_length f xs)
-
-any_map : {A B : Type 0} (p : B → Bool) (f : A → B) (xs : List A) → list_any p (map f xs) ≡ list_any (λ x. p (f x)) xs
-any_map p f [] = refl
-any_map p f (x ∷ xs) = elim (cases_Bool (p (f x))) [
-  | inl is ↦ rw is refl
-  | inr is ↦ rw is (any_map p f xs)
-]
 
 cons_head : {A : Type 0} (x y : A) (xs ys : List A) → x ∷ xs ≡ y ∷ ys → x ≡ y
 cons_head x y xs ys is = cc
@@ -701,7 +695,7 @@ module _ (event : Event) (r : Run) (c : Core) (adds : Adds (event_line (r.core.e
       events_is = f.events_is ∙ adds.stays.events;
     };
     of_turn = subst (λ (b : Bool). IsOfTurn fault b)
-        (ap (λ (slots : List Slot). list_any (λ m. is_taking event (application_of slots m)) r.apps.items) adds.stays.store ∙ sym (any_map (is_taking event) (application_of r.core.store) r.apps.items)) f.of_turn;
+        (ap (λ (slots : List Slot). list_any (λ m. is_taking event (application_of slots m)) r.apps.items) adds.stays.store ∙ sym (any_of_map (is_taking event) (application_of r.core.store) r.apps.items)) f.of_turn;
     reads = reads_over r.core.net c.net f.mid_core.net f.mid_core.net noted_views refl f.reads;
     later = f.later;
     within = f.within;

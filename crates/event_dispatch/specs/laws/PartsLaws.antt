@@ -25,7 +25,7 @@ use Rattle.event_dispatch.specs.laws.CutLaws.{if_err, went_cut, goes_on_cut, sho
 use Rattle.event_dispatch.specs.laws.EndedLaws.{none_runs_none, none_runs_then}
 use Rattle.event_dispatch.specs.laws.NumberLaws.{numbers_end, numbers_then, end_none, end_done, end_ended}
 use Rattle.event_dispatch.specs.laws.PassesLaws.{same_next, next_of, passes_none, passes_then, passes_fails, passes_as, passes_number}
-use Rattle.event_dispatch.specs.laws.PlainLaws.{whole_anyway, whole_finish, whole_then}
+use Rattle.event_dispatch.specs.laws.PlainLaws.{run_anyway, whole_finish, whole_then}
 use Rattle.event_dispatch.specs.laws.ReadLaws.{read_none, read_of, reads_as, reads_by, went_read, ended_read}
 use Rattle.event_dispatch.specs.laws.SteadyLaws.{places_none, places_then}
 use Rattle.event_dispatch.specs.laws.WholeLaws.{finishes_by, goes_by, runs_short, runs_by}
@@ -219,7 +219,7 @@ runs_wanting {accepts = accepts} {most = most} {a = a} {k = k} rules Tells seen 
   fails = if_err (WholeFails Tells accepts most a a k k seen seen (engine_at_first rules)) served.NoMemory result failed (record {
     cut = short_cut Tells accepts most a seen (engine_at_first rules);
     why = tt;
-    plain = whole_anyway seen seen (engine_at_first rules) served.NoMemory tt;
+    plain = run_anyway seen seen (engine_at_first rules) served.NoMemory tt;
   });
 }
 

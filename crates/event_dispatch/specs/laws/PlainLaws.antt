@@ -1,5 +1,5 @@
 -- Laws of how a run may end in a world that keeps its word.
-use Rattle.std.proofs.Common.{◌≡◌, ℕ, ◌<◌, ◌^◌, Bool, List, [], ◌∷◌, ◌++◌, length, map, Option, Some, IsSome, Result, Ok, Err, IfErr, IsOk, IsErr, slice_get, take, refl, sym, ap, ◌∙◌, subst, inl, inr}
+use Rattle.std.proofs.Common.{◌≡◌, ℕ, ◌<◌, ◌^◌, Bool, List, [], ◌∷◌, ◌++◌, length, map, Option, Some, IsSome, Result, Ok, Err, IfErr, IsOk, slice_get, take, refl, sym, ap, ◌∙◌, subst, inl, inr}
 use Rattle.of_stats.specs.Flows.{AreRows}
 use Rattle.of_wire.specs.Reading.{reading_of}
 use Rattle.flow_table.specs.View.{TableView}
@@ -19,6 +19,7 @@ use Rattle.outside.specs.Conforming.{Conforming}
 use Rattle.lego_model.specs.declared.fault.TxnFault.{TxnFault}
 use Rattle.lego_model.specs.declared.fault.TxnFault.TheVariants.{SwitchBroke, Diverged, Flooded, NoMemory}
 use Rattle.lego_model.specs.SwitchFaults.{FloodedByPacket}
+use Rattle.net_txn.specs.laws.FloodLaws.{both_ways}
 use Rattle.switch_laws.specs.Released.{StopsFor}
 use Rattle.net_txn.specs.Causes.{IsPlain}
 use Rattle.net_txn.specs.laws.LostPartLaws.{Distinct}
@@ -105,12 +106,8 @@ ends_release old new fault (inr flood) = inr (flood.0, (ap ended_by flood.1.0, f
 
 -- ---- A batch
 
-no_fault : {T E : Type 0} (r : Result T E) → IsOk r → IsErr r → ⊥
-no_fault (Ok x) ok err = absurd cc
-no_fault (Err e) ok err = absurd cc
-
 arrival_plain : {Own : Type 0} (d : ℕ) (frame : List ℕ) (old new : Seen Own) (fault : TxnFault) → IsArrivalCause d frame old new fault → IsOk (reading_of frame) → IsPlainServed (ended_by fault)
-arrival_plain d frame old new (SwitchBroke e bytes) cause read = absurd (no_fault (reading_of frame) read cause.2)
+arrival_plain d frame old new (SwitchBroke e bytes) cause read = absurd (both_ways (reading_of frame) read cause.2)
 arrival_plain d frame old new (Diverged e sent got) cause read = absurd cause
 arrival_plain d frame old new (Flooded e n) cause read = absurd cause
 arrival_plain d frame old new NoMemory cause read = tt
@@ -284,9 +281,6 @@ run_rounds old mid new r then_r end first rounds later rest = record {
 }
 
 -- ---- A whole run
-
-pub whole_anyway : {Own : Type 0} {Tells : Type 0} {accepts : List TableView → Bool} (old new : Seen Own) (e : Engine) (end : Served) → IsPlainServed end → PlainRun Tells accepts old new e end
-whole_anyway old new e end plain = record { plain = λ allows told keeps judges settled. inl plain }
 
 begun_settled : {Own : Type 0} {Tells : Type 0} {a b : Option (List ℕ)} {old mid : Seen Own} {r then_r : Run} → Begins Tells a b old mid r then_r → Tells → Conforming mid → AtRest old (engine_of r) → AtRest mid (engine_of then_r)
 begun_settled begins told keeps settled = (begins.shown.moved told keeps settled).settled

@@ -12,7 +12,7 @@ use Rattle.outside.specs.declared.step.WorldStep.{WorldStep}
 use Rattle.outside.specs.Seen.{Seen, Continues}
 use Rattle.outside.specs.laws.SeenLaws.{Continues-refl, Nexts-continues, Continues-trans}
 use Rattle.outside.specs.Calls.{Nexts, item_step}
-use Rattle.net_txn.specs.laws.LinkStepLaws.{OnLinks-refl}
+use Rattle.net_txn.specs.laws.LinkStepLaws.{OnLinks-refl, OnLinks-trans}
 use Rattle.net_txn.specs.Net.{NetState}
 use Rattle.net_txn.specs.Views.{rows_at}
 use Rattle.net_txn.specs.LinkSteps.{OnLinks, AsksWithoutStrays}
@@ -38,7 +38,7 @@ use Rattle.event_dispatch.specs.laws.NumberLaws.{ids_ascend, ids_of, ids_failed,
 use Rattle.event_dispatch.specs.laws.PassesLaws.{SameNext, same_next, if_failed, waits_none, passes_none, passes_then, passes_fails, passes_as, passes_waits, so_far}
 use Rattle.event_dispatch.specs.laws.TalkingLaws.{keeps_none, keeps_then, keeps_links, keeps_next}
 use Rattle.event_dispatch.specs.laws.NextPointLaws.{next_quietly, next_in_place}
-use Rattle.event_dispatch.specs.laws.BatchSteadyLaws.{links_then, arrived_places, arrived_reads, puts_none, next_places, handled_places, over_reads, handled_quietly, over_begun, goes_begun, here_kept}
+use Rattle.event_dispatch.specs.laws.BatchSteadyLaws.{arrived_places, arrived_reads, puts_none, next_places, handled_places, over_reads, handled_quietly, over_begun, goes_begun, here_kept}
 
 -- ---- Links alone were used
 
@@ -53,7 +53,7 @@ pub on_links_then : {Own A F T E Tells : Type 0} {number : ℕ} {old mid new : S
 on_links_then {Tells = Tells} {old = old} {mid = mid} {new = new} first second = record {
   passes = passes_then first.passes second.passes;
   talks = keeps_then Tells old mid new first.talks second.talks;
-  links = links_then Tells old mid new first.links second.links;
+  links = OnLinks-trans Tells old mid new first.links second.links;
 }
 
 pub on_links_fails : {Own A F T E Tells : Type 0} {number : ℕ} {old new : Seen Own} {net mid_net : NetState} {first : Result A F} (now_net : NetState) (result : Result T E)

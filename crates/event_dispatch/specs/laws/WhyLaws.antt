@@ -139,9 +139,6 @@ why_before a b c end first rest why = IsWhy-before a b c 0 0 0 end first rest (o
 
 -- ---- With a sink
 
-pub why_sink : {Own : Type 0} (Tells : Type 0) (old new : Seen Own) (sink_old sink_new : ℕ) (end : Served) → NeverFell sink_old sink_new → IsWhy Tells old new 0 0 end → IsWhy Tells old new sink_old sink_new end
-why_sink Tells old new sink_old sink_new end up why = IsWhy-sink Tells old new sink_old sink_new end up why
-
 pub why_behind : {Own : Type 0} {Tells : Type 0} (a b c : Seen Own) (k l m : ℕ) (end : Served) → Continues Tells a b → NeverFell k l → IsWhy Tells b c l m end → IsWhy Tells a c k m end
 why_behind a b c k l m end first up why = IsWhy-behind a b c k l m end first up why
 

@@ -12,6 +12,7 @@ use Rattle.lego_model.specs.Controller.{leavers}
 use Rattle.outside.specs.Seen.{Seen}
 use Rattle.outside.specs.State.{State, state, switch_of}
 use Rattle.outside.specs.Conforming.{Conforming}
+use Rattle.net_txn.specs.laws.OrderLaws.{left-ascends}
 use Rattle.net_txn.specs.Net.{NetState}
 use Rattle.net_txn.specs.Views.{rows_at, with_rows, is_viewed, ViewsAscend}
 use Rattle.net_txn.specs.Arriving.{without_key}
@@ -26,7 +27,6 @@ use Rattle.switch_laws.specs.Sound.{Sound}
 use Rattle.switch_laws.specs.laws.SoundStepLaws.{undo-sound}
 use Rattle.switch_laws.specs.laws.ShownUndoLaws.{undo-ready, no-rows}
 use Rattle.batch_laws.specs.Calm.{Calm}
-use Rattle.batch_laws.specs.laws.LeaveTellLaws.{filtered-order}
 use Rattle.run_laws.specs.LinkSteps.{Rests}
 use Rattle.switch_laws.specs.laws.LinkLaws.{links_switch, links_waits}
 
@@ -103,7 +103,7 @@ lost-stays (d ∷ lost) net =
       moment = rest.moment;
       held = rest.held;
       kept = λ none. rest.kept (ap (filter (λ m. not (m.0 == d))) none);
-      order = λ up. rest.order (filtered-order d 0 net.views up);
+      order = λ up. rest.order (left-ascends d 0 net.views up);
     }
 
 -- ---- Behind a turn, where the switches that were lost in it are told

@@ -8,7 +8,7 @@ use Rattle.std.specs.List.{AllByRecursion}
 use Rattle.of_types.specs.declared.journal.Act.{Act}
 use Rattle.of_types.specs.declared.journal.Act.TheVariants.{Stim, Started, Gave, Gone, Took, Ended, Sent, Got, Lost}
 use Rattle.of_types.specs.declared.journal.WorldStim.{WorldStim}
-use Rattle.lego_model.specs.Journal.{is_of, inputs, stimuli, released_in, released, lost_in, losses, start_of}
+use Rattle.lego_model.specs.Journal.{is_of, inputs, stimuli, released_in, released, losses, start_of}
 use Rattle.lego_model.specs.laws.JournalLaws.{inputs-append, stimuli-append}
 use Rattle.lego_model.specs.Packets.{Held}
 use Rattle.outside.specs.Seen.{Seen, journal}
@@ -16,6 +16,7 @@ use Rattle.outside.specs.laws.SeenLaws.{journal-append}
 use Rattle.outside.specs.State.{State, state, is_running}
 use Rattle.outside.specs.Conforming.{Conforming}
 use Rattle.outside.specs.laws.StateLaws.{Conforming-before}
+use Rattle.net_txn.specs.laws.LostLaws.{losses_two}
 use Rattle.net_txn.specs.Net.{NetState}
 use Rattle.app_visor.specs.Talks.{step_of}
 use Rattle.app_visor.specs.Beats.{Beat, Talk, Asks, Chain, acts_in}
@@ -76,10 +77,6 @@ pub released_same : {Own : Type 0} (old new : Seen Own) (acts : List Act) → jo
 released_same old new acts longer none =
     ap released longer ∙ released-append (journal old.history) acts ∙ ap (λ (ps : List Held). released_of old ++ ps) none ∙ append-nil (released_of old)
 
-losses_append : (first next : List Act) → losses (first ++ next) ≡ losses first ++ losses next
-unfolding losses
-losses_append first next = filter_map-append lost_in first next
-
 no_loss : (app : ℕ) (acts : List Act) → AreOwn app acts → losses acts ≡ []
 unfolding losses
 no_loss app [] own = refl
@@ -95,7 +92,7 @@ no_loss app (Lost d ∷ acts) own = absurd (true≢false (sym own.0))
 
 -- a journal that goes on by acts that lose these switches
 pub lost_more : {Own : Type 0} (old new : Seen Own) (acts : List Act) → journal new.history ≡ journal old.history ++ acts → lost_of new ≡ lost_of old ++ losses acts
-lost_more old new acts longer = ap losses longer ∙ losses_append (journal old.history) acts
+lost_more old new acts longer = ap losses longer ∙ losses_two (journal old.history) acts
 
 pub lost_same : {Own : Type 0} (old new : Seen Own) (acts : List Act) → journal new.history ≡ journal old.history ++ acts → losses acts ≡ [] → lost_of new ≡ lost_of old
 lost_same old new acts longer none = lost_more old new acts longer ∙ ap (λ (ds : List ℕ). lost_of old ++ ds) none ∙ append-nil (lost_of old)

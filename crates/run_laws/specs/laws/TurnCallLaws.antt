@@ -45,7 +45,7 @@ acts_none app (act ∷ acts) all =
 
 -- ---- It is ended, or started
 
-both_first : (a b : Bool) → (a && b) ≡ true → a ≡ true
+pub both_first : (a b : Bool) → (a && b) ≡ true → a ≡ true
 both_first true b is = refl
 both_first false b is = is
 

@@ -8,7 +8,7 @@ use Rattle.run_laws.specs.First.{net_at_first}
 use Rattle.event_dispatch.specs.laws.EndedLaws.{unopened_ended, opened_ended}
 use Rattle.event_dispatch.specs.laws.NumberLaws.{unopened_ids, opened_ids}
 use Rattle.event_dispatch.specs.laws.EndCourseLaws.{course_unopened, course_done, course_failed}
-use Rattle.event_dispatch.specs.laws.WhyLaws.{why_sink, why_behind, same_fell}
+use Rattle.event_dispatch.specs.laws.WhyLaws.{IsWhy-sink, why_behind, same_fell}
 use Rattle.event_dispatch.proofs.whole.serve.Goals as goal
 
 pub returns-in-Err-clause-continues : goal.returns-in-Err-clause-continues
@@ -18,7 +18,7 @@ pub returns-in-Err-clause-never_fell : goal.returns-in-Err-clause-never_fell
 returns-in-Err-clause-never_fell g c = same_fell (g.K.Sink.faults c.args.sink.now)
 
 pub returns-in-Err-clause-end_has_cause : goal.returns-in-Err-clause-end_has_cause
-returns-in-Err-clause-end_has_cause g c = why_sink g.W.World.Tells (g.W.World.seen c.args.world.now) (g.W.World.seen c.open.new.world)
+returns-in-Err-clause-end_has_cause g c = IsWhy-sink g.W.World.Tells (g.W.World.seen c.args.world.now) (g.W.World.seen c.open.new.world)
     (g.K.Sink.faults c.args.sink.now) (g.K.Sink.faults c.args.sink.now) c.in-Err.served (same_fell (g.K.Sink.faults c.args.sink.now)) c.in-Err.ensures.why
 
 pub returns-in-Ok-clause-continues : goal.returns-in-Ok-clause-continues

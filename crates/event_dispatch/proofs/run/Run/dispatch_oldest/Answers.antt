@@ -10,7 +10,7 @@ use Rattle.event_dispatch.specs.laws.OfferLaws.{going_queued}
 use Rattle.event_dispatch.specs.laws.PassesLaws.{same_next, at_fault, passes_none, passes_fails, passes_as}
 use Rattle.event_dispatch.specs.laws.PlainLaws.{run_anyway, run_fails}
 use Rattle.event_dispatch.specs.laws.RoundLaws.{one_settled, none_settled, going_stays}
-use Rattle.event_dispatch.specs.laws.WhyLaws.{same_fell, why_sink}
+use Rattle.event_dispatch.specs.laws.WhyLaws.{same_fell, IsWhy-sink}
 use Rattle.event_dispatch.proofs.run.Run.dispatch_oldest.Goals as goal
 
 pub returns-in_default : goal.returns-in_default
@@ -40,7 +40,7 @@ returns-in_err-dispatch g c = record {
             (fails_next g.W.World.Tells (g.J.Judge.accepts c.args.judge.now) c.in_err-dispatch.field-0.0 c.in-Some.event (g.W.World.seen c.args.world.now)
             (g.W.World.seen c.dispatch.new.world) c.args.self.now c.take_first.new.self c.requires.few c.in-Some.ensures.first c.in-Some.ensures.rest
             c.in_err-dispatch.ensures.done.fails);
-        why = why_sink g.W.World.Tells (g.W.World.seen c.args.world.now) (g.W.World.seen c.dispatch.new.world) (g.K.Sink.faults c.args.sink.now)
+        why = IsWhy-sink g.W.World.Tells (g.W.World.seen c.args.world.now) (g.W.World.seen c.dispatch.new.world) (g.K.Sink.faults c.args.sink.now)
             (g.K.Sink.faults c.args.sink.now) (served_by c.in_err-dispatch.field-0.0) (same_fell (g.K.Sink.faults c.args.sink.now))
             c.in_err-dispatch.ensures.done.why;
         plain = run_fails (g.W.World.seen c.args.world.now) (g.W.World.seen c.dispatch.new.world) c.args.self.now c.in_err-dispatch.field-0.0

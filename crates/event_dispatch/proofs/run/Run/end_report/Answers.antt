@@ -7,7 +7,7 @@ use Rattle.event_dispatch.specs.laws.PassesLaws.{at_fault}
 use Rattle.event_dispatch.specs.laws.PartsLaws.{on_still, on_fails, on_written}
 use Rattle.event_dispatch.specs.laws.PlainLaws.{calm_anyway}
 use Rattle.event_dispatch.specs.laws.WholeLaws.{ends_is}
-use Rattle.event_dispatch.specs.laws.WhyLaws.{why_sink, same_fell}
+use Rattle.event_dispatch.specs.laws.WhyLaws.{IsWhy-sink, same_fell}
 use Rattle.event_dispatch.proofs.run.Run.end_report.Goals as goal
 
 pub returns-in_err-note_last : goal.returns-in_err-note_last
@@ -21,7 +21,7 @@ returns-in_err-note_last g c =
             (g.W.World.seen c.note_last.new.world) c.args.self.now c.requires.going (still_is g.W.World.Tells (g.W.World.seen c.args.world.now)
             (g.W.World.seen c.note_last.new.world) fault (g.K.Sink.contents c.args.sink.now) (g.K.Sink.contents c.args.sink.now) fails.why refl)
             c.note_last.ensures.passes.talks c.note_last.ensures.passes.no_point;
-        why = why_sink g.W.World.Tells (g.W.World.seen c.args.world.now) (g.W.World.seen c.note_last.new.world) (g.K.Sink.faults c.args.sink.now)
+        why = IsWhy-sink g.W.World.Tells (g.W.World.seen c.args.world.now) (g.W.World.seen c.note_last.new.world) (g.K.Sink.faults c.args.sink.now)
             (g.K.Sink.faults c.args.sink.now) (served_by fault) (same_fell (g.K.Sink.faults c.args.sink.now)) fails.why;
         plain = fails.plain;
       });

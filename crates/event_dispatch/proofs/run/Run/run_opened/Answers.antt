@@ -3,7 +3,7 @@ use Rattle.event_dispatch.specs.Why.{served_by}
 use Rattle.event_dispatch.specs.Shows.{engine_of}
 use Rattle.event_dispatch.specs.laws.CutLaws.{goes_cut, rounds_cut}
 use Rattle.event_dispatch.specs.laws.PartsLaws.{on_then, on_number, served_fails, served_then, served_number, goes_fails, went_fails}
-use Rattle.event_dispatch.specs.laws.PlainLaws.{whole_anyway, whole_rounds}
+use Rattle.event_dispatch.specs.laws.PlainLaws.{run_anyway, whole_rounds}
 use Rattle.event_dispatch.specs.laws.WholeLaws.{went_as, number_then}
 use Rattle.event_dispatch.specs.laws.WhyLaws.{why_behind, fell_then}
 use Rattle.event_dispatch.proofs.run.Run.run_opened.Goals as goal
@@ -20,7 +20,7 @@ returns-in_err-begin g c =
                 (g.K.Sink.contents c.begin.new.sink) (g.W.World.seen c.args.world.now) (g.W.World.seen c.begin.new.world) (engine_of c.args.self.now)
                 c.begin.ensures.passes.passes.continues (inl fails.cut);
             why = fails.why;
-            plain = whole_anyway (g.W.World.seen c.args.world.now) (g.W.World.seen c.begin.new.world) (engine_of c.args.self.now) (served_by fault) fails.plain;
+            plain = run_anyway (g.W.World.seen c.args.world.now) (g.W.World.seen c.begin.new.world) (engine_of c.args.self.now) (served_by fault) fails.plain;
           });
     }
 

@@ -9,7 +9,7 @@ use Rattle.event_dispatch.specs.laws.PassesLaws.{at_fault}
 use Rattle.event_dispatch.specs.laws.PartsLaws.{on_of, on_still, on_then, on_done, on_fails, on_written, on_number}
 use Rattle.event_dispatch.specs.laws.PlainLaws.{run_anyway, run_calm, run_batch}
 use Rattle.event_dispatch.specs.laws.RoundLaws.{round_is, going_written}
-use Rattle.event_dispatch.specs.laws.WhyLaws.{why_sink, why_behind, same_fell}
+use Rattle.event_dispatch.specs.laws.WhyLaws.{IsWhy-sink, why_behind, same_fell}
 use Rattle.event_dispatch.proofs.run.Run.run_round.Goals as goal
 
 pub returns-in_err-rest : goal.returns-in_err-rest
@@ -28,7 +28,7 @@ returns-in_err-rest g c =
           c.take_batch.ensures.talks,
           record { here = fails.here; own = fails.own },
         );
-        why = why_sink g.W.World.Tells (g.W.World.seen c.args.world.now) (g.W.World.seen c.take_batch.new.world) (g.K.Sink.faults c.args.sink.now)
+        why = IsWhy-sink g.W.World.Tells (g.W.World.seen c.args.world.now) (g.W.World.seen c.take_batch.new.world) (g.K.Sink.faults c.args.sink.now)
             (g.K.Sink.faults c.args.sink.now) (served_by fault) (same_fell (g.K.Sink.faults c.args.sink.now)) fails.why;
         plain = run_calm (g.W.World.seen c.args.world.now) (g.W.World.seen c.take_batch.new.world) c.args.self.now (served_by fault) fails.plain;
       });
