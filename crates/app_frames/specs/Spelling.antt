@@ -82,3 +82,9 @@ host_body_bytes frame = spelled (host_fields frame) ++ host_tail frame
 
 unfoldable pub host_bytes : HostFrame → List ℕ
 host_bytes frame = framed (number_of_host (host_kind frame)) (host_body_bytes frame)
+
+-- ---- What is no frame
+
+-- a frame of a kind that there is not
+abbrev pub garbled_bytes : List ℕ
+garbled_bytes = 0 ∷ 0 ∷ 0 ∷ 1 ∷ 9 ∷ []

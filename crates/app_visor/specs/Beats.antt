@@ -3,7 +3,7 @@
 use Rattle.std.specs.Prelude.{◌≡◌, ℕ, Bool, true, List, [], ◌∷◌, ◌++◌, filter, filter_map, Option, Some, None, Ok, Err, ◌⊎◌}
 use Rattle.of_types.specs.declared.journal.Act.{Act}
 use Rattle.app_frames.specs.declared.frame.Answer.{Answer}
-use Rattle.lego_model.specs.Journal.{is_of}
+use Rattle.lego_model.specs.Journal.{is_of, give_act}
 use Rattle.lego_model.specs.Controller.{answer_frame}
 use Rattle.outside.specs.declared.step.WorldStep.{WorldStep}
 use Rattle.outside.specs.Seen.{Seen, journal}
@@ -11,7 +11,7 @@ use Rattle.lego_model.specs.declared.fault.TxnFault.{TxnFault}
 use Rattle.lego_model.specs.declared.fault.TxnFault.TheVariants.{NoMemory}
 use Rattle.net_txn.specs.Net.{NetState}
 use Rattle.net_txn.specs.Changes.{Changes}
-use Rattle.app_visor.specs.Talks.{Told, Wants, give_act}
+use Rattle.app_visor.specs.Talks.{Told, Wants}
 
 -- one message for a switch, with its answer, and what was seen and kept before and after it
 pub record Exchange (Own : Type 0) : Type 0 where

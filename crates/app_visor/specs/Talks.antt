@@ -1,8 +1,8 @@
 -- One call for an application as the world answered it, and what a telling world's history has of it. All of this is our own choice.
-use Rattle.std.specs.Prelude.{◌≡◌, ℕ, Bool, false, List, [], ◌∷◌, ◌++◌, if◌then◌else◌}
+use Rattle.std.specs.Prelude.{◌≡◌, ℕ, false, [], ◌∷◌, ◌++◌}
 use Rattle.lego_io.specs.Count.{Rose}
 use Rattle.of_types.specs.declared.journal.Act.{Act}
-use Rattle.of_types.specs.declared.journal.Act.TheVariants.{Started, Gone, Took, Gave}
+use Rattle.of_types.specs.declared.journal.Act.TheVariants.{Started, Gone, Took}
 use Rattle.of_types.specs.declared.journal.TookWhat.TheVariants.{Closed, Silent}
 use Rattle.outside.specs.declared.step.WorldStep.{WorldStep}
 use Rattle.outside.specs.declared.step.WorldStep.TheVariants.{Acted, TookInto}
@@ -34,7 +34,3 @@ pub record Told {Own : Type 0} (Tells : Type 0) (act : Act) (old new : Seen Own)
 pub record Wants {Own : Type 0} (Tells : Type 0) (old new : Seen Own) : Type 0 where
   pub continues : Continues Tells old new
   pub history : Tells → new.history ≡ old.history
-
--- the application was given the bytes, or was gone before
-abbrev pub give_act : Bool → ℕ → List ℕ → Act
-give_act given app bytes = if given then Gave app bytes else Gone app bytes

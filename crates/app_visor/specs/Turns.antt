@@ -8,7 +8,7 @@ use Rattle.app_frames.specs.declared.frame.Answer.{Answer}
 use Rattle.app_frames.specs.declared.frame.Answer.TheVariants.{Unknown}
 use Rattle.app_frames.specs.declared.cause.Cause.{Cause}
 use Rattle.app_frames.specs.declared.cause.Cause.TheVariants as causes
-use Rattle.lego_model.specs.Journal.{Untold, Reply, reply_of, pieces, end_from, answers_given, inputs, is_event}
+use Rattle.lego_model.specs.Journal.{Untold, Reply, reply_of, pieces, end_from, answers_given, inputs, is_event, give_act}
 use Rattle.lego_model.specs.Turns.{Outcome, Completed, Failed, Played, Table, next_of, turn_from, turn_of}
 use Rattle.lego_model.specs.Scripted.{is_heard_from, is_heard}
 use Rattle.lego_model.specs.Controller.{answer_frame, given_in}
@@ -24,7 +24,6 @@ use Rattle.app_visor.specs.declared.play_end.PlayEnd.{PlayEnd}
 use Rattle.app_visor.specs.declared.play_end.PlayEnd.TheVariants as plays
 use Rattle.checkpoint_store.specs.Past.{checkpoints}
 use Rattle.checkpoint_store.specs.Slots.{Slot, with_slot, staged}
-use Rattle.app_visor.specs.Talks.{give_act}
 use Rattle.app_visor.specs.Reads.{IsNext}
 use Rattle.app_visor.specs.Dialogues.{Converses, Speaks, is_done}
 use Rattle.app_visor.specs.Beats.{Exchange, Beat, Talk, Chain, acts_in, exchanges_in}

@@ -1,7 +1,8 @@
 //! What is given to an application, and the frames that it gives.
 
 ghost use Rattle.std.specs.Prelude.{◌≡◌, ◌<◌, length, OnErr, IfOk, Ok, None};
-ghost use Rattle.app_visor.specs.Talks.{Told, Wants, give_act};
+ghost use Rattle.app_visor.specs.Talks.{Told, Wants};
+ghost use Rattle.lego_model.specs.Journal.{give_act};
 ghost use Rattle.app_visor.specs.Reads.{StepSo, Comes, Breaks};
 
 use crate::came::Came;

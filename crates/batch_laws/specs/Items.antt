@@ -25,7 +25,6 @@ use Rattle.lego_model.specs.RunReport.{lost_line}
 use Rattle.net_txn.specs.LinkSteps.{OnLinks, AsksWithoutStrays}
 use Rattle.net_txn.specs.Losing.{IsLost}
 use Rattle.batch_laws.specs.Knowledge.{knowledge_of, joined_by, handled, LosesAt, known_lost, text_lost}
-use Rattle.std.specs.List.{flat_map}
 use Rattle.of_types.specs.declared.journal.Act.TheVariants.{Sent, Got}
 use Rattle.flow_table.specs.Switch.{SwitchState, first_config}
 use Rattle.lego_model.specs.History.{released_of, lost_of}
@@ -165,9 +164,6 @@ pub record TakesNext {Own : Type 0} (Tells : Type 0) (item : Item) (text : List 
   pub fit : IsBytes buf
   pub nexts : Nexts Tells old mid (Ok item) buf
   pub handles : Handles Tells (item_step item buf) text mid new net now_net queue now_queue
-
-abbrev pub waiting : List Link → List WorldStep
-waiting ls = flat_map (λ l. map (From l.declared.dpid) l.waits) ls
 
 abbrev pub Ascend : ℕ → List Link → Type 0
 Ascend least ls = AreDeclaredFrom least (map (λ l. l.declared) ls)

@@ -14,7 +14,7 @@ use Rattle.flow_table.specs.Switch.{SwitchState}
 use Rattle.flow_table.specs.Step.{after_stimulus}
 use Rattle.undo_laws.specs.CorrectedSwitch.{corrected_switch}
 use Rattle.app_frames.specs.declared.frame.Event.{Event}
-use Rattle.lego_model.specs.Answers.{Rows, rows_of_table, rows_of_view}
+use Rattle.lego_model.specs.Answers.{rows_of_view}
 use Rattle.lego_model.specs.Events.{ports_of}
 use Rattle.lego_model.specs.Controller.{sent_events}
 use Rattle.outside.specs.declared.step.WorldStep.{WorldStep}
@@ -28,6 +28,7 @@ use Rattle.batch_laws.specs.Knowledge.{known_by, Knowledge}
 use Rattle.batch_laws.specs.Calm.{known_ports}
 use Rattle.batch_laws.specs.Lasting.{Lasts}
 use Rattle.batch_laws.specs.Tells.{FitsRead}
+use Rattle.lego_model.specs.Places.{table_rows}
 
 -- what may happen to a switch that is joined
 abbrev pub Happens : Stimulus → Type 0
@@ -43,9 +44,6 @@ pub record StandsWell (d : ℕ) (s : SwitchState) : Type 0 where
   pub lasts : Lasts s.declared s
   pub table : IsTable s.table.entries
   pub sound : AllSound s.table.entries
-
-abbrev pub table_rows : SwitchState → Rows
-table_rows s = rows_of_table s.table.entries
 
 -- what the engine knows of it
 pub record KnownIn (o : Option SwitchState) (rows : Option (List ViewRow)) (described : Option (List PortDesc)) : Type 0 where

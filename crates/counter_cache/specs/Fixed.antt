@@ -5,7 +5,6 @@ use Rattle.std.specs.List.{sum_by, AllByRecursion}
 use Rattle.of_match.specs.declared.flow_match.Match.{Match}
 use Rattle.of_match.specs.declared.key.Key.{Key}
 use Rattle.match_overlap.specs.Relations.{is_subsuming}
-use Rattle.of_action.specs.declared.action.Action.{Action}
 use Rattle.of_wire.specs.declared.bodies.FlowRemoved.{FlowRemoved}
 use Rattle.of_stats.specs.declared.flow_row.FlowRow.{FlowRow}
 use Rattle.of_stats.specs.declared.sum.Sum.{Sum}
@@ -17,6 +16,7 @@ use Rattle.flow_table.specs.Rows.{selected}
 use Rattle.flow_table.specs.Statistics.{flow_row, sum_of}
 use Rattle.flow_table.specs.Step.{flow_removed}
 use Rattle.flow_table.specs.Corrected.{lost_at, shown_entry, shown_entries}
+use Rattle.flow_table.specs.RowKeys.{key_removed, shown_row, held_entry}
 
 -- ---- Rows
 
@@ -62,9 +62,6 @@ fixed_sum lost rows s = record s {
 
 -- ---- Notices
 
-abbrev pub key_removed : FlowRemoved → Key
-key_removed f = record { priority = f.priority; matching = f.matching }
-
 abbrev pub removed_with : Option Lost → FlowRemoved → FlowRemoved
 removed_with None f = f
 removed_with (Some l) f = record f {
@@ -89,11 +86,6 @@ abbrev pub Fits : List (Key × Lost) → ℕ → Entry → Type 0
 Fits lost moment e = (moment < 2 ^ 32) × (e.installed ≤ moment) × AgeFits (lost_at e.key lost) e
 
 -- the rows of owners are those of the entries: at the same keys, with the same actions
-abbrev pub shown_row : ViewRow → Key × List Action
-shown_row r = (r.key, r.actions)
-
-abbrev pub held_entry : Entry → Key × List Action
-held_entry e = (e.key, e.actions)
 
 abbrev pub AreOf : List Entry → List ViewRow → Type 0
 AreOf es rows = map held_entry es ≡ map shown_row rows

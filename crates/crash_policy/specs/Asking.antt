@@ -1,5 +1,5 @@
 -- What a policy says of one kind of event.
-use Rattle.std.specs.Prelude.{ℕ, Bool, false, List, slice_get, unwrap_or}
+use Rattle.std.specs.Prelude.{ℕ, Bool, false, slice_get, unwrap_or}
 use Rattle.app_frames.specs.declared.frame.EventKind.{EventKind}
 use Rattle.app_frames.specs.declared.frame.EventKind.TheVariants.{Join, Leave, PacketIn, FlowRemoved, PortStatus, SwitchError}
 use Rattle.crash_policy.specs.declared.policy_file.Policy.{Policy}

@@ -8,7 +8,8 @@ use Rattle.flow_table.specs.Switch.{SwitchState}
 use Rattle.net_txn.specs.Views.{rows_at}
 use Rattle.net_txn.specs.AskSteps.{RowsInStep}
 use Rattle.net_txn.specs.Asks.{AsksLost}
-use Rattle.net_txn.specs.Losing.{is_among, lose_all}
+use Rattle.net_txn.specs.Losing.{lose_all}
+use Rattle.of_types.specs.Membership.{is_among}
 use Rattle.net_txn.specs.laws.LostPartLaws.{Distinct}
 use Rattle.outside.specs.Seen.{Seen}
 use Rattle.outside.specs.State.{state, switch_of, waits_of, is_joined}

@@ -1,5 +1,5 @@
 -- What the engine does, in the words of what is seen and kept: the text that it notes, and how the run stands then. All of this is our own.
-use Rattle.std.specs.Prelude.{◌≡◌, ℕ, List, [], ◌++◌, map, string_bytes, Option}
+use Rattle.std.specs.Prelude.{◌≡◌, ℕ, List, ◌++◌, map, string_bytes, Option}
 use Rattle.batch_laws.specs.Knowledge.{left_events, lost_text}
 use Rattle.outside.specs.Seen.{Seen}
 use Rattle.run_laws.specs.Engine.{Application, Engine, Focus, focus}
@@ -13,6 +13,7 @@ use Rattle.app_visor.specs.declared.state.AppState.{AppState}
 use Rattle.app_visor.specs.Attempts.{kept_of}
 use Rattle.checkpoint_store.specs.Slots.{Slot}
 use Rattle.crash_policy.specs.Policies.{app_value}
+use Rattle.net_txn.specs.Leaving.{none_left}
 
 -- what the engine keeps of an application
 abbrev pub application_of : List Slot → Managed → Application
@@ -55,10 +56,6 @@ pub record Stays (c now_c : Core) : Type 0 where
 pub record Adds (text : List ℕ) (c now_c : Core) : Type 0 where
   pub stays : Stays c now_c
   pub lines : now_c.lines.items ≡ c.lines.items ++ text
-
--- what was lost is told
-abbrev pub none_left : NetState → NetState
-none_left net = record net { left = [] }
 
 -- the switches that were lost are told, each by its line and with its Leave event, and nothing else happens
 pub record TellsLost (c now_c : Core) : Type 0 where

@@ -6,7 +6,7 @@ use Rattle.outside.specs.declared.step.WorldStep.{WorldStep}
 use Rattle.outside.specs.declared.step.WorldStep.TheVariants.{From, Joined, Left}
 use Rattle.outside.specs.Seen.{Seen}
 use Rattle.outside.specs.State.{State, state, is_joined}
-use Rattle.outside.specs.Calls.{IsFeaturesOf}
+use Rattle.of_wire.specs.Handshake.{IsFeaturesOf}
 use Rattle.outside.specs.InOrder.{InOrder, brings_message, MessagesSince}
 use Rattle.outside.specs.Quiescence.{NoneQuiescentSince, IsLastQuiescent}
 use Rattle.net_txn.specs.Net.{NetState}

@@ -15,7 +15,8 @@ use Rattle.of_wire.specs.declared.message.Message.{Message}
 use Rattle.of_wire.specs.declared.message.Message.TheVariants.{Hello, EchoRequest, EchoReply, Vendor, FeaturesRequest, GetConfigRequest, SetConfig, PacketOut, FlowMod, PortMod, StatsRequest, BarrierRequest}
 use Rattle.flow_table.specs.Errors.{bad_type, bad_stat, bad_vendor, request_eperm, bad_len, buffer_unknown, action_bad_type, action_bad_vendor, bad_out_port, flow_eperm, bad_command, bad_port, bad_hw_addr}
 use Rattle.flow_table.specs.Change.{is_delete, refusal}
-use Rattle.flow_table.specs.Switch.{PortState, SwitchState, in_port_number, table_number, flood_number, all_number, controller_number, port_at, was_port, hw_addr}
+use Rattle.flow_table.specs.Switch.{PortState, SwitchState, in_port_number, table_number, flood_number, all_number, controller_number, port_at, hw_addr}
+use Rattle.of_types.specs.Membership.{is_among}
 
 -- the first of two refusals
 abbrev pub or_else : Option OfError → Option OfError → Option OfError
@@ -32,7 +33,7 @@ no_buffer = 0xffffffff
 -- again, and to IN_PORT, FLOOD, ALL and CONTROLLER; in a PACKET_OUT also to TABLE (5.3.6 Send Packet Message).
 unfoldable pub is_output : Bool → List ℕ → ℕ → Bool
 is_output takes_table had port =
-    was_port port had || port == in_port_number || port == flood_number || port == all_number || port == controller_number
+    is_among port had || port == in_port_number || port == flood_number || port == all_number || port == controller_number
     || (takes_table && port == table_number)
 
 abbrev pub action_refusal : Bool → List ℕ → Action → Option OfError

@@ -2,7 +2,6 @@
 -- 5.3.1 Handshake). The texts and numbers of the descriptions, and that a switch joins with an empty table and zero counts, are
 -- our own choice. Whether a switch is joined is said one level above: where it is not, there is no state.
 use Rattle.std.specs.Prelude.{◌==◌, ℕ, ◌-◌, ◌%◌, ◌^◌, Bool, true, not, List, [], ◌∷◌, ◌++◌, length, map, replicate, codes, bit_and, Option, Some, None, nat_lt, if◌then◌else◌}
-use Rattle.std.specs.List.{list_any}
 use Rattle.std.specs.Fmt.{decimal}
 use Rattle.of_types.specs.Fields.{number_bytes}
 use Rattle.of_types.specs.declared.port_desc.PortDesc.{PortDesc}
@@ -11,6 +10,7 @@ use Rattle.of_wire.specs.declared.bodies.SwitchConfig.{SwitchConfig}
 use Rattle.of_wire.specs.declared.message.Message.TheVariants.{FeaturesReply}
 use Rattle.of_wire.specs.Spelling.{message_bytes}
 use Rattle.flow_table.specs.Table.{TableState, empty_table}
+use Rattle.of_types.specs.Membership.{is_among}
 
 -- ---- The state
 
@@ -132,12 +132,9 @@ abbrev pub insert_port : PortState → List PortState → List PortState
 insert_port p [] = p ∷ []
 insert_port p (q ∷ qs) = if nat_lt p.number q.number then p ∷ q ∷ qs else q ∷ insert_port p qs
 
--- a number that was a port at some time since the switch joined
-abbrev pub was_port : ℕ → List ℕ → Bool
-was_port number had = list_any (λ n. n == number) had
-
+-- the numbers that were a port at some time since the switch joined, with one more
 abbrev pub with_number : ℕ → List ℕ → List ℕ
-with_number number had = if was_port number had then had else had ++ number ∷ []
+with_number number had = if is_among number had then had else had ++ number ∷ []
 
 -- ---- Descriptions
 

@@ -44,10 +44,6 @@ Calls app acts = AllByRecursion (λ act. is_call app act ≡ true) acts
 
 -- ---- What further acts tell
 
--- an Event that is given, or cannot be
-abbrev pub event_act : Bool → ℕ → List ℕ → Act
-event_act given app frame = if given then Gave app frame else Gone app frame
-
 -- that it is ended, where it runs
 abbrev pub end_acts : Bool → ℕ → List Act
 end_acts running app = if running then Ended app ∷ [] else []

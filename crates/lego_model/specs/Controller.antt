@@ -29,7 +29,7 @@ use Rattle.lego_model.specs.Losses.{PacketLoss, Stays, BeforeSent, AfterSent, Tu
 pub use Rattle.lego_model.specs.Events.{ports_of, two_bytes, event_of_message, event_of_read, events_of, join_event, leave_event}
 use Rattle.lego_model.specs.Packets.{Held, HeldBack, Play, fresh_play, play, play_undo}
 pub use Rattle.lego_model.specs.Packets.{lose_at, lose, undoing}
-use Rattle.outside.specs.State.{Mark, moment_after, is_event}
+use Rattle.outside.specs.State.{Mark, moment_after, has_mark}
 
 -- ---- What happens, and what events that makes
 
@@ -288,12 +288,9 @@ says_stop (Failed cause) = false
 
 -- ---- Dispatch
 
-abbrev pub is_marked : ℕ → List Mark → Bool
-is_marked n marks = list_any (λ q. is_event n q.event) marks
-
 -- the switches are looked at before an event is first given
 abbrev pub marked : Bool → ℕ → List Place → List Mark → List Mark
-marked given n ps marks = if given && not (is_marked n marks) then marks ++ reference_mark (Some n) ps ∷ [] else marks
+marked given n ps marks = if given && not (has_mark n marks) then marks ++ reference_mark (Some n) ps ∷ [] else marks
 
 -- The applications from an index on that are alive and are given such events have their turns, until one that completed says stop.
 unfoldable pub given_to : (List Place → Bool) → Event → ℕ → List App → Run → List App × Run

@@ -14,6 +14,10 @@ use Rattle.flow_table.specs.Step.{flow_removed_bytes}
 use Rattle.app_frames.specs.declared.frame.Event.{Event}
 use Rattle.app_frames.specs.declared.frame.EventKind.TheVariants as events
 
+abbrev pub event_list : Option Event → List Event
+event_list None = []
+event_list (Some event) = event ∷ []
+
 -- the known ports of a switch, as they stand, by number
 abbrev pub ports_of : SwitchState → List PortDesc
 ports_of s = map (port_desc s.declared.dpid) s.ports

@@ -22,6 +22,10 @@ abbrev pub given_to : ℕ → Act → Option (List ℕ)
 given_to app (Gave to bytes) = if to == app then Some bytes else None
 given_to app other = None
 
+-- the application was given the bytes, or was gone before
+abbrev pub give_act : Bool → ℕ → List ℕ → Act
+give_act given app bytes = if given then Gave app bytes else Gone app bytes
+
 unfoldable pub inputs : ℕ → Journal → List (List ℕ)
 inputs app journal = filter_map (given_to app) journal
 

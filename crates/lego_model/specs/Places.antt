@@ -26,10 +26,13 @@ with_place dpid change (p ∷ ps) = if p.declared.dpid == dpid then record p { s
 
 -- ---- A message
 
+abbrev pub table_rows : SwitchState → Rows
+table_rows s = rows_of_table s.table.entries
+
 -- what the host knows of a switch that is joined
 abbrev pub rows_at : Option SwitchState → Option Rows
 rows_at None = None
-rows_at (Some s) = Some (rows_of_table s.table.entries)
+rows_at (Some s) = Some (table_rows s)
 
 -- The switch answers a message that the host let pass, with the application's own flags: what the host adds to them, so that it hears of
 -- each removal, is no concern of the application.

@@ -6,7 +6,7 @@ use Rattle.app_frames.specs.declared.script.ScriptStep.{ScriptStep}
 use Rattle.app_frames.specs.declared.script.ScriptStep.TheVariants.{Bytes, Closed, Silent}
 use Rattle.app_frames.specs.declared.script.StartScript.{StartScript}
 use Rattle.app_frames.specs.declared.script.StartScript.TheVariants as start
-use Rattle.app_frames.specs.Spelling.{app_bytes}
+use Rattle.app_frames.specs.Spelling.{app_bytes, garbled_bytes}
 use Rattle.lego_model.specs.Journal.{End, Closes, Stalls, Untold, Reply, Start}
 use Rattle.lego_model.specs.Turns.{Next, Framed, Faulty, Over, next_of, one_fewer, is_none_left, are_taken, is_full, is_open}
 
@@ -45,16 +45,12 @@ done_steps = Bytes (app_bytes (Done false None)) ∷ []
 abbrev pub stands_with : List (List ℕ) → End → Start
 stands_with pieces end = record { stands = true; restored = true; pieces = pieces; end = end }
 
--- a frame of a kind that there is not
-abbrev pub no_frame : List ℕ
-no_frame = 0 ∷ 0 ∷ 0 ∷ 1 ∷ 9 ∷ []
-
 unfoldable pub start_said : StartScript → Start
 start_said start.Ready = stands_with (app_bytes Ready ∷ []) Closes
 start_said start.Refused = record { stands = false; restored = true; pieces = []; end = Untold }
 start_said start.Closed = stands_with [] Closes
 start_said start.Silent = stands_with [] Stalls
-start_said start.Garbled = stands_with (no_frame ∷ []) Closes
+start_said start.Garbled = stands_with (garbled_bytes ∷ []) Closes
 
 abbrev pub repeated : {A : Type 0} → ℕ → A → List A
 repeated zero x = []

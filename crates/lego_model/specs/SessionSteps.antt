@@ -13,7 +13,8 @@ use Rattle.app_frames.specs.Spelling.{app_bytes}
 use Rattle.lego_model.specs.declared.session.SessionKind.{SessionKind}
 use Rattle.lego_model.specs.declared.session.SessionKind.TheVariants.{Word}
 use Rattle.lego_model.specs.Words.{is_word}
-use Rattle.lego_model.specs.SessionWords.{◌>>=◌, a_number, last_number, some_bytes, before, behind, has_mark}
+use Rattle.lego_model.specs.SessionWords.{◌>>=◌, a_number, last_number, some_bytes, before, behind}
+use Rattle.of_types.specs.Membership.{is_among}
 
 -- ---- The forms
 
@@ -23,7 +24,7 @@ colon = 58
 
 -- `NAME:` at the front
 abbrev pub has_head : List ℕ → List ℕ → Bool
-has_head name step = has_mark colon step && is_word name (before colon step)
+has_head name step = is_among colon step && is_word name (before colon step)
 
 abbrev pub is_plain_end : List ℕ → Bool
 is_plain_end step = is_word (codes "done") step || (is_word (codes "stop") step || (is_word (codes "closed") step || is_word (codes "silent") step))
@@ -37,7 +38,7 @@ is_mark step = is_word (codes "save") step || (is_word (codes "keep") step || is
 
 -- `m:`, and a further colon
 abbrev pub is_message : List ℕ → Bool
-is_message step = has_head (codes "m") step && has_mark colon (behind colon step)
+is_message step = has_head (codes "m") step && is_among colon (behind colon step)
 
 unfoldable pub is_step : List ℕ → Bool
 is_step step = is_end step || (is_mark step || (is_message step || has_head (codes "x") step))
@@ -87,7 +88,7 @@ headed_step name rest =
     else Err Word
 
 unfoldable pub step_of : List ℕ → Result ScriptStep SessionKind
-step_of step = if has_mark colon step then headed_step (before colon step) (behind colon step) else word_step step
+step_of step = if is_among colon step then headed_step (before colon step) (behind colon step) else word_step step
 
 abbrev pub steps_of : List (List ℕ) → Result (List ScriptStep) SessionKind
 steps_of [] = Ok []

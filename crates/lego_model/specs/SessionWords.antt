@@ -1,7 +1,7 @@
 -- The words of a session line. For one word the kinds of fault are tested in the order number, range, hex, switch, app, raw.
 -- This text form is our own.
 use Rattle.std.specs.Prelude.{◌==◌, ℕ, ◌+◌, ◌*◌, ◌%◌, Bool, true, not, ◌&&◌, ◌||◌, List, [], ◌∷◌, length, Result, Ok, Err, nat_le, nat_lt, if◌then◌else◌, codes}
-use Rattle.std.specs.List.{list_any, list_all, slice_split}
+use Rattle.std.specs.List.{list_all, slice_split}
 use Rattle.hex.specs.Hex.{decode_of}
 use Rattle.hex.specs.declared.error.FromHexError.{FromHexError}
 use Rattle.lego_model.specs.declared.session.SessionKind.{SessionKind}
@@ -89,6 +89,3 @@ before mark (b ∷ bytes) = if b == mark then [] else b ∷ before mark bytes
 abbrev pub behind : ℕ → List ℕ → List ℕ
 behind mark [] = []
 behind mark (b ∷ bytes) = if b == mark then bytes else behind mark bytes
-
-abbrev pub has_mark : ℕ → List ℕ → Bool
-has_mark mark word = list_any (λ b. b == mark) word

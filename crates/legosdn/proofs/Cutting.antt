@@ -1,16 +1,14 @@
 -- The first separator of a text.
-use Rattle.std.specs.Prelude.{◌≢◌, suc, All}
-use Rattle.std.proofs.Common.{◌≡◌, ◌⊎◌, ℕ, ◌+◌, ◌-◌, ◌<◌, ◌≤◌, Bool, true, false, List, [], ◌∷◌, ◌++◌, length, map, take, drop, get_or, Some, refl, sym, ap, ◌∙◌, arith, codes, inl, inr, take-append-drop, drop-cons, add-one, append_assoc, append-nil, length-append, length-take}
+use Rattle.std.proofs.Common.{◌≡◌, ◌⊎◌, ℕ, ◌+◌, ◌-◌, ◌<◌, ◌≤◌, Bool, true, false, List, [], ◌∷◌, ◌++◌, length, map, take, drop, Some, refl, sym, ap, ◌∙◌, arith, codes, inl, inr, append_assoc, append-nil, length-append}
 use Rattle.std.specs.Str.{bytes_eq}
 use Rattle.std.specs.List.{position}
-use Rattle.std.proofs.lemmas.Bool.{cases_Bool, eqb-true, eqb-false, le-ltb}
-use Rattle.std.proofs.lemmas.Grind.{get_or_default_zero}
-use Rattle.std.proofs.lemmas.List.{get_or-take, take_rest}
-use Rattle.std.proofs.lemmas.List.Quantifiers.{position-Some}
+use Rattle.std.proofs.lemmas.Bool.{cases_Bool, le-ltb}
+use Rattle.std.proofs.lemmas.List.{take_rest}
 use Rattle.std.proofs.lemmas.Slice.Eq.{bytes_eq-Decides}
+use Rattle.std.proofs.lemmas.List.Quantifiers.{position-Some}
 use Rattle.std.proofs.Math.Seq.{take-append_seam}
 use Rattle.lego_io.specs.Lines.{cut_at_lf, without_cr, lines_of, most_line}
-use Rattle.lego_io.specs.laws.LinesLaws.{cut_at_lf-line, is_lf}
+use Rattle.lego_io.specs.laws.LinesLaws.{cut_at_lf-line, is_lf, no_lf_before, cut_there}
 use Rattle.lego_model.specs.Words.{is_word}
 use Rattle.legosdn.specs.Input.{most_input, is_separator, before_separator, policy_text, behind_separator, session_behind, session_of}
 
@@ -27,18 +25,6 @@ long_is_none line long = elim (cases_Bool (bytes_eq line (codes "---"))) [ inl s
 
 abbrev pub FirstLine : List ℕ → List ℕ → Type 0
 FirstLine text rest = (line : List ℕ) × (text ≡ line ++ 10 ∷ rest) × (cut_at_lf text ≡ line ∷ cut_at_lf rest)
-
-is_other : (text : List ℕ) (k d : ℕ) → k < length text → is_lf (get_or text k 0) ≡ false → get_or text k d ≢ 10
-is_other text k d lt other e = eqb-false (get_or text k 0) 10 other (sym (get_or_default_zero text k d lt) ∙ e)
-
-no_lf_before : (text : List ℕ) (end : ℕ) → end ≤ length text → ((k : ℕ) → k < end → is_lf (get_or text k 0) ≡ false) → All (λ byte. byte ≢ 10) (take end text)
-no_lf_before text end within before k d lt =
-    let below : k < end = omega (arith, length-take end text) in
-    rw (get_or-take end text k d below) (is_other text k d (omega arith) (before k below))
-
-cut_there : (text : List ℕ) (end : ℕ) → end < length text → is_lf (get_or text end 0) ≡ true → text ≡ take end text ++ 10 ∷ drop (end + 1) text
-cut_there text end within here =
-    rw add-one (sym (take-append-drop end text) ∙ ap (λ (rest : List ℕ). take end text ++ rest) (drop-cons text end 0 within ∙ ap (λ (byte : ℕ). byte ∷ drop (suc end) text) (eqb-true _ _ here)))
 
 pub first_line : (text : List ℕ) (end : ℕ) → position is_lf text ≡ Some end → FirstLine text (take (length text - (end + 1)) (drop (end + 1) text))
 first_line text end found =

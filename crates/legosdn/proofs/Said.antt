@@ -30,6 +30,7 @@ use Rattle.session_text.specs.Loading.{fail_of, given_by}
 use Rattle.legosdn.specs.Input.{Read, session_of}
 use Rattle.legosdn.specs.Said.{all_allowed, said_by, reference_over, reference_of_session, WithEnough}
 use Rattle.legosdn.specs.Headline.{Loaded, RunsWhole}
+use Rattle.lego_model.specs.laws.JournalLaws.{acts-nil}
 
 -- ---- What was told is the front of what is said
 
@@ -129,12 +130,8 @@ no_own_step number i (RecvLost d) steps out so rest = rest
 no_own_step number i (SendFailed d) steps out so rest = rest
 no_own_step number i (RecvFailed d) steps out so rest = rest
 
-none_at_first : (i : ℕ) → filter (is_of i) (journal []) ≡ []
-unfolding journal
-none_at_first i = refl
-
 none_own : (number i : ℕ) (steps : List WorldStep) → number ≤ i → AllByRecursion (IsOrderly number) steps → filter (is_of i) (journal steps) ≡ []
-none_own number i [] out so = none_at_first i
+none_own number i [] out so = acts-nil i
 none_own number i (step ∷ steps) out so = no_own_step number i step steps out so.0 (none_own number i steps out so.1)
 
 -- ---- The front of what is said

@@ -1,7 +1,6 @@
 -- The run of any world that tells in order is the reference controller's.
-use Rattle.std.proofs.Common.{◌≡◌, ◌⊎◌, ℕ, ◌<◌, length, Bool, true, List, [], Option, refl, sym, subst, inl, inr}
+use Rattle.std.proofs.Common.{◌≡◌, ◌⊎◌, ℕ, ◌<◌, length, Bool, List, [], Option, refl, sym, subst, inl, inr}
 use Rattle.std.specs.List.{AllByRecursion}
-use Rattle.flow_table.specs.View.{TableView}
 use Rattle.crash_policy.specs.Policies.{AppValue}
 use Rattle.outside.specs.Seen.{Seen, Continues, journal}
 use Rattle.outside.specs.State.{at_first}
@@ -35,28 +34,26 @@ use Rattle.legosdn.specs.Said.{all_allowed}
 use Rattle.legosdn.specs.Headline.{UpToPoint, NoneFloods}
 use Rattle.legosdn.specs.Live.{TellsInOrder, NoneStray, ServesWhole, ServesPart, ServesUntil}
 use Rattle.legosdn.proofs.Places.{AreInPlace, all_among, behind_among, links_from_first, in_place, shut_in_place, idle_in_place}
+use Rattle.run_laws.specs.laws.StartShownLaws.{any_views}
 
 -- ---- What the engine promises of a world that it may call
-
-abbrev accepts_all : List TableView → Bool
-accepts_all views = true
 
 abbrev pub Reads : {Own : Type 0} → Type 0 → Seen Own → Seen Own → Served → Type 0
 Reads Tells old new end = Tells → old.history ≡ [] → InOrder new → IsReadServed new end
 
 abbrev pub Promises : {Own : Type 0} → List AppValue → Type 0 → ℕ → Seen Own → Seen Own → Option (List ℕ) → Option (List ℕ) → Served → Type 0
-Promises rules Tells rounds old new a b end = (allows : List Place → Bool) → Premise Tells accepts_all allows old new → IsAlike rules allows rounds new a b end
+Promises rules Tells rounds old new a b end = (allows : List Place → Bool) → Premise Tells any_views allows old new → IsAlike rules allows rounds new a b end
 
 abbrev pub PromisesCut : {Own : Type 0} → List AppValue → Type 0 → Seen Own → Seen Own → Option (List ℕ) → Option (List ℕ) → Served → Type 0
-PromisesCut rules Tells old new a b end = (allows : List Place → Bool) → PremiseSoFar Tells accepts_all allows old → IsCut rules allows new a b end
+PromisesCut rules Tells old new a b end = (allows : List Place → Bool) → PremiseSoFar Tells any_views allows old → IsCut rules allows new a b end
 
 abbrev pub PromisesPlain : {Own : Type 0} → Type 0 → Seen Own → Seen Own → Served → Type 0
-PromisesPlain Tells old new end = (allows : List Place → Bool) → Premise Tells accepts_all allows old new → EndsPlain old new end
+PromisesPlain Tells old new end = (allows : List Place → Bool) → Premise Tells any_views allows old new → EndsPlain old new end
 
 abbrev pub NoStrays : {Own : Type 0} → Type 0 → Seen Own → Seen Own → Type 0
 NoStrays Tells old new = Tells → old.history ≡ [] → InOrder new → MakesNoStrayCall old new
 
-premise : {Own : Type 0} (Tells : Type 0) (old new : Seen Own) → TellsInOrder Tells old new → Conforming new → Premise Tells accepts_all all_allowed old new
+premise : {Own : Type 0} (Tells : Type 0) (old new : Seen Own) → TellsInOrder Tells old new → Conforming new → Premise Tells any_views all_allowed old new
 premise Tells old new tells keeps = record {
   told = tells.told;
   keeps = keeps;
@@ -64,7 +61,7 @@ premise Tells old new tells keeps = record {
   untouched = tells.untouched;
 }
 
-premise_so_far : {Own : Type 0} (Tells : Type 0) (old new : Seen Own) → TellsInOrder Tells old new → PremiseSoFar Tells accepts_all all_allowed old
+premise_so_far : {Own : Type 0} (Tells : Type 0) (old new : Seen Own) → TellsInOrder Tells old new → PremiseSoFar Tells any_views all_allowed old
 premise_so_far Tells old new tells = record {
   told = tells.told;
   judges = record { alike = λ seen net. refl };

@@ -1,6 +1,7 @@
 -- What came of one step on a connection. Our own choice.
 use Rattle.std.specs.Prelude.{ℕ, ◌≤◌, List, length, take}
-use Rattle.outside.specs.Calls.{most_message, IsMessageIn, IsFeaturesOf}
+use Rattle.outside.specs.Calls.{most_message, IsMessageIn}
+use Rattle.of_wire.specs.Handshake.{IsFeaturesOf}
 use Rattle.live_world.specs.declared.connection.Heard.{Heard}
 use Rattle.live_world.specs.declared.connection.Heard.TheVariants.{Told, Features}
 

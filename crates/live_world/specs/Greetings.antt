@@ -1,6 +1,6 @@
 -- What a FEATURES_REPLY says before a switch joins (OpenFlow 1.0.0, 5.3.1 Handshake), as worlds speak of it.
 use Rattle.std.specs.Prelude.{ℕ, List}
-use Rattle.outside.specs.Calls.{IsFeaturesOf}
+use Rattle.of_wire.specs.Handshake.{IsFeaturesOf}
 use Rattle.live_world.specs.declared.hearing.Greeting.{Greeting}
 use Rattle.live_world.specs.declared.hearing.Greeting.TheVariants.{Features}
 

@@ -39,11 +39,9 @@ use Rattle.net_txn.specs.Said.{Speaks}
 use Rattle.net_txn.specs.declared.halt.Halt.{Halt}
 use Rattle.net_txn.specs.declared.halt.Halt.TheVariants.{Lost}
 use Rattle.lego_model.specs.History.{lost_of}
+use Rattle.flow_table.specs.RowKeys.{key_removed}
 
 -- ---- Flows that were removed
-
-abbrev pub key_removed : Removed → Key
-key_removed f = record { priority = f.priority; matching = f.matching }
 
 -- the owner of the entry asked for a notice when it goes
 abbrev pub is_asked : Key → Option (List ViewRow) → Bool

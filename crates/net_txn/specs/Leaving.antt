@@ -29,6 +29,10 @@ without d net = record net {
   kept = filter (λ m. not (m.0 == d)) net.kept;
 }
 
+-- what was lost is told
+abbrev pub none_left : NetState → NetState
+none_left net = record net { left = [] }
+
 -- the Leave event of a switch that was lost
 abbrev pub left_event : KnownPorts → Event
 left_event k = record { kind = Leave; dpid = k.dpid; body = ports_text k.ports }

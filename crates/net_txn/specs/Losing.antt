@@ -1,7 +1,7 @@
 -- What is done when the link of a switch fails: the switch is lost. What the host kept of it goes, but what is logged and what is held; its
 -- known ports stand ready for its Leave event. All of this is our own.
-use Rattle.std.specs.Prelude.{◌≡◌, ◌≢◌, ◌==◌, ℕ, Bool, true, false, List, [], ◌∷◌, ◌++◌, filter, fold, None}
-use Rattle.std.specs.List.{AllByRecursion, list_any}
+use Rattle.std.specs.Prelude.{◌≡◌, ◌≢◌, ◌==◌, ℕ, true, false, List, [], ◌∷◌, ◌++◌, filter, fold, None}
+use Rattle.std.specs.List.{AllByRecursion}
 use Rattle.lego_io.specs.Count.{Rose}
 use Rattle.outside.specs.declared.step.WorldStep.{WorldStep}
 use Rattle.outside.specs.Seen.{Seen, journal}
@@ -30,10 +30,6 @@ lost_net d net = record (without d net) { left = net.left ++ filter (λ k. k.dpi
 -- one after the other
 abbrev pub lose_all : List ℕ → NetState → NetState
 lose_all lost net = fold (λ n d. lost_net d n) net lost
-
--- it is one of these switches
-abbrev pub is_among : ℕ → List ℕ → Bool
-is_among d ds = list_any (λ e. e == d) ds
 
 -- ---- What is seen of it
 

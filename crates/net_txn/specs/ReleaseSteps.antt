@@ -18,13 +18,15 @@ use Rattle.net_txn.specs.LinkSteps.{OnLinks, MakesNoStrayCall}
 use Rattle.net_txn.specs.OwnIds.{IdsGoOn, StopsIds}
 use Rattle.net_txn.specs.declared.halt.Halt.{Halt}
 use Rattle.net_txn.specs.declared.halt.Halt.TheVariants.{Lost, Fault}
-use Rattle.net_txn.specs.Losing.{lost_net, is_among}
+use Rattle.net_txn.specs.Losing.{lost_net}
+use Rattle.of_types.specs.Membership.{is_among}
 use Rattle.net_txn.specs.Said.{Says, Calls, SaysNot, barrier_of, Replied, BreaksBy}
 use Rattle.net_txn.specs.Waits.{Brought}
 use Rattle.net_txn.specs.Undos.{AreJoined}
 use Rattle.net_txn.specs.Views.{is_viewed}
 use Rattle.net_txn.specs.Net.{NetState}
-use Rattle.net_txn.specs.Releases.{packet_awaited, takes_all, ReleasesOne, ReleasesAll, BreaksAt}
+use Rattle.net_txn.specs.Releases.{takes_all, ReleasesOne, ReleasesAll, BreaksAt}
+use Rattle.lego_model.specs.FlowQueries.{asked_from}
 
 -- ---- What stays, and what is called
 
@@ -74,17 +76,17 @@ BarrierStops Tells a old new halt = BarrierBroke Tells a old new halt ⊎ Barrie
 -- ---- The two together
 
 abbrev pub packet_frames : ℕ → ℕ → Packet → List (List ℕ)
-packet_frames d xid packet = message_bytes xid (PacketOut packet) ∷ barrier_of (packet_awaited d xid) ∷ []
+packet_frames d xid packet = message_bytes xid (PacketOut packet) ∷ barrier_of (asked_from d xid) ∷ []
 
 -- the packet was sent, and the reply to its barrier came
 pub record PacketTold {Own : Type 0} (Tells : Type 0) (d xid : ℕ) (packet : Packet) (old new : Seen Own) (came : List (ℕ × List ℕ)) : Type 0 where
   pub brought : Brought
-  pub replied : Replied Tells (packet_awaited d xid) (packet_frames d xid packet) Growing [] old new [] came brought
+  pub replied : Replied Tells (asked_from d xid) (packet_frames d xid packet) Growing [] old new [] came brought
 
 -- a fault came of it
 pub record PacketBroke {Own : Type 0} (Tells : Type 0) (d xid : ℕ) (packet : Packet) (old new : Seen Own) (fault : TxnFault) : Type 0 where
   pub came : List (ℕ × List ℕ)
-  pub breaks : BreaksBy Tells (packet_awaited d xid) (packet_frames d xid packet) old new [] came (Fault fault)
+  pub breaks : BreaksBy Tells (asked_from d xid) (packet_frames d xid packet) old new [] came (Fault fault)
 
 -- memory was wanting behind its reply
 pub record PacketShort {Own : Type 0} (Tells : Type 0) (d xid : ℕ) (packet : Packet) (old new : Seen Own) (fault : TxnFault) : Type 0 where

@@ -1,6 +1,6 @@
 -- What `commit` does: the changes of the transaction stay, and each packet that was held goes to its switch, in order, with a barrier behind it
 -- (OpenFlow 1.0.0, 5.3.6 Send Packet Message and 5.3.7 Barrier Message). What comes meanwhile becomes events, an ERROR too. All else is our own.
-use Rattle.std.specs.Prelude.{◌≡◌, ◌≢◌, ◌⊎◌, ℕ, ◌^◌, ◌<◌, ◌≤◌, true, false, not, ◌&&◌, List, [], ◌∷◌, ◌++◌, length, map, filter, take, Option, Some, None, Result, Ok, Err, IsOk, MatchResult}
+use Rattle.std.specs.Prelude.{◌≡◌, ◌≢◌, ◌⊎◌, ℕ, ◌^◌, ◌<◌, ◌≤◌, true, false, not, ◌&&◌, List, [], ◌∷◌, ◌++◌, length, map, filter, take, Some, Result, Ok, Err, IsOk, MatchResult}
 use Rattle.std.specs.Option.{option_map}
 use Rattle.of_types.specs.declared.journal.Act.TheVariants.{Sent}
 use Rattle.of_wire.specs.declared.bodies.PacketOut.{PacketOut as Packet}
@@ -21,7 +21,6 @@ use Rattle.outside.specs.Conforming.{Conforming}
 use Rattle.outside.specs.InOrder.{InOrder, MessagesSince}
 use Rattle.lego_model.specs.declared.fault.TxnFault.{TxnFault}
 use Rattle.lego_model.specs.declared.fault.TxnFault.TheVariants.{SwitchBroke, Diverged, Flooded, NoMemory}
-use Rattle.lego_model.specs.declared.wait.Awaited.{Awaited}
 use Rattle.lego_model.specs.declared.wait.Notices.TheVariants as notices
 use Rattle.lego_model.specs.BarrierWaits.{barrier_sent, flood, next_xid}
 use Rattle.lego_model.specs.Journal.{released, losses}
@@ -31,33 +30,28 @@ use Rattle.lego_model.specs.AfterFault.{after_packets}
 use Rattle.lego_model.specs.OwnIds.{IsShortRun, OwnIdsAscend, OwnIdsSoFar}
 use Rattle.net_txn.specs.LinkSteps.{OnLinks, MakesNoStrayCall}
 use Rattle.net_txn.specs.Causes.{IsCause, IsPlain}
-use Rattle.net_txn.specs.Losing.{is_among, IsLost, lost_net}
+use Rattle.net_txn.specs.Losing.{IsLost, lost_net}
+use Rattle.of_types.specs.Membership.{is_among}
 use Rattle.lego_model.specs.History.{lost_of}
 use Rattle.net_txn.specs.Waits.{Brought, Waits, IfFlooded}
 use Rattle.net_txn.specs.Views.{is_viewed}
 use Rattle.net_txn.specs.Arriving.{event_of, net_after}
 use Rattle.net_txn.specs.Undos.{AreJoined, Undoes}
 use Rattle.net_txn.specs.Net.{NetState}
+use Rattle.lego_model.specs.FlowQueries.{asked_from}
+use Rattle.lego_model.specs.Events.{event_list}
 
 -- ---- One packet
 
--- Nothing but the reply to the barrier is awaited: an ERROR for the packet is taken as any other message.
-abbrev pub packet_awaited : ℕ → ℕ → Awaited
-packet_awaited d xid = record { dpid = d; first = next_xid xid; barrier = next_xid xid; notices = notices.Kept }
-
 abbrev pub packet_steps : ℕ → ℕ → Packet → List WorldStep
-packet_steps d xid packet = Acted (Sent d (message_bytes xid (PacketOut packet))) ∷ barrier_sent (packet_awaited d xid) ∷ []
+packet_steps d xid packet = Acted (Sent d (message_bytes xid (PacketOut packet))) ∷ barrier_sent (asked_from d xid) ∷ []
 
 -- what the host knows, and the events that wait
 abbrev pub Knows : Type 0
 Knows = NetState × List Event
 
-abbrev pub or_none : Option Event → List Event
-or_none None = []
-or_none (Some event) = event ∷ []
-
 abbrev pub takes_read : ℕ → Result Envelope WireFault → Knows → Knows
-takes_read d (Ok e) k = (net_after d e.message k.0, k.1 ++ or_none (event_of d k.0.views e.message))
+takes_read d (Ok e) k = (net_after d e.message k.0, k.1 ++ event_list (event_of d k.0.views e.message))
 takes_read d (Err fault) k = k
 
 -- messages that came are taken one after the other, as if they came of themselves
@@ -91,7 +85,7 @@ pub record SendsPacket {Own : Type 0} (Tells : Type 0) (held : Held) (old new : 
   pub is_xid : (1 ≤ net.xid) × (net.xid < 2 ^ 32)
   pub came : List (ℕ × List ℕ)
   pub brought : Brought
-  pub waits : Waits Tells (packet_awaited held.0 net.xid) (packet_steps held.0 net.xid held.1) old new [] came brought
+  pub waits : Waits Tells (asked_from held.0 net.xid) (packet_steps held.0 net.xid held.1) old new [] came brought
   pub taken : (now_net, now_queue) ≡ takes_all came (record net { xid = next_xid (next_xid net.xid) }, queue)
   pub moves : Tells → MovesBy (held ∷ []) old new
   pub in_step : (s : SwitchState) → Tells → Conforming new → switch_of held.0 (state old) ≡ Some s → waits_of held.0 (state old) ≡ []
@@ -141,7 +135,7 @@ IsFloodBy held s NoMemory = ⊥
 pub record BreaksAt {Own : Type 0} (Tells : Type 0) (held : Held) (old new : Seen Own) (net : NetState) (fault : TxnFault) : Type 0 where
   pub viewed : is_viewed held.0 net.views ≡ true
   pub cause : IsCause Tells held.0 old new fault
-  pub flooded : IfFlooded Tells (packet_awaited held.0 net.xid) (packet_steps held.0 net.xid held.1) old new fault
+  pub flooded : IfFlooded Tells (asked_from held.0 net.xid) (packet_steps held.0 net.xid held.1) old new fault
   -- the packet was sent, or nothing
   pub packets : List Held
   pub at_most : (packets ≡ []) ⊎ (packets ≡ held ∷ [])

@@ -49,7 +49,8 @@ use Rattle.net_txn.specs.Net.{NetState, no_progress}
 use Rattle.lego_model.specs.AfterFault.{FailsInUndo}
 use Rattle.net_txn.specs.MessageStore.{KeptWhereFit}
 use Rattle.net_txn.specs.Agrees.{Agrees}
-use Rattle.net_txn.specs.Losing.{is_among, lose_all}
+use Rattle.net_txn.specs.Losing.{lose_all}
+use Rattle.of_types.specs.Membership.{is_among}
 use Rattle.net_txn.specs.Ports.{PortLists, lost_ports, ports_lost}
 use Rattle.lego_model.specs.History.{released_of, lost_of}
 use Rattle.lego_model.specs.Journal.{released, losses}

@@ -8,7 +8,8 @@ ghost use Rattle.of_wire.specs.Grammar.{IsMessage};
 ghost use Rattle.flow_table.specs.Change.{asks_notice};
 ghost use Rattle.flow_table.specs.View.{plains};
 ghost use Rattle.app_frames.specs.declared.frame.EventKind.TheVariants as kinds;
-ghost use Rattle.net_txn.specs.Arriving.{key_removed, is_told, known_after, IsKnownAt, IsNoKnown, event_from};
+ghost use Rattle.net_txn.specs.Arriving.{is_told, known_after, IsKnownAt, IsNoKnown, event_from};
+ghost use Rattle.flow_table.specs.RowKeys.{key_removed};
 
 use crate::ports::{KnownPorts, change};
 use crate::rows::is_same;

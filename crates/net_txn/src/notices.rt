@@ -4,7 +4,7 @@ ghost use Rattle.std.specs.Prelude.{◌≡◌, ◌⊎◌, ◌++◌, IfOk, OnOk, 
 ghost use Rattle.of_wire.specs.Reading.{reading_of};
 ghost use Rattle.flow_table.specs.View.{plains};
 ghost use Rattle.net_txn.specs.Arriving.{notice_told, notices_told};
-ghost use Rattle.net_txn.specs.Releases.{or_none};
+ghost use Rattle.lego_model.specs.Events.{event_list};
 ghost use Rattle.net_txn.specs.Views.{with_rows, with_added};
 
 use crate::arriving::removed_event;
@@ -23,7 +23,7 @@ fn event_of_notice(
     dpid: Dpid,
     notice: &[u8],
 ) -> Result<Option<Event>, AllocError>
-    ensures { IfOk result (λ e. or_none e ≡ notice_told dpid (plains views.now) (reading_of notice.now)) }
+    ensures { IfOk result (λ e. event_list e ≡ notice_told dpid (plains views.now) (reading_of notice.now)) }
 {
     match decode(alloc, notice) {
         Ok(envelope) => match &envelope.message {
@@ -39,7 +39,7 @@ fn event_of_notice(
 
 /// Appends an event, where there is one.
 fn append(events: &mut EventQueue, event: Option<Event>) -> Result<(), AllocError>
-    ensures { OnOk result (events.new ≡ events.old ++ or_none event) }
+    ensures { OnOk result (events.new ≡ events.old ++ event_list event) }
 {
     if let Some(event) = event {
         events.push(event)?;

@@ -6,7 +6,8 @@ ghost use Rattle.of_wire.specs.Reading.{reading_of};
 ghost use Rattle.of_wire.specs.Spelling.{message_bytes};
 ghost use Rattle.of_wire.specs.Grammar.{IsMessage};
 ghost use Rattle.outside.specs.Calls.{most_message};
-ghost use Rattle.net_txn.specs.Releases.{packet_awaited, takes_read, takes_all, Commits};
+ghost use Rattle.net_txn.specs.Releases.{takes_read, takes_all, Commits};
+ghost use Rattle.lego_model.specs.FlowQueries.{asked_from};
 ghost use Rattle.net_txn.specs.ReleaseSteps.{StaysSo, PacketSent, PacketUnsent, BarrierPassed, BarrierStops, TakesUntilReply, ReleasesPacket, ReleasesNoted, ReleasedFront, StopsBehind};
 
 use crate::exchange::{pass, say};
@@ -24,7 +25,7 @@ use std::mem::replace;
 
 /// Tells what is awaited behind a packet with this id: the reply to its barrier alone.
 fn await_packet(dpid: Dpid, xid: Xid) -> Awaited
-    ensures { result ≡ packet_awaited dpid xid }
+    ensures { result ≡ asked_from dpid xid }
 {
     let barrier = following(xid);
     Awaited {

@@ -6,21 +6,18 @@ use Rattle.of_match.specs.Key.{key_number}
 use Rattle.of_action.specs.declared.action.Action.{Action}
 use Rattle.flow_table.specs.declared.entry.Entry.{Entry}
 use Rattle.flow_table.specs.Table.{TableState, IsTable, place_of, entry_at}
-use Rattle.undo_laws.specs.Removal.{is_among}
+use Rattle.undo_laws.specs.Removal.{is_key_among}
 use Rattle.undo_laws.specs.Log.{Inverse, Remove, PutBack, GiveActions, Image as Said, Absent, Gone, Acted}
 use Rattle.undo_laws.specs.Table.{sent_for}
 use Rattle.netlog_inverse.specs.declared.image.Logged.{Logged}
 use Rattle.netlog_inverse.specs.Meaning.{said, first_at}
+use Rattle.flow_table.specs.RowKeys.{RowsAscend}
 
 -- ---- Key order
 
 abbrev pub KeysAscend : ℕ → List Key → Type 0
 KeysAscend least [] = Unit {0}
 KeysAscend least (k ∷ ks) = (least ≤ key_number k) × KeysAscend (key_number k + 1) ks
-
-abbrev pub ActionsAscend : ℕ → List (Key × List Action) → Type 0
-ActionsAscend least [] = Unit {0}
-ActionsAscend least (a ∷ acted) = (least ≤ key_number a.0) × ActionsAscend (key_number a.0 + 1) acted
 
 -- the actions that a key is given
 abbrev pub actions_at : Key → List (Key × List Action) → Option (List Action)
@@ -44,9 +41,9 @@ wanted_entry other = None
 -- The removals, the changes of actions and the additions, each in key order, are what is wanted of each key.
 pub record AreWanted (want : Key → Said) (removed : List Key) (acted : List (Key × List Action)) (added : List Entry) : Type 0 where
   pub removed_up : KeysAscend 0 removed
-  pub acted_up : ActionsAscend 0 acted
+  pub acted_up : RowsAscend 0 acted
   pub added_up : IsTable added
-  pub removals : (k : Key) → is_among removed k ≡ wants_removal (want k)
+  pub removals : (k : Key) → is_key_among removed k ≡ wants_removal (want k)
   pub actions : (k : Key) → actions_at k acted ≡ wanted_actions (want k)
   pub additions : (k : Key) → entry_at k added ≡ wanted_entry (want k)
 

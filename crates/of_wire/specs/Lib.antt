@@ -1,7 +1,8 @@
-pub mod Kinds
 pub mod Faults
-pub mod Spelling
-pub mod Reading
 pub mod Grammar
+pub mod Handshake
+pub mod Kinds
+pub mod Reading
+pub mod Spelling
 pub mod Stats
 pub mod laws

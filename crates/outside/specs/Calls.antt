@@ -2,15 +2,12 @@
 -- fields hold in every world: what it was given stays, no count falls, each fault comes only with its own count, and what stands in a
 -- buffer is what the answer says. `told` holds in the worlds that tell: what the call appends to the history, which counts move, and
 -- that a call out of place fails. All of this is our own choice but for the messages of OpenFlow 1.0.0.
-use Rattle.std.specs.Prelude.{◌≡◌, ℕ, ◌≤◌, ◌↔◌, Bool, true, false, not, List, [], ◌∷◌, ◌++◌, length, take, Option, Some, None, Result, Ok, Err, IsTrue, IsErr, IsOkAnd, IsErrOf, IfOk, IfSome, slice_get}
+use Rattle.std.specs.Prelude.{◌≡◌, ℕ, ◌≤◌, ◌↔◌, Bool, true, false, not, List, [], ◌∷◌, ◌++◌, length, take, Option, Some, None, Result, Ok, Err, IsTrue, IsErr, IsErrOf, IfOk, IfSome, slice_get}
 use Rattle.lego_io.specs.Count.{raised, Rose}
 use Rattle.of_types.specs.Fields.{number_at}
 use Rattle.of_types.specs.declared.journal.Act.TheVariants.{Stim, Started, Gave, Gone, Ended, Sent, Got}
 use Rattle.of_types.specs.declared.journal.TookWhat.TheVariants as took
 use Rattle.of_types.specs.declared.journal.WorldStim.{WorldStim}
-use Rattle.of_wire.specs.declared.message.Message.{Message}
-use Rattle.of_wire.specs.declared.message.Message.TheVariants.{FeaturesReply}
-use Rattle.of_wire.specs.Reading.{reading_of}
 use Rattle.outside.specs.declared.faults.Short.{Short}
 use Rattle.outside.specs.declared.faults.OpenFault.{OpenFault}
 use Rattle.outside.specs.declared.faults.OpenFault.TheVariants as opening
@@ -30,6 +27,7 @@ use Rattle.outside.specs.declared.step.WorldStep.{WorldStep}
 use Rattle.outside.specs.declared.step.WorldStep.TheVariants.{Acted, TookInto, From, Joined, Left, Moment, Idle, End, Opened, NotOpened, NextFailed, SendLost, RecvLost, SendFailed, RecvFailed}
 use Rattle.outside.specs.Seen.{Counts, Seen, NoneFell, AreCounts, with_stray, with_short, with_short_of, with_link_fault}
 use Rattle.outside.specs.State.{State, after_steps, state, is_running, is_joined, has_waiting, upcoming}
+use Rattle.of_wire.specs.Handshake.{IsFeaturesOf}
 
 -- ---- Messages in a buffer
 
@@ -47,14 +45,6 @@ pub record IsMessageIn (Tells : Type 0) (n : ℕ) (buf : List ℕ) : Type 0 wher
   pub within : n ≤ length buf
   pub at_most : n ≤ most_message
   pub framed : ¬ Tells → IsFramed (take n buf)
-
-abbrev pub IsFeatures : ℕ → Message → Type 0
-IsFeatures d (FeaturesReply features) = features.dpid ≡ d
-IsFeatures d other = ⊥
-
--- the bytes are read as the FEATURES_REPLY of the switch (5.3.1 Handshake)
-abbrev pub IsFeaturesOf : ℕ → List ℕ → Type 0
-IsFeaturesOf d bytes = IsOkAnd (reading_of bytes) (λ e. IsFeatures d e.message)
 
 -- what stands in a buffer where `next` answers an item
 abbrev pub IsItemIn : Type 0 → Item → List ℕ → Type 0

@@ -124,8 +124,12 @@ unfoldable pub link_fails : ℕ → State → Bool
 link_fails d s = fails_in (link_of d s.links)
 
 -- what is due, then what waits, of the switches with lower numbers first
+-- the messages that wait, of the switches with lower numbers first
+abbrev pub waiting_in : List Link → List WorldStep
+waiting_in ls = flat_map (λ l. map (From l.declared.dpid) l.waits) ls
+
 unfoldable pub upcoming : State → List WorldStep
-upcoming s = s.due ++ flat_map (λ l. map (From l.declared.dpid) l.waits) s.links
+upcoming s = s.due ++ waiting_in s.links
 
 -- the switches that links declare
 abbrev pub declared_in : List Link → List Declared

@@ -1,7 +1,7 @@
 -- What becomes of the messages that switches send: the events that they make, those that are kept where something else is awaited, and those
 -- that find no room in an undo (OpenFlow 1.0.0, 4.2 Message Handling, 5.3.7 Barrier Message and 5.4 Asynchronous Messages). What is kept, and
 -- the room, is our own choice.
-use Rattle.std.specs.Prelude.{◌≡◌, ◌==◌, ◌⊎◌, ℕ, Bool, true, false, not, List, [], ◌∷◌, ◌++◌, map, filter, Option, Some, None, Result, Ok, Err, if◌then◌else◌}
+use Rattle.std.specs.Prelude.{◌≡◌, ◌⊎◌, ℕ, Bool, true, false, not, List, [], ◌∷◌, ◌++◌, map, filter, Option, Result, Ok, Err, if◌then◌else◌}
 use Rattle.std.specs.List.{list_any}
 use Rattle.of_types.specs.Fields.{number_bytes}
 use Rattle.of_types.specs.declared.journal.Act.TheVariants.{Sent}
@@ -19,22 +19,20 @@ use Rattle.lego_model.specs.declared.wait.Awaited.{Awaited}
 use Rattle.lego_model.specs.declared.wait.Notices.TheVariants as notices
 use Rattle.lego_model.specs.declared.wait.Heard.{Heard}
 use Rattle.lego_model.specs.declared.wait.Heard.TheVariants.{Refused}
-use Rattle.lego_model.specs.Events.{event_of_message}
+use Rattle.lego_model.specs.Events.{event_of_message, event_list}
 use Rattle.lego_model.specs.BarrierWaits.{heard, kept_by, barrier_sent, wait_steps, reply_got}
 use Rattle.lego_model.specs.KeptMessages.{got_in, fits}
 use Rattle.lego_model.specs.ViewRows.{rows_without}
-use Rattle.run_course.specs.Tables.{Tables, with_table, key_of, asks}
+use Rattle.run_course.specs.Tables.{Tables, with_table, asks}
+use Rattle.flow_table.specs.RowKeys.{key_removed}
+use Rattle.of_types.specs.Membership.{is_among}
 
 -- ---- The events that a message makes
-
-abbrev pub event_list : Option Event → List Event
-event_list None = []
-event_list (Some event) = event ∷ []
 
 -- The events that a message of a joined switch makes, by the rows of that switch. A notice makes one if the owner of the entry asked for it (5.4.2
 -- Flow Removed Message). An ERROR makes one with its type and code (5.4.4 Error Message).
 abbrev pub events_made : ℕ → Option (List ViewRow) → Message → List Event
-events_made d rows (FlowRemoved f) = if asks (key_of f) rows then event_list (event_of_message d (FlowRemoved f)) else []
+events_made d rows (FlowRemoved f) = if asks (key_removed f) rows then event_list (event_of_message d (FlowRemoved f)) else []
 events_made d rows (Error kind code payload) = record { kind = kinds.SwitchError; dpid = d; body = number_bytes 2 kind ++ number_bytes 2 code } ∷ []
 events_made d rows m = event_list (event_of_message d m)
 
@@ -44,7 +42,7 @@ events_read d rows (Err fault) = []
 
 -- the tables behind it: with a notice the entry is gone
 abbrev pub tables_left : ℕ → Message → Tables → Tables
-tables_left d (FlowRemoved f) tables = with_table d (rows_without (key_of f ∷ [])) tables
+tables_left d (FlowRemoved f) tables = with_table d (rows_without (key_removed f ∷ [])) tables
 tables_left d m tables = tables
 
 abbrev pub tables_read : ℕ → Result Envelope WireFault → Tables → Tables
@@ -90,13 +88,9 @@ pub record Waited (before after : List WorldStep) : Type 0 where
 
 -- ---- In an undo messages are kept in a store of fixed size, and a switch that is lost takes its own with it.
 
--- it is one of the switches
-abbrev pub is_one_of : List ℕ → ℕ → Bool
-is_one_of switches d = list_any (λ e. e == d) switches
-
 -- messages but for those of the switches
 abbrev pub but_of : List ℕ → List (ℕ × List ℕ) → List (ℕ × List ℕ)
-but_of switches messages = filter (λ m. not (is_one_of switches m.0)) messages
+but_of switches messages = filter (λ m. not (is_among m.0 switches)) messages
 
 -- An undo awaits the reply to a barrier alone, and this is kept of a message that comes meanwhile: nothing of the reply, of an ECHO_REQUEST, which
 -- is answered, and of a notice of an entry that was deleted; all others are kept.

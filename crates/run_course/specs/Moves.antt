@@ -31,7 +31,8 @@ use Rattle.lego_model.specs.Echoes.{IsEchoRead}
 use Rattle.lego_model.specs.KeptMessages.{got_in}
 use Rattle.lego_model.specs.ViewRows.{rows_without}
 use Rattle.run_course.specs.Tables.{Tables, is_in, SameTables, SameBut, with_table, rows_with}
-use Rattle.run_course.specs.Messages.{GotNone, is_refused, Waited, events_read, tables_read, all_events, tables_behind, is_one_of, but_of, AreStored}
+use Rattle.run_course.specs.Messages.{GotNone, is_refused, Waited, events_read, tables_read, all_events, tables_behind, but_of, AreStored}
+use Rattle.of_types.specs.Membership.{is_among}
 
 pub record Holding (Own : Type 0) : Type 0 where
   pub seen : Seen Own
@@ -141,9 +142,9 @@ pub record TakesBack {Own : Type 0} (from to : Holding Own) : Type 0 where
   pub steps : List WorldStep
   pub history : to.seen.history ≡ from.seen.history ++ steps
   pub keys : ℕ → List Key
-  pub inverses : (d : ℕ) → is_one_of lost d ≡ false → is_in d from.tables ≡ true → AllByRecursion (HasInverse d steps) (keys d)
-  pub out : (d : ℕ) → is_one_of lost d ≡ true → to.tables d ≡ None
-  pub tables : (d : ℕ) → is_one_of lost d ≡ false → to.tables d ≡ option_map (rows_without (keys d)) (from.tables d)
+  pub inverses : (d : ℕ) → is_among d lost ≡ false → is_in d from.tables ≡ true → AllByRecursion (HasInverse d steps) (keys d)
+  pub out : (d : ℕ) → is_among d lost ≡ true → to.tables d ≡ None
+  pub tables : (d : ℕ) → is_among d lost ≡ false → to.tables d ≡ option_map (rows_without (keys d)) (from.tables d)
   pub were_in : OfJoined from (got_in steps)
   pub stored : List (ℕ × List ℕ)
   pub came : AreStored (got_in steps) from.kept stored

@@ -7,7 +7,6 @@ use Rattle.std.specs.Option.{option_map}
 use Rattle.of_match.specs.declared.key.Key.{Key}
 use Rattle.of_match.specs.Key.{key_number}
 use Rattle.of_wire.specs.declared.bodies.FlowMod.{FlowMod}
-use Rattle.of_wire.specs.declared.bodies.FlowRemoved.{FlowRemoved}
 use Rattle.flow_table.specs.declared.view.ViewRow.{ViewRow}
 use Rattle.flow_table.specs.Sorted.{row_place, with_item}
 use Rattle.flow_table.specs.Change.{asks_notice, is_delete, key_in}
@@ -41,9 +40,6 @@ abbrev pub rows_with : FlowMod → List ViewRow → List ViewRow
 rows_with m rows = if is_delete m then rows else with_item row_place (row_asked m) rows
 
 -- ---- A notice
-
-abbrev pub key_of : FlowRemoved → Key
-key_of f = record { priority = f.priority; matching = f.matching }
 
 -- the owner of the entry with this key asked for a notice when it goes (SEND_FLOW_REM)
 abbrev pub asks : Key → Option (List ViewRow) → Bool

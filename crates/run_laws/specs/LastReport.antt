@@ -8,7 +8,7 @@ use Rattle.lego_model.specs.RunReport.{lost_line, switch_line, flow_line, app_li
 use Rattle.outside.specs.Seen.{Seen, journal}
 use Rattle.outside.specs.State.{State, state, switch_of}
 use Rattle.lego_model.specs.Places.{Place}
-use Rattle.net_txn.specs.Losing.{is_among}
+use Rattle.of_types.specs.Membership.{is_among}
 use Rattle.lego_model.specs.AtOnce.{AtOnce}
 use Rattle.flow_table.specs.View.{TableView}
 use Rattle.switch_laws.specs.Orderly.{OrderlySince}

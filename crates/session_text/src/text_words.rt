@@ -3,7 +3,8 @@
 ghost use Rattle.std.specs.Prelude.{◌≡◌, ◌==◌, ◌≤◌, ◌%◌, ◌&&◌, not, IfOk, MatchOption, map, true, false, length, string_bytes};
 ghost use Rattle.std.specs.List.{list_all};
 ghost use Rattle.of_types.specs.Numerals.{is_numeral as is_numeral_in};
-ghost use Rattle.lego_model.specs.SessionWords.{a_number as a_number_in, is_sized, some_bytes as some_bytes_in, ascends as ascends_in, listed_ports as listed_ports_in, some_ports as some_ports_in, an_app as an_app_in, before, behind, has_mark};
+ghost use Rattle.lego_model.specs.SessionWords.{a_number as a_number_in, is_sized, some_bytes as some_bytes_in, ascends as ascends_in, listed_ports as listed_ports_in, some_ports as some_ports_in, an_app as an_app_in, before, behind};
+ghost use Rattle.of_types.specs.Membership.{is_among};
 ghost use Rattle.session_text.specs.TextGives.{Gives, numbers as numbers_in, ordered, ports_read};
 
 use crate::text_fault::LineFault;
@@ -155,8 +156,8 @@ pub fn an_app(names: &[String], word: &[u8]) -> Result<u32, LineFault>
 
 /// Returns what stands before and behind the first such byte.
 pub fn cut_at(word: &[u8], mark: u8) -> Option<(&[u8], &[u8])>
-    ensures { MatchOption result (has_mark mark word.now ≡ false)
-        (λ parts. (has_mark mark word.now ≡ true) × (parts.0.now ≡ before mark word.now) × (parts.1.now ≡ behind mark word.now)) }
+    ensures { MatchOption result (is_among mark word.now ≡ false)
+        (λ parts. (is_among mark word.now ≡ true) × (parts.0.now ≡ before mark word.now) × (parts.1.now ≡ behind mark word.now)) }
 {
     for at in 0..word.len() {
         if word[at] == mark {

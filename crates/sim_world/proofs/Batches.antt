@@ -5,7 +5,8 @@ use Rattle.std.proofs.lemmas.Bool.{false≢true}
 use Rattle.std.proofs.lemmas.List.{append-nil}
 use Rattle.std.proofs.lemmas.List.Elements.{All-append, All-tail}
 use Rattle.std.proofs.lemmas.Bool.Decides.{nat_tests}
-use Rattle.sim_world.specs.LinkWaits.{joined, all_of, AreFilled, AreShort, AreWaits}
+use Rattle.sim_world.specs.LinkWaits.{joined, all_of, AreFilled, AreWaits}
+use Rattle.switch_sim.specs.Readable.{AreShort}
 
 -- filled batches have no message where there is no batch
 none_joined : (later : List (List (List ℕ))) → AreFilled later → (length later == 0) ≡ (length (joined later) == 0)

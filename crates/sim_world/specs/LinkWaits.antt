@@ -1,6 +1,7 @@
 -- How the messages of a switch that wait are held, and the numbers of its link calls that are to fail. All of this is our own choice.
-use Rattle.std.specs.Prelude.{◌==◌, ℕ, ◌<◌, ◌≤◌, Bool, List, [], ◌∷◌, ◌++◌, length, All}
-use Rattle.std.specs.List.{flat_map, list_any}
+use Rattle.std.specs.Prelude.{ℕ, ◌<◌, List, [], ◌∷◌, ◌++◌, length}
+use Rattle.std.specs.List.{flat_map}
+use Rattle.switch_sim.specs.Readable.{AreShort}
 
 -- ---- Messages that wait
 
@@ -22,16 +23,8 @@ abbrev pub AreFilled : List (List (List ℕ)) → Type 0
 AreFilled [] = Unit {0}
 AreFilled (batch ∷ batches) = (0 < length batch) × AreFilled batches
 
--- each message has at most as many bytes as its length field can say (5.1 OpenFlow Header)
-abbrev pub AreShort : List (List ℕ) → Type 0
-AreShort messages = All (λ bytes. length bytes ≤ 65535) messages
-
 pub record AreWaits (current : List (List ℕ)) (later : List (List (List ℕ))) : Type 0 where
   pub filled : AreFilled later
   pub short : AreShort (all_of current later)
 
 -- ---- Numbers of calls
-
--- the number is among them
-abbrev pub is_number : ℕ → List ℕ → Bool
-is_number n numbers = list_any (λ m. m == n) numbers

@@ -1,16 +1,15 @@
 -- The switches of a simulated world as they are held, and what holds of each. All of this is our own choice.
 use Rattle.std.specs.Prelude.{◌≡◌, ◌≢◌, ℕ, ◌-◌, ◌^◌, ◌<◌, ◌≤◌, nat_lt, List, [], ◌∷◌, ◌++◌, length, map, Option, Some, None, IfSome, is_some, slice_index_or, if◌then◌else◌}
-use Rattle.std.specs.List.{flat_map}
 use Rattle.of_types.specs.declared.journal.Stimulus.TheVariants.{Advance}
 use Rattle.of_types.specs.declared.journal.WorldStim.{WorldStim}
 use Rattle.of_types.specs.declared.journal.WorldStim.TheVariants.{Of, Join, Leave, At}
 use Rattle.flow_table.specs.Switch.{Declared, SwitchState, joined_at, features_reply}
 use Rattle.outside.specs.declared.step.WorldStep.{WorldStep}
-use Rattle.outside.specs.declared.step.WorldStep.TheVariants.{From, Joined, Left, Moment}
+use Rattle.outside.specs.declared.step.WorldStep.TheVariants.{Joined, Left, Moment}
 use Rattle.outside.specs.State.{Link, stimulus_sends, join_due, switch_in, link_of, declared_in}
 use Rattle.outside.specs.Conforming.{AreDeclaredFrom}
-use Rattle.outside.specs.Calls.{IsFeaturesOf}
-use Rattle.sim_world.specs.LinkWaits.{AreShort}
+use Rattle.of_wire.specs.Handshake.{IsFeaturesOf}
+use Rattle.switch_sim.specs.Readable.{AreShort}
 
 -- ---- As they are held
 
@@ -78,10 +77,6 @@ abbrev pub fails_at : ℕ → Link → Link
 fails_at number l = record l { fails = l.fails ++ number ∷ [] }
 
 -- ---- All links
-
--- the messages that wait, of the switches with lower numbers first
-abbrev pub waiting_in : List Link → List WorldStep
-waiting_in ls = flat_map (λ l. map (From l.declared.dpid) l.waits) ls
 
 -- the items that a stimulus makes beside messages
 abbrev pub due_in : WorldStim → ℕ → List Link → List WorldStep

@@ -16,6 +16,7 @@ use Rattle.outside.specs.declared.step.WorldStep.{WorldStep}
 use Rattle.outside.specs.declared.step.WorldStep.TheVariants.{Acted, TookInto}
 use Rattle.outside.specs.State.{event_number}
 use Rattle.sim_world.specs.Told.{is_told}
+use Rattle.app_frames.specs.Spelling.{garbled_bytes}
 
 -- ---- What was given
 
@@ -39,10 +40,6 @@ replies_of app own = lines_of app own.replies
 -- the frame Ready
 unfoldable pub ready_bytes : List ℕ
 ready_bytes = 0 ∷ 0 ∷ 0 ∷ 1 ∷ 6 ∷ []
-
--- a frame of a kind that there is not
-unfoldable pub garbled_bytes : List ℕ
-garbled_bytes = 0 ∷ 0 ∷ 0 ∷ 1 ∷ 9 ∷ []
 
 -- the frame Done, without stop and checkpoint
 unfoldable pub done_bytes : List ℕ

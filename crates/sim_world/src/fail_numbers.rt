@@ -1,7 +1,7 @@
 //! The numbers of the calls that are to fail.
 
 ghost use Rattle.std.specs.Prelude.{◌≡◌, ◌++◌, ◌∷◌, [], OnOk, OnErr};
-ghost use Rattle.sim_world.specs.LinkWaits.{is_number};
+ghost use Rattle.of_types.specs.Membership.{is_among};
 
 use std::alloc::{AllocError, Global};
 use std::collections::BTreeSet;
@@ -19,13 +19,13 @@ impl Model for FailNumbers {
     ghost use Rattle.std.specs.Prelude.{◌≡◌, ℕ, List};
     ghost use Rattle.std.specs.Ordering.{nat_cmp};
     ghost use Rattle.std.specs.BTreeSet.{contains};
-    ghost use Rattle.sim_world.specs.LinkWaits.{is_number};
+    ghost use Rattle.of_types.specs.Membership.{is_among};
 
     ghost Value = { List ℕ };
 
     ghost view = { λ s. s.numbers.items };
 
-    ghost invariant = { λ s. (n : ℕ) → contains nat_cmp s.set n ≡ is_number n s.numbers.items };
+    ghost invariant = { λ s. (n : ℕ) → contains nat_cmp s.set n ≡ is_among n s.numbers.items };
 }
 
 impl FailNumbers {
@@ -52,7 +52,7 @@ impl FailNumbers {
 
     /// Tells whether the number is among them; takes no memory.
     pub fn contains(&self, number: u64) -> bool
-        ensures { result ≡ is_number number self.now }
+        ensures { result ≡ is_among number self.now }
     {
         self.set.contains(&number)
     }

@@ -7,10 +7,10 @@ ghost use Rattle.of_wire.specs.Reading.{reading_of};
 ghost use Rattle.of_wire.specs.Spelling.{message_size};
 ghost use Rattle.flow_table.specs.Step.{after_stimulus};
 ghost use Rattle.flow_table.specs.Switch.{Declared};
-ghost use Rattle.outside.specs.Calls.{IsFeaturesOf};
+ghost use Rattle.of_wire.specs.Handshake.{IsFeaturesOf};
 ghost use Rattle.outside.specs.Conforming.{IsStimulus};
 ghost use Rattle.outside.specs.State.{is_empty, is_failing, link_at_first, link_joined, link_left, link_stimulated, link_sent, link_got, link_told, link_lost, link_failed, stimulus_sends, switch_told, message_sends};
-ghost use Rattle.sim_world.specs.LinkWaits.{AreShort};
+ghost use Rattle.switch_sim.specs.Readable.{AreShort};
 ghost use Rattle.sim_world.specs.Links.{IsDeclaredAs, StandsBy, SerialsBelow, MayCall, IsReady, fails_at, features_at_join};
 
 use crate::fail_numbers::FailNumbers;

@@ -7,10 +7,10 @@ ghost use Rattle.of_types.specs.declared.journal.Stimulus.TheVariants.{Advance};
 ghost use Rattle.of_wire.specs.Reading.{reading_of};
 ghost use Rattle.outside.specs.declared.step.WorldStep.TheVariants.{From, Left};
 ghost use Rattle.outside.specs.Conforming.{AreDeclaredFrom, IsStimulus, IsWorldStim};
-ghost use Rattle.outside.specs.Calls.{IsFeaturesOf};
+ghost use Rattle.of_wire.specs.Handshake.{IsFeaturesOf};
 ghost use Rattle.outside.specs.Seen.{is_declared};
-ghost use Rattle.outside.specs.State.{is_empty, fails_in, join_due, links_after, link_of, switch_in, waits_in, with_link, link_joined, link_left, link_stimulated, link_sent, link_got, link_told, link_lost, link_failed, declared_in};
-ghost use Rattle.sim_world.specs.Links.{links_in, waiting_in, insert_link, fails_at, features_of_join, IsDue, StandsAt, due_in, AreLinks, AreReady, insert_held, Held, StandsBy, MayCall, IsPlaceOf, IsFirstWaiting};
+ghost use Rattle.outside.specs.State.{is_empty, fails_in, join_due, links_after, link_of, switch_in, waits_in, with_link, link_joined, link_left, link_stimulated, link_sent, link_got, link_told, link_lost, link_failed, declared_in, waiting_in};
+ghost use Rattle.sim_world.specs.Links.{links_in, insert_link, fails_at, features_of_join, IsDue, StandsAt, due_in, AreLinks, AreReady, insert_held, Held, StandsBy, MayCall, IsPlaceOf, IsFirstWaiting};
 
 use crate::link::SimLink;
 use of_types::{ByteList, Dpid, Stimulus, WorldStim};

@@ -7,11 +7,11 @@ ghost use Rattle.std.specs.Prelude.{◌≡◌, ◌+◌, ◌-◌, ◌^◌, ◌≤
 ghost use Rattle.of_types.specs.declared.journal.Act.TheVariants.{Stim};
 ghost use Rattle.of_types.specs.declared.journal.WorldStim.{WorldStim};
 ghost use Rattle.outside.specs.declared.step.WorldStep.TheVariants.{Acted, Idle, End, NextFailed};
-ghost use Rattle.outside.specs.State.{moment_after};
+ghost use Rattle.outside.specs.State.{moment_after, waiting_in};
 ghost use Rattle.outside.specs.Calls.{item_step, IsItemIn};
 ghost use Rattle.outside.specs.Conforming.{IsWorldStim};
 ghost use Rattle.lego_io.specs.Count.{raised};
-ghost use Rattle.sim_world.specs.Links.{IsDue, StandsAt, waiting_in};
+ghost use Rattle.sim_world.specs.Links.{IsDue, StandsAt};
 ghost use Rattle.sim_world.specs.laws.NextLaws.{IsMessage};
 ghost use Rattle.sim_world.specs.Doing.{Tells, NextStands, DoesNext};
 ghost use Rattle.sim_world.specs.World.{Moves, all_declared, next_told, short_told};

@@ -1,7 +1,7 @@
 //! The lines of all applications: how their starts end, and what they give in their turns.
 
 ghost use Rattle.std.specs.Prelude.{◌≡◌, ◌+◌, ◌<◌, [], ◌∷◌, ◌++◌, drop, slice_get, IfOk, OnOk, OnErr};
-ghost use Rattle.sim_world.specs.Scripts.{lines_of, steps_of_start, start_or_ready, turn_or_plain, ready_bytes, garbled_bytes, done_bytes};
+ghost use Rattle.sim_world.specs.Scripts.{lines_of, steps_of_start, start_or_ready, turn_or_plain, ready_bytes, done_bytes};
 ghost use Rattle.sim_world.specs.Lives.{IsGivingIn, IsNextLine, Follows, steps_given};
 
 use crate::life::Giving;
@@ -113,7 +113,7 @@ fn turn_from(replies: &ReplyList, app: u32, from: usize) -> (Giving, usize)
 
 impl ScriptLines {
     /// Makes scripts of no lines.
-    #[tactic(auto, unfolding(crate::specs::Scripts::ready_bytes, crate::specs::Scripts::garbled_bytes, crate::specs::Scripts::done_bytes,))]
+    #[tactic(auto, unfolding(crate::specs::Scripts::ready_bytes, crate::specs::Scripts::done_bytes,))]
     pub(crate) fn new(alloc: Global) -> Result<ScriptLines, AllocError>
         ensures { IfOk result (λ s. s ≡ record { starts = []; replies = [] }) }
     {

@@ -2,7 +2,8 @@
 
 ghost use Rattle.std.specs.Prelude.{◌≡◌, ◌+◌, ◌-◌, ◌<◌, ◌≤◌, ◌==◌, ◌++◌, ◌∷◌, [], length, take, IfNone, IfSome, OnOk};
 ghost use Rattle.std.specs.VecDeque.{deque_len, deque_capacity};
-ghost use Rattle.sim_world.specs.LinkWaits.{all_of, AreFilled, AreShort};
+ghost use Rattle.sim_world.specs.LinkWaits.{all_of, AreFilled};
+ghost use Rattle.switch_sim.specs.Readable.{AreShort};
 
 use of_types::ByteList;
 use std::alloc::{AllocError, Global};

@@ -14,7 +14,8 @@ use Rattle.outside.specs.State.{state, switch_of, waits_of}
 use Rattle.net_txn.specs.declared.ports.KnownPorts.{KnownPorts}
 use Rattle.net_txn.specs.Net.{NetState}
 use Rattle.net_txn.specs.ChangeSteps.{Agrees}
-use Rattle.net_txn.specs.Losing.{lose_all, is_among}
+use Rattle.net_txn.specs.Losing.{lose_all}
+use Rattle.of_types.specs.Membership.{is_among}
 use Rattle.net_txn.specs.Undos.{key_logged, without_keys, keys_of}
 use Rattle.net_txn.specs.Views.{is_viewed}
 

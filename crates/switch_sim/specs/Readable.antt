@@ -1,5 +1,5 @@
 -- Messages that can be read: what a switch sends is what `of_wire` reads (OpenFlow 1.0.0, 5.1 OpenFlow Header).
-use Rattle.std.specs.Prelude.{◌≡◌, ℕ, ◌≤◌, List, length, map, All, IsOk, IsOkAnd}
+use Rattle.std.specs.Prelude.{ℕ, ◌≤◌, List, length, map, All, IsOk}
 use Rattle.of_types.specs.declared.journal.Stimulus.{Stimulus}
 use Rattle.of_types.specs.declared.journal.Stimulus.TheVariants.{Raw}
 use Rattle.of_wire.specs.declared.message.Message.{Message}
@@ -20,10 +20,6 @@ AreShort list = All (λ bytes. length bytes ≤ 65535) list
 
 -- ---- Bytes that a switch sends of its own need not be a message.
 
-abbrev pub IsNotRaw : Stimulus → Type 0
-IsNotRaw (Raw bytes) = ⊥
-IsNotRaw other = Unit {0}
-
 abbrev pub IsShortIfRaw : Stimulus → Type 0
 IsShortIfRaw (Raw bytes) = length bytes ≤ 65535
 IsShortIfRaw other = Unit {0}
@@ -39,11 +35,3 @@ features_message dpid ports = FeaturesReply (record {
   actions = 0x7ff;
   ports = map (port_desc dpid) ports;
 })
-
-abbrev pub IsFeatures : ℕ → Message → Type 0
-IsFeatures d (FeaturesReply features) = features.dpid ≡ d
-IsFeatures d other = ⊥
-
--- the bytes are read as the FEATURES_REPLY of the switch
-abbrev pub IsFeaturesOf : ℕ → List ℕ → Type 0
-IsFeaturesOf d bytes = IsOkAnd (reading_of bytes) (λ e. IsFeatures d e.message)

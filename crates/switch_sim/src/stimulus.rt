@@ -7,7 +7,8 @@ ghost use Rattle.flow_table.specs.Hit.{with_counts};
 ghost use Rattle.flow_table.specs.Switch.{PortState, port_at, with_number, insert_port};
 ghost use Rattle.flow_table.specs.Step.{set_link, ports_after_link, sent_by_link, can_add, without_port, sent_by_deletion, port_status, after_port_change, sent_by_port_change, after_stimulus, sent_by_stimulus};
 ghost use Rattle.switch_sim.specs.Possible.{IsPossible};
-ghost use Rattle.switch_sim.specs.Readable.{AreReadable, AreShort, IsNotRaw, IsShortIfRaw};
+ghost use Rattle.switch_sim.specs.Readable.{AreReadable, AreShort, IsShortIfRaw};
+ghost use Rattle.of_types.specs.RawBytes.{IsNotRaw};
 
 use crate::message_list::MessageList;
 use crate::port::Port;

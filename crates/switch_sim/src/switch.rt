@@ -4,7 +4,8 @@ ghost use Rattle.std.specs.Prelude.{◌≡◌, ◌≤◌, length, map, Ok, IfOk}
 ghost use Rattle.of_wire.specs.Grammar.{enveloped};
 ghost use Rattle.of_wire.specs.Reading.{reading_of};
 ghost use Rattle.flow_table.specs.Switch.{joined_at, new_port, features_of, features_reply};
-ghost use Rattle.switch_sim.specs.Readable.{IsReadable, IsFeaturesOf};
+ghost use Rattle.switch_sim.specs.Readable.{IsReadable};
+ghost use Rattle.of_wire.specs.Handshake.{IsFeaturesOf};
 
 use crate::port::Port;
 use crate::reply::features;

@@ -46,10 +46,10 @@ after_all now (m ∷ ms) t = after_all now ms (changed now m t)
 -- ---- A table to which keys were added
 
 -- a key is one of some keys
-abbrev pub is_among : List Key → Key → Bool
-is_among ks k = list_any (λ l. key_number l == key_number k) ks
+abbrev pub is_key_among : List Key → Key → Bool
+is_key_among ks k = list_any (λ l. key_number l == key_number k) ks
 
 -- The earlier table has none of the keys, and at each other key both tables have the same entry.
 pub record OnlyAdded (ks : List Key) (before after : List Entry) : Type 0 where
-  pub added : (k : Key) → is_among ks k ≡ true → entry_at k before ≡ None
-  pub others : (k : Key) → is_among ks k ≡ false → entry_at k after ≡ entry_at k before
+  pub added : (k : Key) → is_key_among ks k ≡ true → entry_at k before ≡ None
+  pub others : (k : Key) → is_key_among ks k ≡ false → entry_at k after ≡ entry_at k before

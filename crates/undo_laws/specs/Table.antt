@@ -7,7 +7,7 @@ use Rattle.of_match.specs.declared.key.Key.{Key}
 use Rattle.of_action.specs.declared.action.Action.{Action}
 use Rattle.flow_table.specs.declared.entry.Entry.{Entry}
 use Rattle.flow_table.specs.Table.{TableState, entry_at}
-use Rattle.undo_laws.specs.Removal.{is_among}
+use Rattle.undo_laws.specs.Removal.{is_key_among}
 use Rattle.undo_laws.specs.Log.{Inverse, Remove, PutBack, GiveActions, Image, Untouched, Absent, Gone, Acted, image_of, given_back, seen}
 use Rattle.undo_laws.specs.Stands.{is_gone}
 
@@ -57,7 +57,7 @@ AllMeet acted es = All (IsMet es) acted
 
 -- it stands, and is not removed
 abbrev pub Stays : List Key → List Entry → Key × List Action → Type 0
-Stays removed es a = IsMet es a × (is_among removed a.0 ≡ false)
+Stays removed es a = IsMet es a × (is_key_among removed a.0 ≡ false)
 
 abbrev pub AllStay : List Key → List (Key × List Action) → List Entry → Type 0
 AllStay removed acted es = All (Stays removed es) acted

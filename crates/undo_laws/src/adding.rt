@@ -9,7 +9,7 @@ ghost use Rattle.flow_table.specs.Table.{TableState, IsTable, entry_at};
 ghost use Rattle.flow_table.specs.Change.{key_in, adds, refusal, changed, change, notices_of};
 ghost use Rattle.flow_table.specs.Undone.{undone};
 ghost use Rattle.undo_laws.specs.Serials.{IsSerialed};
-ghost use Rattle.undo_laws.specs.Removal.{without, without_all, IsRemoval, AreRemovals, removal_notices, after_all, is_among, OnlyAdded};
+ghost use Rattle.undo_laws.specs.Removal.{without, without_all, IsRemoval, AreRemovals, removal_notices, after_all, is_key_among, OnlyAdded};
 
 /// A DELETE_STRICT of a key with out_port NONE is never refused, takes the entry of that key away and nothing
 /// else, and gives that entry's notice where it asks for one.
@@ -42,9 +42,9 @@ pub fn additions_are_kept()
 pub fn removals_restore()
     ensures restores { (now : ℕ) (ks ls : List Key) (ms : List FlowMod) (before : List Entry) (t : TableState)
         → IsTable before → IsTable t.entries → OnlyAdded ks before t.entries
-        → ((k : Key) → is_among ls k ≡ is_among ks k) → AreRemovals ls ms
+        → ((k : Key) → is_key_among ls k ≡ is_key_among ks k) → AreRemovals ls ms
         → after_all now ms t ≡ record t { entries = before } }
-    ensures newest_first { (ks : List Key) (k : Key) → is_among (reverse ks) k ≡ is_among ks k }
+    ensures newest_first { (ks : List Key) (k : Key) → is_key_among (reverse ks) k ≡ is_key_among ks k }
     ensures undone { (now : ℕ) (ks : List Key) (before after : TableState) → IsTable before.entries → IsSerialed after
         → OnlyAdded ks before.entries after.entries → undone before after now ≡ record after { entries = before.entries } }
 {}

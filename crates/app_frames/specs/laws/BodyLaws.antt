@@ -2,7 +2,7 @@
 use Rattle.std.proofs.Common.{◌≡◌, ℕ, zero, suc, ◌+◌, ◌<◌, ◌≤◌, Bool, true, false, cond, eqb, ltb, leb, ◌&&◌, List, [], ◌∷◌, ◌++◌, length, drop, Option, Some, None, refl, sym, ap, subst, ◌∙◌, append_assoc, arith}
 use Rattle.std.specs.Prelude.{is_some, option_map}
 use Rattle.std.proofs.lemmas.Bool.{eqb-true, ltb-false, leb-true, le-ltb, le-leb, ne_eqb, and_parts, cond_both}
-use Rattle.std.proofs.lemmas.Option.{same_Some}
+use Rattle.std.proofs.lemmas.Option.{same_Some, cond_some}
 use Rattle.std.proofs.lemmas.List.{take-append-drop, length-append, length-drop, append-nil, nil_from_length, drop-drop}
 use Rattle.of_types.specs.Fields.{number_at, number_bytes, piece, IsBytes}
 use Rattle.of_types.specs.laws.FieldLaws.{number_at-lt, number_at-drop, number_bytes-number_at, IsBytes-drop}
@@ -24,6 +24,7 @@ use Rattle.app_frames.specs.laws.KindLaws.{number_of_event-lt, event_kind_of-num
 use Rattle.app_frames.specs.Bodies.{◌>>=◌, bare, message_of, flag_of, checkpoint_of, done_of, app_body, event_with, event_of, answer_with, answer_of, host_body}
 use Rattle.app_frames.specs.Spelling.{app_kind, bit, app_fields, app_tail, app_body_bytes, host_kind, answer_fields, answer_tail, host_fields, host_tail, host_body_bytes}
 use Rattle.app_frames.specs.Frames.{IsAppFrame, AnswerNumbers, HostNumbers, IsHostFrame}
+use Rattle.of_types.specs.laws.ChoiceLaws.{guard_some}
 
 -- ---- fields and what follows
 
@@ -35,14 +36,6 @@ body_spelled fields body fit within none laid =
     ap (λ (front : List ℕ). front ++ drop (width fields) body) (spelled-IsLaidOut 0 fields (drop (width fields) body) body fit (omega (arith, within)) none laid) ∙ take-append-drop (width fields) body
 
 -- ---- tests
-
-passed : {X : Type 0} (b : Bool) (x y : X) → cond b (Some x) None ≡ Some y → (b ≡ true) × (x ≡ y)
-passed true x y e = (refl, cc)
-passed false x y e = absurd cc
-
-went_on : {X : Type 0} (b : Bool) (o : Option X) (y : X) → cond b None o ≡ Some y → (b ≡ false) × (o ≡ Some y)
-went_on true o y e = absurd cc
-went_on false o y e = (refl, e)
 
 bind_some : {X Y : Type 0} (o : Option X) (f : X → Option Y) (y : Y) → (o >>= f) ≡ Some y → (x : X) × (o ≡ Some x) × (f x ≡ Some y)
 bind_some (Some x) f y e = (x, refl, e)
@@ -126,7 +119,7 @@ pub record WasApp (kind : AppKind) (frame : AppFrame) (body : List ℕ) : Type 0
 was_message : (body : List ℕ) (frame : AppFrame) → IsBytes body → message_of body ≡ Some frame → WasApp app.Message frame body
 unfolding message_of app_body_bytes
 was_message body frame fit e =
-    let a = passed (leb 16 (length body) && leb (length body) 65543) (Message (number_at 8 0 body) (drop 8 body)) frame e in
+    let a = cond_some (leb 16 (length body) && leb (length body) 65543) (Message (number_at 8 0 body) (drop 8 body)) frame e in
     let sizes = and_parts (leb 16 (length body)) (leb (length body) 65543) a.0 in
     let low : 16 ≤ length body = leb-true _ _ sizes.0 in
     let high : length body ≤ 65543 = leb-true _ _ sizes.1 in
@@ -139,7 +132,7 @@ was_message body frame fit e =
 
 was_bare : (kind : AppKind) (bare_frame frame : AppFrame) (body : List ℕ) → app_kind bare_frame ≡ kind → IsAppFrame bare_frame → app_body_bytes bare_frame ≡ [] → bare bare_frame body ≡ Some frame → WasApp kind frame body
 was_bare kind bare_frame frame body kind_is is none e =
-    let a = passed (eqb (length body) 0) bare_frame frame e in
+    let a = cond_some (eqb (length body) 0) bare_frame frame e in
     let empty : body ≡ [] = nil_from_length body (eqb-true _ _ a.0) in
     subst (λ (f : AppFrame). WasApp kind f body) a.1 (record { kind_is = kind_is; well_formed = is; spelled_is = none ∙ sym empty })
 
@@ -147,7 +140,7 @@ checkpoint_was : (has : Bool) (rest : List ℕ) (checkpoint : Option (List ℕ))
 unfolding checkpoint_of
 checkpoint_was false rest checkpoint e =
     let none : Option (List ℕ) = None in
-    let a = passed (eqb (length rest) 0) none checkpoint e in
+    let a = cond_some (eqb (length rest) 0) none checkpoint e in
     let empty : rest ≡ [] = nil_from_length rest (eqb-true _ _ a.0) in
     subst (λ (c : Option (List ℕ)). (false ≡ is_some c) × ((stop : Bool) → rest ≡ app_tail (Done stop c))) a.1 (refl, λ stop. empty)
 checkpoint_was true rest checkpoint e =
@@ -180,7 +173,7 @@ was_done_with body frame stop has checkpoint fit short two stop_is has_is checkp
 was_done : (body : List ℕ) (frame : AppFrame) → IsBytes body → length body ≤ 1048578 → done_of body ≡ Some frame → WasApp app.Done frame body
 unfolding done_of
 was_done body frame fit short e =
-    let a = went_on (ltb (length body) 2) (flag_of (number_at 1 0 body) >>= λ stop. flag_of (number_at 1 1 body) >>= λ has. checkpoint_of has (drop 2 body) >>= λ checkpoint. Some (Done stop checkpoint)) frame e in
+    let a = guard_some (ltb (length body) 2) (flag_of (number_at 1 0 body) >>= λ stop. flag_of (number_at 1 1 body) >>= λ has. checkpoint_of has (drop 2 body) >>= λ checkpoint. Some (Done stop checkpoint)) frame e in
     let b = bind_some (flag_of (number_at 1 0 body)) (λ stop. flag_of (number_at 1 1 body) >>= λ has. checkpoint_of has (drop 2 body) >>= λ checkpoint. Some (Done stop checkpoint)) frame a.1 in
     let c = bind_some (flag_of (number_at 1 1 body)) (λ has. checkpoint_of has (drop 2 body) >>= λ checkpoint. Some (Done b.0 checkpoint)) frame b.2 in
     let d = bind_some (checkpoint_of c.0 (drop 2 body)) (λ checkpoint. Some (Done b.0 checkpoint)) frame c.2 in
@@ -262,7 +255,7 @@ pub record WasHost (kind : HostKind) (frame : HostFrame) (body : List ℕ) : Typ
 was_event : (body : List ℕ) (frame : HostFrame) → IsBytes body → event_of body ≡ Some frame → WasHost host.Event frame body
 unfolding event_of host_body_bytes
 was_event body frame fit e =
-    let a = went_on (ltb (length body) 25) (option_map (event_with body) (event_kind_of (number_at 1 16 body))) frame e in
+    let a = guard_some (ltb (length body) 25) (option_map (event_with body) (event_kind_of (number_at 1 16 body))) frame e in
     let enough : 25 ≤ length body = ltb-false _ _ a.0 in
     let m = map_some (event_with body) (event_kind_of (number_at 1 16 body)) frame a.1 in
     let kind : number_at 1 16 body ≡ number_of_event m.0 = number_of_event-event_kind_of (number_at 1 16 body) m.0 m.1 in
@@ -280,20 +273,20 @@ record WasAnswer (code : ℕ) (answer : AnswerValue) (rest : List ℕ) : Type 0 
 
 was_fine : (code : ℕ) (rest : List ℕ) (answer : AnswerValue) → code ≡ 0 → bare Fine rest ≡ Some answer → WasAnswer code answer rest
 was_fine code rest answer is e =
-    let a = passed (eqb (length rest) 0) Fine answer e in
+    let a = cond_some (eqb (length rest) 0) Fine answer e in
     let empty : rest ≡ [] = nil_from_length rest (eqb-true _ _ a.0) in
     subst (λ (x : AnswerValue). WasAnswer code x rest) a.1 (record { numbers = tt; spelled_is = rw (is, empty) (append-nil (number_bytes 1 0 ++ [])) })
 
 was_unknown : (code : ℕ) (rest : List ℕ) (answer : AnswerValue) → code ≡ 3 → bare Unknown rest ≡ Some answer → WasAnswer code answer rest
 was_unknown code rest answer is e =
-    let a = passed (eqb (length rest) 0) Unknown answer e in
+    let a = cond_some (eqb (length rest) 0) Unknown answer e in
     let empty : rest ≡ [] = nil_from_length rest (eqb-true _ _ a.0) in
     subst (λ (x : AnswerValue). WasAnswer code x rest) a.1 (record { numbers = tt; spelled_is = rw (is, empty) (append-nil (number_bytes 1 3 ++ [])) })
 
 was_error : (code : ℕ) (rest : List ℕ) (answer : AnswerValue) → IsBytes rest → code ≡ 1 → cond (eqb (length rest) 4) (Some (Error (record { kind = number_at 2 0 rest; code = number_at 2 2 rest }))) None ≡ Some answer → WasAnswer code answer rest
 was_error code rest answer fit is e =
     let made = Error (record { kind = number_at 2 0 rest; code = number_at 2 2 rest }) in
-    let a = passed (eqb (length rest) 4) made answer e in
+    let a = cond_some (eqb (length rest) 4) made answer e in
     let four : length rest ≡ 4 = eqb-true _ _ a.0 in
     let fields = number 2 (number_at 2 0 rest) ∷ number 2 (number_at 2 2 rest) ∷ [] in
     let over : drop 4 rest ≡ [] = nil_from_length (drop 4 rest) (omega (arith, four, length-drop 4 rest)) in
@@ -306,7 +299,7 @@ was_error code rest answer fit is e =
 was_statistics : (code : ℕ) (rest : List ℕ) (answer : AnswerValue) → IsBytes rest → code ≡ 2 → cond (ltb (length rest) 2) None (Some (Statistics (number_at 2 0 rest) (drop 2 rest))) ≡ Some answer → WasAnswer code answer rest
 was_statistics code rest answer fit is e =
     let made = Statistics (number_at 2 0 rest) (drop 2 rest) in
-    let a = went_on (ltb (length rest) 2) (Some made) answer e in
+    let a = guard_some (ltb (length rest) 2) (Some made) answer e in
     let two : 2 ≤ length rest = ltb-false _ _ a.0 in
     let fields = number 2 (number_at 2 0 rest) ∷ [] in
     let same : spelled fields ++ drop 2 rest ≡ rest = body_spelled fields rest fit (omega (arith, two)) tt (refl, refl) in
@@ -327,7 +320,7 @@ was_answer code rest answer fit =
 was_answer_frame : (body : List ℕ) (frame : HostFrame) → IsBytes body → answer_of body ≡ Some frame → WasHost host.Answer frame body
 unfolding answer_of host_body_bytes
 was_answer_frame body frame fit e =
-    let a = went_on (eqb (length body) 0) (option_map (λ answer. Answer answer) (answer_with (number_at 1 0 body) (drop 1 body))) frame e in
+    let a = guard_some (eqb (length body) 0) (option_map (λ answer. Answer answer) (answer_with (number_at 1 0 body) (drop 1 body))) frame e in
     let some : 1 ≤ length body = not_empty (length body) a.0 in
     let m = map_some (λ answer. Answer answer) (answer_with (number_at 1 0 body) (drop 1 body)) frame a.1 in
     let was = was_answer (number_at 1 0 body) (drop 1 body) m.0 (IsBytes-drop 1 body fit) m.1 in

@@ -7,7 +7,7 @@ use Rattle.std.proofs.lemmas.List.{append-nil}
 use Rattle.of_types.specs.declared.journal.Act.{Act}
 use Rattle.of_types.specs.declared.journal.Act.TheVariants.{Stim, Started, Gave, Gone, Took, Ended, Sent, Got, Lost}
 use Rattle.flow_table.specs.View.{TableView}
-use Rattle.lego_model.specs.Journal.{is_of}
+use Rattle.lego_model.specs.Journal.{is_of, give_act}
 use Rattle.outside.specs.Seen.{Seen, Continues}
 use Rattle.outside.specs.State.{Link, State, state, after_step, is_joined, switch_in, switch_of, link_of}
 use Rattle.outside.specs.laws.StateLaws.{state-append}
@@ -25,12 +25,12 @@ use Rattle.net_txn.specs.laws.AbreastLaws.{changes_abreast}
 use Rattle.journal_laws.specs.Readings.{Calls}
 use Rattle.journal_laws.specs.laws.CallLaws.{calls_own}
 use Rattle.app_visor.specs.declared.state.TurnEnd.{TurnEnd}
-use Rattle.app_visor.specs.Talks.{step_of, Told, give_act}
+use Rattle.app_visor.specs.Talks.{step_of, Told}
 use Rattle.app_visor.specs.Beats.{Beat, Talk, Asks, Chain, Halts, Stops}
 use Rattle.app_visor.specs.laws.BeatLaws.{Chain-continues, halts_continue, Leads-continues}
 use Rattle.app_visor.specs.Turns.{Turns}
 use Rattle.app_visor.specs.CallsFor.{OwnSteps}
-use Rattle.app_visor.specs.laws.TellingLaws.{beside_one, links_one, apart_called}
+use Rattle.app_visor.specs.laws.TellingLaws.{beside_one, links_one, apart_called, told_state}
 
 -- ---- One call for an application
 
@@ -66,9 +66,6 @@ abreast_by old new net links due abreast = record {
   joined = λ d. joined_by d (state old) (state new) links ∙ abreast.joined d;
   none_due = due ∙ abreast.none_due;
 }
-
-told_state : {Own : Type 0} {Tells : Type 0} {act : Act} {old new : Seen Own} → Told Tells act old new → Tells → state new ≡ after_step (step_of act) (state old)
-told_state {act = act} {old = old} {new = new} told tells = state-append old new (step_of act ∷ []) told.continues.given (told.history tells)
 
 told_abreast : {Own : Type 0} {Tells : Type 0} {old new : Seen Own} (app : ℕ) (act : Act) (net : NetState) → is_of app act ≡ true → Told Tells act old new → Tells → Abreast old net → Abreast new net
 told_abreast {old = old} {new = new} app act net is told tells abreast =

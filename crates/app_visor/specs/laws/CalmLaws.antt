@@ -13,7 +13,8 @@ use Rattle.outside.specs.Quiescence.{is_quiescent, NoneQuiescent}
 use Rattle.outside.specs.laws.QuiescenceLaws.{none_since-none, none_since-then, last_quiescent-of, last_quiescent-then}
 use Rattle.net_txn.specs.LinkSteps.{is_link_step, AreLinkSteps, LinkSteps}
 use Rattle.journal_laws.specs.laws.FrameLaws.{answer_is_none}
-use Rattle.app_visor.specs.Talks.{step_of, Told, Wants, give_act}
+use Rattle.app_visor.specs.Talks.{step_of, Told, Wants}
+use Rattle.lego_model.specs.Journal.{give_act}
 use Rattle.app_visor.specs.Reads.{Comes, Breaks}
 use Rattle.app_visor.specs.declared.came.Came.{Came}
 use Rattle.app_visor.specs.CallsFor.{IsCallFor, CallsFor, Calmly, CalmLater}

@@ -8,14 +8,14 @@ use Rattle.flow_table.specs.View.{TableView}
 use Rattle.outside.specs.declared.step.WorldStep.{WorldStep}
 use Rattle.outside.specs.Seen.{Seen, journal}
 use Rattle.lego_model.specs.declared.fault.TxnFault.{TxnFault}
-use Rattle.lego_model.specs.Journal.{is_of}
+use Rattle.lego_model.specs.Journal.{is_of, give_act}
 use Rattle.lego_model.specs.OwnIds.{own_ids, AscendWithin, IsShortRun, OwnIdsSoFar}
 use Rattle.net_txn.specs.Net.{NetState}
 use Rattle.net_txn.specs.laws.OwnIdLaws.{own_ids_two, so_far_then, so_far_none, short_before}
 use Rattle.journal_laws.specs.Readings.{is_call, Calls}
 use Rattle.app_visor.specs.declared.state.TurnEnd.{TurnEnd}
 use Rattle.app_visor.specs.CallsFor.{OwnSteps}
-use Rattle.app_visor.specs.Talks.{step_of, give_act}
+use Rattle.app_visor.specs.Talks.{step_of}
 use Rattle.app_visor.specs.Beats.{Beat, Talk, Asks, Chain, Halts, Stops}
 use Rattle.app_visor.specs.Turns.{Turns}
 use Rattle.app_visor.specs.laws.BeatLaws.{Chain-continues, halts_continue}

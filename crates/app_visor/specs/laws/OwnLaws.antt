@@ -8,7 +8,7 @@ use Rattle.std.proofs.lemmas.Bool.{eq-eqb, eqb-true}
 use Rattle.of_types.specs.declared.journal.Act.{Act}
 use Rattle.of_types.specs.declared.journal.Act.TheVariants.{Stim, Started, Gave, Gone, Took, Ended, Sent, Got, Lost}
 use Rattle.of_types.specs.declared.journal.TookWhat.TheVariants as took
-use Rattle.lego_model.specs.Journal.{is_of, is_event}
+use Rattle.lego_model.specs.Journal.{is_of, is_event, give_act}
 use Rattle.lego_model.specs.Controller.{restore_frame}
 use Rattle.outside.specs.declared.step.WorldStep.{WorldStep}
 use Rattle.outside.specs.Seen.{Seen}
@@ -20,7 +20,7 @@ use Rattle.journal_laws.specs.laws.CallLaws.{both_second, call_of, calls_both, c
 use Rattle.journal_laws.specs.laws.FrameLaws.{restore_is_none}
 use Rattle.app_visor.specs.declared.came.Came.{Came}
 use Rattle.app_visor.specs.declared.came.Came.TheVariants as comes
-use Rattle.app_visor.specs.Talks.{step_of, Told, Wants, give_act}
+use Rattle.app_visor.specs.Talks.{step_of, Told, Wants}
 use Rattle.app_visor.specs.Reads.{takes, Taken, CameSo, Comes, Breaks}
 use Rattle.app_visor.specs.laws.ReadLaws.{within_takes}
 use Rattle.app_visor.specs.Attempts.{EndsUnless}

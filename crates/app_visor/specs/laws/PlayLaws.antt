@@ -7,7 +7,7 @@ use Rattle.app_frames.specs.declared.frame.AppFrame.{AppFrame}
 use Rattle.app_frames.specs.declared.frame.AppFrame.TheVariants as frames
 use Rattle.app_frames.specs.declared.frame.Answer.{Answer}
 use Rattle.app_frames.specs.declared.cause.Cause.TheVariants as causes
-use Rattle.lego_model.specs.Journal.{reply_of}
+use Rattle.lego_model.specs.Journal.{reply_of, give_act}
 use Rattle.lego_model.specs.Turns.{Outcome, Completed, Failed, turn_of}
 use Rattle.lego_model.specs.Scripted.{is_heard}
 use Rattle.lego_model.specs.Controller.{answer_frame}
@@ -23,7 +23,7 @@ use Rattle.app_visor.specs.declared.play_end.PlayEnd.{PlayEnd}
 use Rattle.app_visor.specs.declared.play_end.PlayEnd.TheVariants as plays
 use Rattle.checkpoint_store.specs.Slots.{Slot}
 use Rattle.app_visor.specs.declared.state.TurnEnd.TheVariants as ends
-use Rattle.app_visor.specs.Talks.{Told, give_act}
+use Rattle.app_visor.specs.Talks.{Told}
 use Rattle.app_visor.specs.Reads.{takes, Taken, Comes}
 use Rattle.app_visor.specs.Beats.{Talk, Asks, acts_in, exchange_of, IsExchange, Exchanges, Leads, Stops}
 use Rattle.app_visor.specs.laws.BeatLaws.{same, Leads-refl}

@@ -5,7 +5,7 @@ use Rattle.std.proofs.lemmas.List.{append-nil}
 use Rattle.flow_table.specs.View.{TableView}
 use Rattle.of_types.specs.declared.journal.Act.{Act}
 use Rattle.of_types.specs.declared.journal.WorldStim.{WorldStim}
-use Rattle.lego_model.specs.Journal.{stimuli, inputs, is_event, is_of}
+use Rattle.lego_model.specs.Journal.{stimuli, inputs, is_event, is_of, give_act}
 use Rattle.lego_model.specs.Controller.{given_in}
 use Rattle.outside.specs.declared.step.WorldStep.{WorldStep}
 use Rattle.outside.specs.Seen.{Seen, journal}
@@ -18,13 +18,14 @@ use Rattle.lego_model.specs.History.{starts_in, replies_in}
 use Rattle.journal_laws.specs.laws.ReadingLaws.{turn_read}
 use Rattle.journal_laws.specs.laws.CallLaws.{inputs_own, call_within}
 use Rattle.app_visor.specs.declared.state.TurnEnd.{TurnEnd}
-use Rattle.app_visor.specs.Talks.{step_of, Told, give_act}
+use Rattle.app_visor.specs.Talks.{step_of, Told}
 use Rattle.app_visor.specs.Beats.{Beat, Talk, Asks, Chain, acts_in, acts_of, ActsTold}
 use Rattle.app_visor.specs.laws.BeatLaws.{Chain-continues}
 use Rattle.app_visor.specs.laws.JournalLaws.{chain_told, acts_append}
 use Rattle.app_visor.specs.Turns.{Turns, reply_by}
 use Rattle.app_visor.specs.Tellings.{Beside, marks_by, TurnTold}
-use Rattle.app_visor.specs.laws.TellingLaws.{stimuli_longer, inputs_longer, Beside-refl, Beside-trans, marks_one, stimuli_one, beside_one, beside_links, marks_links, stimuli_links}
+use Rattle.app_visor.specs.laws.TellingLaws.{stimuli_longer, inputs_longer, Beside-refl, Beside-trans, marks_one, stimuli_one, beside_one, beside_links, marks_links, told_state}
+use Rattle.net_txn.specs.laws.LinkStepLaws.{stimuli_links}
 
 -- ---- All beats
 
@@ -60,11 +61,8 @@ stays_links old new given only =
 stimuli_told : {Own : Type 0} (Tells : Type 0) (app : ℕ) (act : Act) (old new : Seen Own) → is_of app act ≡ true → Told Tells act old new → Tells → stimuli (journal new.history) ≡ stimuli (journal old.history)
 stimuli_told Tells app act old new is told tells = no_stimuli_more old new (step_of act ∷ []) (told.history tells) (stimuli_one app act is)
 
-state_told : {Own : Type 0} (Tells : Type 0) (act : Act) (old new : Seen Own) → Told Tells act old new → Tells → state new ≡ after_step (step_of act) (state old)
-state_told Tells act old new told tells = state-append old new (step_of act ∷ []) told.continues.given (told.history tells)
-
 beside_told : {Own : Type 0} (Tells : Type 0) (app : ℕ) (act : Act) (old new : Seen Own) → is_of app act ≡ true → Told Tells act old new → Tells → Beside (state old) (state new)
-beside_told Tells app act old new is told tells = subst (λ (s : State). Beside (state old) s) (sym (state_told Tells act old new told tells)) (beside_one app act (state old) is)
+beside_told Tells app act old new is told tells = subst (λ (s : State). Beside (state old) s) (sym (told_state told tells)) (beside_one app act (state old) is)
 
 stays_chain : {Own : Type 0} (Tells : Type 0) (app : ℕ) (trace : List (Beat Own)) (old new : Seen Own) (net now_net : NetState) → Chain Tells app trace old new net now_net → Within app (acts_in trace) → Tells → StaysBeside old new
 stays_chain Tells app [] old new net now_net chain all tells = stays_refl old new chain.0
@@ -75,7 +73,7 @@ stays_chain Tells app (Talk act ∷ trace) old new net now_net chain all tells =
     stays_trans old next new (record {
       stimuli_is = stimuli_told Tells app act old next chain.0 told tells;
       beside = beside_told Tells app act old next chain.0 told tells;
-      marks = ap (λ (s : State). s.marks) (state_told Tells act old next told tells) ∙ marks_one app act (state old) call;
+      marks = ap (λ (s : State). s.marks) (told_state told tells) ∙ marks_one app act (state old) call;
     }) (stays_chain Tells app trace next new net now_net chain.1.1.1 all.1 tells)
 stays_chain Tells app (Asks x ∷ trace) old new net now_net chain all tells =
     let one : StaysBeside old x.after = subst (λ (s : Seen _). StaysBeside s x.after) chain.0.0 (stays_links x.before x.after chain.1.0.changes.continues.given (chain.1.0.changes.links tells)) in
@@ -123,5 +121,5 @@ turn_told {Tells = Tells} {app = app} {frame = frame} {old = old} {new = new} {n
       inputs_is = inputs_more app (act ∷ acts_in t.trace) (given_in t.given frame t.answers) old new acts t.inputs_is;
       stimuli_is = later.stimuli_is ∙ stimuli_told Tells app act old next t.chain.0 told tells;
       beside = Beside-trans (state old) (state next) (state new) (beside_told Tells app act old next t.chain.0 told tells) later.beside;
-      marks = later.marks ∙ ap (λ (s : State). s.marks) (state_told Tells act old next told tells) ∙ marks_event t.given app frame (state old);
+      marks = later.marks ∙ ap (λ (s : State). s.marks) (told_state told tells) ∙ marks_event t.given app frame (state old);
     }

@@ -1,6 +1,5 @@
 -- Laws of whether an application runs: a dialogue tells of it what the state tells that the history leaves, and so no call is out of place.
 use Rattle.std.specs.Prelude.{◌≡◌, ℕ, ◌==◌, Bool, true, false, not, List, [], ◌∷◌, ◌++◌, filter, ◌||◌, refl}
-use Rattle.std.specs.List.{list_any}
 use Rattle.std.proofs.Common.{sym, ap, ◌∙◌, subst, true≢false}
 use Rattle.std.proofs.lemmas.Bool.{eqb-true, eq-eqb, ne_eqb}
 use Rattle.std.proofs.lemmas.List.Folds.{list_any-append}
@@ -16,11 +15,9 @@ use Rattle.outside.specs.Seen.{Seen, act_of, journal}
 use Rattle.outside.specs.State.{State, is_running, running_after, after_stim, after_act, after_step, after_steps, state}
 use Rattle.outside.specs.laws.StateLaws.{state-append}
 use Rattle.app_visor.specs.Dialogues.{Converses, ran_before, KeepsOrder, CallsKeepOrder}
+use Rattle.of_types.specs.Membership.{is_among}
 
 -- ---- Those that run
-
-abbrev runs_in : ℕ → List ℕ → Bool
-runs_in app running = list_any (λ a. a == app) running
 
 or_true : (b c : Bool) → c ≡ true → (b || (c || false)) ≡ true
 or_true true c is = refl
@@ -31,23 +28,23 @@ or_false true c is = refl
 or_false false c is = rw is refl
 
 -- one that was started runs, where the start stands
-pub started_runs : (app of : ℕ) (running : List ℕ) → (of == app) ≡ true → runs_in app (running ++ of ∷ []) ≡ true
-started_runs app of running is = list_any-append (λ (a : ℕ). a == app) running (of ∷ []) ∙ or_true (runs_in app running) (of == app) is
+pub started_runs : (app of : ℕ) (running : List ℕ) → (of == app) ≡ true → is_among app (running ++ of ∷ []) ≡ true
+started_runs app of running is = list_any-append (λ (a : ℕ). a == app) running (of ∷ []) ∙ or_true (is_among app running) (of == app) is
 
-start_of_other : (app of : ℕ) (stands : Bool) (running : List ℕ) → (of == app) ≡ false → runs_in app (running_after of stands running) ≡ runs_in app running
-start_of_other app of true running other = list_any-append (λ (a : ℕ). a == app) running (of ∷ []) ∙ or_false (runs_in app running) (of == app) other
+start_of_other : (app of : ℕ) (stands : Bool) (running : List ℕ) → (of == app) ≡ false → is_among app (running_after of stands running) ≡ is_among app running
+start_of_other app of true running other = list_any-append (λ (a : ℕ). a == app) running (of ∷ []) ∙ or_false (is_among app running) (of == app) other
 start_of_other app of false running other = refl
 
 apart : (app of k : ℕ) → (of == app) ≡ false → (k == app) ≡ true → not (k == of) ≡ true
 apart app of k other is = ap not (ne_eqb k of (λ e. true≢false (sym (eq-eqb of app (sym e ∙ eqb-true k app is)) ∙ other)))
 
-end_of_other : (app of : ℕ) (running : List ℕ) → (of == app) ≡ false → runs_in app (filter (λ a. not (a == of)) running) ≡ runs_in app running
+end_of_other : (app of : ℕ) (running : List ℕ) → (of == app) ≡ false → is_among app (filter (λ a. not (a == of)) running) ≡ is_among app running
 end_of_other app of running other = any-filter_same (λ a. a == app) (λ a. not (a == of)) true (λ k is. apart app of k other is) running
 
 ended_itself : (app of k : ℕ) → (of == app) ≡ true → (k == app) ≡ true → not (k == of) ≡ false
 ended_itself app of k same is = ap not (eq-eqb k of (eqb-true k app is ∙ sym (eqb-true of app same)))
 
-end_of_itself : (app of : ℕ) (running : List ℕ) → (of == app) ≡ true → runs_in app (filter (λ a. not (a == of)) running) ≡ false
+end_of_itself : (app of : ℕ) (running : List ℕ) → (of == app) ≡ true → is_among app (filter (λ a. not (a == of)) running) ≡ false
 end_of_itself app of running same = any-filter_same (λ a. a == app) (λ a. not (a == of)) false (λ k is. ended_itself app of k same is) running
 
 -- ---- One act

@@ -3,22 +3,22 @@ use Rattle.std.specs.Prelude.{◌≡◌, ◌==◌, ℕ, true, false, List, [], �
 use Rattle.std.proofs.Common.{sym, ap, ◌∙◌, true≢false}
 use Rattle.of_types.specs.declared.journal.Act.{Act}
 use Rattle.of_types.specs.declared.journal.Act.TheVariants.{Stim, Started, Gave, Gone, Took, Ended, Sent, Got, Lost}
-use Rattle.of_types.specs.declared.journal.WorldStim.{WorldStim}
 use Rattle.lego_model.specs.Journal.{stimuli, inputs, is_of, is_event}
 use Rattle.lego_model.specs.laws.JournalLaws.{stimuli-append, inputs-append}
 use Rattle.outside.specs.declared.step.WorldStep.{WorldStep}
 use Rattle.outside.specs.declared.step.WorldStep.TheVariants.{Acted, TookInto, From, Joined, Left, Moment, Idle, End, Opened, NotOpened, NextFailed, SendLost, RecvLost, SendFailed, RecvFailed}
-use Rattle.outside.specs.Seen.{journal}
+use Rattle.outside.specs.Seen.{journal, Seen}
 use Rattle.outside.specs.laws.SeenLaws.{journal-append}
-use Rattle.outside.specs.State.{State, event_number, marks_after_gave, after_act, after_step, after_steps}
+use Rattle.outside.specs.State.{State, event_number, marks_after_gave, after_act, after_step, after_steps, state}
 use Rattle.net_txn.specs.LinkSteps.{is_link_step, AreLinkSteps}
 use Rattle.journal_laws.specs.Readings.{is_call, Calls}
 use Rattle.journal_laws.specs.laws.CallLaws.{both_second, call_of, calls_of, stimulus_called, no_stimuli}
 use Rattle.journal_laws.specs.laws.FrameLaws.{kind_byte}
-use Rattle.app_visor.specs.Talks.{step_of}
+use Rattle.app_visor.specs.Talks.{step_of, Told}
 use Rattle.app_visor.specs.Beats.{acts_of}
 use Rattle.app_visor.specs.laws.JournalLaws.{journal_told}
 use Rattle.app_visor.specs.Tellings.{Beside, Apart}
+use Rattle.outside.specs.laws.StateLaws.{state-append}
 
 -- ---- Longer histories
 
@@ -172,37 +172,7 @@ beside_links steps s all = (kept_links steps s all).beside
 pub marks_links : (steps : List WorldStep) (s : State) → AreLinkSteps steps → (after_steps steps s).marks ≡ s.marks
 marks_links steps s all = (kept_links steps s all).marks
 
-stimuli_none : stimuli (journal []) ≡ []
-unfolding stimuli journal
-stimuli_none = refl
+-- ---- One act that is told
 
-stimuli_link : (step : WorldStep) → is_link_step step ≡ true → stimuli (journal (step ∷ [])) ≡ []
-unfolding stimuli journal
-stimuli_link (Acted (Stim x)) is = absurd (true≢false (sym is))
-stimuli_link (Acted (Sent d bytes)) is = refl
-stimuli_link (Acted (Got d bytes)) is = refl
-stimuli_link (Acted (Lost d)) is = refl
-stimuli_link (Acted (Started of stands)) is = refl
-stimuli_link (Acted (Gave of frame)) is = refl
-stimuli_link (Acted (Gone of frame)) is = refl
-stimuli_link (Acted (Took of what)) is = refl
-stimuli_link (Acted (Ended of)) is = refl
-stimuli_link (SendLost d) is = refl
-stimuli_link (RecvLost d) is = refl
-stimuli_link (SendFailed d) is = refl
-stimuli_link (RecvFailed d) is = refl
-stimuli_link (TookInto of what room) is = refl
-stimuli_link (From d bytes) is = refl
-stimuli_link (Joined d bytes) is = refl
-stimuli_link (Left d) is = refl
-stimuli_link (Moment at) is = refl
-stimuli_link Idle is = refl
-stimuli_link End is = refl
-stimuli_link Opened is = refl
-stimuli_link NotOpened is = refl
-stimuli_link NextFailed is = refl
-
-pub stimuli_links : (steps : List WorldStep) → AreLinkSteps steps → stimuli (journal steps) ≡ []
-stimuli_links [] all = stimuli_none
-stimuli_links (step ∷ steps) all =
-    stimuli_longer (step ∷ []) steps ∙ ap (λ (xs : List WorldStim). xs ++ stimuli (journal steps)) (stimuli_link step all.0) ∙ stimuli_links steps all.1
+pub told_state : {Own : Type 0} {Tells : Type 0} {act : Act} {old new : Seen Own} → Told Tells act old new → Tells → state new ≡ after_step (step_of act) (state old)
+told_state {act = act} {old = old} {new = new} told tells = state-append old new (step_of act ∷ []) told.continues.given (told.history tells)

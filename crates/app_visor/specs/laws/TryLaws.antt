@@ -178,13 +178,13 @@ not_yet {Own = Own} {Tells = Tells} {app = app} {kept = kept} {tried = tried} {r
 
 -- ---- What the reference comes to
 
-abbrev first_tried : App → Start → List Start → List ℕ → App
+abbrev pub first_tried : App → Start → List Start → List ℕ → App
 first_tried a s more rest = record a { alive = true; rest = rest; inputs = a.inputs ++ restored a.kept s; starts = more }
 
-abbrev by_first : ℕ → App → Tried → App → App × List Tried
+abbrev pub by_first : ℕ → App → Tried → App → App × List Tried
 by_first n a tried next = if is_ready tried then (next, tried ∷ []) else ((started n next).0, tried ∷ (started n next).1)
 
-started_first : (n : ℕ) (a : App) (s : Start) (more : List Start) (tried : Tried) (rest : List ℕ) → a.starts ≡ s ∷ more → outcome_of s ≡ (tried, rest) → started (suc n) a ≡ by_first n a tried (first_tried a s more rest)
+pub started_first : (n : ℕ) (a : App) (s : Start) (more : List Start) (tried : Tried) (rest : List ℕ) → a.starts ≡ s ∷ more → outcome_of s ≡ (tried, rest) → started (suc n) a ≡ by_first n a tried (first_tried a s more rest)
 unfolding started
 started_first n a s more tried rest has is = rw (has, is) refl
 

@@ -30,7 +30,8 @@ use Rattle.batch_laws.specs.Knowledge.{known_by, Knowledge, handled, handled_all
 use Rattle.batch_laws.specs.Calm.{known_ports}
 use Rattle.batch_laws.specs.Tells.{FitsItem}
 use Rattle.batch_laws.specs.laws.LinkTellLaws.{switch-step, links-step}
-use Rattle.batch_laws.specs.LinkTells.{KnownIn, StandsIn, HappensIn, table_rows, KnownThen, SwitchStep, items_of, seen_events, LinkReady, LinkThen, LinksStep}
+use Rattle.batch_laws.specs.LinkTells.{KnownIn, StandsIn, HappensIn, KnownThen, SwitchStep, items_of, seen_events, LinkReady, LinkThen, LinksStep}
+use Rattle.lego_model.specs.Places.{table_rows}
 use Rattle.batch_laws.specs.laws.ReferenceLaws.{all-of, place-map, flat-one, events-links, links-found, all-at, link_of-map, waiting-all, waiting-one}
 use Rattle.batch_laws.specs.Waiting.{place_at, NoneWait}
 use Rattle.batch_laws.specs.After.{Facts, SoundIn, After}

@@ -35,6 +35,7 @@ use Rattle.batch_laws.specs.laws.AfterLaws.{items-of-one}
 use Rattle.batch_laws.specs.laws.LeaveTellLaws.{left-silent}
 use Rattle.batch_laws.specs.laws.JoinTellLaws.{joined-silent}
 use Rattle.net_txn.specs.laws.PacketHeardLaws.{packet-type}
+use Rattle.of_types.specs.RawBytes.{IsNotRaw}
 
 -- ---- One among others
 
@@ -222,10 +223,6 @@ raw_alone d e bytes own front later (Some s) is =
       first = one.0;
       last = one.1;
     }
-
-abbrev IsNotRaw : Stimulus → Type 0
-IsNotRaw (Raw bytes) = ⊥
-IsNotRaw other = Unit {0}
 
 stimulus_news : (x : Stimulus) (o : Option SwitchState) → IsNotRaw x → AllByRecursion NotEcho (stimulus_sends x o)
 unfolding sent_by_stimulus

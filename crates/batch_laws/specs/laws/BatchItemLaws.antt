@@ -1,5 +1,5 @@
 -- Laws of one item in a batch: it is the next that is upcoming, what the engine does at it moves no switch or loses one, and how a batch ends.
-use Rattle.std.specs.Prelude.{◌≡◌, ◌==◌, not, ℕ, ◌+◌, ◌⊎◌, Bool, true, false, List, [], ◌∷◌, ◌++◌, length, drop, take, filter, Option, Some, None, is_some, slice_get, refl}
+use Rattle.std.specs.Prelude.{◌≡◌, ◌==◌, not, ℕ, ◌+◌, ◌⊎◌, true, false, List, [], ◌∷◌, ◌++◌, length, drop, take, filter, Option, Some, None, is_some, slice_get, refl}
 use Rattle.std.specs.List.{AllByRecursion}
 use Rattle.std.specs.Option.{option_map}
 use Rattle.std.proofs.Common.{sym, ap, ap₂, ◌∙◌, subst, inl, inr, append_assoc, length-append, true≢false}
@@ -24,13 +24,13 @@ use Rattle.outside.specs.declared.step.WorldStep.{WorldStep}
 use Rattle.outside.specs.declared.step.WorldStep.TheVariants.{From, Joined, Left, Moment, Idle, End}
 use Rattle.outside.specs.Seen.{Seen, journal}
 use Rattle.outside.specs.laws.SeenLaws.{journal-append}
-use Rattle.outside.specs.State.{Link, State, link_of, switch_in, waits_of, switch_of, upcoming, is_joined, link_stimulated, due_of, after_stim, after_step, state}
+use Rattle.outside.specs.State.{Link, State, link_of, switch_in, waits_of, switch_of, upcoming, is_joined, link_stimulated, due_of, after_stim, after_step, state, waiting_in}
 use Rattle.outside.specs.laws.StateLaws.{state-append}
 use Rattle.outside.specs.laws.LinkLaws.{switch_of-from, switch_of-from_other, link_of-same}
 use Rattle.outside.specs.Calls.{item_step}
 use Rattle.outside.specs.Conforming.{IsNext, MayStep, Conforming}
 use Rattle.outside.specs.laws.LinkKeptLaws.{keeps_stimulated}
-use Rattle.outside.specs.laws.CallLaws.{nothing_next}
+use Rattle.outside.specs.laws.CallLaws.{nothing_next, joins_in}
 use Rattle.net_txn.specs.Net.{NetState}
 use Rattle.net_txn.specs.Views.{rows_at}
 use Rattle.switch_laws.specs.Since.{ports_known}
@@ -42,10 +42,10 @@ use Rattle.lego_model.specs.Answers.{rows_of_view}
 use Rattle.switch_laws.specs.laws.OrderlyLaws.{released-still, orderly-then}
 use Rattle.switch_laws.specs.laws.LinkLaws.{links_switch, links_waits}
 use Rattle.batch_laws.specs.Knowledge.{Knowledge, knowledge_of, is_known, handled, handled_all, LosesAt, lost_text, ports_lost, known_lost}
-use Rattle.batch_laws.specs.LinkTells.{table_rows}
+use Rattle.lego_model.specs.Places.{table_rows}
 use Rattle.batch_laws.specs.Told.{IsTold, TellsDue, TellsNone, Later, Stills, LostAlone}
 use Rattle.batch_laws.specs.Batches.{Standing}
-use Rattle.batch_laws.specs.Items.{HandlesStill, HandlesLost, waiting, Fresh, IsFresh, IsItem}
+use Rattle.batch_laws.specs.Items.{HandlesStill, HandlesLost, Fresh, IsFresh, IsItem}
 use Rattle.batch_laws.specs.Tells.{FitsItem}
 use Rattle.batch_laws.specs.laws.StimulusLaws.{bytes-fit}
 use Rattle.batch_laws.specs.laws.LinkTellLaws.{handled_all-append}
@@ -58,14 +58,14 @@ use Rattle.batch_laws.specs.laws.HandleLaws.{idle_is}
 
 -- ---- One item is told
 
-from_tells : (declared : List Declared) (d : ℕ) (bytes : List ℕ) (s : State) (ascend : (slice_get (waiting s.links) 0 ≡ Some (From d bytes) → waiting s.links ≡ From d bytes ∷ waiting (after_step (From d bytes) s).links))
+from_tells : (declared : List Declared) (d : ℕ) (bytes : List ℕ) (s : State) (ascend : (slice_get (waiting_in s.links) 0 ≡ Some (From d bytes) → waiting_in s.links ≡ From d bytes ∷ waiting_in (after_step (From d bytes) s).links))
     → IsDue s.due → MayStep declared (From d bytes) s → IsTold (From d bytes) s (after_step (From d bytes) s)
 unfolding MayStep upcoming after_step
 from_tells declared d bytes s ascend due may =
-    let none : s.due ≡ [] = none_due_by s.due (waiting s.links) d bytes due may.0 in
-    let next : slice_get (waiting s.links) 0 ≡ Some (From d bytes) = sym (ap (λ (xs : List WorldStep). slice_get (xs ++ waiting s.links) 0) none) ∙ may.0 in
+    let none : s.due ≡ [] = none_due_by s.due (waiting_in s.links) d bytes due may.0 in
+    let next : slice_get (waiting_in s.links) 0 ≡ Some (From d bytes) = sym (ap (λ (xs : List WorldStep). slice_get (xs ++ waiting_in s.links) 0) none) ∙ may.0 in
     record {
-      first = ap (λ (xs : List WorldStep). xs ++ waiting s.links) none ∙ ascend next ∙ sym (ap (λ (xs : List WorldStep). From d bytes ∷ (xs ++ waiting (after_step (From d bytes) s).links)) none);
+      first = ap (λ (xs : List WorldStep). xs ++ waiting_in s.links) none ∙ ascend next ∙ sym (ap (λ (xs : List WorldStep). From d bytes ∷ (xs ++ waiting_in (after_step (From d bytes) s).links)) none);
       besides = record { opened = refl; running = refl; moment = refl; to_come = refl; marks = refl };
       begun = refl;
       switches = λ e. elim (cases_Bool (e == d)) [
@@ -84,7 +84,7 @@ due_tells item s t due other is next =
     let none : t.due ≡ [] = ap (λ (u : State). u.due) is ∙ ap (drop 1) one in
     let links : t.links ≡ s.links = ap (λ (u : State). u.links) is in
     record {
-      first = ap (λ (xs : List WorldStep). xs ++ waiting s.links) one ∙ sym (ap₂ (λ (xs : List WorldStep) (ls : List Link). item ∷ (xs ++ waiting ls)) none links);
+      first = ap (λ (xs : List WorldStep). xs ++ waiting_in s.links) one ∙ sym (ap₂ (λ (xs : List WorldStep) (ls : List Link). item ∷ (xs ++ waiting_in ls)) none links);
       besides = record {
         opened = ap (λ (u : State). u.opened) is;
         running = ap (λ (u : State). u.running) is;
@@ -268,7 +268,7 @@ none_of (x ∷ xs) ys none = absurd cc
 
 nothing_waits : (d : ℕ) (s : State) → upcoming s ≡ [] → (s.due ≡ []) × (waits_of d s ≡ [])
 unfolding upcoming waits_of
-nothing_waits d s none = let parts = none_of s.due (waiting s.links) none in (parts.0, none_waits d s.links parts.1)
+nothing_waits d s none = let parts = none_of s.due (waiting_in s.links) none in (parts.0, none_waits d s.links parts.1)
 
 -- ---- A switch is lost at the item
 
@@ -332,9 +332,6 @@ happened_stays x (Some l) joined = by l.switch joined
 joined_after : (d : ℕ) (x : Stimulus) (s : State) → is_joined d s ≡ true → is_joined d (after_stim (Of d x) s) ≡ true
 unfolding switch_of after_stim
 joined_after d x s joined = ap (λ (o : Option Link). is_some (switch_in o)) (link_of-same d (link_stimulated x) (keeps_stimulated x) s.links) ∙ happened_stays x (link_of d s.links) joined
-
-abbrev joins_in : Option SwitchState → Bool
-joins_in o = is_some o
 
 -- an ECHO_REQUEST could not be answered
 echo_lost : {Own Tells : Type 0} {x : WorldStim} {n : ℕ} {first now : Standing Own} {d : ℕ} {bytes text : List ℕ} {mid new : Seen Own} {net : NetState} {queue : List Event} → Stills first → (batch : InBatch x n first now)
@@ -514,7 +511,7 @@ told_in items.End buf keeps still batch later = absurd (no_end batch later)
 
 pub none_upcoming : {Own : Type 0} {x : WorldStim} {first now : Standing Own} → Conforming now.seen → BatchLost x true first now → upcoming (state now.seen) ≡ []
 unfolding upcoming waits_of
-none_upcoming {now = now} keeps lost = ap (λ (xs : List WorldStep). xs ++ waiting (state now.seen).links) lost.due ∙ none_waiting 1 (state now.seen).links (links_ascend now.seen keeps) lost.waits
+none_upcoming {now = now} keeps lost = ap (λ (xs : List WorldStep). xs ++ waiting_in (state now.seen).links) lost.due ∙ none_waiting 1 (state now.seen).links (links_ascend now.seen keeps) lost.waits
 
 lost_idle : {Own Tells : Type 0} {x : WorldStim} {first now : Standing Own} {mid new : Seen Own} {net : NetState} {queue : List Event} {text : List ℕ} → BatchLost x true first now → Later Tells Idle text now mid new net queue → BatchLost x false first (standing new net queue (now.text ++ text))
 lost_idle {x = x} {first = first} {now = now} {mid = mid} {new = new} {net = net} {text = text} batch later =

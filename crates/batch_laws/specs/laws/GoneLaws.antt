@@ -25,6 +25,7 @@ use Rattle.switch_laws.specs.laws.OrderlyLaws.{released-on}
 use Rattle.batch_laws.specs.Items.{SameRest, LossLeaves}
 use Rattle.batch_laws.specs.laws.ItemLaws.{rest_all, rest_then}
 use Rattle.batch_laws.specs.laws.KeepingLaws.{Conforming-in_order, calls-orderly}
+use Rattle.net_txn.specs.laws.LinkStepLaws.{stimuli_links, acts_links}
 
 -- ---- Steps of links
 
@@ -58,46 +59,6 @@ links_rest : (steps : List WorldStep) (s : State) → AreLinkSteps steps → Sam
 links_rest [] s all = rest_all s
 links_rest (step ∷ steps) s all = rest_then s (after_step step s) (after_steps steps (after_step step s)) (link_rest step s all.0) (links_rest steps (after_step step s) all.1)
 
--- none is a stimulus or an act of an application
-abbrev TellsNothing : WorldStep → Type 0
-TellsNothing step = (steps : List WorldStep) (app : ℕ) → (stimuli (journal (step ∷ steps)) ≡ stimuli (journal steps)) × (filter (is_of app) (journal (step ∷ steps)) ≡ filter (is_of app) (journal steps))
-
-link_tells : (step : WorldStep) → is_link_step step ≡ true → TellsNothing step
-unfolding stimuli journal
-link_tells (Acted (Sent d bytes)) is steps app = (refl, refl)
-link_tells (Acted (Got d bytes)) is steps app = (refl, refl)
-link_tells (SendLost d) is steps app = (refl, refl)
-link_tells (RecvLost d) is steps app = (refl, refl)
-link_tells (SendFailed d) is steps app = (refl, refl)
-link_tells (RecvFailed d) is steps app = (refl, refl)
-link_tells (Acted (Stim x)) is steps app = absurd (true≢false (sym is))
-link_tells (Acted (Started of ok)) is steps app = absurd (true≢false (sym is))
-link_tells (Acted (Gave of bytes)) is steps app = absurd (true≢false (sym is))
-link_tells (Acted (Gone of bytes)) is steps app = absurd (true≢false (sym is))
-link_tells (Acted (Took of what)) is steps app = absurd (true≢false (sym is))
-link_tells (Acted (Ended of)) is steps app = absurd (true≢false (sym is))
-link_tells (Acted (Lost d)) is steps app = absurd (true≢false (sym is))
-link_tells (TookInto of what room) is steps app = absurd (true≢false (sym is))
-link_tells (From d bytes) is steps app = absurd (true≢false (sym is))
-link_tells (Joined d bytes) is steps app = absurd (true≢false (sym is))
-link_tells (Left d) is steps app = absurd (true≢false (sym is))
-link_tells (Moment t) is steps app = absurd (true≢false (sym is))
-link_tells Idle is steps app = absurd (true≢false (sym is))
-link_tells End is steps app = absurd (true≢false (sym is))
-link_tells Opened is steps app = absurd (true≢false (sym is))
-link_tells NotOpened is steps app = absurd (true≢false (sym is))
-link_tells NextFailed is steps app = absurd (true≢false (sym is))
-
-stimuli_none : (steps : List WorldStep) → AreLinkSteps steps → stimuli (journal steps) ≡ []
-unfolding stimuli journal
-stimuli_none [] all = refl
-stimuli_none (step ∷ steps) all = (link_tells step all.0 steps 0).0 ∙ stimuli_none steps all.1
-
-acts_none : (app : ℕ) (steps : List WorldStep) → AreLinkSteps steps → filter (is_of app) (journal steps) ≡ []
-unfolding journal
-acts_none app [] all = refl
-acts_none app (step ∷ steps) all = (link_tells step all.0 steps app).1 ∙ acts_none app steps all.1
-
 -- ---- A switch that is lost
 
 gone_by : {Own Tells : Type 0} (d : ℕ) (mid new : Seen Own) → Tells → Conforming new → new.given ≡ mid.given → ((e : ℕ) → waits_of e (state mid) ≡ []) → is_joined d (state mid) ≡ true → AsksWithoutStrays Tells d mid new → LinkSteps mid new → GoesOut d [] mid new
@@ -113,10 +74,10 @@ gone_by d mid new told keeps given none joined no_strays links out = record {
   lost = ap (λ (h : List WorldStep). losses (journal h)) out.history ∙ ap losses (journal-append mid.history out.steps) ∙ losses-append (journal mid.history) (journal out.steps)
       ∙ ap (λ (xs : List ℕ). losses (journal mid.history) ++ xs) out.lost;
   stimuli_is = ap (λ (h : List WorldStep). stimuli (journal h)) links.history ∙ ap stimuli (journal-append mid.history links.steps) ∙ stimuli-append (journal mid.history) (journal links.steps)
-      ∙ ap (λ (xs : List WorldStim). stimuli (journal mid.history) ++ xs) (stimuli_none links.steps links.all) ∙ append-nil (stimuli (journal mid.history));
+      ∙ ap (λ (xs : List WorldStim). stimuli (journal mid.history) ++ xs) (stimuli_links links.steps links.all) ∙ append-nil (stimuli (journal mid.history));
   acts = λ app. ap (λ (h : List WorldStep). filter (is_of app) (journal h)) links.history ∙ ap (filter (is_of app)) (journal-append mid.history links.steps)
       ∙ filter-append (is_of app) (journal mid.history) (journal links.steps)
-      ∙ ap (λ (xs : List Act). filter (is_of app) (journal mid.history) ++ xs) (acts_none app links.steps links.all) ∙ append-nil (filter (is_of app) (journal mid.history));
+      ∙ ap (λ (xs : List Act). filter (is_of app) (journal mid.history) ++ xs) (acts_links app links.steps links.all) ∙ append-nil (filter (is_of app) (journal mid.history));
   released = released-on mid new out.steps out.history ∙ ap (λ (xs : List Held). released_of mid ++ xs) out.released_is ∙ append-nil (released_of mid);
   orderly = λ app. calls-orderly app mid new links (no_strays told (Conforming-in_order new keeps) joined);
 }

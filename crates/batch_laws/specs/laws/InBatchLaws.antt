@@ -16,7 +16,7 @@ use Rattle.outside.specs.declared.step.WorldStep.{WorldStep}
 use Rattle.outside.specs.declared.step.WorldStep.TheVariants.{Acted, From, Joined, End}
 use Rattle.outside.specs.Seen.{Seen, journal}
 use Rattle.outside.specs.laws.SeenLaws.{journal-append, Nexts-continues}
-use Rattle.outside.specs.State.{State, waits_of, switch_of, upcoming, after_stim, after_act, after_step, state}
+use Rattle.outside.specs.State.{State, waits_of, switch_of, upcoming, after_stim, after_act, after_step, state, waiting_in}
 use Rattle.outside.specs.laws.StateLaws.{state-append, Conforming-rest, Conforming-front, Conforming-before}
 use Rattle.outside.specs.Calls.{Nexts, stim_steps, item_step, next_steps}
 use Rattle.outside.specs.laws.CallLaws.{MayStep-at_rest}
@@ -29,7 +29,7 @@ use Rattle.batch_laws.specs.Knowledge.{Knowledge, knowledge_of}
 use Rattle.batch_laws.specs.Told.{Stills}
 use Rattle.batch_laws.specs.Calm.{Calm}
 use Rattle.batch_laws.specs.Batches.{Standing}
-use Rattle.batch_laws.specs.Items.{HandlesStill, Handles, TakesNext, waiting}
+use Rattle.batch_laws.specs.Items.{HandlesStill, Handles, TakesNext}
 use Rattle.batch_laws.specs.laws.StimulusLaws.{none-wait}
 use Rattle.batch_laws.specs.laws.UpcomingLaws.{no_message_joined, one_due_by}
 use Rattle.batch_laws.specs.laws.ItemLaws.{links_ascend, none_waiting}
@@ -118,7 +118,7 @@ nothing_upcoming : {Own : Type 0} (first : Standing Own) → Conforming first.se
 unfolding upcoming waits_of
 nothing_upcoming first keeps still =
     let s = state first.seen in
-    ap (λ (xs : List WorldStep). xs ++ waiting s.links) still.none_due ∙ none_waiting 1 s.links (links_ascend first.seen keeps) still.waits
+    ap (λ (xs : List WorldStep). xs ++ waiting_in s.links) still.none_due ∙ none_waiting 1 s.links (links_ascend first.seen keeps) still.waits
 
 next_history : {Own Tells : Type 0} {old mid : Seen Own} {item : Item} {buf : List ℕ} (told : Tells) (call : Nexts Tells old mid (Ok item) buf) (begun : Option WorldStim) → (call.told told).begun ≡ begun
     → mid.history ≡ old.history ++ (stim_steps begun ++ item_step item buf ∷ [])

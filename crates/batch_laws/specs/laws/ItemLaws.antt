@@ -25,12 +25,12 @@ use Rattle.flow_table.specs.Refusals.{message_refusal}
 use Rattle.flow_table.specs.Step.{after_taken, after_message, sent_by_taken, sent_by_message}
 use Rattle.app_frames.specs.declared.frame.Event.{Event}
 use Rattle.lego_model.specs.Journal.{is_of, stimuli, losses}
-use Rattle.lego_model.specs.laws.JournalLaws.{stimuli-append, losses-append}
+use Rattle.lego_model.specs.laws.JournalLaws.{stimuli-append, losses-append, stimuli-nil, acts-nil}
 use Rattle.outside.specs.declared.step.WorldStep.{WorldStep}
 use Rattle.outside.specs.declared.step.WorldStep.TheVariants.{Acted, TookInto, From, Joined, Left, Moment, Idle, End, Opened, NotOpened, NextFailed, SendLost, RecvLost, SendFailed, RecvFailed}
 use Rattle.outside.specs.Seen.{Seen, journal}
 use Rattle.outside.specs.laws.SeenLaws.{journal-append}
-use Rattle.outside.specs.State.{Link, State, link_of, waits_in, switch_in, waits_of, switch_of, upcoming, with_link, switch_told, message_sends, link_sent, link_told, after_act, after_step, after_steps, state}
+use Rattle.outside.specs.State.{Link, State, link_of, waits_in, switch_in, waits_of, switch_of, upcoming, with_link, switch_told, message_sends, link_sent, link_told, after_act, after_step, after_steps, state, waiting_in}
 use Rattle.outside.specs.laws.StateLaws.{state-append}
 use Rattle.outside.specs.Conforming.{AreDeclaredFrom, Conforming}
 use Rattle.lego_model.specs.declared.wait.Awaited.{Awaited}
@@ -48,7 +48,7 @@ use Rattle.switch_laws.specs.laws.StandLaws.{state-links}
 use Rattle.lego_model.specs.OrderlySteps.{IsOrderly}
 use Rattle.switch_laws.specs.Released.{ReleasesNone}
 use Rattle.switch_laws.specs.laws.OrderlyLaws.{echo-none, join-steps-none, released-still, orderly-none, join-steps-orderly}
-use Rattle.batch_laws.specs.Items.{answers, Untouched, Rests, TakesMessage, TakesIn, TakesInBy, TakesInAs, DoesFrom, DoesJoined, DoesLeft, HandlesStill, waiting, Ascend, Leaves, SameRest, IsSentOrGot, ItemDone, Fresh, IsFresh, Done, IsItem}
+use Rattle.batch_laws.specs.Items.{answers, Untouched, Rests, TakesMessage, TakesIn, TakesInBy, TakesInAs, DoesFrom, DoesJoined, DoesLeft, HandlesStill, Ascend, Leaves, SameRest, IsSentOrGot, ItemDone, Fresh, IsFresh, Done, IsItem}
 
 -- ---- What waits, of the switches with lower numbers first
 
@@ -65,10 +65,10 @@ same_bytes d e a b same = cc
 -- The next message is that of the first switch of which one waits.
 record NextWaits (d : ℕ) (bytes : List ℕ) (least : ℕ) (ls : List Link) : Type 0 where
   above : least ≤ d
-  first : waiting ls ≡ From d bytes ∷ waiting (with_link d link_told ls)
+  first : waiting_in ls ≡ From d bytes ∷ waiting_in (with_link d link_told ls)
 
-waits_here : (d least : ℕ) (bytes : List ℕ) (l : Link) (ls : List Link) → least ≤ l.declared.dpid → (slice_get (waiting ls) 0 ≡ Some (From d bytes) → NextWaits d bytes (l.declared.dpid + 1) ls)
-    → (ws : List (List ℕ)) → l.waits ≡ ws → slice_get (map (From l.declared.dpid) ws ++ waiting ls) 0 ≡ Some (From d bytes) → NextWaits d bytes least (l ∷ ls)
+waits_here : (d least : ℕ) (bytes : List ℕ) (l : Link) (ls : List Link) → least ≤ l.declared.dpid → (slice_get (waiting_in ls) 0 ≡ Some (From d bytes) → NextWaits d bytes (l.declared.dpid + 1) ls)
+    → (ws : List (List ℕ)) → l.waits ≡ ws → slice_get (map (From l.declared.dpid) ws ++ waiting_in ls) 0 ≡ Some (From d bytes) → NextWaits d bytes least (l ∷ ls)
 unfolding link_told
 waits_here d least bytes l ls asc rest [] is next =
     let later = rest next in
@@ -81,18 +81,18 @@ waits_here d least bytes l ls asc rest (w ∷ ws) is next =
     let number : l.declared.dpid ≡ d = lower_number l.declared.dpid d w bytes next in
     let here : (l.declared.dpid == d) ≡ true = eq-eqb l.declared.dpid d number in
     let message : w ≡ bytes = same_bytes l.declared.dpid d w bytes next in
-    let told : map (From l.declared.dpid) ws ++ waiting ls ≡ waiting (with_link d link_told (l ∷ ls)) = rw (here, is) refl in
+    let told : map (From l.declared.dpid) ws ++ waiting_in ls ≡ waiting_in (with_link d link_told (l ∷ ls)) = rw (here, is) refl in
     record {
       above = omega (arith, asc, number);
-      first = ap (λ (xs : List (List ℕ)). map (From l.declared.dpid) xs ++ waiting ls) is ∙ ap₂ (λ (n : ℕ) (b : List ℕ). From n b ∷ (map (From l.declared.dpid) ws ++ waiting ls)) number message ∙ ap (λ (xs : List WorldStep). From d bytes ∷ xs) told;
+      first = ap (λ (xs : List (List ℕ)). map (From l.declared.dpid) xs ++ waiting_in ls) is ∙ ap₂ (λ (n : ℕ) (b : List ℕ). From n b ∷ (map (From l.declared.dpid) ws ++ waiting_in ls)) number message ∙ ap (λ (xs : List WorldStep). From d bytes ∷ xs) told;
     }
 
-waits_first : (d least : ℕ) (bytes : List ℕ) (ls : List Link) → Ascend least ls → slice_get (waiting ls) 0 ≡ Some (From d bytes) → NextWaits d bytes least ls
+waits_first : (d least : ℕ) (bytes : List ℕ) (ls : List Link) → Ascend least ls → slice_get (waiting_in ls) 0 ≡ Some (From d bytes) → NextWaits d bytes least ls
 waits_first d least bytes [] asc next = absurd cc
 waits_first d least bytes (l ∷ ls) asc next =
     waits_here d least bytes l ls asc.0 (waits_first d (l.declared.dpid + 1) bytes ls asc.2) l.waits refl next
 
-pub told_first : (d least : ℕ) (bytes : List ℕ) (ls : List Link) → Ascend least ls → slice_get (waiting ls) 0 ≡ Some (From d bytes) → waiting ls ≡ From d bytes ∷ waiting (with_link d link_told ls)
+pub told_first : (d least : ℕ) (bytes : List ℕ) (ls : List Link) → Ascend least ls → slice_get (waiting_in ls) 0 ≡ Some (From d bytes) → waiting_in ls ≡ From d bytes ∷ waiting_in (with_link d link_told ls)
 told_first d least bytes ls asc next = (waits_first d least bytes ls asc next).first
 
 -- Nothing waits of any switch exactly where nothing waits.
@@ -109,23 +109,23 @@ waits_behind d l ls asc none =
       | inr other ↦ rw other at none
     ]
 
-pub none_waiting : (least : ℕ) (ls : List Link) → Ascend least ls → ((d : ℕ) → waits_in (link_of d ls) ≡ []) → waiting ls ≡ []
+pub none_waiting : (least : ℕ) (ls : List Link) → Ascend least ls → ((d : ℕ) → waits_in (link_of d ls) ≡ []) → waiting_in ls ≡ []
 none_waiting least [] asc none = refl
 none_waiting least (l ∷ ls) asc none =
     let self : (l.declared.dpid == l.declared.dpid) ≡ true = eq-eqb l.declared.dpid l.declared.dpid refl in
     let found : link_of l.declared.dpid (l ∷ ls) ≡ Some l = rw self refl in
     let here : l.waits ≡ [] = ap waits_in (sym found) ∙ none l.declared.dpid in
-    let rest : waiting ls ≡ [] = none_waiting (l.declared.dpid + 1) ls asc.2 (λ d. waits_behind d l ls asc.2 (none d)) in
+    let rest : waiting_in ls ≡ [] = none_waiting (l.declared.dpid + 1) ls asc.2 (λ d. waits_behind d l ls asc.2 (none d)) in
     rw (here, rest) refl
 
 none_mapped : (d : ℕ) (ws : List (List ℕ)) (rest : List WorldStep) → map (From d) ws ++ rest ≡ [] → (ws ≡ []) × (rest ≡ [])
 none_mapped d [] rest none = (refl, none)
 none_mapped d (w ∷ ws) rest none = absurd cc
 
-pub none_waits : (d : ℕ) (ls : List Link) → waiting ls ≡ [] → waits_in (link_of d ls) ≡ []
+pub none_waits : (d : ℕ) (ls : List Link) → waiting_in ls ≡ [] → waits_in (link_of d ls) ≡ []
 none_waits d [] none = refl
 none_waits d (l ∷ ls) none =
-    let parts = none_mapped l.declared.dpid l.waits (waiting ls) none in
+    let parts = none_mapped l.declared.dpid l.waits (waiting_in ls) none in
     elim (cases_Bool (l.declared.dpid == d)) [
       | inl here ↦ rw here parts.0
       | inr other ↦ rw other (none_waits d ls parts.1)
@@ -138,11 +138,11 @@ record Still (change : Link → Link) : Type 0 where
   switch : (l : Link) → (change l).switch ≡ l.switch
   waits : (l : Link) → (change l).waits ≡ l.waits
 
-still_waiting : (d : ℕ) (change : Link → Link) → Still change → (ls : List Link) → waiting (with_link d change ls) ≡ waiting ls
+still_waiting : (d : ℕ) (change : Link → Link) → Still change → (ls : List Link) → waiting_in (with_link d change ls) ≡ waiting_in ls
 still_waiting d change still [] = refl
 still_waiting d change still (l ∷ ls) =
     elim (cases_Bool (l.declared.dpid == d)) [
-      | inl here ↦ rw here (ap₂ (λ (n : ℕ) (ws : List (List ℕ)). map (From n) ws ++ waiting ls) (ap (λ (x : Declared). x.dpid) (still.declared l)) (still.waits l))
+      | inl here ↦ rw here (ap₂ (λ (n : ℕ) (ws : List (List ℕ)). map (From n) ws ++ waiting_in ls) (ap (λ (x : Declared). x.dpid) (still.declared l)) (still.waits l))
       | inr other ↦ rw other (ap (λ (xs : List WorldStep). map (From l.declared.dpid) l.waits ++ xs) (still_waiting d change still ls))
     ]
 
@@ -231,20 +231,12 @@ tells_by : (step : WorldStep) (d : ℕ) (bytes : List ℕ) → (step ≡ Acted (
 tells_by step d bytes (inl is) = subst (λ (x : WorldStep). TellsNothing x) (sym is) (sent_tells d bytes)
 tells_by step d bytes (inr is) = subst (λ (x : WorldStep). TellsNothing x) (sym is) (got_tells d bytes)
 
-no_stimuli : stimuli (journal []) ≡ []
-unfolding stimuli journal
-no_stimuli = refl
-
-no_acts : (app : ℕ) → filter (is_of app) (journal []) ≡ []
-unfolding journal
-no_acts app = refl
-
 stimuli_none : (steps : List WorldStep) → AllByRecursion IsSentOrGot steps → stimuli (journal steps) ≡ []
-stimuli_none [] all = no_stimuli
+stimuli_none [] all = stimuli-nil
 stimuli_none (step ∷ steps) all = (tells_by step all.0.0 all.0.1 all.0.2 steps 0).0 ∙ stimuli_none steps all.1
 
 acts_none : (app : ℕ) (steps : List WorldStep) → AllByRecursion IsSentOrGot steps → filter (is_of app) (journal steps) ≡ []
-acts_none app [] all = no_acts app
+acts_none app [] all = acts-nil app
 acts_none app (step ∷ steps) all = (tells_by step all.0.0 all.0.1 all.0.2 steps app).1 ∙ acts_none app steps all.1
 
 losses_none : (steps : List WorldStep) → AllByRecursion IsSentOrGot steps → losses (journal steps) ≡ []
@@ -376,12 +368,12 @@ join_links d xid got =
 joins_leave : {Own : Type 0} {d : ℕ} {mid new : Seen Own} {net now_net : NetState} → Conforming mid → Conforming new → Fresh d (state mid) → SameRest (state mid) (state new) → JoinsInStep d mid new net now_net → Leaves (state mid) (state new)
 unfolding upcoming waits_of
 joins_leave {d = d} {mid = mid} {new = new} kept keeps fresh rest steps =
-    let before : waiting (state mid).links ≡ [] = none_waiting 1 (state mid).links (links_ascend mid kept) fresh.waits in
+    let before : waiting_in (state mid).links ≡ [] = none_waiting 1 (state mid).links (links_ascend mid kept) fresh.waits in
     let waits : (e : ℕ) → waits_of e (state new) ≡ [] = λ e. elim (cases_Bool (e == d)) [
       | inl here ↦ subst (λ (n : ℕ). waits_of n (state new) ≡ []) (sym (eqb-true e d here)) steps.waits
       | inr other ↦ steps.others_wait e (eqb-false e d other) ∙ fresh.waits e
     ] in
-    let after : waiting (state new).links ≡ [] = none_waiting 1 (state new).links (links_ascend new keeps) waits in
+    let after : waiting_in (state new).links ≡ [] = none_waiting 1 (state new).links (links_ascend new keeps) waits in
     record {
       besides = rest.besides;
       begun = rest.begun;

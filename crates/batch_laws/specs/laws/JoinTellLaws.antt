@@ -46,7 +46,7 @@ use Rattle.batch_laws.specs.laws.AfterLaws.{sound-stands}
 use Rattle.batch_laws.specs.After.{Facts, SoundIn, After}
 use Rattle.batch_laws.specs.laws.LeaveTellLaws.{all-known, all-sound, place-of-one}
 use Rattle.batch_laws.specs.Tells.{OnlyOne}
-use Rattle.switch_laws.specs.laws.ShownExchangeLaws.{some_switch}
+use Rattle.net_txn.specs.laws.WaitMoveLaws.{some_switch}
 use Rattle.switch_laws.specs.laws.ShownUndoLaws.{no-rows}
 
 -- ---- Its FEATURES_REPLY can be read

@@ -7,13 +7,17 @@ use Rattle.of_match.specs.declared.key.Key.{Key}
 use Rattle.of_match.specs.Key.{key_number}
 use Rattle.flow_table.specs.declared.entry.Entry.{Entry}
 use Rattle.flow_table.specs.declared.view.ViewRow.{ViewRow}
-use Rattle.flow_table.specs.Table.{place_of, AscendsFrom}
+use Rattle.flow_table.specs.Table.{place_of, AscendsFrom, keys}
 use Rattle.flow_table.specs.Change.{asks_notice}
 use Rattle.flow_table.specs.Expiry.{end_of, among, by_deadline}
 use Rattle.lego_model.specs.Answers.{rows_of_table, rows_of_view}
 use Rattle.net_txn.specs.Arriving.{is_asked, without_key}
 use Rattle.switch_laws.specs.Shown.{flags_in}
-use Rattle.batch_laws.specs.Keys.{has_place, Distinct, entry_keys, without_all, AscendRows}
+use Rattle.batch_laws.specs.Keys.{Distinct}
+use Rattle.flow_table.specs.RowKeys.{RowsAscend}
+use Rattle.net_txn.specs.laws.LoseAllLaws.{keep_all, turned}
+use Rattle.lego_model.specs.ViewRows.{rows_without}
+use Rattle.undo_laws.specs.Removal.{is_key_among}
 
 -- ---- Lists
 
@@ -61,51 +65,51 @@ or-swap true true c = refl
 or-swap true false c = refl
 or-swap false b c = refl
 
-has-among : (k : Key) (e : Entry) (es : List Entry) → has_place k (entry_keys (among e es)) ≡ has_place k (entry_keys (e ∷ es))
+has-among : (k : Key) (e : Entry) (es : List Entry) → is_key_among (keys (among e es)) k ≡ is_key_among (keys (e ∷ es)) k
 has-among k e [] = refl
 has-among k e (f ∷ fs) =
     elim (cases_Bool (nat_le (end_of e) (end_of f))) [
       | inl first ↦ rw first refl
       | inr later ↦
           rw later
-          (ap (λ (b : Bool). (key_number k == key_number f.key) || b) (has-among k e fs)
-          ∙ or-swap (key_number k == key_number f.key) (key_number k == key_number e.key) (has_place k (entry_keys fs)))
+          (ap (λ (b : Bool). (key_number f.key == key_number k) || b) (has-among k e fs)
+          ∙ or-swap (key_number f.key == key_number k) (key_number e.key == key_number k) (is_key_among (keys fs) k))
     ]
 
-pub has-by_deadline : (k : Key) (es : List Entry) → has_place k (entry_keys (by_deadline es)) ≡ has_place k (entry_keys es)
+pub has-by_deadline : (k : Key) (es : List Entry) → is_key_among (keys (by_deadline es)) k ≡ is_key_among (keys es) k
 unfolding by_deadline
 has-by_deadline k [] = refl
-has-by_deadline k (e ∷ es) = has-among k e (by_deadline es) ∙ ap (λ (b : Bool). (key_number k == key_number e.key) || b) (has-by_deadline k es)
+has-by_deadline k (e ∷ es) = has-among k e (by_deadline es) ∙ ap (λ (b : Bool). (key_number e.key == key_number k) || b) (has-by_deadline k es)
 
-distinct-among : (e : Entry) (es : List Entry) → has_place e.key (entry_keys es) ≡ false → Distinct (entry_keys es) → Distinct (entry_keys (among e es))
+distinct-among : (e : Entry) (es : List Entry) → is_key_among (keys es) e.key ≡ false → Distinct (keys es) → Distinct (keys (among e es))
 distinct-among e [] new h = (refl, tt)
 distinct-among e (f ∷ fs) new h =
     elim (cases_Bool (nat_le (end_of e) (end_of f))) [
       | inl first ↦ rw first (new, h)
       | inr later ↦
-          let n = or_parts (key_number e.key == key_number f.key) (has_place e.key (entry_keys fs)) new in
-          let apart : (key_number f.key == key_number e.key) ≡ false = ne_eqb (key_number f.key) (key_number e.key) (λ same. eqb-false (key_number e.key) (key_number f.key) n.0 (sym same)) in
-          rw later (has-among f.key e fs ∙ ap (λ (b : Bool). b || has_place f.key (entry_keys fs)) apart ∙ h.0, distinct-among e fs n.1 h.1)
+          let n = or_parts (key_number f.key == key_number e.key) (is_key_among (keys fs) e.key) new in
+          let apart : (key_number e.key == key_number f.key) ≡ false = ne_eqb (key_number e.key) (key_number f.key) (λ same. eqb-false (key_number f.key) (key_number e.key) n.0 (sym same)) in
+          rw later (has-among f.key e fs ∙ ap (λ (b : Bool). b || is_key_among (keys fs) f.key) apart ∙ h.0, distinct-among e fs n.1 h.1)
     ]
 
-pub distinct-by_deadline : (es : List Entry) → Distinct (entry_keys es) → Distinct (entry_keys (by_deadline es))
+pub distinct-by_deadline : (es : List Entry) → Distinct (keys es) → Distinct (keys (by_deadline es))
 unfolding by_deadline
 distinct-by_deadline [] h = tt
 distinct-by_deadline (e ∷ es) h = distinct-among e (by_deadline es) (has-by_deadline e.key es ∙ h.0) (distinct-by_deadline es h.1)
 
 -- ---- Keys of entries in key order
 
-has-below : (test : Entry → Bool) (k : Key) (least : ℕ) (es : List Entry) → AscendsFrom least es → key_number k < least → has_place k (entry_keys (filter test es)) ≡ false
+has-below : (test : Entry → Bool) (k : Key) (least : ℕ) (es : List Entry) → AscendsFrom least es → key_number k < least → is_key_among (keys (filter test es)) k ≡ false
 has-below test k least [] h lt = refl
 has-below test k least (e ∷ es) h lt =
-    let apart : (key_number k == key_number e.key) ≡ false = ne_eqb (key_number k) (key_number e.key) (λ same. omega (arith, same, h.0, lt)) in
+    let apart : (key_number e.key == key_number k) ≡ false = ne_eqb (key_number e.key) (key_number k) (λ same. omega (arith, same, h.0, lt)) in
     let rest = has-below test k (place_of e + 1) es h.1 (omega (arith, h.0, lt)) in
     elim (cases_Bool (test e)) [
       | inl passes ↦ rw passes (rw apart rest)
       | inr fails ↦ rw fails rest
     ]
 
-pub distinct-filter : (test : Entry → Bool) (least : ℕ) (es : List Entry) → AscendsFrom least es → Distinct (entry_keys (filter test es))
+pub distinct-filter : (test : Entry → Bool) (least : ℕ) (es : List Entry) → AscendsFrom least es → Distinct (keys (filter test es))
 distinct-filter test least [] h = tt
 distinct-filter test least (e ∷ es) h =
     elim (cases_Bool (test e)) [
@@ -119,7 +123,7 @@ all-above least (e ∷ es) h =
     (h.0, all-both (λ x. place_of e + 1 ≤ place_of x) (λ x. place_of e + 1 ≤ place_of x) (λ x. least ≤ place_of x) (λ x low low2. omega (arith, low, h.0)) es (all-above (place_of e + 1) es h.1) (all-above (place_of e + 1) es h.1))
 
 -- the key of an entry is among those that pass exactly where the entry passes
-pub has-filter : (test : Entry → Bool) (least : ℕ) (es : List Entry) → AscendsFrom least es → AllByRecursion (λ e. has_place e.key (entry_keys (filter test es)) ≡ test e) es
+pub has-filter : (test : Entry → Bool) (least : ℕ) (es : List Entry) → AscendsFrom least es → AllByRecursion (λ e. is_key_among (keys (filter test es)) e.key ≡ test e) es
 has-filter test least [] h = tt
 has-filter test least (e ∷ es) h =
     let rest = has-filter test (place_of e + 1) es h.1 in
@@ -127,41 +131,37 @@ has-filter test least (e ∷ es) h =
     elim (cases_Bool (test e)) [
       | inl passes ↦
           let same : filter test (e ∷ es) ≡ e ∷ filter test es = rw passes refl in
-          subst (λ (xs : List Entry). AllByRecursion (λ x. has_place x.key (entry_keys xs) ≡ test x) (e ∷ es)) (sym same) (
-            ap (λ (b : Bool). b || has_place e.key (entry_keys (filter test es))) (eq-eqb (key_number e.key) (key_number e.key) refl) ∙ sym passes,
-            all-both (λ x. has_place x.key (entry_keys (filter test es)) ≡ test x) (λ x. place_of e + 1 ≤ place_of x)
-                (λ x. has_place x.key (entry_keys (e ∷ filter test es)) ≡ test x)
-                (λ x has low. ap (λ (b : Bool). b || has_place x.key (entry_keys (filter test es))) (apart x low) ∙ has) es rest above,
+          subst (λ (xs : List Entry). AllByRecursion (λ x. is_key_among (keys xs) x.key ≡ test x) (e ∷ es)) (sym same) (
+            ap (λ (b : Bool). b || is_key_among (keys (filter test es)) e.key) (eq-eqb (key_number e.key) (key_number e.key) refl) ∙ sym passes,
+            all-both (λ x. is_key_among (keys (filter test es)) x.key ≡ test x) (λ x. place_of e + 1 ≤ place_of x)
+                (λ x. is_key_among (keys (e ∷ filter test es)) x.key ≡ test x)
+                (λ x has low. ap (λ (b : Bool). b || is_key_among (keys (filter test es)) x.key) (apart x low) ∙ has) es rest above,
           )
       | inr fails ↦
           let same : filter test (e ∷ es) ≡ filter test es = rw fails refl in
-          subst (λ (xs : List Entry). AllByRecursion (λ x. has_place x.key (entry_keys xs) ≡ test x) (e ∷ es)) (sym same)
+          subst (λ (xs : List Entry). AllByRecursion (λ x. is_key_among (keys xs) x.key ≡ test x) (e ∷ es)) (sym same)
           (has-below test e.key (place_of e + 1) es h.1 (omega arith) ∙ sym fails, rest)
     ]
   where
-    apart : (x : Entry) → place_of e + 1 ≤ place_of x → (key_number x.key == key_number e.key) ≡ false
-    apart x low = ne_eqb (key_number x.key) (key_number e.key) (λ same. omega (arith, same, low))
+    apart : (x : Entry) → place_of e + 1 ≤ place_of x → (key_number e.key == key_number x.key) ≡ false
+    apart x low = ne_eqb (key_number e.key) (key_number x.key) (λ same. omega (arith, same, low))
 
 -- ---- Rows
 
-filter_none : (rows : List ViewRow) → filter (λ r. true) rows ≡ rows
-filter_none [] = refl
-filter_none (r ∷ rs) = ap (λ (xs : List ViewRow). r ∷ xs) (filter_none rs)
-
-filter_twice : (k : Key) (ks : List Key) (rows : List ViewRow) → filter (λ r. not (has_place r.key ks)) (without_key k rows) ≡ filter (λ r. not (has_place r.key (k ∷ ks))) rows
+filter_twice : (k : Key) (ks : List Key) (rows : List ViewRow) → filter (λ r. not (is_key_among ks r.key)) (without_key k rows) ≡ filter (λ r. not (is_key_among (k ∷ ks) r.key)) rows
 filter_twice k ks [] = refl
 filter_twice k ks (r ∷ rs) =
     elim (cases_Bool (key_number r.key == key_number k)) [
-      | inl gone ↦ rw gone (filter_twice k ks rs)
-      | inr stays ↦ rw stays (elim (cases_Bool (has_place r.key ks)) [
+      | inl gone ↦ rw (gone, turned (key_number k) (key_number r.key) ∙ gone) (filter_twice k ks rs)
+      | inr stays ↦ rw (stays, turned (key_number k) (key_number r.key) ∙ stays) (elim (cases_Bool (is_key_among ks r.key)) [
         | inl has ↦ rw has (filter_twice k ks rs)
         | inr new ↦ rw new (ap (λ (xs : List ViewRow). r ∷ xs) (filter_twice k ks rs))
       ])
     ]
 
-pub without_all-filter : (ks : List Key) (rows : List ViewRow) → without_all ks rows ≡ filter (λ r. not (has_place r.key ks)) rows
-without_all-filter [] rows = sym (filter_none rows)
-without_all-filter (k ∷ ks) rows = without_all-filter ks (without_key k rows) ∙ filter_twice k ks rows
+pub rows_without-filter : (ks : List Key) (rows : List ViewRow) → rows_without ks rows ≡ filter (λ r. not (is_key_among ks r.key)) rows
+rows_without-filter [] rows = sym (keep_all rows)
+rows_without-filter (k ∷ ks) rows = rows_without-filter ks (without_key k rows) ∙ filter_twice k ks rows
 
 pub view-filter : (q : Key → Bool) (rows : List ViewRow) → rows_of_view (filter (λ r. q r.key) rows) ≡ filter (λ p. q p.0) (rows_of_view rows)
 view-filter q [] = refl
@@ -179,31 +179,31 @@ table-filter q (e ∷ es) =
       | inr fails ↦ rw fails (table-filter q es)
     ]
 
-pub flags-kept : (ks : List Key) (k : Key) (rows : List ViewRow) → has_place k ks ≡ false → flags_in (filter (λ r. not (has_place r.key ks)) rows) k ≡ flags_in rows k
+pub flags-kept : (ks : List Key) (k : Key) (rows : List ViewRow) → is_key_among ks k ≡ false → flags_in (filter (λ r. not (is_key_among ks r.key)) rows) k ≡ flags_in rows k
 flags-kept ks k [] new = refl
 flags-kept ks k (r ∷ rs) new =
     elim (cases_Bool (key_number r.key == key_number k)) [
       | inl here ↦
-          let kept : has_place r.key ks ≡ false = ap (λ (n : ℕ). list_any (λ j. n == key_number j) ks) (eqb-true (key_number r.key) (key_number k) here) ∙ new in
+          let kept : is_key_among ks r.key ≡ false = ap (λ (n : ℕ). list_any (λ j. key_number j == n) ks) (eqb-true (key_number r.key) (key_number k) here) ∙ new in
           rw kept (rw here refl)
-      | inr other ↦ elim (cases_Bool (has_place r.key ks)) [
+      | inr other ↦ elim (cases_Bool (is_key_among ks r.key)) [
         | inl gone ↦ rw gone (rw other (flags-kept ks k rs new))
         | inr stays ↦ rw stays (rw other (flags-kept ks k rs new))
       ]
     ]
 
-pub rows-ascend : (least : ℕ) (es : List Entry) → AscendsFrom least es → AscendRows least (rows_of_table es)
+pub rows-ascend : (least : ℕ) (es : List Entry) → AscendsFrom least es → RowsAscend least (rows_of_table es)
 rows-ascend least [] h = tt
 rows-ascend least (e ∷ es) h = (h.0, rows-ascend (place_of e + 1) es h.1)
 
-asked-below : (k : Key) (least : ℕ) (rows : List ViewRow) → AscendRows least (rows_of_view rows) → key_number k < least → is_asked k (Some rows) ≡ false
+asked-below : (k : Key) (least : ℕ) (rows : List ViewRow) → RowsAscend least (rows_of_view rows) → key_number k < least → is_asked k (Some rows) ≡ false
 asked-below k least [] h lt = refl
 asked-below k least (r ∷ rs) h lt =
     let apart : (key_number r.key == key_number k) ≡ false = ne_eqb (key_number r.key) (key_number k) (λ same. omega (arith, same, h.0, lt)) in
     rw apart (asked-below k (key_number r.key + 1) rs h.1 (omega (arith, h.0, lt)))
 
 -- the owner of a key asked where the flags say so
-pub asked-flags : (k : Key) (least : ℕ) (rows : List ViewRow) → AscendRows least (rows_of_view rows) → is_asked k (Some rows) ≡ asks_notice (flags_in rows k)
+pub asked-flags : (k : Key) (least : ℕ) (rows : List ViewRow) → RowsAscend least (rows_of_view rows) → is_asked k (Some rows) ≡ asks_notice (flags_in rows k)
 asked-flags k least [] h = refl
 asked-flags k least (r ∷ rs) h =
     elim (cases_Bool (key_number r.key == key_number k)) [

@@ -24,24 +24,22 @@ use Rattle.net_txn.specs.declared.ports.KnownPorts.{KnownPorts}
 use Rattle.net_txn.specs.Net.{NetState}
 use Rattle.net_txn.specs.Views.{rows_at}
 use Rattle.net_txn.specs.Joining.{with_view}
-use Rattle.net_txn.specs.Arriving.{key_removed, without_key, ports_after, known_after}
+use Rattle.net_txn.specs.Arriving.{without_key, ports_after, known_after}
+use Rattle.flow_table.specs.RowKeys.{key_removed}
 use Rattle.net_txn.specs.laws.ViewLaws.{rows_at-stays}
 use Rattle.net_txn.specs.laws.JoiningLaws.{rows_at-with_view, rows_at-with_view-other}
 use Rattle.switch_laws.specs.Since.{Ready, ports_known}
 use Rattle.switch_laws.specs.laws.LossLaws.{rows-gone, rows-stay, known-gone, known-stay}
 use Rattle.batch_laws.specs.Calm.{known_ports}
 use Rattle.batch_laws.specs.Knowledge.{Knowledge, knowledge_of, is_known, told_message, told_read, joined_by, joined_read, handled, handled_all, ports_lost}
-use Rattle.batch_laws.specs.LinkTells.{table_rows}
+use Rattle.lego_model.specs.Places.{table_rows}
+use Rattle.app_frames.specs.Spelling.{bit}
 
 -- ---- Known ports, once or not at all
 
-abbrev once : Bool → ℕ
-once true = 1
-once false = 0
-
 -- at most once while the switch has a view, and never else
 abbrev pub KnowsOnce : Knowledge → Type 0
-KnowsOnce k = (d : ℕ) → length (ports_lost d k.ports) ≤ once (is_known d k)
+KnowsOnce k = (d : ℕ) → length (ports_lost d k.ports) ≤ bit (is_known d k)
 
 first_of : List KnownPorts → Option (List PortDesc)
 first_of [] = None
@@ -90,7 +88,7 @@ one_known d (k ∷ ks) ports few is =
     this : (p : KnownPorts) → p.dpid ≡ d → p.ports ≡ ports → p ∷ [] ≡ record { dpid = d; ports = ports } ∷ []
     this p number same = rw (← number, ← same) refl
 
-once_most : (b : Bool) (n : ℕ) → n ≤ once b → n ≤ 1
+once_most : (b : Bool) (n : ℕ) → n ≤ bit b → n ≤ 1
 once_most true n few = few
 once_most false n few = omega (arith, few)
 
@@ -108,7 +106,7 @@ rows_some (Some rows) s is = refl
 pub ready-once : {Own : Type 0} (seen : Seen Own) (net : NetState) (queue : List Event) → Ready seen net → KnowsOnce (knowledge_of net queue)
 ready-once seen net queue ready d = by (switch_of d (state seen)) (ready.known d) (ready.agrees d)
   where
-    by : (o : Option SwitchState) → ports_lost d net.ports ≡ ports_known d o → option_map rows_of_view (rows_at d net.views) ≡ option_map table_rows o → length (ports_lost d net.ports) ≤ once (is_some (rows_at d net.views))
+    by : (o : Option SwitchState) → ports_lost d net.ports ≡ ports_known d o → option_map rows_of_view (rows_at d net.views) ≡ option_map table_rows o → length (ports_lost d net.ports) ≤ bit (is_some (rows_at d net.views))
     by None known agrees = omega (arith, ap length known)
     by (Some s) known agrees = rw (rows_some (rows_at d net.views) s agrees) (omega (arith, ap length known))
 
@@ -212,9 +210,9 @@ joins_once : (d : ℕ) (ports : List PortDesc) (queue : List Event) (k : Knowled
     → KnowsOnce (record { views = with_view d k.views; ports = k.ports ++ record { dpid = d; ports = ports } ∷ []; moment = k.moment; queue = queue })
 joins_once d ports queue k out knows e =
     elim (cases_eq e d) [
-      | inl same ↦ subst (λ (n : ℕ). length (ports_lost n (k.ports ++ record { dpid = d; ports = ports } ∷ [])) ≤ once (is_some (rows_at n (with_view d k.views)))) (sym same)
+      | inl same ↦ subst (λ (n : ℕ). length (ports_lost n (k.ports ++ record { dpid = d; ports = ports } ∷ [])) ≤ bit (is_some (rows_at n (with_view d k.views)))) (sym same)
           (rw (ap is_some (rows_at-with_view d k.views), added d d ports k.ports, eq-eqb d d refl) (few_one (length (ports_lost d k.ports)) (rw out at (knows d))))
-      | inr other ↦ rw (ap is_some (rows_at-with_view-other d e k.views other), added d e ports k.ports, ne_eqb d e (λ same. other (sym same))) (few_none (length (ports_lost e k.ports)) (once (is_known e k)) (knows e))
+      | inr other ↦ rw (ap is_some (rows_at-with_view-other d e k.views other), added d e ports k.ports, ne_eqb d e (λ same. other (sym same))) (few_none (length (ports_lost e k.ports)) (bit (is_known e k)) (knows e))
     ]
 
 entered_once : (d : ℕ) (m : Message) (k : Knowledge) → is_known d k ≡ false → KnowsOnce k → KnowsOnce (joined_by d m k)
@@ -250,7 +248,7 @@ leaves_once : (d : ℕ) (queue : List Event) (k : Knowledge) → KnowsOnce k
     → KnowsOnce (record { views = filter (λ v. not (v.dpid == d)) k.views; ports = filter (λ p. not (p.dpid == d)) k.ports; moment = k.moment; queue = queue })
 leaves_once d queue k knows e =
     elim (cases_eq e d) [
-      | inl same ↦ subst (λ (n : ℕ). length (ports_lost n (filter (λ p. not (p.dpid == d)) k.ports)) ≤ once (is_some (rows_at n (filter (λ v. not (v.dpid == d)) k.views)))) (sym same)
+      | inl same ↦ subst (λ (n : ℕ). length (ports_lost n (filter (λ p. not (p.dpid == d)) k.ports)) ≤ bit (is_some (rows_at n (filter (λ v. not (v.dpid == d)) k.views)))) (sym same)
           (rw (known-gone d k.ports, ap is_some (rows-gone d k.views)) (omega arith))
       | inr other ↦ rw (known-stay d e other k.ports, rows-stay d e other k.views) (knows e)
     ]

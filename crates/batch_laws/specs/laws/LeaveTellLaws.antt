@@ -1,5 +1,5 @@
 -- What the engine knows after a switch left: what the reference controller has then.
-use Rattle.std.proofs.Common.{◌≡◌, ◌≢◌, ◌==◌, ℕ, ◌+◌, ◌≤◌, true, false, not, List, [], ◌∷◌, ◌++◌, filter, Option, Some, None, if◌then◌else◌, refl, sym, ap, ap₂, ◌∙◌, subst, inl, inr, arith}
+use Rattle.std.proofs.Common.{◌≡◌, ◌≢◌, ◌==◌, ℕ, ◌+◌, true, false, not, List, [], ◌∷◌, ◌++◌, filter, Option, Some, None, if◌then◌else◌, refl, sym, ap, ap₂, ◌∙◌, subst, inl, inr}
 use Rattle.std.proofs.lemmas.Bool.{cases_eq, eqb-true, eqb-false, ne_eqb, cases_Bool}
 use Rattle.std.proofs.lemmas.List.{append-nil}
 use Rattle.std.specs.Prelude.{IsTrue, is_some}
@@ -9,13 +9,12 @@ use Rattle.of_types.specs.declared.port_desc.PortDesc.{PortDesc}
 use Rattle.of_types.specs.declared.journal.WorldStim.TheVariants.{Leave}
 use Rattle.of_wire.specs.Spelling.{ports_bytes}
 use Rattle.flow_table.specs.declared.view.ViewRow.{ViewRow}
-use Rattle.flow_table.specs.View.{TableView}
 use Rattle.flow_table.specs.Switch.{Declared, SwitchState}
 use Rattle.undo_laws.specs.CorrectedSwitch.{corrected_switch}
 use Rattle.app_frames.specs.declared.frame.Event.{Event}
 use Rattle.app_frames.specs.declared.frame.EventKind.TheVariants as kinds
 use Rattle.lego_model.specs.Answers.{rows_of_view}
-use Rattle.lego_model.specs.Places.{Place}
+use Rattle.lego_model.specs.Places.{Place, table_rows}
 use Rattle.lego_model.specs.Events.{ports_of, leave_event}
 use Rattle.lego_model.specs.Controller.{left_of, out, at_place, places_after, events_after}
 use Rattle.outside.specs.declared.step.WorldStep.{WorldStep}
@@ -25,13 +24,13 @@ use Rattle.outside.specs.State.{Link, State, link_of, switch_in, switch_of, with
 use Rattle.outside.specs.laws.LinkLaws.{link_of-same, link_of-other}
 use Rattle.net_txn.specs.laws.OrderLaws.{left-ascends}
 use Rattle.net_txn.specs.declared.ports.KnownPorts.{KnownPorts}
-use Rattle.net_txn.specs.Views.{rows_at, ViewsAscend}
+use Rattle.net_txn.specs.Views.{rows_at}
 use Rattle.net_txn.specs.Leaving.{ports_at, ports_text}
 use Rattle.switch_laws.specs.Shown.{rows_or_none, shown_switch, shown_places, correction_in}
 use Rattle.switch_laws.specs.laws.LossLaws.{rows-gone, rows-stay, text-bytes}
 use Rattle.batch_laws.specs.Knowledge.{known_by, Knowledge, is_known, handled, handled_all, left_by}
 use Rattle.batch_laws.specs.Calm.{known_ports}
-use Rattle.batch_laws.specs.LinkTells.{KnownIn, table_rows, StandsWell, StandsIn}
+use Rattle.batch_laws.specs.LinkTells.{KnownIn, StandsWell, StandsIn}
 use Rattle.batch_laws.specs.laws.ReferenceLaws.{all-of, place-map, flat-one, none-waiting, waiting-silent}
 use Rattle.batch_laws.specs.Waiting.{place_at}
 use Rattle.batch_laws.specs.laws.AfterLaws.{sound-stands}
@@ -101,10 +100,6 @@ unfolding upcoming after_stim
 left-items d s k facts =
     ap₂ (λ (due : List WorldStep) rest. (due ++ (if is_some (switch_of d s) then Left d ∷ [] else [])) ++ rest) facts.due (none-waiting (with_link d link_left s.links) (waiting-silent d link_left left-silent s.links facts.waits))
     ∙ append-nil (if is_some (switch_of d s) then Left d ∷ [] else [])
-
-views-less : (least most : ℕ) → least ≤ most → (views : List TableView) → ViewsAscend most views → ViewsAscend least views
-views-less least most le [] h = tt
-views-less least most le (v ∷ vs) h = (omega (arith, le, h.0), h.1)
 
 gone-here : (d : ℕ) (ks : List KnownPorts) → known_ports d (filter (λ p. not (p.dpid == d)) ks) ≡ None
 gone-here d [] = refl

@@ -29,7 +29,8 @@ use Rattle.batch_laws.specs.Tells.{SwitchHandled, SwitchKnown}
 use Rattle.batch_laws.specs.laws.FrameTellLaws.{frame-switch, counts-switch, raw-switch}
 use Rattle.batch_laws.specs.laws.PortTellLaws.{port-switch}
 use Rattle.batch_laws.specs.laws.NoticeTellLaws.{advance-switch}
-use Rattle.batch_laws.specs.LinkTells.{Happens, StandsWell, table_rows, KnownIn, StandsIn, HappensIn, KnownThen, SwitchStep, items_of, seen_events, LinkReady, LinkThen, LinksStep}
+use Rattle.batch_laws.specs.LinkTells.{Happens, StandsWell, KnownIn, StandsIn, HappensIn, KnownThen, SwitchStep, items_of, seen_events, LinkReady, LinkThen, LinksStep}
+use Rattle.lego_model.specs.Places.{table_rows}
 
 -- ---- A switch that is joined
 

@@ -22,7 +22,7 @@ use Rattle.undo_laws.specs.CorrectedSwitch.{corrected_switch}
 use Rattle.app_frames.specs.declared.frame.Event.{Event}
 use Rattle.lego_model.specs.Answers.{rows_of_view}
 use Rattle.lego_model.specs.Controller.{left_of, left_at, places_after}
-use Rattle.lego_model.specs.Places.{Place, switch_at, with_place}
+use Rattle.lego_model.specs.Places.{Place, switch_at, with_place, table_rows}
 use Rattle.outside.specs.declared.step.WorldStep.{WorldStep}
 use Rattle.outside.specs.declared.step.WorldStep.TheVariants.{From, Joined}
 use Rattle.outside.specs.Seen.{Seen, is_declared}
@@ -44,7 +44,6 @@ use Rattle.batch_laws.specs.Knowledge.{known_by, Knowledge, knowledge_of, is_kno
 use Rattle.batch_laws.specs.Batches.{Standing}
 use Rattle.batch_laws.specs.Calm.{Calm}
 use Rattle.batch_laws.specs.InBatch.{BatchLost}
-use Rattle.batch_laws.specs.LinkTells.{table_rows}
 use Rattle.batch_laws.specs.Waiting.{NoneWait}
 use Rattle.batch_laws.specs.Tells.{FitsItem, FitsRead, StimulusHandled, StimulusLost}
 use Rattle.batch_laws.specs.laws.AloneLaws.{echo-alone, join-alone}

@@ -20,9 +20,9 @@ use Rattle.flow_table.specs.declared.entry.Entry.{Entry}
 use Rattle.flow_table.specs.declared.notice.Notice.{Notice}
 use Rattle.flow_table.specs.declared.view.ViewRow.{ViewRow}
 use Rattle.flow_table.specs.View.{TableView}
-use Rattle.flow_table.specs.Table.{IsTable}
+use Rattle.flow_table.specs.Table.{IsTable, keys}
 use Rattle.flow_table.specs.Change.{asks_notice}
-use Rattle.flow_table.specs.Expiry.{deadline, is_due, notice_at, by_deadline, expire, expiry_notices}
+use Rattle.flow_table.specs.Expiry.{deadline, is_due, notice_at, by_deadline, expire, expiry_notices, gives_notice}
 use Rattle.flow_table.specs.Switch.{SwitchState}
 use Rattle.flow_table.specs.Step.{flow_removed, flow_removed_bytes, after_stimulus, sent_by_stimulus}
 use Rattle.undo_laws.specs.CorrectedSwitch.{is_asked_for, AskAll}
@@ -40,10 +40,14 @@ use Rattle.switch_laws.specs.Sound.{SoundEntry, AllSound}
 use Rattle.switch_laws.specs.laws.SoundLaws.{notice-message}
 use Rattle.batch_laws.specs.Knowledge.{Knowledge, told_read, handled, handled_all}
 use Rattle.batch_laws.specs.Calm.{known_ports}
-use Rattle.batch_laws.specs.laws.KeyLaws.{all-both, all-filter, all-map, all-by_deadline, filter-alike, has-by_deadline, distinct-by_deadline, distinct-filter, has-filter, without_all-filter, view-filter, table-filter, flags-kept, rows-ascend, asked-flags, asked-without}
-use Rattle.batch_laws.specs.Keys.{has_place, Distinct, entry_keys, notice_keys, without_all, AscendRows}
+use Rattle.batch_laws.specs.laws.KeyLaws.{all-both, all-filter, all-map, all-by_deadline, filter-alike, has-by_deadline, distinct-by_deadline, distinct-filter, has-filter, rows_without-filter, view-filter, table-filter, flags-kept, rows-ascend, asked-flags, asked-without}
+use Rattle.batch_laws.specs.Keys.{Distinct, notice_keys}
+use Rattle.flow_table.specs.RowKeys.{RowsAscend}
 use Rattle.batch_laws.specs.laws.TellLaws.{known-handled, is-known}
 use Rattle.batch_laws.specs.Tells.{ViewChanged, SwitchHandled, SwitchKnown}
+use Rattle.lego_model.specs.ViewRows.{rows_without}
+use Rattle.undo_laws.specs.Removal.{is_key_among}
+use Rattle.net_txn.specs.laws.LoseAllLaws.{turned}
 
 -- ---- Views
 
@@ -75,7 +79,7 @@ record ReadNotice (n : Notice) : Type 0 where
   read : reading_of (flow_removed_bytes n) ≡ Ok (enveloped 0 (FlowRemoved (flow_removed n)))
 
 record NoticesHandled (flags : Key → ℕ) (d : ℕ) (ns : List Notice) (rows : List ViewRow) (k now : Knowledge) : Type 0 where
-  views : ViewChanged d (without_all (notice_keys ns) rows) k.views now.views
+  views : ViewChanged d (rows_without (notice_keys ns) rows) k.views now.views
   queue : now.queue ≡ k.queue ++ events_of d (map flow_removed_bytes (filter (is_asked_for flags) ns))
   ports : now.ports ≡ k.ports
   moment : now.moment ≡ k.moment
@@ -83,11 +87,11 @@ record NoticesHandled (flags : Key → ℕ) (d : ℕ) (ns : List Notice) (rows :
 abbrev AskedAs : (Key → ℕ) → List ViewRow → Notice → Type 0
 AskedAs flags rows n = is_asked n.removed.key (Some rows) ≡ asks_notice (flags n.removed.key)
 
-asked-later : (flags : Key → ℕ) (j : Key) (rows : List ViewRow) (ns : List Notice) → has_place j (notice_keys ns) ≡ false → AllByRecursion (AskedAs flags rows) ns → AllByRecursion (AskedAs flags (without_key j rows)) ns
+asked-later : (flags : Key → ℕ) (j : Key) (rows : List ViewRow) (ns : List Notice) → is_key_among (notice_keys ns) j ≡ false → AllByRecursion (AskedAs flags rows) ns → AllByRecursion (AskedAs flags (without_key j rows)) ns
 asked-later flags j rows [] new h = tt
 asked-later flags j rows (n ∷ ns) new h =
-    let parts = or_parts (key_number j == key_number n.removed.key) (has_place j (notice_keys ns)) new in
-    (asked-without n.removed.key j rows parts.0 ∙ h.0, asked-later flags j rows ns parts.1 h.1)
+    let parts = or_parts (key_number n.removed.key == key_number j) (is_key_among (notice_keys ns) j) new in
+    (asked-without n.removed.key j rows (turned (key_number j) (key_number n.removed.key) ∙ parts.0) ∙ h.0, asked-later flags j rows ns parts.1 h.1)
 
 notice-handled : (flags : Key → ℕ) (d : ℕ) (n : Notice) (rows : List ViewRow) (k : Knowledge) → ReadNotice n → AskedAs flags rows n → rows_at d k.views ≡ Some rows
     → NoticesHandled flags d (n ∷ []) rows k (handled (From d (flow_removed_bytes n)) k)
@@ -131,7 +135,7 @@ notices-handled flags d (n ∷ ns) rows k reads distinct asked are =
     let first = notice-handled flags d n rows k reads.0 asked.0 are in
     let rest = notices-handled flags d ns (without_key n.removed.key rows) next reads.1 distinct.1 (asked-later flags n.removed.key rows ns distinct.0 asked.1) first.views.here in
     record {
-      views = view-then d (without_key n.removed.key rows) (without_all (notice_keys (n ∷ ns)) rows) k.views next.views _ first.views rest.views;
+      views = view-then d (without_key n.removed.key rows) (rows_without (notice_keys (n ∷ ns)) rows) k.views next.views _ first.views rest.views;
       queue =
           rest.queue
           ∙ ap (λ (q : List Event). q ++ events_of d (map flow_removed_bytes (filter (is_asked_for flags) ns))) first.queue
@@ -152,7 +156,7 @@ removed-at : (o : Option (ℕ × Reason)) (e : Entry) → (notice_at o e).remove
 removed-at None e = refl
 removed-at (Some d) e = refl
 
-keys-told : (es : List Entry) → notice_keys (map tells es) ≡ entry_keys es
+keys-told : (es : List Entry) → notice_keys (map tells es) ≡ keys es
 keys-told [] = refl
 keys-told (e ∷ es) = ap₂ (λ (k : Key) ks. k ∷ ks) (ap (λ (x : Entry). x.key) (removed-at (deadline e) e)) (keys-told es)
 
@@ -182,59 +186,56 @@ seen-bytes rows t es asks =
     ∙ ap (map (λ (f : Removed). message_bytes 0 (FlowRemoved f))) (notices-shown rows t es asks)
     ∙ sym (bytes-by_fields (filter (is_asked_for (flags_in rows)) (expiry_notices t es)))
 
-abbrev goes : ℕ → Entry → Bool
-goes t e = is_due t e && asks_notice e.flags
-
-due-goes : (t : ℕ) (e : Entry) → SoundEntry e → goes t e ≡ is_due t e
+due-goes : (t : ℕ) (e : Entry) → SoundEntry e → gives_notice t e ≡ is_due t e
 due-goes t e is = ap (λ (b : Bool). is_due t e && b) is.asks ∙ and-true (is_due t e)
 
 abbrev going : ℕ → List Entry → List Entry
-going t es = by_deadline (filter (goes t) es)
+going t es = by_deadline (filter (gives_notice t) es)
 
 -- the keys that went are those of entries that were due
-gone-due : (t : ℕ) (es : List Entry) → IsTable es → AllSound es → AllByRecursion (λ e. has_place e.key (entry_keys (going t es)) ≡ is_due t e) es
+gone-due : (t : ℕ) (es : List Entry) → IsTable es → AllSound es → AllByRecursion (λ e. is_key_among (keys (going t es)) e.key ≡ is_due t e) es
 gone-due t es is sound =
-    all-both SoundEntry (λ e. has_place e.key (entry_keys (filter (goes t) es)) ≡ goes t e) (λ e. has_place e.key (entry_keys (going t es)) ≡ is_due t e)
-    (λ e s has. has-by_deadline e.key (filter (goes t) es) ∙ has ∙ due-goes t e s) es sound (has-filter (goes t) 0 es is)
+    all-both SoundEntry (λ e. is_key_among (keys (filter (gives_notice t) es)) e.key ≡ gives_notice t e) (λ e. is_key_among (keys (going t es)) e.key ≡ is_due t e)
+    (λ e s has. has-by_deadline e.key (filter (gives_notice t) es) ∙ has ∙ due-goes t e s) es sound (has-filter (gives_notice t) 0 es is)
 
 module _ (d t : ℕ) (s : SwitchState) (rows : List ViewRow) (k : Knowledge) (known : SwitchKnown d s rows k) (is : IsTable s.table.entries) (sound : AllSound s.table.entries) (within : t < 2 ^ 32) where
   abbrev entries : List Entry
   entries = s.table.entries
 
   abbrev gone : List Key
-  gone = entry_keys (going t entries)
+  gone = keys (going t entries)
 
   abbrev rows_then : List ViewRow
-  rows_then = filter (λ r. not (has_place r.key gone)) rows
+  rows_then = filter (λ r. not (is_key_among gone r.key)) rows
 
   asked-so : (j : Key) → is_asked j (Some rows) ≡ asks_notice (flags_in rows j)
-  asked-so j = asked-flags j 0 rows (subst (AscendRows 0) (sym known.agrees) (rows-ascend 0 entries is))
+  asked-so j = asked-flags j 0 rows (subst (RowsAscend 0) (sym known.agrees) (rows-ascend 0 entries is))
 
   reads-all : AllByRecursion ReadNotice (map tells (going t entries))
   reads-all =
       all-map (λ e. SoundEntry e × (is_due t e ≡ true)) ReadNotice tells (read-notice t within) (going t entries)
-      (all-by_deadline (λ e. SoundEntry e × (is_due t e ≡ true)) (filter (goes t) entries)
-      (all-filter SoundEntry (λ e. SoundEntry e × (is_due t e ≡ true)) (goes t) (λ e one passes. (one, (and_parts (is_due t e) (asks_notice e.flags) passes).0)) entries sound))
+      (all-by_deadline (λ e. SoundEntry e × (is_due t e ≡ true)) (filter (gives_notice t) entries)
+      (all-filter SoundEntry (λ e. SoundEntry e × (is_due t e ≡ true)) (gives_notice t) (λ e one passes. (one, (and_parts (is_due t e) (asks_notice e.flags) passes).0)) entries sound))
 
   handled-so : NoticesHandled (flags_in rows) d (map tells (going t entries)) rows k (handled_all (map (From d) (map flow_removed_bytes (map tells (going t entries)))) k)
   handled-so =
       notices-handled (flags_in rows) d (map tells (going t entries)) rows k reads-all
-      (subst Distinct (sym (keys-told (going t entries))) (distinct-by_deadline (filter (goes t) entries) (distinct-filter (goes t) 0 entries is)))
+      (subst Distinct (sym (keys-told (going t entries))) (distinct-by_deadline (filter (gives_notice t) entries) (distinct-filter (gives_notice t) 0 entries is)))
       (asked-all (flags_in rows) rows asked-so (map tells (going t entries))) known.rows_are
 
-  rows-then-are : without_all (notice_keys (map tells (going t entries))) rows ≡ rows_then
-  rows-then-are = ap (λ (ks : List Key). without_all ks rows) (keys-told (going t entries)) ∙ without_all-filter gone rows
+  rows-then-are : rows_without (notice_keys (map tells (going t entries))) rows ≡ rows_then
+  rows-then-are = ap (λ (ks : List Key). rows_without ks rows) (keys-told (going t entries)) ∙ rows_without-filter gone rows
 
-  stays-alike : filter (λ e. not (has_place e.key gone)) entries ≡ filter (λ e. not (is_due t e)) entries
+  stays-alike : filter (λ e. not (is_key_among gone e.key)) entries ≡ filter (λ e. not (is_due t e)) entries
   stays-alike =
-      filter-alike (λ e. not (has_place e.key gone)) (λ e. not (is_due t e)) entries
-      (all-both SoundEntry (λ e. has_place e.key gone ≡ is_due t e) (λ e. not (has_place e.key gone) ≡ not (is_due t e)) (λ e one has. ap not has) entries sound (gone-due t entries is sound))
+      filter-alike (λ e. not (is_key_among gone e.key)) (λ e. not (is_due t e)) entries
+      (all-both SoundEntry (λ e. is_key_among gone e.key ≡ is_due t e) (λ e. not (is_key_among gone e.key) ≡ not (is_due t e)) (λ e one has. ap not has) entries sound (gone-due t entries is sound))
 
   agrees-then : rows_of_view rows_then ≡ rows_of_table (filter (λ e. not (is_due t e)) entries)
   agrees-then =
-      view-filter (λ j. not (has_place j gone)) rows
-      ∙ ap (filter (λ p. not (has_place p.0 gone))) known.agrees
-      ∙ sym (table-filter (λ j. not (has_place j gone)) entries)
+      view-filter (λ j. not (is_key_among gone j)) rows
+      ∙ ap (filter (λ p. not (is_key_among gone p.0))) known.agrees
+      ∙ sym (table-filter (λ j. not (is_key_among gone j)) entries)
       ∙ ap rows_of_table stays-alike
 
   not-true : (a : Bool) → not a ≡ true → a ≡ false
@@ -243,7 +244,7 @@ module _ (d t : ℕ) (s : SwitchState) (rows : List ViewRow) (k : Knowledge) (kn
 
   flags-then : AllByRecursion (λ e. flags_in rows_then e.key ≡ flags_in rows e.key) (filter (λ e. not (is_due t e)) entries)
   flags-then =
-      all-filter (λ e. has_place e.key gone ≡ is_due t e) (λ e. flags_in rows_then e.key ≡ flags_in rows e.key) (λ e. not (is_due t e))
+      all-filter (λ e. is_key_among gone e.key ≡ is_due t e) (λ e. flags_in rows_then e.key ≡ flags_in rows e.key) (λ e. not (is_due t e))
       (λ e has stays. flags-kept gone e.key rows (has ∙ not-true (is_due t e) stays)) entries (gone-due t entries is sound)
 
   seen-here : map flow_removed_bytes (expiry_notices t (map (correction_in rows) entries)) ≡ map flow_removed_bytes (filter (is_asked_for (flags_in rows)) (map tells (going t entries)))

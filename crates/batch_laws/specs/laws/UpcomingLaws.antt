@@ -8,10 +8,10 @@ use Rattle.of_types.specs.declared.journal.WorldStim.TheVariants.{Join, Leave, A
 use Rattle.flow_table.specs.Switch.{SwitchState, joined_at, features_reply}
 use Rattle.outside.specs.declared.step.WorldStep.{WorldStep}
 use Rattle.outside.specs.declared.step.WorldStep.TheVariants.{From, Joined, Left, Moment}
-use Rattle.outside.specs.State.{Link, State, link_of, waits_in, switch_in, waits_of, switch_of, is_joined, with_link, switch_joined, link_joined, join_due, due_of, after_stim}
+use Rattle.outside.specs.State.{Link, State, link_of, waits_in, switch_in, waits_of, switch_of, is_joined, with_link, switch_joined, link_joined, join_due, due_of, after_stim, waiting_in}
 use Rattle.outside.specs.laws.LinkLaws.{link_of-same, link_of-other}
 use Rattle.outside.specs.laws.LinkKeptLaws.{keeps_joined}
-use Rattle.batch_laws.specs.Items.{waiting, Fresh}
+use Rattle.batch_laws.specs.Items.{Fresh}
 
 -- ---- What is upcoming
 
@@ -26,9 +26,9 @@ mapped_first d (w ∷ ws) rest step later is = (d, w, same (From d w) step is)
     same : (a b : WorldStep) → Some a ≡ Some b → b ≡ a
     same a b e = cc
 
-waiting_first : (ls : List Link) (step : WorldStep) → slice_get (waiting ls) 0 ≡ Some step → IsOfSwitch step
+waiting_first : (ls : List Link) (step : WorldStep) → slice_get (waiting_in ls) 0 ≡ Some step → IsOfSwitch step
 waiting_first [] step is = absurd cc
-waiting_first (l ∷ ls) step is = mapped_first l.declared.dpid l.waits (waiting ls) step (waiting_first ls step) is
+waiting_first (l ∷ ls) step is = mapped_first l.declared.dpid l.waits (waiting_in ls) step (waiting_first ls step) is
 
 pub no_message_joined : (e : ℕ) (bytes : List ℕ) → IsOfSwitch (Joined e bytes) → ⊥
 no_message_joined e bytes is = let h : Joined e bytes ≡ From is.0 is.1 = is.2 in absurd cc
@@ -73,11 +73,11 @@ none_due_by due later d bytes (inr one) next =
     absurd (one.2 (d, bytes, some_same one.0 (From d bytes) h))
 
 -- another item is told where it is due
-pub one_due_by : (due : List WorldStep) (ls : List Link) (item : WorldStep) → IsDue due → (IsOfSwitch item → ⊥) → slice_get (due ++ waiting ls) 0 ≡ Some item → due ≡ item ∷ []
+pub one_due_by : (due : List WorldStep) (ls : List Link) (item : WorldStep) → IsDue due → (IsOfSwitch item → ⊥) → slice_get (due ++ waiting_in ls) 0 ≡ Some item → due ≡ item ∷ []
 one_due_by due ls item (inl none) other next =
-    absurd (other (waiting_first ls item (sym (ap (λ (xs : List WorldStep). slice_get (xs ++ waiting ls) 0) none) ∙ next)))
+    absurd (other (waiting_first ls item (sym (ap (λ (xs : List WorldStep). slice_get (xs ++ waiting_in ls) 0) none) ∙ next)))
 one_due_by due ls item (inr one) other next =
-    let h : Some one.0 ≡ Some item = sym (ap (λ (xs : List WorldStep). slice_get (xs ++ waiting ls) 0) one.1) ∙ next in
+    let h : Some one.0 ≡ Some item = sym (ap (λ (xs : List WorldStep). slice_get (xs ++ waiting_in ls) 0) one.1) ∙ next in
     one.1 ∙ ap (λ (y : WorldStep). y ∷ []) (some_same one.0 item h)
 
 -- ---- The switch that joins is empty, and nothing waits

@@ -19,7 +19,8 @@ use Rattle.flow_table.specs.Statistics.{flow_row, sum_of}
 use Rattle.flow_table.specs.Step.{flow_removed}
 use Rattle.flow_table.specs.Corrected.{row_at, lost_at, asked_flags, with_lost, shown_entry, shown_entries}
 use Rattle.flow_table.specs.laws.CorrectedLaws.{key-shown_entry, actions-shown_entry}
-use Rattle.counter_cache.specs.Fixed.{row_with, fixed_row, is_met, packets_of, bytes_of, packets_lost, bytes_lost, fixed_sum, removed_with, fixed_removed, AgeFits, Fits, shown_row, held_entry, AreOf, RowsAreShown, SumIsShown, NoticeIsShown}
+use Rattle.counter_cache.specs.Fixed.{row_with, fixed_row, is_met, packets_of, bytes_of, packets_lost, bytes_lost, fixed_sum, removed_with, fixed_removed, AgeFits, Fits, AreOf, RowsAreShown, SumIsShown, NoticeIsShown}
+use Rattle.flow_table.specs.RowKeys.{shown_row, held_entry}
 
 -- ---- Durations
 

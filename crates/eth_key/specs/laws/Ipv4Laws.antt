@@ -1,15 +1,12 @@
 -- Laws of the headers that are found.
-use Rattle.std.proofs.Common.{◌≡◌, ℕ, ◌+◌, ◌/◌, ◌≤◌, Bool, true, false, cond, ◌&&◌, List, length, Option, Some, None, eqb, leb, refl, subst, arith}
+use Rattle.std.proofs.Common.{◌≡◌, ℕ, ◌+◌, ◌/◌, ◌≤◌, Bool, true, false, cond, ◌&&◌, List, length, Option, Some, None, eqb, leb, subst, arith}
 use Rattle.std.proofs.lemmas.Bool.{and_parts, leb-true}
 use Rattle.of_types.specs.Fields.{number_at}
 use Rattle.eth_key.specs.declared.ethernet.Payload.{Payload}
 use Rattle.eth_key.specs.declared.ipv4.Ipv4Header.{Ipv4Header}
 use Rattle.eth_key.specs.Ethernet.{payload_of}
 use Rattle.eth_key.specs.Ipv4.{header_len, is_header, header_at, header_in, ipv4_header, IsWithin}
-
-chosen : {A : Type 0} (b : Bool) (x y : A) → cond b (Some x) None ≡ Some y → (b ≡ true) × (x ≡ y)
-chosen true x y e = (refl, cc)
-chosen false x y e = absurd cc
+use Rattle.std.proofs.lemmas.Option.{cond_some}
 
 taken : {A : Type 0} (b : Bool) (o : Option A) (y : A) → cond b o None ≡ Some y → o ≡ Some y
 taken true o y e = e
@@ -23,7 +20,7 @@ IsWithin-header_at start frame header e =
     let version = eqb (number_at 1 start frame / 16) 4 in
     let long = leb 20 (header_len start frame) in
     let whole = leb (start + header_len start frame) (length frame) in
-    let c = chosen (fixed && version && long && whole) found header e in
+    let c = cond_some (fixed && version && long && whole) found header e in
     let p = and_parts (fixed && version && long) whole c.0 in
     let q = and_parts (fixed && version) long p.0 in
     let at_least : 20 ≤ header_len start frame = leb-true _ _ q.1 in

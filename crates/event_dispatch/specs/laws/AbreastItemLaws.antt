@@ -17,11 +17,12 @@ use Rattle.outside.specs.declared.item.Item.TheVariants as items
 use Rattle.outside.specs.declared.step.WorldStep.{WorldStep}
 use Rattle.outside.specs.declared.step.WorldStep.TheVariants.{Acted, From, Joined, Left, Moment, Idle, End}
 use Rattle.outside.specs.Seen.{Seen}
-use Rattle.outside.specs.State.{Link, State, link_of, waits_in, switch_in, waits_of, switch_of, is_joined, upcoming, with_link, switch_joined, link_joined, link_left, link_stimulated, join_due, due_of, after_stim, after_step, after_steps, state}
+use Rattle.outside.specs.State.{Link, State, link_of, waits_in, switch_in, waits_of, switch_of, is_joined, upcoming, with_link, switch_joined, link_joined, link_left, link_stimulated, join_due, due_of, after_stim, after_step, after_steps, state, waiting_in}
 use Rattle.outside.specs.laws.SeenLaws.{Nexts-continues}
 use Rattle.outside.specs.laws.StateLaws.{state-append}
 use Rattle.outside.specs.laws.LinkLaws.{KeepsDeclared, link_of-same, link_of-other, switch_of-from, switch_of-from_other}
-use Rattle.outside.specs.Calls.{Nexts, IsItemIn, IsFeaturesOf, stim_steps, item_step, next_steps}
+use Rattle.outside.specs.Calls.{Nexts, IsItemIn, stim_steps, item_step, next_steps}
+use Rattle.of_wire.specs.Handshake.{IsFeaturesOf}
 use Rattle.outside.specs.laws.CallLaws.{Nexts-state}
 use Rattle.outside.specs.Conforming.{AreDeclaredFrom, MayStep}
 use Rattle.outside.specs.InOrder.{MayCome, MayComeAll, InOrder}
@@ -31,12 +32,13 @@ use Rattle.net_txn.specs.Net.{NetState}
 use Rattle.net_txn.specs.Views.{is_viewed}
 use Rattle.net_txn.specs.Abreast.{Abreast}
 use Rattle.switch_laws.specs.laws.StandLaws.{state-links}
-use Rattle.batch_laws.specs.Items.{waiting, Ascend}
+use Rattle.batch_laws.specs.Items.{Ascend}
 use Rattle.event_dispatch.specs.Told.{IsTold}
 use Rattle.event_dispatch.specs.laws.NothingWaitsLaws.{state_empty, steps_empty, out_is_empty}
 use Rattle.event_dispatch.specs.NothingWaits.{AllEmptyOut}
 use Rattle.batch_laws.specs.laws.InBatchLaws.{some_same, stim_step, stim_begun}
 use Rattle.batch_laws.specs.laws.ItemLaws.{lower_number, same_bytes}
+use Rattle.net_txn.specs.laws.AskFaultLaws.{none_first}
 
 -- ---- What waits are messages of switches, and a switch of which one is told is joined
 
@@ -50,17 +52,17 @@ unfolding of_switch
 mapped_of d [] rest is = is
 mapped_of d (w ∷ ws) rest is = refl
 
-waiting_of : (ls : List Link) → of_switch (slice_get (waiting ls) 0) ≡ true
+waiting_of : (ls : List Link) → of_switch (slice_get (waiting_in ls) 0) ≡ true
 unfolding of_switch
 waiting_of [] = refl
-waiting_of (l ∷ ls) = mapped_of l.declared.dpid l.waits (waiting ls) (waiting_of ls)
+waiting_of (l ∷ ls) = mapped_of l.declared.dpid l.waits (waiting_in ls) (waiting_of ls)
 
 record FirstWaits (d : ℕ) (bytes : List ℕ) (least : ℕ) (ls : List Link) : Type 0 where
   above : least ≤ d
   waits : slice_get (waits_in (link_of d ls)) 0 ≡ Some bytes
 
-waits_here : (d least : ℕ) (bytes : List ℕ) (l : Link) (ls : List Link) → least ≤ l.declared.dpid → (slice_get (waiting ls) 0 ≡ Some (From d bytes) → FirstWaits d bytes (l.declared.dpid + 1) ls)
-    → (ws : List (List ℕ)) → l.waits ≡ ws → slice_get (map (From l.declared.dpid) ws ++ waiting ls) 0 ≡ Some (From d bytes) → FirstWaits d bytes least (l ∷ ls)
+waits_here : (d least : ℕ) (bytes : List ℕ) (l : Link) (ls : List Link) → least ≤ l.declared.dpid → (slice_get (waiting_in ls) 0 ≡ Some (From d bytes) → FirstWaits d bytes (l.declared.dpid + 1) ls)
+    → (ws : List (List ℕ)) → l.waits ≡ ws → slice_get (map (From l.declared.dpid) ws ++ waiting_in ls) 0 ≡ Some (From d bytes) → FirstWaits d bytes least (l ∷ ls)
 waits_here d least bytes l ls asc rest [] is next =
     let later = rest next in
     let apart : (l.declared.dpid == d) ≡ false = ne_eqb l.declared.dpid d (λ same. absurd (omega (arith, same, later.above))) in
@@ -70,18 +72,15 @@ waits_here d least bytes l ls asc rest (w ∷ ws) is next =
     let here : (l.declared.dpid == d) ≡ true = eq-eqb l.declared.dpid d number in
     record { above = omega (arith, asc, number); waits = rw (here, is) (ap (λ (b : List ℕ). Some b) (same_bytes l.declared.dpid d w bytes next)) }
 
-first_waits : (d least : ℕ) (bytes : List ℕ) (ls : List Link) → Ascend least ls → slice_get (waiting ls) 0 ≡ Some (From d bytes) → FirstWaits d bytes least ls
+first_waits : (d least : ℕ) (bytes : List ℕ) (ls : List Link) → Ascend least ls → slice_get (waiting_in ls) 0 ≡ Some (From d bytes) → FirstWaits d bytes least ls
 first_waits d least bytes [] asc next = absurd cc
 first_waits d least bytes (l ∷ ls) asc next = waits_here d least bytes l ls asc.0 (first_waits d (l.declared.dpid + 1) bytes ls asc.2) l.waits refl next
 
-first_found : (d : ℕ) (bytes : List ℕ) (s : State) → Ascend 1 s.links → slice_get (waiting s.links) 0 ≡ Some (From d bytes) → slice_get (waits_of d s) 0 ≡ Some bytes
+first_found : (d : ℕ) (bytes : List ℕ) (s : State) → Ascend 1 s.links → slice_get (waiting_in s.links) 0 ≡ Some (From d bytes) → slice_get (waits_of d s) 0 ≡ Some bytes
 unfolding waits_of
 first_found d bytes s asc next = (first_waits d 1 bytes s.links asc next).waits
 
-none_first : (ws : List (List ℕ)) (bytes : List ℕ) → ws ≡ [] → slice_get ws 0 ≡ Some bytes → ⊥
-none_first ws bytes none first = let h : None ≡ Some bytes = sym (ap (λ (xs : List (List ℕ)). slice_get xs 0) none) ∙ first in absurd cc
-
-waits_joined : (d : ℕ) (bytes : List ℕ) (s : State) → Ascend 1 s.links → AllEmptyOut s.links → slice_get (waiting s.links) 0 ≡ Some (From d bytes) → is_joined d s ≡ true
+waits_joined : (d : ℕ) (bytes : List ℕ) (s : State) → Ascend 1 s.links → AllEmptyOut s.links → slice_get (waiting_in s.links) 0 ≡ Some (From d bytes) → is_joined d s ≡ true
 waits_joined d bytes s asc empty next =
     elim (cases_Bool (is_joined d s)) [
       | inl joined ↦ joined
@@ -192,13 +191,13 @@ stim_due x s none = ap (λ (due : List WorldStep). due ++ due_of x s) none
 
 -- ---- The item that is told next
 
-upcoming_none : (t : State) → t.due ≡ [] → upcoming t ≡ waiting t.links
+upcoming_none : (t : State) → t.due ≡ [] → upcoming t ≡ waiting_in t.links
 unfolding upcoming
-upcoming_none t none = ap (λ (due : List WorldStep). due ++ waiting t.links) none
+upcoming_none t none = ap (λ (due : List WorldStep). due ++ waiting_in t.links) none
 
 upcoming_one : (t : State) (item : WorldStep) → t.due ≡ item ∷ [] → slice_get (upcoming t) 0 ≡ Some item
 unfolding upcoming
-upcoming_one t item one = ap (λ (due : List WorldStep). slice_get (due ++ waiting t.links) 0) one
+upcoming_one t item one = ap (λ (due : List WorldStep). slice_get (due ++ waiting_in t.links) 0) one
 
 nil_front : (xs ys : List WorldStep) → xs ++ ys ≡ [] → xs ≡ []
 nil_front [] ys none = refl
@@ -206,7 +205,7 @@ nil_front (x ∷ xs) ys none = absurd cc
 
 none_upcoming : (t : State) → upcoming t ≡ [] → t.due ≡ []
 unfolding upcoming
-none_upcoming t none = nil_front t.due (waiting t.links) none
+none_upcoming t none = nil_front t.due (waiting_in t.links) none
 
 -- an item that is no message is the one that was due
 the_one : (step : WorldStep) (s t : State) (due : List WorldStep) → of_switch (Some step) ≡ false → t.due ≡ due → DueBy due s t → slice_get (upcoming t) 0 ≡ Some step → OneDue step s t × (t.due ≡ step ∷ [])
@@ -239,7 +238,7 @@ from_told : (d : ℕ) (bytes : List ℕ) (s t : State) (views : List TableView) 
 from_told d bytes s t views due is by viewed asc empty next =
     let none : due ≡ [] = message_due d bytes s t due is by next in
     let stays : (e : ℕ) → is_joined e t ≡ is_joined e s = subst (λ (xs : List WorldStep). DueBy xs s t) none by in
-    let waits : slice_get (waiting t.links) 0 ≡ Some (From d bytes) = sym (ap (λ (xs : List WorldStep). slice_get xs 0) (upcoming_none t (is ∙ none))) ∙ next in
+    let waits : slice_get (waiting_in t.links) 0 ≡ Some (From d bytes) = sym (ap (λ (xs : List WorldStep). slice_get xs 0) (upcoming_none t (is ∙ none))) ∙ next in
     record {
       others = λ e other. from_joined d e bytes t ∙ stays e ∙ viewed e;
       told_of = from_joined d d bytes t ∙ waits_joined d bytes t asc empty waits;

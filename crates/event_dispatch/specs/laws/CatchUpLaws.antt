@@ -16,7 +16,8 @@ use Rattle.outside.specs.declared.item.Item.TheVariants as items
 use Rattle.outside.specs.declared.step.WorldStep.TheVariants.{From, Joined, Left}
 use Rattle.outside.specs.Seen.{Seen, Continues, journal}
 use Rattle.outside.specs.State.{State, state, is_joined, switch_of}
-use Rattle.outside.specs.Calls.{IsFeatures, item_step}
+use Rattle.outside.specs.Calls.{item_step}
+use Rattle.of_wire.specs.Handshake.{IsFeatures}
 use Rattle.outside.specs.InOrder.{brings_message, MessagesSince}
 use Rattle.net_txn.specs.Net.{NetState}
 use Rattle.net_txn.specs.LinkSteps.{OnLinks, LinkSteps}

@@ -18,7 +18,7 @@ use Rattle.net_txn.specs.Releases.{Commits}
 use Rattle.net_txn.specs.Abreast.{Abreast}
 use Rattle.net_txn.specs.laws.AbreastLaws.{abreast-out, asks_abreast, viewed_joined, undoes_abreast, commits_abreast}
 use Rattle.app_visor.specs.declared.state.TurnEnd.{TurnEnd}
-use Rattle.app_visor.specs.Talks.{give_act}
+use Rattle.lego_model.specs.Journal.{give_act}
 use Rattle.app_visor.specs.Beats.{Talk, Stops}
 use Rattle.app_visor.specs.laws.BeatLaws.{Chain-continues, Stops-continues}
 use Rattle.app_visor.specs.Turns.{Turns}

@@ -25,7 +25,7 @@ use Rattle.lego_model.specs.declared.wait.Heard.TheVariants.{Reply, Refused, Not
 use Rattle.run_laws.specs.laws.TurnCallLaws.{both_first}
 use Rattle.net_txn.specs.Net.{NetState}
 use Rattle.lego_model.specs.Packets.{Held}
-use Rattle.net_txn.specs.Releases.{packet_awaited, packet_steps, BreaksAt, committed, StopsRelease, UndoneForMemory, Commits}
+use Rattle.net_txn.specs.Releases.{packet_steps, BreaksAt, committed, StopsRelease, UndoneForMemory, Commits}
 use Rattle.switch_laws.specs.laws.ReleaseLaws.{releases-continue}
 use Rattle.lego_model.specs.AfterFault.{IsWhyUndo}
 use Rattle.lego_model.specs.UndoFaults.{delete_strict, inverse_bytes}
@@ -49,6 +49,7 @@ use Rattle.event_dispatch.specs.Why.{IsWhy, fault_of, ended_by, IsReason, WhyMes
 use Rattle.lego_model.specs.SwitchFaults.{Happened, CameFrom, SentThenGot, rows_steps, came_for, IsBadPart, IsUnanswered, IsErrorFor, IsFlood, IsWhyTxn}
 use Rattle.event_dispatch.specs.laws.WhyLaws.{IsWhy-behind}
 use Rattle.lego_model.specs.laws.SwitchFaultLaws.{happened_before}
+use Rattle.net_txn.specs.laws.StepLaws.{some_is}
 
 -- ---- A flood
 
@@ -145,13 +146,10 @@ record IsGot (d xid kind : ℕ) (bytes : List ℕ) (steps : List WorldStep) : Ty
 abbrev StandsIn : ℕ → ℕ → List ℕ → List (ℕ × List ℕ) → Type 0
 StandsIn xid kind bytes came = (place : ℕ) × (slice_get (flat_map (about_in xid kind) came) place ≡ Some bytes)
 
-same_some : (a b : List ℕ) → Some a ≡ Some b → a ≡ b
-same_some a b h = cc
-
 -- it is this message, or stands among the others
 first_or : (xid kind : ℕ) (b : List ℕ) (rest : List (List ℕ)) (place : ℕ) (bytes : List ℕ) (is : Bool) → is_about xid kind b ≡ is → slice_get ((if is then b ∷ [] else []) ++ rest) place ≡ Some bytes
     → ((is_about xid kind b ≡ true) × (b ≡ bytes)) ⊎ ((n : ℕ) × (slice_get rest n ≡ Some bytes))
-first_or xid kind b rest zero bytes true about at = inl (about, same_some b bytes at)
+first_or xid kind b rest zero bytes true about at = inl (about, some_is b bytes at)
 first_or xid kind b rest (suc n) bytes true about at = inr (n, at)
 first_or xid kind b rest place bytes false about at = inr (place, at)
 
@@ -350,8 +348,8 @@ stops_why {Own} {Tells} old new net now_net fault stops =
 
 -- ---- A release that stopped
 
-packet_flood : {Own : Type 0} (Tells : Type 0) (d xid : ℕ) (packet : Packet) (old new : Seen Own) (fault : TxnFault) → IfFlooded Tells (packet_awaited d xid) (packet_steps d xid packet) old new fault → FloodSo Tells d old new fault
-packet_flood Tells d xid packet old new (Flooded of n) f = flood_of (packet_awaited d xid) (Acted (Sent d (message_bytes xid (PacketOut packet))) ∷ []) old new f
+packet_flood : {Own : Type 0} (Tells : Type 0) (d xid : ℕ) (packet : Packet) (old new : Seen Own) (fault : TxnFault) → IfFlooded Tells (asked_from d xid) (packet_steps d xid packet) old new fault → FloodSo Tells d old new fault
+packet_flood Tells d xid packet old new (Flooded of n) f = flood_of (asked_from d xid) (Acted (Sent d (message_bytes xid (PacketOut packet))) ∷ []) old new f
 packet_flood Tells d xid packet old new (SwitchBroke of bytes) f = tt
 packet_flood Tells d xid packet old new (Diverged of sent got) f = tt
 packet_flood Tells d xid packet old new NoMemory f = tt

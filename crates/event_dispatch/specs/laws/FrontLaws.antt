@@ -4,7 +4,7 @@ use Rattle.std.proofs.Common.{sym, ap, ◌∙◌, subst}
 use Rattle.flow_table.specs.Switch.{SwitchState}
 use Rattle.outside.specs.declared.step.WorldStep.{WorldStep}
 use Rattle.outside.specs.Seen.{Seen, Continues}
-use Rattle.outside.specs.State.{waits_of, upcoming, state}
+use Rattle.outside.specs.State.{waits_of, upcoming, state, waiting_in}
 use Rattle.outside.specs.Conforming.{Conforming}
 use Rattle.outside.specs.InOrder.{InOrder, BringMessages}
 use Rattle.outside.specs.laws.InOrderLaws.{InOrder-before, in_order-Conforming, Conforming-on}
@@ -12,7 +12,6 @@ use Rattle.net_txn.specs.Net.{NetState}
 use Rattle.net_txn.specs.Abreast.{Abreast}
 use Rattle.batch_laws.specs.Calm.{Calm}
 use Rattle.batch_laws.specs.laws.ItemLaws.{links_ascend, none_waiting}
-use Rattle.batch_laws.specs.Items.{waiting}
 use Rattle.run_laws.specs.laws.FirstLaws.{none-joined, calm-first}
 use Rattle.run_laws.specs.First.{IsOpened, net_at_first}
 use Rattle.event_dispatch.specs.Steady.{Reads, NothingUnderWay}
@@ -45,5 +44,5 @@ pub calm_rest : {Own : Type 0} (seen : Seen Own) (net : NetState) → Conforming
 unfolding waits_of upcoming
 calm_rest seen net keeps calm = record {
   none_begun = calm.none_begun;
-  none_upcoming = ap (λ (steps : List WorldStep). steps ++ waiting (state seen).links) calm.none_due ∙ none_waiting 1 (state seen).links (links_ascend seen keeps) calm.ready.waits;
+  none_upcoming = ap (λ (steps : List WorldStep). steps ++ waiting_in (state seen).links) calm.none_due ∙ none_waiting 1 (state seen).links (links_ascend seen keeps) calm.ready.waits;
 }

@@ -29,13 +29,14 @@ use Rattle.net_txn.specs.Answering.{known_rows}
 use Rattle.net_txn.specs.Changes.{answer_of_host, Changes, ChangesJoined, ChangesLost}
 use Rattle.net_txn.specs.Arriving.{Becomes, ArrivesLost, Arrives}
 use Rattle.net_txn.specs.Joining.{JoinsOrNot}
-use Rattle.net_txn.specs.Losing.{is_among, lost_net, lose_all}
+use Rattle.net_txn.specs.Losing.{lost_net, lose_all}
+use Rattle.of_types.specs.Membership.{is_among}
 use Rattle.net_txn.specs.Undos.{Part, Inverse, BarrierPassed, Stuck, alone, fault_in, first_fault, KeepsOne, Keeps, Undoes, lost_in, lost_parts, undone_net, next_free}
 use Rattle.net_txn.specs.laws.UndoWaitLaws.{until_more}
 use Rattle.net_txn.specs.laws.LinkPresenceLaws.{among-front}
 use Rattle.net_txn.specs.Releases.{Commits}
 use Rattle.app_visor.specs.Beats.{Beat, Talk, Asks as AskedNow, Chain}
-use Rattle.app_visor.specs.Talks.{give_act}
+use Rattle.lego_model.specs.Journal.{give_act}
 use Rattle.switch_laws.specs.laws.AskedLaws.{asked}
 use Rattle.event_dispatch.specs.declared.closing.Closing.{Closing}
 use Rattle.event_dispatch.specs.declared.closing.Closing.TheVariants as closings

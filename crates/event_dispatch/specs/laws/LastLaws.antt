@@ -16,11 +16,13 @@ use Rattle.lego_model.specs.RunReport.{lost_line, flow_line, app_line, end_line,
 use Rattle.run_laws.specs.Engine.{Application}
 use Rattle.event_dispatch.specs.laws.OfferLaws.{map_both}
 use Rattle.net_txn.specs.declared.ports.KnownPorts.{KnownPorts}
-use Rattle.net_txn.specs.Losing.{is_among, lost_net, lose_all}
+use Rattle.net_txn.specs.Losing.{lost_net, lose_all}
+use Rattle.of_types.specs.Membership.{is_among}
 use Rattle.net_txn.specs.Net.{NetState}
 use Rattle.net_txn.specs.Views.{rows_at, is_viewed, ViewsAscend}
 use Rattle.net_txn.specs.laws.AgreeLaws.{viewed as viewed_rows}
-use Rattle.net_txn.specs.laws.LostPartLaws.{among-append, or_false, among-last, Distinct}
+use Rattle.net_txn.specs.laws.LostPartLaws.{among-append, among-last, Distinct}
+use Rattle.std.proofs.Math.Bool.{or-false}
 use Rattle.net_txn.specs.Asks.{Asks}
 use Rattle.net_txn.specs.AskSteps.{own_rows, RowsInStep, AskSteps}
 use Rattle.outside.specs.Seen.{Seen, Continues}
@@ -29,7 +31,8 @@ use Rattle.outside.specs.Conforming.{Conforming}
 use Rattle.outside.specs.laws.StateLaws.{Conforming-before}
 use Rattle.switch_laws.specs.Shown.{rows_or_none, shown_switch, shown_places, correction_in, corrections, shown_by}
 use Rattle.switch_laws.specs.Since.{ports_known, Ready}
-use Rattle.switch_laws.specs.laws.LossLaws.{lose_all-append, lose_all-xid, lose_all-moment, lose_all-rows, lose_all-rows_gone, lose_all-known, lose_all-known_gone, ready-joined}
+use Rattle.switch_laws.specs.laws.LossLaws.{lose_all-append, lose_all-xid, lose_all-rows, lose_all-rows_gone, lose_all-known, lose_all-known_gone, ready-joined}
+use Rattle.net_txn.specs.laws.LoseAllLaws.{lose_all-moment}
 use Rattle.switch_laws.specs.Sound.{Sound}
 use Rattle.switch_laws.specs.laws.SoundLaws.{rows-are}
 use Rattle.switch_laws.specs.laws.StandLaws.{all-stand}
@@ -391,7 +394,7 @@ module _ {Own : Type 0} (ds : List ℕ) (d : ℕ) (old mid new : Seen Own) (a b 
   -- the others of which it was told before
   before_same : (e : ℕ) → is_among e ds ≡ true → is_among e both_lost ≡ is_among e one.lost
   unfolding both_lost
-  before_same e is = among-append e one.lost two.lost ∙ ap (λ (b : Bool). is_among e one.lost || b) (two.among e (only_first d e (not_last ds d e none is))) ∙ or_false (is_among e one.lost)
+  before_same e is = among-append e one.lost two.lost ∙ ap (λ (b : Bool). is_among e one.lost || b) (two.among e (only_first d e (not_last ds d e none is))) ∙ or-false (is_among e one.lost)
 
   last_same : is_among d both_lost ≡ is_among d two.lost
   unfolding both_lost

@@ -11,7 +11,7 @@ use Rattle.app_frames.specs.declared.frame.Event.{Event}
 use Rattle.lego_model.specs.AtOnce.{Passes, AtOnce}
 use Rattle.lego_model.specs.Controller.{event_frame}
 use Rattle.lego_model.specs.History.{own_acts}
-use Rattle.lego_model.specs.Journal.{is_event, reply_of, released_in, released}
+use Rattle.lego_model.specs.Journal.{is_event, reply_of, released_in, released, give_act}
 use Rattle.lego_model.specs.Packets.{Held}
 use Rattle.lego_model.specs.Turns.{Outcome, Completed, Failed, Played, turn_of}
 use Rattle.outside.specs.declared.step.WorldStep.{WorldStep}
@@ -33,7 +33,6 @@ use Rattle.switch_laws.specs.laws.ReleaseLaws.{release-moves}
 use Rattle.journal_laws.specs.laws.FrameLaws.{event_is}
 use Rattle.app_visor.specs.declared.state.TurnEnd.{TurnEnd}
 use Rattle.app_visor.specs.declared.state.TurnEnd.TheVariants as ends
-use Rattle.app_visor.specs.Talks.{give_act}
 use Rattle.app_visor.specs.Beats.{Exchange, Stops, acts_in, exchanges_in}
 use Rattle.app_visor.specs.Turns.{IsEnd, Agrees, Turns}
 use Rattle.app_visor.specs.laws.TableLaws.{turn_alike}

@@ -6,11 +6,11 @@ use Rattle.app_frames.specs.declared.frame.Event.{Event}
 use Rattle.lego_model.specs.RunReport.{lost_line}
 use Rattle.net_txn.specs.declared.ports.KnownPorts.{KnownPorts}
 use Rattle.net_txn.specs.Net.{NetState}
-use Rattle.net_txn.specs.Leaving.{left_event}
+use Rattle.net_txn.specs.Leaving.{left_event, none_left}
 use Rattle.batch_laws.specs.Knowledge.{left_events, lost_text}
 use Rattle.event_dispatch.specs.declared.engine_core.Core.{Core}
 use Rattle.event_dispatch.specs.Runs.{Waits}
-use Rattle.event_dispatch.specs.Shows.{none_left, Adds, TellsLost, TellsOn}
+use Rattle.event_dispatch.specs.Shows.{Adds, TellsLost, TellsOn}
 use Rattle.event_dispatch.specs.laws.WhyLaws.{waits_then}
 
 no_more : {A : Type 0} (xs : List A) → xs ++ [] ≡ xs

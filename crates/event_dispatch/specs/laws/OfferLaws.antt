@@ -107,12 +107,6 @@ taken_whole zero xs = refl
 taken_whole (suc n) [] = refl
 taken_whole (suc n) (x ∷ xs) = ap (λ (ys : List _). x ∷ ys) (taken_whole n xs)
 
-pub drop_none : {A : Type 0} (n : ℕ) (xs : List A) → length xs ≤ n → drop n xs ≡ []
-drop_none zero [] le = refl
-drop_none zero (x ∷ xs) le = absurd (omega (arith, le))
-drop_none (suc n) [] le = refl
-drop_none (suc n) (x ∷ xs) le = drop_none n xs (omega (arith, le))
-
 any_at : {A : Type 0} (p : A → Bool) (n : ℕ) (xs : List A) (m : A) (rest : List A) → drop n xs ≡ m ∷ rest → p m ≡ true → list_any p xs ≡ true
 any_at p zero [] m rest is holds = absurd cc
 any_at p zero (x ∷ xs) m rest is holds = let here : p x ≡ true = ap p (cons_head x m xs rest is) ∙ holds in rw here refl

@@ -2,7 +2,6 @@
 use Rattle.std.proofs.Common.{◌≡◌, ◌<◌, ◌+◌, ℕ, true, Bool, List, [], ◌∷◌, ◌++◌, filter, length, Option, Some, None, Result, Ok, Err, refl, sym, ap, ◌∙◌, subst, arith, inl, inr}
 use Rattle.std.proofs.lemmas.Bool.{cases_eq}
 use Rattle.of_types.specs.declared.journal.WorldStim.{WorldStim}
-use Rattle.std.specs.Prelude.{OnErr}
 use Rattle.lego_model.specs.Journal.{is_of, is_event}
 use Rattle.lego_model.specs.Controller.{attempts}
 use Rattle.app_frames.specs.declared.cause.Tried.{Tried}
@@ -171,7 +170,3 @@ pub goes_none : {Own : Type 0} (Tells : Type 0) (seen : Seen Own) (e : Engine) �
 goes_none Tells seen e = record { talks = λ told each app less. rests_at_once seen e.apps app each less }
 
 -- ---- Where a fault ended it
-
-pub holds_on_err : {T E P : Type 0} (result : Result T E) → P → OnErr result P
-holds_on_err (Ok x) p = tt
-holds_on_err (Err e) p = p

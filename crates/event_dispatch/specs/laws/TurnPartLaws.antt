@@ -24,7 +24,8 @@ use Rattle.event_dispatch.specs.declared.engine_core.Core.{Core}
 use Rattle.event_dispatch.specs.declared.fault.Fault.{Fault}
 use Rattle.event_dispatch.specs.declared.run.Managed.{Managed}
 use Rattle.event_dispatch.specs.Runs.{AreRead, StoreRests, CoreGoes, SameManaged}
-use Rattle.event_dispatch.specs.Shows.{application_of, focus_of, name_of, none_left}
+use Rattle.event_dispatch.specs.Shows.{application_of, focus_of, name_of}
+use Rattle.net_txn.specs.Leaving.{none_left}
 use Rattle.event_dispatch.specs.Lines.{OnlyNotes, LostTold}
 use Rattle.event_dispatch.specs.Stored.{KeepsSlots, closes_slot, PlaysStaged}
 use Rattle.event_dispatch.specs.Talking.{KeepsTalking}

@@ -134,39 +134,33 @@ at_place-below place (x ∷ xs) n least h lt = at_place-other place n x xs (omeg
 
 -- ---- How long a list is.
 
-length-new : {X : Type 0} (place : X → ℕ) (xs : List X) (x : X) → at_place place (place x) xs ≡ None → length (with_item place x xs) ≡ length xs + 1
-length-new place [] x none = refl
-length-new place (y ∷ ys) x none =
+-- an item at a new place is one more
+pub length-with_item-new : {X : Type 0} (place : X → ℕ) (xs : List X) (x : X) → at_place place (place x) xs ≡ None → length (with_item place x xs) ≡ length xs + 1
+length-with_item-new place [] x none = refl
+length-with_item-new place (y ∷ ys) x none =
     elim (cases_lt (place x) (place y)) [
       | inl lt ↦ rw (with_item-before place x y ys lt) (omega arith)
       | inr ge ↦ elim (cases_lt (place y) (place x)) [
-        | inl gt ↦ rw (with_item-after place x y ys gt) (omega (arith, length-new place ys x (sym (at_place-other place (place x) y ys (omega arith)) ∙ none)))
+        | inl gt ↦ rw (with_item-after place x y ys gt) (omega (arith, length-with_item-new place ys x (sym (at_place-other place (place x) y ys (omega arith)) ∙ none)))
         | inr le ↦ let same : place y ≡ place x = omega arith in let found = sym (at_place-same place (place x) y ys same) ∙ none in absurd cc
       ]
     ]
 
--- an item at a new place is one more
-pub length-with_item-new : {X : Type 0} (place : X → ℕ) (xs : List X) (x : X) → at_place place (place x) xs ≡ None → length (with_item place x xs) ≡ length xs + 1
-length-with_item-new place xs x none = length-new place xs x none
-
-none-without : {X : Type 0} (place : X → ℕ) (n : ℕ) (xs : List X) → at_place place n xs ≡ None → without_place place n xs ≡ xs
-none-without place n [] none = refl
-none-without place n (x ∷ xs) none =
-    elim (cases_eq (place x) n) [
-      | inl same ↦ let found = sym (at_place-same place n x xs same) ∙ none in absurd cc
-      | inr other ↦ without-keeps place n x xs other ∙ ap (λ ys. x ∷ ys) (none-without place n xs (sym (at_place-other place n x xs other) ∙ none))
-    ]
-
 -- a list without what does not stand there is itself
 pub without_place-absent : {X : Type 0} (place : X → ℕ) (n : ℕ) (xs : List X) → at_place place n xs ≡ None → without_place place n xs ≡ xs
-without_place-absent place n xs none = none-without place n xs none
+without_place-absent place n [] none = refl
+without_place-absent place n (x ∷ xs) none =
+    elim (cases_eq (place x) n) [
+      | inl same ↦ let found = sym (at_place-same place n x xs same) ∙ none in absurd cc
+      | inr other ↦ without-keeps place n x xs other ∙ ap (λ ys. x ∷ ys) (without_place-absent place n xs (sym (at_place-other place n x xs other) ∙ none))
+    ]
 
 -- what is taken out is one less
 pub length-without_place : {X : Type 0} (place : X → ℕ) (n : ℕ) (xs : List X) (y : X) (least : ℕ) → Ascends place least xs → at_place place n xs ≡ Some y → length (without_place place n xs) + 1 ≡ length xs
 length-without_place place n [] y least h some = absurd cc
 length-without_place place n (x ∷ xs) y least h some =
     elim (cases_eq (place x) n) [
-      | inl same ↦ rw (without-skips place n x xs same, none-without place n xs (at_place-below place xs n (place x + 1) h.1 (omega arith))) (omega arith)
+      | inl same ↦ rw (without-skips place n x xs same, without_place-absent place n xs (at_place-below place xs n (place x + 1) h.1 (omega arith))) (omega arith)
       | inr other ↦ rw (without-keeps place n x xs other)
           (omega (arith, length-without_place place n xs y (place x + 1) h.1 (sym (at_place-other place n x xs other) ∙ some)))
     ]
@@ -226,7 +220,7 @@ pub without_place-found : {X : Type 0} (place : X → ℕ) (xs : List X) (n leas
 without_place-found place [] n least i h found = absurd (omega (arith, found.0))
 without_place-found place (y ∷ ys) n least zero h found =
     let same : place y ≡ n = found.1 y in
-    without-skips place n y ys same ∙ none-without place n ys (at_place-below place ys n (place y + 1) h.1 (omega arith))
+    without-skips place n y ys same ∙ without_place-absent place n ys (at_place-below place ys n (place y + 1) h.1 (omega arith))
 without_place-found place (y ∷ ys) n least (suc i) h found =
     let within : i < length ys = omega (arith, found.0) in
     let above = place-get place ys (place y + 1) i y h.1 within in

@@ -7,9 +7,9 @@ use Rattle.std.proofs.lemmas.List.Concat.{flat_map-append}
 use Rattle.std.proofs.lemmas.List.Elements.{filter-append}
 use Rattle.of_types.specs.declared.journal.Act.{Act}
 use Rattle.of_types.specs.declared.journal.Act.TheVariants.{Stim, Started, Gave, Gone, Took, Ended, Sent, Got, Lost}
-use Rattle.lego_model.specs.Journal.{End, Untold, Attempt, Start, Reply, Asked, in_attempts, is_event, in_turns, piece_of, pieces, end_by, end_from, gave, was_gone, any_gone, start_of, reply_of}
+use Rattle.lego_model.specs.Journal.{End, Untold, Attempt, Start, Reply, Asked, in_attempts, is_event, in_turns, piece_of, pieces, end_by, end_from, gave, was_gone, any_gone, start_of, reply_of, give_act}
 use Rattle.lego_model.specs.laws.JournalLaws.{in_attempts-started}
-use Rattle.journal_laws.specs.Readings.{LastStands, is_within, Within, event_act, end_acts, ReadsSame, ReadsTurn, ReadsAttempt}
+use Rattle.journal_laws.specs.Readings.{LastStands, is_within, Within, end_acts, ReadsSame, ReadsTurn, ReadsAttempt}
 use Rattle.journal_laws.specs.laws.CallLaws.{both_second}
 use Rattle.lego_model.specs.History.{starts_in, replies_at, replies_in}
 
@@ -119,11 +119,11 @@ turns_behind (Lost d ∷ acts) more asked is = rw (turns_behind acts more asked 
 abbrev asked_is : Bool → List Act → Asked
 asked_is given acts = record { given = given; acts = acts }
 
-event_begins : (app : ℕ) (given : Bool) (frame : List ℕ) (more : List Act) → is_event frame ≡ true → Within app more → in_turns (event_act given app frame ∷ more) ≡ ([], asked_is given more ∷ [])
+event_begins : (app : ℕ) (given : Bool) (frame : List ℕ) (more : List Act) → is_event frame ≡ true → Within app more → in_turns (give_act given app frame ∷ more) ≡ ([], asked_is given more ∷ [])
 event_begins app true frame more event all = rw (event, turns_within app more all) refl
 event_begins app false frame more event all = rw (event, turns_within app more all) refl
 
-event_within_attempt : (app : ℕ) (given : Bool) (frame : List ℕ) (more : List Act) → Within app more → in_attempts (event_act given app frame ∷ more) ≡ (event_act given app frame ∷ more, [])
+event_within_attempt : (app : ℕ) (given : Bool) (frame : List ℕ) (more : List Act) → Within app more → in_attempts (give_act given app frame ∷ more) ≡ (give_act given app frame ∷ more, [])
 event_within_attempt app true frame more all = ap (λ (r : List Act × List Attempt). (Gave app frame ∷ r.0, r.1)) (attempts_within app more all)
 event_within_attempt app false frame more all = ap (λ (r : List Act × List Attempt). (Gone app frame ∷ r.0, r.1)) (attempts_within app more all)
 
@@ -161,11 +161,11 @@ replies_with : (last : Attempt) (more : List Act) (asked : List Asked) → in_tu
 replies_with last more asked is = ap (λ (r : List Act × List Asked). map reply_of r.1) (turns_behind last.acts more asked is) ∙ map-append reply_of (in_turns last.acts).1 asked
 
 pub turn_read : (app : ℕ) (given : Bool) (frame : List ℕ) (acts more : List Act) → LastStands acts → is_event frame ≡ true → Within app more
-    → ReadsTurn acts (acts ++ event_act given app frame ∷ more) (reply_of (record { given = given; acts = more }))
+    → ReadsTurn acts (acts ++ give_act given app frame ∷ more) (reply_of (record { given = given; acts = more }))
 turn_read app given frame acts more stood event all =
     let before = stood.before in
     let last = stood.last in
-    let next = event_act given app frame ∷ more in
+    let next = give_act given app frame ∷ more in
     let asked = asked_is given more ∷ [] in
     let begins : in_turns next ≡ ([], asked) = event_begins app given frame more event all in
     let after : (in_attempts (acts ++ next)).1 ≡ before ++ last_with last next ∷ [] =

@@ -58,12 +58,12 @@ is_lf byte = eqb byte 10
 is_other : (text : List ℕ) (k d : ℕ) → k < length text → is_lf (get_or text k 0) ≡ false → get_or text k d ≢ 10
 is_other text k d lt other e = eqb-false (get_or text k 0) 10 other (sym (get_or_default_zero text k d lt) ∙ e)
 
-no_lf_before : (text : List ℕ) (end : ℕ) → end ≤ length text → ((k : ℕ) → k < end → is_lf (get_or text k 0) ≡ false) → All (λ byte. byte ≢ 10) (take end text)
+pub no_lf_before : (text : List ℕ) (end : ℕ) → end ≤ length text → ((k : ℕ) → k < end → is_lf (get_or text k 0) ≡ false) → All (λ byte. byte ≢ 10) (take end text)
 no_lf_before text end within before k d lt =
     let below : k < end = omega (arith, length-take end text) in
     rw (get_or-take end text k d below) (is_other text k d (omega arith) (before k below))
 
-cut_there : (text : List ℕ) (end : ℕ) → end < length text → is_lf (get_or text end 0) ≡ true → text ≡ take end text ++ 10 ∷ drop (end + 1) text
+pub cut_there : (text : List ℕ) (end : ℕ) → end < length text → is_lf (get_or text end 0) ≡ true → text ≡ take end text ++ 10 ∷ drop (end + 1) text
 cut_there text end within here =
     rw add-one (sym (take-append-drop end text) ∙ ap (λ (rest : List ℕ). take end text ++ rest) (drop-cons text end 0 within ∙ ap (λ (byte : ℕ). byte ∷ drop (suc end) text) (eqb-true _ _ here)))
 

@@ -4,7 +4,10 @@ use Rattle.std.proofs.lemmas.List.Elements.{filter_map-append}
 use Rattle.of_types.specs.declared.journal.Act.{Act}
 use Rattle.of_types.specs.declared.journal.Act.TheVariants.{Stim, Started, Gave, Gone, Took, Ended, Sent, Got, Lost}
 pub use Rattle.outside.specs.laws.StimuliLaws.{stimuli-append}
-use Rattle.lego_model.specs.Journal.{Journal, given_to, inputs, lost_in, losses, in_attempts}
+use Rattle.lego_model.specs.Journal.{Journal, given_to, inputs, lost_in, losses, in_attempts, released, is_of}
+use Rattle.std.specs.List.{filter}
+use Rattle.outside.specs.Stimuli.{stimuli}
+use Rattle.outside.specs.Seen.{journal}
 
 pub inputs-append : (app : ℕ) (first next : Journal) → inputs app (first ++ next) ≡ inputs app first ++ inputs app next
 unfolding inputs
@@ -32,3 +35,17 @@ in_attempts-started (Got d b ∷ acts) app stands more = rw (in_attempts-started
 in_attempts-started (Lost d ∷ acts) app stands more = rw (in_attempts-started acts app stands more) refl
 
 -- ---- Turns
+
+-- ---- Where nothing happened
+
+pub stimuli-nil : stimuli (journal []) ≡ []
+unfolding stimuli journal
+stimuli-nil = refl
+
+pub released-nil : released (journal []) ≡ []
+unfolding released journal
+released-nil = refl
+
+pub acts-nil : (app : ℕ) → filter (is_of app) (journal []) ≡ []
+unfolding journal
+acts-nil app = refl

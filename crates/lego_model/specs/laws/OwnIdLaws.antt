@@ -5,7 +5,6 @@ use Rattle.std.proofs.lemmas.List.{length-append}
 use Rattle.std.proofs.lemmas.List.Elements.{filter_map-append}
 use Rattle.of_types.specs.Fields.{number_at, number_bytes}
 use Rattle.of_types.specs.laws.FieldLaws.{number_at-number_bytes, length-number_bytes}
-use Rattle.of_wire.specs.declared.kind.MessageKind.{MessageKind}
 use Rattle.of_wire.specs.declared.kind.MessageKind.TheVariants as kinds
 use Rattle.of_wire.specs.declared.message.Message.{Message}
 use Rattle.of_wire.specs.declared.message.Message.TheVariants.{EchoReply}
@@ -13,6 +12,7 @@ use Rattle.of_wire.specs.Kinds.{number_of_kind}
 use Rattle.of_wire.specs.Spelling.{kind_of, body_bytes, message_bytes}
 use Rattle.lego_model.specs.Journal.{Journal}
 use Rattle.lego_model.specs.OwnIds.{own_id_of, own_id_in, own_ids, AscendWithin}
+use Rattle.of_wire.specs.laws.SpellingLaws.{number_of_kind-lt}
 
 -- ---- Longer journals
 
@@ -44,31 +44,7 @@ ascend_front (id ∷ ids) next least bound all = (all.0, ascend_front ids next (
 
 -- ---- One message
 
-small_kind : (kind : MessageKind) → number_of_kind kind < 256
-small_kind kinds.Hello = omega arith
-small_kind kinds.Error = omega arith
-small_kind kinds.EchoRequest = omega arith
-small_kind kinds.EchoReply = omega arith
-small_kind kinds.Vendor = omega arith
-small_kind kinds.FeaturesRequest = omega arith
-small_kind kinds.FeaturesReply = omega arith
-small_kind kinds.GetConfigRequest = omega arith
-small_kind kinds.GetConfigReply = omega arith
-small_kind kinds.SetConfig = omega arith
-small_kind kinds.PacketIn = omega arith
-small_kind kinds.FlowRemoved = omega arith
-small_kind kinds.PortStatus = omega arith
-small_kind kinds.PacketOut = omega arith
-small_kind kinds.FlowMod = omega arith
-small_kind kinds.PortMod = omega arith
-small_kind kinds.StatsRequest = omega arith
-small_kind kinds.StatsReply = omega arith
-small_kind kinds.BarrierRequest = omega arith
-small_kind kinds.BarrierReply = omega arith
-small_kind kinds.QueueGetConfigRequest = omega arith
-small_kind kinds.QueueGetConfigReply = omega arith
-
-kind_at : (a b c d e : List ℕ) → (a ++ (b ++ (c ++ (d ++ [])))) ++ e ≡ a ++ (b ++ (c ++ (d ++ e)))
+pub kind_at : (a b c d e : List ℕ) → (a ++ (b ++ (c ++ (d ++ [])))) ++ e ≡ a ++ (b ++ (c ++ (d ++ e)))
 kind_at a b c d e = simp append_assoc
 
 xid_at : (a b c d e : List ℕ) → (a ++ (b ++ (c ++ (d ++ [])))) ++ e ≡ (a ++ (b ++ c)) ++ (d ++ e)
@@ -82,7 +58,7 @@ pub type_sent : (xid : ℕ) (m : Message) → number_at 1 1 (message_bytes xid m
 unfolding message_bytes
 type_sent xid m =
     ap (number_at 1 1) (kind_at (number_bytes 1 1) (number_bytes 1 (number_of_kind (kind_of m))) (number_bytes 2 _) (number_bytes 4 xid) (body_bytes m))
-    ∙ number_at-number_bytes 1 1 (number_of_kind (kind_of m)) (number_bytes 1 1) _ (length-number_bytes 1 1) (omega (arith, small_kind (kind_of m)))
+    ∙ number_at-number_bytes 1 1 (number_of_kind (kind_of m)) (number_bytes 1 1) _ (length-number_bytes 1 1) (omega (arith, number_of_kind-lt (kind_of m)))
 
 pub xid_sent : (xid : ℕ) (m : Message) → xid < 2 ^ 32 → number_at 4 4 (message_bytes xid m) ≡ xid
 unfolding message_bytes

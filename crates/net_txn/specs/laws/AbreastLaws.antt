@@ -97,7 +97,7 @@ with_view-viewed d vs = viewed d (with_view d vs) ∙ ap rows_there (rows_at-wit
 pub with_view-viewed-other : (d e : ℕ) (vs : List TableView) → e ≢ d → is_viewed e (with_view d vs) ≡ is_viewed e vs
 with_view-viewed-other d e vs other = viewed e (with_view d vs) ∙ ap rows_there (rows_at-with_view-other d e vs other) ∙ sym (viewed e vs)
 
-abbrev in_views : ℕ → List TableView → Bool
+abbrev pub in_views : ℕ → List TableView → Bool
 in_views e vs = is_viewed e vs
 
 pub arrival_viewed : (d e : ℕ) (m : Message) (net : NetState) → is_viewed e (net_after d m net).views ≡ is_viewed e net.views

@@ -27,7 +27,8 @@ use Rattle.net_txn.specs.laws.NoticeLaws.{with_entries}
 use Rattle.net_txn.specs.Undos.{Part, Inverse, BarrierPassed, Stuck, steps_of, parts_of, is_stuck, without_keys, keys_of, first_fault_of, ended_by, IsRevertedOn, AgreesAgain}
 use Rattle.net_txn.specs.laws.RestoreLaws.{entries_left, keys_reverted, left_all, others_stay}
 use Rattle.net_txn.specs.laws.TableBackLaws.{table_left}
-use Rattle.net_txn.specs.laws.InStepLaws.{shown_by, some_rows}
+use Rattle.net_txn.specs.laws.InStepLaws.{some_rows}
+use Rattle.lego_model.specs.Places.{table_rows}
 use Rattle.app_frames.specs.laws.BodyLaws.{map_some}
 
 -- ---- Keys and actions without a key
@@ -123,13 +124,13 @@ table_agrees_by : {Own : Type 0} (old new : Seen Own) (d : ℕ) (views now_views
     → ((c : ℕ) → IsRevertedOn (is_viewed c views) c old.counts new.counts (keys_of c all) (parts_of c parts)) → rows_at d now_views ≡ rows_at d (without_keys all views) → is_stuck (parts_of d parts) ≡ false
     → Agrees d views (state old) → switch_of d (state old) ≡ o → Agrees d now_views (state new)
 table_agrees_by old new d views now_views all parts None given told each lost free before is =
-    let no_rows : rows_at d views ≡ None = none_from rows_of_view (rows_at d views) (before ∙ ap (option_map shown_by) is) in
+    let no_rows : rows_at d views ≡ None = none_from rows_of_view (rows_at d views) (before ∙ ap (option_map table_rows) is) in
     let unknown : is_viewed d views ≡ false = viewed d views ∙ ap is_some no_rows in
     let same = others_stay old new d parts given told (λ c. (each c).run) ((each d).unknown unknown) in
     let gone : rows_at d now_views ≡ None = lost ∙ rows_left d all views ∙ ap (option_map (rows_without (keys_of d all))) no_rows in
     rw (gone, same.0, is) refl
 table_agrees_by old new d views now_views all parts (Some s) given told each lost free before is =
-    let there = map_some rows_of_view (rows_at d views) (shown_by s) (before ∙ ap (option_map shown_by) is) in
+    let there = map_some rows_of_view (rows_at d views) (table_rows s) (before ∙ ap (option_map table_rows) is) in
     let rows = there.0 in
     let known : is_viewed d views ≡ true = viewed d views ∙ ap is_some there.1 in
     let keys = keys_of d all in
@@ -137,7 +138,7 @@ table_agrees_by old new d views now_views all parts (Some s) given told each los
     let now : switch_of d (state new) ≡ Some (with_entries (entries_left (parts_of d parts) s.table.entries) s) = ap (switch_of d) after ∙ table_left old.counts new.counts d s parts (state old) (λ c. (each c).run) free is in
     let shown : rows_at d now_views ≡ Some (rows_without keys rows) = lost ∙ rows_left d all views ∙ ap (option_map (rows_without keys)) there.1 in
     let same : rows_of_view (rows_without keys rows) ≡ rows_of_table (entries_left (parts_of d parts) s.table.entries) =
-    shown_without keys rows ∙ ap (first_to_last keys) there.2 ∙ either_way keys (shown_by s) ∙ ap (λ (ks : List Key). last_to_first ks (shown_by s)) (sym ((each d).keys_is known free)) ∙ sym (table_left_rows (parts_of d parts) s.table.entries) in
+    shown_without keys rows ∙ ap (first_to_last keys) there.2 ∙ either_way keys (table_rows s) ∙ ap (λ (ks : List Key). last_to_first ks (table_rows s)) (sym ((each d).keys_is known free)) ∙ sym (table_left_rows (parts_of d parts) s.table.entries) in
     rw (shown, now) (ap some_rows same)
 
 pub table_agrees : {Own : Type 0} (old new : Seen Own) (d : ℕ) (views now_views : List TableView) (all : List (ℕ × Key)) (parts : List (ℕ × Part)) → new.given ≡ old.given → new.history ≡ old.history ++ steps_of parts
@@ -150,11 +151,11 @@ none_waits_by : {Own : Type 0} (old new : Seen Own) (d : ℕ) (views : List Tabl
     → ((c : ℕ) → IsRevertedOn (is_viewed c views) c old.counts new.counts (keys_of c all) (parts_of c parts)) → Conforming new → is_stuck (parts_of d parts) ≡ false → waits_of d (state old) ≡ []
     → Agrees d views (state old) → switch_of d (state old) ≡ o → waits_of d (state new) ≡ []
 none_waits_by old new d views all parts None given told each keeps free none before is =
-    let no_rows : rows_at d views ≡ None = none_from rows_of_view (rows_at d views) (before ∙ ap (option_map shown_by) is) in
+    let no_rows : rows_at d views ≡ None = none_from rows_of_view (rows_at d views) (before ∙ ap (option_map table_rows) is) in
     let unknown : is_viewed d views ≡ false = viewed d views ∙ ap is_some no_rows in
     (others_stay old new d parts given told (λ c. (each c).run) ((each d).unknown unknown)).1 ∙ none
 none_waits_by old new d views all parts (Some s) given told each keeps free none before is =
-    let there = map_some rows_of_view (rows_at d views) (shown_by s) (before ∙ ap (option_map shown_by) is) in
+    let there = map_some rows_of_view (rows_at d views) (table_rows s) (before ∙ ap (option_map table_rows) is) in
     let known : is_viewed d views ≡ true = viewed d views ∙ ap is_some there.1 in
     let may = Conforming-rest old new (steps_of parts) given told keeps in
     let l = left_all old.given.declared old.counts new.counts d s parts (state old) (λ c. (each c).run) free may is none in

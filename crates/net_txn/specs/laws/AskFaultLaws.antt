@@ -1,5 +1,5 @@
 -- How a switch fails to give its rows; and that where a world keeps its word, it gives no cause for a fault.
-use Rattle.std.specs.Prelude.{◌≡◌, ℕ, ◌+◌, ◌%◌, ◌^◌, ◌<◌, ◌≤◌, ◌↔◌, nat_le, List, [], ◌∷◌, ◌++◌, length, map, Some, None, Result, Ok, Err, IsErr, slice_get, refl}
+use Rattle.std.specs.Prelude.{◌≡◌, ℕ, ◌+◌, ◌^◌, ◌<◌, ◌≤◌, nat_le, List, [], ◌∷◌, ◌++◌, length, map, Some, None, Result, Ok, Err, IsErr, slice_get, refl}
 use Rattle.std.specs.List.{AllByRecursion}
 use Rattle.std.proofs.Common.{zero, suc, sym, ap, ◌∙◌, subst, inl, inr, arith}
 use Rattle.std.proofs.lemmas.Bool.{cases_Bool}
@@ -44,6 +44,7 @@ use Rattle.net_txn.specs.laws.FloodLaws.{IsGotAlone, few_got, ends_read}
 use Rattle.net_txn.specs.AskSteps.{own_rows, IsAskFault, AskHalts, AsksFrom, AskSteps}
 use Rattle.net_txn.specs.laws.AskStepLaws.{asking, IsMessage-asking, own_parts, own_replies, small_own, selected_all, joined_own, after_both, both_sent, AskedInStep, asked_in_step, own_read, rows_in_step}
 use Rattle.net_txn.specs.laws.ChangeLaws.{forget_kept}
+use Rattle.of_stats.specs.laws.PartLaws.{IsPartAt}
 
 -- ---- A reply of flows is whole, and has no more parts than rows, but one at least.
 
@@ -62,11 +63,6 @@ few_parts kind begun (row ∷ rows) =
       | inl fits ↦ rw fits (omega (arith, few_parts kind (begun ++ row) rows))
       | inr full ↦ rw full (omega (arith, few_parts kind row rows))
     ]
-
--- the part at a place of a reply of this type
-record IsPartAt (kind place : ℕ) (parts : List Part) : Type 0 where
-  kind_is : (part_at place parts).0 ≡ kind
-  more_is : ((part_at place parts).1 % 2 ≡ 1) ↔ (place + 1 < length parts)
 
 abbrev ArePartsOf : ℕ → List Part → Type 0
 ArePartsOf kind parts = (place : ℕ) → place < length parts → IsPartAt kind place parts
@@ -134,7 +130,7 @@ broken_rows s messages bytes said len broken fits =
       ]
     ]
 
-none_first : (xs : List (List ℕ)) (x : List ℕ) → xs ≡ [] → slice_get xs 0 ≡ Some x → ⊥
+pub none_first : (xs : List (List ℕ)) (x : List ℕ) → xs ≡ [] → slice_get xs 0 ≡ Some x → ⊥
 none_first xs x none is = absurd (no_value x (sym (ap (λ (ys : List (List ℕ)). slice_get ys 0) none) ∙ is))
 
 none_there : (xs : List (List ℕ)) → xs ≡ [] → 0 < length xs → ⊥

@@ -40,10 +40,10 @@ use Rattle.outside.specs.laws.StateLaws.{state-append, Conforming-rest}
 use Rattle.outside.specs.laws.LinkLaws.{switch_of-sent_other, waits_of-sent_other, waits_of-got}
 use Rattle.outside.specs.Conforming.{MaySteps, Conforming}
 use Rattle.lego_model.specs.declared.wait.Awaited.{Awaited}
-use Rattle.lego_model.specs.declared.wait.Heard.TheVariants.{Reply, Other}
-use Rattle.lego_model.specs.BarrierWaits.{next_xid, heard, is_reply, heard_steps, wait_steps, kept_of, barrier_sent, reply_got}
-use Rattle.net_txn.specs.laws.HeardLaws.{IsMessage-barrier, next_xid-lt, heard-reply}
-use Rattle.net_txn.specs.laws.StepLaws.{told_switch, told_waits, barrier_sends, barrier_stays, gots, gots_switch, gots_other, gots_other_waits, gots_empty, first_got, reply_alone}
+use Rattle.lego_model.specs.declared.wait.Heard.TheVariants.{Other}
+use Rattle.lego_model.specs.BarrierWaits.{next_xid, heard, is_reply, wait_steps, kept_of, barrier_sent, reply_got}
+use Rattle.net_txn.specs.laws.HeardLaws.{IsMessage-barrier, next_xid-lt}
+use Rattle.net_txn.specs.laws.StepLaws.{told_switch, told_waits, barrier_sends, barrier_stays, gots, gots_switch, gots_other, gots_other_waits, gots_empty, first_got, reply_alone, other_steps, other_no_reply}
 use Rattle.net_txn.specs.Asks.{others_in, Answered, GivesRows}
 use Rattle.lego_model.specs.FlowQueries.{all_flows, flows_request, request_sent, asked_from, parts_in, refusals_in, all_parts}
 use Rattle.net_txn.specs.laws.AskLaws.{part_refuses_not}
@@ -161,14 +161,8 @@ both_sent d xid s t small is none =
 
 -- ---- The messages that were got
 
-other_steps : (a : Awaited) (b : List ℕ) → heard a b ≡ Other → heard_steps a b ≡ Acted (Got a.dpid b) ∷ []
-other_steps a b is = rw is refl
-
 other_rest : (a : Awaited) (b : List ℕ) (bs : List (List ℕ)) → heard a b ≡ Other → wait_steps a (b ∷ bs) ++ reply_got a ∷ [] ≡ Acted (Got a.dpid b) ∷ (wait_steps a bs ++ reply_got a ∷ [])
 other_rest a b bs is = ap (λ (steps : List WorldStep). (steps ++ wait_steps a bs) ++ reply_got a ∷ []) (other_steps a b is)
-
-other_no_reply : (a : Awaited) (b : List ℕ) → heard a b ≡ Other → message_bytes a.barrier BarrierReply ≡ b → ⊥
-other_no_reply a b other is = let h : Other ≡ Reply = sym other ∙ ap (heard a) (sym is) ∙ heard-reply a in absurd cc
 
 -- the parts are got, and nothing else
 parts_alone : (declared : List Declared) (a : Awaited) (xid : ℕ) (parts : List Part) (got : List (List ℕ)) (t : State) → xid < 2 ^ 32 → a.barrier < 2 ^ 32 → AllByRecursion IsSmallPart parts

@@ -29,7 +29,8 @@ use Rattle.net_txn.specs.laws.HeardLaws.{IsSmall, small_refusal, next_xid-lt, he
 use Rattle.net_txn.specs.laws.FloodLaws.{IsGotAlone, few_got, ends_read}
 use Rattle.net_txn.specs.Answering.{answer_of_host, change_sent, IfGivenUp}
 use Rattle.net_txn.specs.ChangeSteps.{Agrees}
-use Rattle.net_txn.specs.laws.InStepLaws.{after_both, both_sent, taken_sends, small_of, passed, shown_by}
+use Rattle.net_txn.specs.laws.InStepLaws.{after_both, both_sent, taken_sends, small_of, passed}
+use Rattle.lego_model.specs.Places.{table_rows}
 use Rattle.app_frames.specs.laws.BodyLaws.{map_some}
 
 -- ---- A change sends one message at most, an ERROR.
@@ -52,9 +53,9 @@ not_flooded : {Own : Type 0} {Tells : Type 0} (d : ℕ) (bytes : List ℕ) (old 
     → answer_of_host d bytes net ≡ None → reading_of bytes ≡ Ok (enveloped xid (FlowMod m)) → Conforming new → waits_of d (state old) ≡ [] → Agrees d net.views (state old) → ⊥
 not_flooded d bytes old new net n m xid told given host read keeps waits agrees =
     let p = passed d bytes m net xid host read in
-    let joined = map_some shown_by (switch_of d (state old)) p.rows (sym agrees ∙ p.known) in
+    let joined = map_some table_rows (switch_of d (state old)) p.rows (sym agrees ∙ p.known) in
     let s = joined.0 in
-    let none_touched : would_touch m (shown_by s) ≡ false = ap (would_touch m) joined.2 ∙ p.touches_none in
+    let none_touched : would_touch m (table_rows s) ≡ false = ap (would_touch m) joined.2 ∙ p.touches_none in
     let a = awaited_from d net.xid in
     let f = given.2 in
     let may = Conforming-rest old new (change_sent d net.xid m ∷ barrier_sent a ∷ wait_steps a f.got) f.continues.given (f.told told) keeps in

@@ -35,12 +35,14 @@ use Rattle.net_txn.specs.Answering.{BreaksOff, InFlight, MayMove}
 use Rattle.net_txn.specs.Making.{Halts}
 use Rattle.net_txn.specs.Waits.{Brought, KeptMore}
 use Rattle.net_txn.specs.laws.SaidLaws.{joined_after, steps_append, Calls-moves, wait_said_steps}
-use Rattle.net_txn.specs.laws.LostLaws.{is_link, fault_is_none, packets_said, breaks_halts, breaks_none_lost, replied_none_lost}
+use Rattle.net_txn.specs.laws.LostLaws.{fault_is_none, packets_said, breaks_halts, breaks_none_lost, replied_none_lost}
+use Rattle.net_txn.specs.Undos.{is_of_link}
 use Rattle.net_txn.specs.laws.HeardLaws.{IsMessage-barrier, next_xid-lt}
 use Rattle.net_txn.specs.laws.SentLaws.{reading_of-as_sent}
 use Rattle.net_txn.specs.laws.StepLaws.{barrier_stays}
 use Rattle.net_txn.specs.laws.PartLaws.{steps_other}
-use Rattle.net_txn.specs.laws.WaitMoveLaws.{wait_switch}
+use Rattle.net_txn.specs.laws.WaitMoveLaws.{wait_switch, some_switch}
+use Rattle.net_txn.specs.laws.WaitLaws.{brought}
 
 -- ---- What was said, with the ids and the bytes of this change
 
@@ -56,9 +58,6 @@ broke_by {Tells = Tells} d m net a frame kept now_kept old new halt is spelled s
     let b1 = subst (λ (x : Awaited). BreaksBy Tells x ((frame ∷ []) ++ barrier_of x ∷ []) old new kept now_kept halt) is b in
     let b2 = subst (λ (f : List ℕ). BreaksBy Tells here ((f ∷ []) ++ barrier_of here ∷ []) old new kept now_kept halt) first b1 in
     subst (λ (k : List (ℕ × List ℕ)). BreaksBy Tells here ((change_bytes net.xid m ∷ []) ++ barrier_of here ∷ []) old new k now_kept halt) same b2
-
-abbrev brought : Option Refusal → List (List ℕ) → Brought
-brought refusal notices = record { refusal = refusal; notices = notices }
 
 pub replied_then : {Own : Type 0} {Tells : Type 0} (d : ℕ) (m : Change) (net : NetState) (a : Awaited) (frame : List ℕ) (kept now_kept : List (ℕ × List ℕ)) (old new : Seen Own) (halt : Halt)
     → a ≡ awaited_from d net.xid → frame ≡ change_bytes a.first m → kept ≡ net.kept → (answer : Brought) → answer.refusal ≡ None → Replied Tells a ((frame ∷ []) ++ barrier_of a ∷ []) Growing [] old new kept now_kept answer
@@ -125,7 +124,7 @@ pub moves_then : (d : ℕ) (m : Message) (xs ys : List Said) → Moves d m xs �
 moves_then d m xs ys first second joined t = ap (switch_of d) (one_then joined xs ys t) ∙ second (joined_after joined xs) (after_steps (said_steps joined xs) t) ∙ first joined t
 
 -- a trouble that is not of the link loses no switch
-pub stays_unsaid : (d : ℕ) (trouble : Trouble) → is_link trouble ≡ false → Stays d (unsaid d trouble)
+pub stays_unsaid : (d : ℕ) (trouble : Trouble) → is_of_link trouble ≡ false → Stays d (unsaid d trouble)
 stays_unsaid d troubles.Link none joined t = absurd cc
 stays_unsaid d (troubles.Broke n) none joined t = refl
 stays_unsaid d (troubles.Refused k x n) none joined t = refl
@@ -133,7 +132,7 @@ stays_unsaid d troubles.Flooded none joined t = refl
 stays_unsaid d troubles.Short none joined t = refl
 stays_unsaid d troubles.Full none joined t = refl
 
-stays_unheard : (d : ℕ) (trouble : Trouble) (buf : List ℕ) → is_link trouble ≡ false → Stays d (unheard d trouble buf)
+stays_unheard : (d : ℕ) (trouble : Trouble) (buf : List ℕ) → is_of_link trouble ≡ false → Stays d (unheard d trouble buf)
 stays_unheard d troubles.Link buf none joined t = absurd cc
 stays_unheard d (troubles.Broke n) buf none joined t = switch_of-got d (take n buf) t
 stays_unheard d (troubles.Refused k x n) buf none joined t = refl
@@ -141,7 +140,7 @@ stays_unheard d troubles.Flooded buf none joined t = refl
 stays_unheard d troubles.Short buf none joined t = refl
 stays_unheard d troubles.Full buf none joined t = refl
 
-pub stays_last : (d : ℕ) (by : Option (List ℕ)) (trouble : Trouble) (buf : List ℕ) → is_link trouble ≡ false → Stays d (last_said d by trouble buf)
+pub stays_last : (d : ℕ) (by : Option (List ℕ)) (trouble : Trouble) (buf : List ℕ) → is_of_link trouble ≡ false → Stays d (last_said d by trouble buf)
 stays_last d None trouble buf none = stays_unheard d trouble buf none
 stays_last d (Some b) trouble buf none = stays_then d (Hears d b ∷ []) (unsaid d trouble) (λ joined t. switch_of-got d b t) (stays_unsaid d trouble none)
 
@@ -150,9 +149,6 @@ stays_wait a got joined t = ap (λ (steps : List WorldStep). switch_of a.dpid (a
 
 pub stays_reply : (a : Awaited) → Stays a.dpid (reply_heard a ∷ [])
 stays_reply a joined t = switch_of-got a.dpid (message_bytes a.barrier BarrierReply) t
-
-abbrev some_switch : SwitchState → Option SwitchState
-some_switch x = Some x
 
 barrier_told : (o : Option SwitchState) → option_map (after_message BarrierRequest) o ≡ o
 barrier_told None = refl
@@ -220,7 +216,7 @@ moves_by d m said old new told calls either =
       others = λ e other. ap (switch_of e) after ∙ (steps_other d e steps (state old) other (Calls-moves steps refl calls).each).0;
     }
 
-breaks_move : {Own : Type 0} {Tells : Type 0} (d xid : ℕ) (m : Change) (old new : Seen Own) (kept now_kept : List (ℕ × List ℕ)) (buf : List ℕ) (trouble : Trouble) → Tells → xid < 2 ^ 32 → IsMessage (FlowMod m) → is_link trouble ≡ false
+breaks_move : {Own : Type 0} {Tells : Type 0} (d xid : ℕ) (m : Change) (old new : Seen Own) (kept now_kept : List (ℕ × List ℕ)) (buf : List ℕ) (trouble : Trouble) → Tells → xid < 2 ^ 32 → IsMessage (FlowMod m) → is_of_link trouble ≡ false
     → Breaks Tells (awaited_from d xid) (change_bytes xid m ∷ barrier_of (awaited_from d xid) ∷ []) Growing [] old new kept now_kept buf trouble → MayMove d (as_sent (FlowMod m)) (state old) (state new)
 breaks_move d xid m old new kept now_kept buf trouble told small is none (inl u) =
     moves_by d (as_sent (FlowMod m)) (frames_said d u.first ++ unsaid d trouble) old new told u.calls

@@ -44,6 +44,7 @@ use Rattle.net_txn.specs.Answering.{known_rows, answer_of_host, error_in, views_
 use Rattle.lego_model.specs.Packets.{HeldBack}
 use Rattle.app_frames.specs.declared.frame.Event.{Event}
 use Rattle.net_txn.specs.ChangeSteps.{Agrees, InStep}
+use Rattle.lego_model.specs.Places.{table_rows}
 
 -- ---- Before the messages that were got: the change and the barrier were sent.
 
@@ -180,18 +181,15 @@ entries_then m s now = refl
 abbrev pub some_rows : Rows → Option Rows
 some_rows rows = Some rows
 
-abbrev rows_by : Option Refusal → Change → List ViewRow → List ViewRow
+abbrev pub rows_by : Option Refusal → Change → List ViewRow → List ViewRow
 rows_by None m rows = rows_after m rows
 rows_by (Some r) m rows = rows
 
-abbrev pub shown_by : SwitchState → Rows
-shown_by s = rows_of_table s.table.entries
-
-agreed : (m : Change) (s : SwitchState) (rows : List ViewRow) (refusal : Option Refusal) → error_in refusal ≡ message_refusal s (as_sent (FlowMod m)) → rows_of_view rows ≡ shown_by s → m.command ≤ 4 → would_touch m (rows_of_view rows) ≡ false
-    → rows_of_view (rows_by refusal m rows) ≡ shown_by (after_message (as_sent (FlowMod m)) s)
+agreed : (m : Change) (s : SwitchState) (rows : List ViewRow) (refusal : Option Refusal) → error_in refusal ≡ message_refusal s (as_sent (FlowMod m)) → rows_of_view rows ≡ table_rows s → m.command ≤ 4 → would_touch m (rows_of_view rows) ≡ false
+    → rows_of_view (rows_by refusal m rows) ≡ table_rows (after_message (as_sent (FlowMod m)) s)
 agreed m s rows None refused same command none =
     rows_agree m rows s.table.entries s.moment s.table.next same command none ∙ ap rows_of_table (sym (entries_then m s s.moment)) ∙ ap (λ (t : TableState). rows_of_table t.entries) (sym (taken_table m s (sym refused)))
-agreed m s rows (Some r) refused same command none = same ∙ ap shown_by (sym (refused_stays (as_sent (FlowMod m)) s r.error (sym refused)))
+agreed m s rows (Some r) refused same command none = same ∙ ap table_rows (sym (refused_stays (as_sent (FlowMod m)) s r.error (sym refused)))
 
 views_at : (refusal : Option Refusal) (d : ℕ) (m : Change) (views : List TableView) (rows : List ViewRow) → rows_at d views ≡ Some rows → rows_at d (views_by refusal d m views) ≡ Some (rows_by refusal m rows)
 views_at None d m views rows is = rows_at-same d (rows_after m) views rows is
@@ -214,11 +212,11 @@ pub in_step : {Own : Type 0} {Tells : Type 0} (d : ℕ) (bytes : List ℕ) (old 
 unfolding switch_answer
 in_step d bytes old new net now_net answer m xid told asked host read keeps waits agrees =
     let p = passed d bytes m net xid host read in
-    let joined = map_some shown_by (switch_of d (state old)) p.rows (sym agrees ∙ p.known) in
+    let joined = map_some table_rows (switch_of d (state old)) p.rows (sym agrees ∙ p.known) in
     let s = joined.0 in
     let seen = map_some rows_of_view (rows_at d net.views) p.rows p.known in
     let rows = seen.0 in
-    let none_touched : would_touch m (shown_by s) ≡ false = ap (would_touch m) joined.2 ∙ p.touches_none in
+    let none_touched : would_touch m (table_rows s) ≡ false = ap (would_touch m) joined.2 ∙ p.touches_none in
     let hears = asked.waits.hears in
     let steps = change_sent d net.xid m ∷ barrier_sent (awaited_from d net.xid) ∷ (wait_steps (awaited_from d net.xid) asked.waits.got ++ reply_got (awaited_from d net.xid) ∷ []) in
     let may = Conforming-rest old new steps hears.continues.given (hears.told told) keeps in
@@ -227,7 +225,7 @@ in_step d bytes old new net now_net answer m xid told asked host read keeps wait
     let reverted = reverted_by old.given.declared d net.xid m s asked.waits.got (state old) (after_both d net.xid m (state old)) (state new) asked.is_xid.1 sending none_touched hears.before_reply may.1.1 after
     (message_refusal s (as_sent (FlowMod m))) refl in
     let refused : error_in asked.refusal ≡ message_refusal s (as_sent (FlowMod m)) = ap (λ (b : Brought). error_in b.refusal) hears.answer_is ∙ reverted.refused in
-    let shown : rows_of_view rows ≡ shown_by s = seen.2 ∙ sym joined.2 in
+    let shown : rows_of_view rows ≡ table_rows s = seen.2 ∙ sym joined.2 in
     let there : rows_at d now_net.views ≡ Some (rows_by asked.refusal m rows) = ap (rows_at d) asked.views ∙ views_at asked.refusal d m net.views rows seen.1 in
     let same = agreed m s rows asked.refusal refused shown p.command (ap (would_touch m) seen.2 ∙ p.touches_none) in
     record {
@@ -239,5 +237,5 @@ in_step d bytes old new net now_net answer m xid told asked host read keeps wait
       kept = hears.kept_is ∙ ap (λ (more : List (ℕ × List ℕ)). net.kept ++ more) reverted.none_kept ∙ append-nil net.kept;
       held = asked.held ∙ none_held asked.refusal d net.views asked.notices net.held (ap (λ (b : Brought). b.notices) hears.answer_is ∙ reverted.none_noticed);
       agrees = rw (there, reverted.switch) (ap (λ (r : Rows). some_rows r) same);
-      others_agree = λ e other before. ap (λ (v : Option (List ViewRow)). option_map rows_of_view v) (ap (rows_at e) asked.views ∙ views_other asked.refusal d e m net.views other) ∙ before ∙ ap (λ (o : Option SwitchState). option_map shown_by o) (sym (reverted.others e other));
+      others_agree = λ e other before. ap (λ (v : Option (List ViewRow)). option_map rows_of_view v) (ap (rows_at e) asked.views ∙ views_other asked.refusal d e m net.views other) ∙ before ∙ ap (λ (o : Option SwitchState). option_map table_rows o) (sym (reverted.others e other));
     }

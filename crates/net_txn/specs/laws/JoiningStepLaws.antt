@@ -50,6 +50,7 @@ use Rattle.net_txn.specs.laws.SaidLaws.{all_two}
 use Rattle.net_txn.specs.Joining.{delete_all, greeted_from, greeting, Joins}
 use Rattle.net_txn.specs.laws.JoiningLaws.{rows_at-with_view, rows_at-with_view-other}
 use Rattle.net_txn.specs.JoiningSteps.{emptied, JoinsInStep}
+use Rattle.net_txn.specs.laws.WaitMoveLaws.{some_switch}
 
 -- ---- What a switch makes of the two messages
 
@@ -117,9 +118,6 @@ unfolding sent_by_message message_refusal sent_by_taken
 config_sends xid s = refl
 
 -- ---- Before the messages that were got: both were sent, and the barrier.
-
-abbrev some_switch : SwitchState → Option SwitchState
-some_switch s = Some s
 
 abbrev deletion_bytes : ℕ → List ℕ
 deletion_bytes xid = message_bytes xid (FlowMod delete_all)

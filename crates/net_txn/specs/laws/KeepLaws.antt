@@ -20,7 +20,7 @@ use Rattle.net_txn.specs.laws.HeardLaws.{IsMessage-barrier}
 use Rattle.net_txn.specs.laws.StepLaws.{told_waits, barrier_sends}
 use Rattle.net_txn.specs.laws.NoticeLaws.{with_entries, notices_alone, notices_kept}
 use Rattle.net_txn.specs.declared.halt.Halt.TheVariants.{Lost, Fault}
-use Rattle.net_txn.specs.Losing.{is_among}
+use Rattle.of_types.specs.Membership.{is_among}
 use Rattle.net_txn.specs.Waits.{KeptMore}
 use Rattle.net_txn.specs.laws.UndoWaitLaws.{until_more}
 use Rattle.net_txn.specs.Undos.{lost_in, lost_parts, alone, Part, Inverse, BarrierPassed, Stuck, part_steps, steps_of, parts_of, fault_in, first_fault, ended_by, IsRun, IsBarrierPassed, inverses_of, Keeps, KeepsOne, StandsReady}
@@ -28,6 +28,7 @@ use Rattle.net_txn.specs.Views.{is_viewed}
 use Rattle.net_txn.specs.laws.AgreeLaws.{both_none, no_fault}
 use Rattle.net_txn.specs.laws.LostPartLaws.{among-append}
 use Rattle.net_txn.specs.laws.RestoreLaws.{AllRun, runs_here, runs_older, older_free, entries_left, Left, left_all}
+use Rattle.net_txn.specs.laws.PartOrderLaws.{or_here}
 
 -- what a wait gets then are notices, of which none is kept
 barred_keeps : (declared : List Declared) (d xid : ℕ) (got : List (List ℕ)) (s : SwitchState) (older : List Part) (t : State) (kept now_kept : List (ℕ × List ℕ)) → IsBarrierPassed d xid (inverses_of older) got → MaySteps declared (part_steps d (BarrierPassed xid got)) t → Left d s older t
@@ -96,10 +97,6 @@ ready_all views parts t unknown ready d = elim (cases_Bool (is_viewed d views)) 
 
 -- ---- The whole
 
-or_first : (a b : Bool) → a ≡ true → (a || b) ≡ true
-or_first true b is = refl
-or_first false b is = absurd cc
-
 or_second : (a b : Bool) → b ≡ true → (a || b) ≡ true
 or_second true b is = refl
 or_second false b is = is
@@ -113,16 +110,12 @@ all_keep declared old new keep (p ∷ older) t kept now_kept all none may ready 
     let may_part = MaySteps-rest declared (steps_of older) (part_steps p.0 p.1) t may in
     let runs = runs_older old new p older all in
     let here = runs_here old new p older all in
-    let earlier = λ (d : ℕ) (is : is_among d (lost_parts older) ≡ true). lost d (among-append d (lost_parts older) (lost_in p.0 p.1) ∙ or_first (is_among d (lost_parts older)) (is_among d (lost_in p.0 p.1)) is) in
+    let earlier = λ (d : ℕ) (is : is_among d (lost_parts older) ≡ true). lost d (among-append d (lost_parts older) (lost_in p.0 p.1) ∙ or_here (is_among d (lost_parts older)) (is_among d (lost_in p.0 p.1)) is) in
     let now = λ (is : is_among p.0 (lost_in p.0 p.1) ≡ true). lost p.0 (among-append p.0 (lost_parts older) (lost_in p.0 p.1) ∙ or_second (is_among p.0 (lost_parts older)) (is_among p.0 (lost_in p.0 p.1)) is) in
     let rest = all_keep declared old new keep older t kept keeps.0 runs n.0 may_older (ready_older p older t ready) keeps.1 earlier in
     let s = ready_here p older t ready in
     let l = left_all declared old new p.0 s.switch older t runs (older_free old new p.0 p.1 (parts_of p.0 older) here) may_older s.stands s.waits in
     part_keeps declared old new keep p.0 p.1 s.switch (parts_of p.0 older) (after_steps (steps_of older) t) keeps.0 now_kept here n.1 may_part l keeps.2 now ∙ rest
-
-not_true : (b : Bool) → b ≡ true → not b ≡ false
-not_true true is = refl
-not_true false is = absurd cc
 
 pub none_kept : {Own : Type 0} (old new : Seen Own) (views : List TableView) (parts : List (ℕ × Part)) (result : Result (Unit {0}) TxnFault) (kept now_kept : List (ℕ × List ℕ)) → new.given ≡ old.given → new.history ≡ old.history ++ steps_of parts → AllRun old.counts new.counts parts
     → ((d : ℕ) → is_viewed d views ≡ false → parts_of d parts ≡ []) → result ≡ ended_by (first_fault parts) → IsOk result → Conforming new → ((d : ℕ) → is_viewed d views ≡ true → StandsReady d (state old)) → Keeps kept parts now_kept
@@ -131,4 +124,4 @@ none_kept old new views parts result kept now_kept given told all unknown ended 
     let may = Conforming-rest old new (steps_of parts) given told keeps_word in
     let none = no_fault (first_fault parts) (subst (λ (r : Result (Unit {0}) TxnFault). IsOk r) ended ok) in
     all_keep old.given.declared old.counts new.counts (λ d. not (is_among d (lost_parts parts))) parts (state old) kept now_kept all none may (ready_all views parts (state old) unknown ready) keeps
-    (λ d is. not_true (is_among d (lost_parts parts)) is)
+    (λ d is. ap not is)

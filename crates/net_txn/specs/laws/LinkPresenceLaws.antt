@@ -20,7 +20,9 @@ use Rattle.outside.specs.Quiescence.{is_quiescent}
 use Rattle.lego_model.specs.Journal.{losses}
 use Rattle.lego_model.specs.UndoFaults.{loses}
 use Rattle.net_txn.specs.LinkSteps.{is_link_step, AreLinkSteps}
-use Rattle.net_txn.specs.Losing.{is_among}
+use Rattle.of_types.specs.Membership.{is_among}
+use Rattle.outside.specs.laws.CallLaws.{joins_in}
+use Rattle.net_txn.specs.laws.LostPartLaws.{among-append}
 
 -- ---- Which switches are joined
 
@@ -28,9 +30,6 @@ told_joined : (r : Result Envelope WireFault) (o : Option SwitchState) → is_so
 told_joined (Ok e) None = refl
 told_joined (Ok e) (Some s) = refl
 told_joined (Err fault) o = refl
-
-abbrev joins_in : Option SwitchState → Bool
-joins_in o = is_some o
 
 -- which switch is lost by a step
 abbrev pub lost_by : WorldStep → List ℕ
@@ -126,14 +125,6 @@ step_leaves (SendFailed d) s is = record { leaves = record { joined = λ e. ap j
 step_leaves (RecvFailed d) s is = record { leaves = record { joined = λ e. ap joins_in (switch_of-recv_failed d e s) ∙ stays-none e (is_joined e s); due = refl; begun = refl }; none_quiescent = refl }
 
 -- ---- Steps of links alone
-
-pub among-append : (e : ℕ) (xs ys : List ℕ) → is_among e (xs ++ ys) ≡ (is_among e xs || is_among e ys)
-among-append e [] ys = refl
-among-append e (x ∷ xs) ys = among_at (x == e) (among-append e xs ys)
-  where
-    among_at : (here : Bool) → is_among e (xs ++ ys) ≡ (is_among e xs || is_among e ys) → (here || is_among e (xs ++ ys)) ≡ ((here || is_among e xs) || is_among e ys)
-    among_at true rest = refl
-    among_at false rest = rest
 
 pub among-front : (e : ℕ) (xs ys : List ℕ) → is_among e xs ≡ true → is_among e (xs ++ ys) ≡ true
 among-front e xs ys is = among-append e xs ys ∙ rw is refl

@@ -7,12 +7,14 @@ use Rattle.net_txn.specs.declared.logged.Logged.{Logged}
 use Rattle.net_txn.specs.Net.{NetState}
 use Rattle.net_txn.specs.Views.{rows_at}
 use Rattle.net_txn.specs.Ports.{PortLists, ports_lost}
-use Rattle.net_txn.specs.Losing.{lost_net, lose_all, is_among}
+use Rattle.net_txn.specs.Losing.{lost_net, lose_all}
+use Rattle.of_types.specs.Membership.{is_among}
 use Rattle.net_txn.specs.Undos.{progress_of, was_lost, views_left, kept_left}
+use Rattle.net_txn.specs.NetUndos.{ports_in}
 
 -- ---- Lists without some of their items
 
-keep_all : {X : Type 0} (xs : List X) → filter (λ x. true) xs ≡ xs
+pub keep_all : {X : Type 0} (xs : List X) → filter (λ x. true) xs ≡ xs
 keep_all [] = refl
 keep_all (x ∷ xs) = ap (λ (ys : List _). x ∷ ys) (keep_all xs)
 
@@ -26,7 +28,7 @@ pub filter_then : {X : Type 0} (p q : X → Bool) (xs : List X) → filter p (fi
 filter_then p q [] = refl
 filter_then p q (x ∷ xs) = then_if p q x xs (filter_then p q xs) (q x) (p x) refl refl
 
-turned : (a b : ℕ) → (a == b) ≡ (b == a)
+pub turned : (a b : ℕ) → (a == b) ≡ (b == a)
 turned a b = elim (cases_eq a b) [ inl same ↦ eq-eqb a b same ∙ sym (eq-eqb b a (sym same)) | inr other ↦ ne_eqb a b other ∙ sym (ne_eqb b a (λ same. other (sym same))) ]
 
 neither : (a b : Bool) → (not a && not b) ≡ not (a || b)
@@ -48,9 +50,6 @@ of_view v = v.dpid
 
 abbrev of_message : ℕ × List ℕ → ℕ
 of_message m = m.0
-
-abbrev ports_in : NetState → PortLists
-ports_in net = record { known = net.ports; left = net.left }
 
 -- the views, ports and messages without those of the switches that were lost
 abbrev pub lost_is : List ℕ → NetState → NetState
@@ -171,3 +170,7 @@ views_without all vs = views_gone all all vs ∙ filter_agree (λ v. not (gone a
 
 pub kept_without : (all : List Logged) (ms : List (ℕ × List ℕ)) → kept_left all all ms ≡ filter (λ m. not (was_lost all m.0)) ms
 kept_without all ms = kept_gone all all ms ∙ filter_agree (λ m. not (gone all all m.0)) (λ m. not (was_lost all m.0)) (λ m. gone_lost all m.0) ms
+
+pub lose_all-moment : (lost : List ℕ) (net : NetState) → (lose_all lost net).moment ≡ net.moment
+lose_all-moment [] net = refl
+lose_all-moment (d ∷ ds) net = lose_all-moment ds (lost_net d net)

@@ -48,6 +48,7 @@ use Rattle.net_txn.specs.laws.LinkPresenceLaws.{losses_by, lost_none_all, loses-
 use Rattle.net_txn.specs.laws.PartLaws.{steps_other}
 use Rattle.net_txn.specs.laws.SaidLaws.{all_two, all_behind, all_of_switch, is_fine, AreFine, fine_append, fine_none_lost, fine_frames, fine_wait, said_links, wait_none_lost, Calls-same, Calls-moves}
 use Rattle.net_txn.specs.laws.TalkLaws.{front_steps, talks_cause, talks_flooded}
+use Rattle.net_txn.specs.Undos.{is_of_link}
 
 -- ---- The packets that were released
 
@@ -321,10 +322,6 @@ wait_read a (b ∷ bs) read = all_two IsReadSaid (heard_said a b) (wait_said a b
 
 -- ---- How a trouble ends
 
-abbrev pub is_link : Trouble → Bool
-is_link troubles.Link = true
-is_link other = false
-
 either_fault : (x y : TxnFault) → (Lost ≡ Fault x) ⊎ (Lost ≡ Fault y) → ⊥
 either_fault x y (inl same) = absurd cc
 either_fault x y (inr same) = absurd cc
@@ -338,7 +335,7 @@ lost_is_link d troubles.Flooded buf is = absurd (either_fault _ _ is)
 lost_is_link d troubles.Short buf is = absurd (either_fault _ _ is)
 lost_is_link d troubles.Full buf is = absurd (either_fault _ _ is)
 
-pub fault_is_none : (d : ℕ) (t : Trouble) (buf : List ℕ) (fault : TxnFault) → IsHaltBy d t buf (Fault fault) → is_link t ≡ false
+pub fault_is_none : (d : ℕ) (t : Trouble) (buf : List ℕ) (fault : TxnFault) → IsHaltBy d t buf (Fault fault) → is_of_link t ≡ false
 fault_is_none d troubles.Link buf fault is = absurd cc
 fault_is_none d (troubles.Broke n) buf fault is = refl
 fault_is_none d (troubles.Refused k x n) buf fault is = refl
@@ -346,7 +343,7 @@ fault_is_none d troubles.Flooded buf fault is = refl
 fault_is_none d troubles.Short buf fault is = refl
 fault_is_none d troubles.Full buf fault is = refl
 
-pub fine_unsaid : (d : ℕ) (t : Trouble) → is_link t ≡ false → AreFine (unsaid d t)
+pub fine_unsaid : (d : ℕ) (t : Trouble) → is_of_link t ≡ false → AreFine (unsaid d t)
 fine_unsaid d troubles.Link none = absurd cc
 fine_unsaid d (troubles.Broke n) none = tt
 fine_unsaid d (troubles.Refused k x n) none = tt
@@ -354,7 +351,7 @@ fine_unsaid d troubles.Flooded none = tt
 fine_unsaid d troubles.Short none = (refl, tt)
 fine_unsaid d troubles.Full none = tt
 
-fine_unheard : (d : ℕ) (t : Trouble) (buf : List ℕ) → is_link t ≡ false → AreFine (unheard d t buf)
+fine_unheard : (d : ℕ) (t : Trouble) (buf : List ℕ) → is_of_link t ≡ false → AreFine (unheard d t buf)
 fine_unheard d troubles.Link buf none = absurd cc
 fine_unheard d (troubles.Broke n) buf none = (refl, tt)
 fine_unheard d (troubles.Refused k x n) buf none = tt
@@ -362,7 +359,7 @@ fine_unheard d troubles.Flooded buf none = tt
 fine_unheard d troubles.Short buf none = (refl, tt)
 fine_unheard d troubles.Full buf none = tt
 
-pub fine_last : (d : ℕ) (by : Option (List ℕ)) (t : Trouble) (buf : List ℕ) → is_link t ≡ false → AreFine (last_said d by t buf)
+pub fine_last : (d : ℕ) (by : Option (List ℕ)) (t : Trouble) (buf : List ℕ) → is_of_link t ≡ false → AreFine (last_said d by t buf)
 fine_last d None t buf none = fine_unheard d t buf none
 fine_last d (Some b) t buf none = (refl, fine_unsaid d t none)
 
@@ -446,7 +443,7 @@ breaks_lost a frames buf none (inl u) =
     )
 breaks_lost a frames buf none (inr u) = unreplied_lost a frames u.got u.by buf (length u.got) none u.before.read u.why u.calls
 
-pub breaks_none_lost : {Own : Type 0} {Tells : Type 0} {old new : Seen Own} {kept now_kept : List (ℕ × List ℕ)} (a : Awaited) (frames : List (List ℕ)) (buf : List ℕ) (t : Trouble) → is_link t ≡ false
+pub breaks_none_lost : {Own : Type 0} {Tells : Type 0} {old new : Seen Own} {kept now_kept : List (ℕ × List ℕ)} (a : Awaited) (frames : List (List ℕ)) (buf : List ℕ) (t : Trouble) → is_of_link t ≡ false
     → Breaks Tells a frames Growing [] old new kept now_kept buf t → Tells → lost_of new ≡ lost_of old
 breaks_none_lost {old = old} {new = new} a frames buf t none (inl u) =
     let d = a.dpid in

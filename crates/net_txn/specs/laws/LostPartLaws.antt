@@ -8,8 +8,9 @@ use Rattle.outside.specs.declared.step.WorldStep.{WorldStep}
 use Rattle.outside.specs.Seen.{Counts}
 use Rattle.lego_model.specs.declared.fault.TxnFault.{TxnFault}
 use Rattle.net_txn.specs.declared.halt.Halt.TheVariants.{Lost, Fault}
-use Rattle.net_txn.specs.Losing.{is_among}
+use Rattle.of_types.specs.Membership.{is_among}
 use Rattle.net_txn.specs.Undos.{Part, Inverse, BarrierPassed, Stuck, IsFaultOf, part_steps, parts_of, fault_in, is_stuck, lost_in, lost_parts, inverses_of, IsRun}
+use Rattle.std.proofs.Math.Bool.{or-false}
 
 -- ---- Which numbers are in a list
 
@@ -21,12 +22,8 @@ not_first d e ds none =
 pub among-append : (e : ℕ) (ds es : List ℕ) → is_among e (ds ++ es) ≡ (is_among e ds || is_among e es)
 among-append e ds es = list_any-append (λ (d : ℕ). d == e) ds es
 
-pub or_false : (a : Bool) → (a || false) ≡ a
-or_false true = refl
-or_false false = refl
-
 pub among-last : (e d : ℕ) (ds : List ℕ) → is_among e (ds ++ d ∷ []) ≡ (is_among e ds || (d == e))
-among-last e d ds = among-append e ds (d ∷ []) ∙ ap (λ (b : Bool). is_among e ds || b) (or_false (d == e))
+among-last e d ds = among-append e ds (d ∷ []) ∙ ap (λ (b : Bool). is_among e ds || b) (or-false (d == e))
 
 -- each stands once
 abbrev pub Distinct : List ℕ → Type 0

@@ -32,6 +32,7 @@ use Rattle.lego_model.specs.declared.wait.Heard.TheVariants as hearing
 use Rattle.lego_model.specs.UndoFaults.{delete_strict}
 use Rattle.lego_model.specs.BarrierWaits.{is_apart, heard, is_reply, heard_steps, wait_steps, kept_of, reply_got}
 use Rattle.net_txn.specs.laws.StepLaws.{gots, first_got, reply_alone}
+use Rattle.lego_model.specs.laws.OwnIdLaws.{kind_at}
 
 -- ---- The switch
 
@@ -55,9 +56,6 @@ inverse_moves k s = rw (not_refused k s, removal-changed s.moment k (delete_stri
 pub record IsNotice (bytes : List ℕ) : Type 0 where
   pub kind : number_at 1 1 bytes ≡ 11
   pub reason : number_at 1 58 bytes ≡ 2
-
-kind_at : (a b c d e : List ℕ) → (a ++ (b ++ (c ++ (d ++ [])))) ++ e ≡ a ++ (b ++ (c ++ (d ++ e)))
-kind_at a b c d e = simp append_assoc
 
 reason_at : (a b c d e f g h i t : List ℕ) → (a ++ (b ++ (c ++ (d ++ [])))) ++ (e ++ ((f ++ (g ++ (h ++ i))) ++ t)) ≡ (a ++ (b ++ (c ++ (d ++ (e ++ (f ++ g)))))) ++ (h ++ (i ++ t))
 reason_at a b c d e f g h i t = simp append_assoc

@@ -12,10 +12,11 @@ use Rattle.lego_model.specs.Journal.{losses}
 use Rattle.lego_model.specs.History.{lost_of}
 use Rattle.lego_model.specs.declared.fault.TxnFault.{TxnFault}
 use Rattle.net_txn.specs.declared.halt.Halt.TheVariants.{Lost, Fault}
-use Rattle.net_txn.specs.Losing.{is_among}
+use Rattle.of_types.specs.Membership.{is_among}
 use Rattle.net_txn.specs.Undos.{alone, Part, Inverse, BarrierPassed, Stuck, part_steps, steps_of, parts_of, is_stuck, is_out, lost_in, lost_parts, LosesIn, AreLostBy, fault_in, first_fault, ended_by, IsRun}
 use Rattle.net_txn.specs.laws.LostLaws.{losses_two, losses_then}
-use Rattle.net_txn.specs.laws.LostPartLaws.{among-append, or_false, lost-other, free-among}
+use Rattle.net_txn.specs.laws.LostPartLaws.{among-append, lost-other, free-among}
+use Rattle.std.proofs.Math.Bool.{or-false}
 use Rattle.net_txn.specs.laws.RestoreLaws.{AllRun, runs_here, runs_older, older_free, part_of}
 use Rattle.net_txn.specs.laws.PartLaws.{steps_other}
 use Rattle.net_txn.specs.laws.LinkPresenceLaws.{losses_by, lost_none_all}
@@ -47,7 +48,7 @@ among_out old new d (p ∷ older) run =
           ∙ sym (ap (λ (b : Bool). is_out (if b then p.1 ∷ parts_of d older else parts_of d older)) taken))
       | inr other ↦
           (let apart : (p.0 == d) ≡ false = ne_eqb p.0 d other in
-          ap (λ (b : Bool). is_among d (lost_parts older) || b) (lost-other d p.0 p.1 apart) ∙ or_false (is_among d (lost_parts older)) ∙ among_out old new d older (runs_older old new p older run)
+          ap (λ (b : Bool). is_among d (lost_parts older) || b) (lost-other d p.0 p.1 apart) ∙ or-false (is_among d (lost_parts older)) ∙ among_out old new d older (runs_older old new p older run)
           ∙ sym (ap (λ (b : Bool). is_out (if b then p.1 ∷ parts_of d older else parts_of d older)) apart))
     ]
 

@@ -32,19 +32,21 @@ use Rattle.app_frames.specs.declared.frame.Event.{Event}
 use Rattle.lego_model.specs.declared.wait.Awaited.{Awaited}
 use Rattle.lego_model.specs.declared.wait.Heard.TheVariants.{Other}
 use Rattle.lego_model.specs.BarrierWaits.{next_xid, is_awaited, heard}
-use Rattle.lego_model.specs.Events.{two_bytes, event_of_read, events_of}
-use Rattle.net_txn.specs.Releases.{Knows, packet_awaited, or_none, takes_read, takes_all}
+use Rattle.lego_model.specs.Events.{two_bytes, event_of_read, events_of, event_list}
+use Rattle.net_txn.specs.Releases.{Knows, takes_read, takes_all}
+use Rattle.lego_model.specs.FlowQueries.{asked_from}
 use Rattle.net_txn.specs.laws.HeardLaws.{IsSmall, known_small, small_actions, IsMessage-error}
 use Rattle.net_txn.specs.laws.NoticeLaws.{reply_kind}
 use Rattle.net_txn.specs.laws.InStepLaws.{small_of}
+use Rattle.net_txn.specs.laws.WaitLaws.{of_switch}
 
 -- ---- To a wait
 
 -- it is nothing to a wait for the reply behind a packet
 abbrev pub IsUnawaited : List ℕ → Type 0
-IsUnawaited bytes = (d xid : ℕ) → heard (packet_awaited d xid) bytes ≡ Other
+IsUnawaited bytes = (d xid : ℕ) → heard (asked_from d xid) bytes ≡ Other
 
-none_awaited : (d xid n : ℕ) → is_awaited (packet_awaited d xid) n ≡ false
+none_awaited : (d xid n : ℕ) → is_awaited (asked_from d xid) n ≡ false
 none_awaited d xid n =
     let first = next_xid xid in
     let self : nat_le first first ≡ true = le-leb first first (omega arith) in
@@ -76,13 +78,13 @@ no_reply xid bytes kind =
     ]
 
 unawaited : (bytes : List ℕ) → (number_at 1 1 bytes ≡ 10) ⊎ (number_at 1 1 bytes ≡ 1) → IsUnawaited bytes
-unawaited bytes kind d xid = heard_other (packet_awaited d xid) bytes (no_reply (next_xid xid) bytes kind) (none_awaited d xid (number_at 4 4 bytes)) kind
+unawaited bytes kind d xid = heard_other (asked_from d xid) bytes (no_reply (next_xid xid) bytes kind) (none_awaited d xid (number_at 4 4 bytes)) kind
 
 -- ---- Taken
 
 -- it becomes its event, and changes nothing else
 abbrev pub IsTakenAlone : List ℕ → Type 0
-IsTakenAlone bytes = (d : ℕ) (k : Knows) → takes_read d (reading_of bytes) k ≡ (k.0, k.1 ++ or_none (event_of_read d (reading_of bytes)))
+IsTakenAlone bytes = (d : ℕ) (k : Knows) → takes_read d (reading_of bytes) k ≡ (k.0, k.1 ++ event_list (event_of_read d (reading_of bytes)))
 
 pub record IsNews (bytes : List ℕ) : Type 0 where
   pub unawaited : IsUnawaited bytes
@@ -239,18 +241,15 @@ packet_many xid packet s = ap length (sent_is xid packet s _ refl) ∙ many_with
 
 -- ---- One after the other
 
-abbrev pub from_switch : ℕ → List ℕ → ℕ × List ℕ
-from_switch d bytes = (d, bytes)
-
-queued_more : (o : Option Event) (queue more : List Event) → (queue ++ or_none o) ++ more ≡ queue ++ cons_option o more
+queued_more : (o : Option Event) (queue more : List Event) → (queue ++ event_list o) ++ more ≡ queue ++ cons_option o more
 queued_more None queue more = ap (λ (q : List Event). q ++ more) (append-nil queue)
 queued_more (Some event) queue more = append_assoc queue (event ∷ []) more
 
 -- they become their events, and change nothing else
-pub all_taken : (d : ℕ) (list : List (List ℕ)) (k : Knows) → AllNews list → takes_all (map (from_switch d) list) k ≡ (k.0, k.1 ++ events_of d list)
+pub all_taken : (d : ℕ) (list : List (List ℕ)) (k : Knows) → AllNews list → takes_all (map (of_switch d) list) k ≡ (k.0, k.1 ++ events_of d list)
 unfolding events_of
 all_taken d [] k all = same_knows k
 all_taken d (bytes ∷ list) k all =
     let o : Option Event = event_of_read d (reading_of bytes) in
-    let next : Knows = (k.0, k.1 ++ or_none o) in
-    ap (takes_all (map (from_switch d) list)) (all.0.taken d k) ∙ all_taken d list next all.1 ∙ ap (λ (queue : List Event). (k.0, queue)) (queued_more o k.1 (events_of d list))
+    let next : Knows = (k.0, k.1 ++ event_list o) in
+    ap (takes_all (map (of_switch d) list)) (all.0.taken d k) ∙ all_taken d list next all.1 ∙ ap (λ (queue : List Event). (k.0, queue)) (queued_more o k.1 (events_of d list))

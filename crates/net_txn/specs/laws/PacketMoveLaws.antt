@@ -22,11 +22,13 @@ use Rattle.lego_model.specs.AfterFault.{after_packets}
 use Rattle.net_txn.specs.declared.trouble.Trouble.{Trouble}
 use Rattle.net_txn.specs.Waits.{IsRead}
 use Rattle.net_txn.specs.Said.{Said, Says, said_steps, Calls, unsaid, last_said, wait_said, frames_said, barrier_of, reply_heard}
-use Rattle.net_txn.specs.Releases.{packet_awaited, MovesBy}
+use Rattle.net_txn.specs.Releases.{MovesBy}
+use Rattle.lego_model.specs.FlowQueries.{asked_from}
 use Rattle.net_txn.specs.ReleaseSteps.{packet_frames}
 use Rattle.net_txn.specs.laws.LinkPresenceLaws.{losses_by, lost_none_all}
 use Rattle.net_txn.specs.laws.SaidLaws.{all_two, is_fine, AreFine, fine_none_lost, fine_wait, said_links, Calls-moves}
-use Rattle.net_txn.specs.laws.LostLaws.{packets_said, packets_append, said_released, none_two, wait_none, barrier_none, is_link, fine_unsaid, fine_last, heard_none}
+use Rattle.net_txn.specs.laws.LostLaws.{packets_said, packets_append, said_released, none_two, wait_none, barrier_none, fine_unsaid, fine_last, heard_none}
+use Rattle.net_txn.specs.Undos.{is_of_link}
 use Rattle.net_txn.specs.laws.HeardLaws.{next_xid-lt}
 use Rattle.net_txn.specs.laws.PartLaws.{steps_other}
 use Rattle.net_txn.specs.laws.ChangeFlightLaws.{Stays, Moves, stays_then, moves_then, stays_unsaid, stays_last, stays_wait, told_map, stays_barrier}
@@ -42,7 +44,7 @@ other_map : (d e : ℕ) (packet : Packet) (o : Option SwitchState) → e ≢ d �
 other_map d e packet None other = refl
 other_map d e packet (Some s) other = rw (ne_eqb d e (λ same. other (sym same))) refl
 
-none_map : (e : ℕ) (o : Option SwitchState) → o ≡ option_map (after_packets e []) o
+pub none_map : (e : ℕ) (o : Option SwitchState) → o ≡ option_map (after_packets e []) o
 none_map e None = refl
 none_map e (Some s) = refl
 
@@ -105,17 +107,17 @@ said_then d packet xs ys first stays fine none = record {
 
 pub both_said : (d xid : ℕ) (packet : Packet) → xid < 2 ^ 32 → IsMessage (PacketOut packet) → PacketSaid d packet (frames_said d (packet_frames d xid packet))
 both_said d xid packet small is =
-    said_then d packet (Says d (message_bytes xid (PacketOut packet)) ∷ []) (Says d (barrier_of (packet_awaited d xid)) ∷ []) (packet_said d xid packet small is)
+    said_then d packet (Says d (message_bytes xid (PacketOut packet)) ∷ []) (Says d (barrier_of (asked_from d xid)) ∷ []) (packet_said d xid packet small is)
     (stays_barrier d (next_xid xid) (next_xid-lt xid small)) (refl, tt) (barrier_none d (next_xid xid) (next_xid-lt xid small))
 
-pub unsaid_then : (d : ℕ) (packet : Packet) (xs : List Said) (t : Trouble) → is_link t ≡ false → PacketSaid d packet xs → PacketSaid d packet (xs ++ unsaid d t)
+pub unsaid_then : (d : ℕ) (packet : Packet) (xs : List Said) (t : Trouble) → is_of_link t ≡ false → PacketSaid d packet xs → PacketSaid d packet (xs ++ unsaid d t)
 unsaid_then d packet xs t none said = said_then d packet xs (unsaid d t) said (stays_unsaid d t none) (fine_unsaid d t none) (none_unsaid d t)
 
-pub unsaid_none : {Own : Type 0} {Tells : Type 0} (d : ℕ) (t : Trouble) (old new : Seen Own) → is_link t ≡ false → Tells → Calls Tells d (unsaid d t) old new → MovesBy [] old new
+pub unsaid_none : {Own : Type 0} {Tells : Type 0} (d : ℕ) (t : Trouble) (old new : Seen Own) → is_of_link t ≡ false → Tells → Calls Tells d (unsaid d t) old new → MovesBy [] old new
 unsaid_none d t old new none told calls = moved_none d (unsaid d t) old new told calls (fine_unsaid d t none) (stays_unsaid d t none) (none_unsaid d t)
 
 -- what comes behind them moves no switch, and releases nothing
-pub wait_then : (d : ℕ) (packet : Packet) (a : Awaited) (xs : List Said) (got : List (List ℕ)) (by : Option (List ℕ)) (t : Trouble) (buf : List ℕ) → a.dpid ≡ d → is_link t ≡ false → AllByRecursion IsRead got → PacketSaid d packet xs
+pub wait_then : (d : ℕ) (packet : Packet) (a : Awaited) (xs : List Said) (got : List (List ℕ)) (by : Option (List ℕ)) (t : Trouble) (buf : List ℕ) → a.dpid ≡ d → is_of_link t ≡ false → AllByRecursion IsRead got → PacketSaid d packet xs
     → PacketSaid d packet (xs ++ (wait_said a got ++ last_said d by t buf))
 wait_then d packet a xs got by t buf is none read said =
     let ys = wait_said a got in

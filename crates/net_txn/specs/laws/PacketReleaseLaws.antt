@@ -36,7 +36,8 @@ use Rattle.net_txn.specs.Views.{is_viewed}
 use Rattle.net_txn.specs.Net.{NetState}
 use Rattle.net_txn.specs.Losing.{lost_net, IsLost}
 use Rattle.net_txn.specs.Said.{Said, Says, said_steps, Calls, IsOfLink, unsaid, wait_said, last_said, frames_said, barrier_of, reply_heard, Replied, Breaks, BreaksBy, Speaks, SaysNot, SaysTo}
-use Rattle.net_txn.specs.Releases.{Knows, packet_awaited, packet_steps, takes_read, takes_all, MovesBy, SendsPacket, BreaksAt}
+use Rattle.net_txn.specs.Releases.{Knows, packet_steps, takes_read, takes_all, MovesBy, SendsPacket, BreaksAt}
+use Rattle.lego_model.specs.FlowQueries.{asked_from}
 use Rattle.net_txn.specs.ReleaseSteps.{PacketSent, PacketUnsent, BarrierPassed, BarrierBroke, BarrierStops, packet_frames, PacketTold, PacketBroke, PacketStops, TakenBeforeReply, LostBeforeReply, StopsBeforeReply, ReleasesPacket}
 use Rattle.net_txn.specs.laws.TalkLaws.{speaks_none, says_speak, talks_behind, talks_not, talks_speak, talks_waits, talks_cause, talks_flooded, halt_or}
 use Rattle.lego_model.specs.laws.OwnIdLaws.{own_id-sent}
@@ -44,14 +45,15 @@ use Rattle.net_txn.specs.laws.ArrivalLaws.{net_after_xid}
 use Rattle.net_txn.specs.laws.OwnIdLaws.{FramesAscend, one_ascends, two_ascend, second_next, leaves_then, waits_leave, ids_none, speaks_on_ids, speaks_stop}
 use Rattle.net_txn.specs.laws.LinkPresenceLaws.{losses_by}
 use Rattle.net_txn.specs.laws.SaidLaws.{joined_after, Calls-none, Calls-joined, said_links}
-use Rattle.net_txn.specs.laws.LostLaws.{packets_none, said_released, released_two, losses_two, is_link, fault_is_none, says_halts, breaks_halts, breaks_none_lost, replied_none_lost, Calls-read}
+use Rattle.net_txn.specs.laws.LostLaws.{packets_none, said_released, released_two, losses_two, fault_is_none, says_halts, breaks_halts, breaks_none_lost, replied_none_lost, Calls-read}
+use Rattle.net_txn.specs.Undos.{is_of_link}
 use Rattle.net_txn.specs.laws.PartLaws.{steps_other}
 use Rattle.net_txn.specs.laws.HeardLaws.{next_xid-lt}
 use Rattle.net_txn.specs.laws.ReadLaws.{waits_read}
 use Rattle.net_txn.specs.laws.ChangeFlightLaws.{stays_reply, front_of_two}
 use Rattle.net_txn.specs.laws.PacketMoveLaws.{moved_none, moved_one, packet_released, packet_said, both_said, unsaid_then, unsaid_none, wait_then, reply_then, nothing_said}
 use Rattle.net_txn.specs.laws.ReleaseStepLaws.{stays_same, stays_then, stays_xid, stays_lost, calls_none, calls_one, calls_lost}
-use Rattle.net_txn.specs.laws.PacketStepLaws.{packet_in_step, packet_plain}
+use Rattle.net_txn.specs.laws.PacketStepLaws.{packet_in_step, packet_plain, with_xid}
 
 abbrev packet_bytes : ℕ → Packet → List ℕ
 packet_bytes xid packet = message_bytes xid (PacketOut packet)
@@ -81,12 +83,12 @@ stops_lost a old new halt is (inr b) = absurd (let none = sym is ∙ b.short in 
 pub short_behind : {Own : Type 0} {Tells : Type 0} (a : Awaited) (old new : Seen Own) (came : List (ℕ × List ℕ)) → BarrierPassed Tells a old new came → BarrierStops Tells a old new (Fault NoMemory)
 short_behind a old new came b = inr (record { came = came; passed = b; short = refl })
 
-told_of : {Own : Type 0} {Tells : Type 0} (d xid : ℕ) (packet : Packet) (old mid new : Seen Own) (came : List (ℕ × List ℕ)) → PacketSent Tells d xid packet old mid → BarrierPassed Tells (packet_awaited d xid) mid new came → PacketTold Tells d xid packet old new came
-told_of d xid packet old mid new came sent b = record { brought = b.brought; replied = talks_behind (packet_awaited d xid) [] new [] came (packet_bytes xid packet) (Ok b.brought) sent b.replied }
+told_of : {Own : Type 0} {Tells : Type 0} (d xid : ℕ) (packet : Packet) (old mid new : Seen Own) (came : List (ℕ × List ℕ)) → PacketSent Tells d xid packet old mid → BarrierPassed Tells (asked_from d xid) mid new came → PacketTold Tells d xid packet old new came
+told_of d xid packet old mid new came sent b = record { brought = b.brought; replied = talks_behind (asked_from d xid) [] new [] came (packet_bytes xid packet) (Ok b.brought) sent b.replied }
 
-stops_of : {Own : Type 0} {Tells : Type 0} (d xid : ℕ) (packet : Packet) (old mid new : Seen Own) (fault : TxnFault) → PacketSent Tells d xid packet old mid → BarrierStops Tells (packet_awaited d xid) mid new (Fault fault) → PacketStops Tells d xid packet old new fault
+stops_of : {Own : Type 0} {Tells : Type 0} (d xid : ℕ) (packet : Packet) (old mid new : Seen Own) (fault : TxnFault) → PacketSent Tells d xid packet old mid → BarrierStops Tells (asked_from d xid) mid new (Fault fault) → PacketStops Tells d xid packet old new fault
 stops_of d xid packet old mid new fault sent (inl b) =
-    inr (inl (record { came = b.came; breaks = talks_behind (packet_awaited d xid) [] new [] b.came (packet_bytes xid packet) (Err (Fault fault)) sent b.breaks }))
+    inr (inl (record { came = b.came; breaks = talks_behind (asked_from d xid) [] new [] b.came (packet_bytes xid packet) (Err (Fault fault)) sent b.breaks }))
 stops_of d xid packet old mid new fault sent (inr b) = inr (inr (record { came = b.came; told = told_of d xid packet old mid new b.came sent b.passed; short = fault_of fault b.short }))
   where
     fault_of : (f : TxnFault) → Fault f ≡ Fault NoMemory → f ≡ NoMemory
@@ -103,7 +105,7 @@ unsent_of d xid packet old new fault (inr s) = inr (inl (record { came = []; bre
 
 told_moves : {Own : Type 0} {Tells : Type 0} (d xid : ℕ) (packet : Packet) (old new : Seen Own) (came : List (ℕ × List ℕ)) → xid < 2 ^ 32 → IsMessage (PacketOut packet) → PacketTold Tells d xid packet old new came → Tells → MovesBy ((d, packet) ∷ []) old new
 told_moves d xid packet old new came lt is t told =
-    let a = packet_awaited d xid in
+    let a = asked_from d xid in
     let r = t.replied in
     moved_one d packet (frames_said d (packet_frames d xid packet) ++ (wait_said a r.got ++ reply_heard a ∷ [])) old new told r.calls
     (reply_then d packet a (frames_said d (packet_frames d xid packet)) r.got refl r.before.read (both_said d xid packet lt is) (stays_reply a))
@@ -137,10 +139,10 @@ none_moved d packet old new moves = record { packets = []; at_most = inl refl; m
 one_moved : {Own : Type 0} {Tells : Type 0} (d : ℕ) (packet : Packet) (old new : Seen Own) → (Tells → MovesBy ((d, packet) ∷ []) old new) → Moved Tells d packet old new
 one_moved d packet old new moves = record { packets = (d, packet) ∷ []; at_most = inr refl; moves = moves }
 
-unsent_moved : {Own : Type 0} {Tells : Type 0} (d xid : ℕ) (packet : Packet) (old new : Seen Own) (t : Trouble) (first rest : List (List ℕ)) → xid < 2 ^ 32 → IsMessage (PacketOut packet) → is_link t ≡ false → packet_frames d xid packet ≡ first ++ rest
+unsent_moved : {Own : Type 0} {Tells : Type 0} (d xid : ℕ) (packet : Packet) (old new : Seen Own) (t : Trouble) (first rest : List (List ℕ)) → xid < 2 ^ 32 → IsMessage (PacketOut packet) → is_of_link t ≡ false → packet_frames d xid packet ≡ first ++ rest
     → Calls Tells d (frames_said d first ++ unsaid d t) old new → Moved Tells d packet old new
 unsent_moved {Tells = Tells} d xid packet old new t first rest lt is none split calls =
-    let front = front_of_two (packet_bytes xid packet) (barrier_of (packet_awaited d xid)) first rest split in
+    let front = front_of_two (packet_bytes xid packet) (barrier_of (asked_from d xid)) first rest split in
     elim front.front [
       | inl empty ↦ none_moved d packet old new (λ told. unsaid_none d t old new none told (subst (λ (fs : List (List ℕ)). Calls Tells d (frames_said d fs ++ unsaid d t) old new) empty calls))
       | inr some ↦ elim some [
@@ -153,11 +155,11 @@ unsent_moved {Tells = Tells} d xid packet old new t first rest lt is none split 
       ]
     ]
 
-breaks_moved : {Own : Type 0} {Tells : Type 0} (d xid : ℕ) (packet : Packet) (old new : Seen Own) (came : List (ℕ × List ℕ)) (buf : List ℕ) (t : Trouble) → xid < 2 ^ 32 → IsMessage (PacketOut packet) → is_link t ≡ false
-    → Breaks Tells (packet_awaited d xid) (packet_frames d xid packet) Growing [] old new [] came buf t → Moved Tells d packet old new
+breaks_moved : {Own : Type 0} {Tells : Type 0} (d xid : ℕ) (packet : Packet) (old new : Seen Own) (came : List (ℕ × List ℕ)) (buf : List ℕ) (t : Trouble) → xid < 2 ^ 32 → IsMessage (PacketOut packet) → is_of_link t ≡ false
+    → Breaks Tells (asked_from d xid) (packet_frames d xid packet) Growing [] old new [] came buf t → Moved Tells d packet old new
 breaks_moved d xid packet old new came buf t lt is none (inl u) = unsent_moved d xid packet old new t u.first u.rest lt is none u.frames_is u.calls
 breaks_moved d xid packet old new came buf t lt is none (inr u) =
-    let a = packet_awaited d xid in
+    let a = asked_from d xid in
     let said = wait_then d packet a (frames_said d (packet_frames d xid packet)) u.got u.by t buf refl none u.before.read (both_said d xid packet lt is) in
     one_moved d packet old new (λ told. moved_one d packet (frames_said d (packet_frames d xid packet) ++ (wait_said a u.got ++ last_said d u.by t buf)) old new told u.calls said)
 
@@ -165,7 +167,7 @@ breaks_moved d xid packet old new came buf t lt is none (inr u) =
 some_said : (b : Bool) (d : ℕ) (f : List ℕ) (fs : List (List ℕ)) (last : List Said) → said_steps b (frames_said d (f ∷ fs) ++ last) ≡ [] → ⊥
 some_said b d f fs last none = absurd cc
 
-unsent_short : {Own : Type 0} {Tells : Type 0} (d : ℕ) (old new : Seen Own) (buf : List ℕ) (t : Trouble) (first : List (List ℕ)) → is_link t ≡ false → IsOfLink t → Calls Tells d (frames_said d first ++ unsaid d t) old new → Tells → new.history ≡ old.history → halt_by d t buf ≡ Fault NoMemory
+unsent_short : {Own : Type 0} {Tells : Type 0} (d : ℕ) (old new : Seen Own) (buf : List ℕ) (t : Trouble) (first : List (List ℕ)) → is_of_link t ≡ false → IsOfLink t → Calls Tells d (frames_said d first ++ unsaid d t) old new → Tells → new.history ≡ old.history → halt_by d t buf ≡ Fault NoMemory
 unsent_short d old new buf troubles.Link [] none why calls told same = absurd cc
 unsent_short d old new buf (troubles.Broke n) [] none why calls told same = absurd why
 unsent_short d old new buf (troubles.Refused k x n) [] none why calls told same = absurd why
@@ -174,11 +176,11 @@ unsent_short d old new buf troubles.Short [] none why calls told same = refl
 unsent_short d old new buf troubles.Full [] none why calls told same = absurd why
 unsent_short d old new buf t (f ∷ fs) none why calls told same = absurd (some_said (is_joined d (state old)) d f fs (unsaid d t) (nothing_said d _ old new told calls same))
 
-breaks_short : {Own : Type 0} {Tells : Type 0} (d xid : ℕ) (packet : Packet) (old new : Seen Own) (came : List (ℕ × List ℕ)) (buf : List ℕ) (t : Trouble) → is_link t ≡ false
-    → Breaks Tells (packet_awaited d xid) (packet_frames d xid packet) Growing [] old new [] came buf t → Tells → new.history ≡ old.history → halt_by d t buf ≡ Fault NoMemory
+breaks_short : {Own : Type 0} {Tells : Type 0} (d xid : ℕ) (packet : Packet) (old new : Seen Own) (came : List (ℕ × List ℕ)) (buf : List ℕ) (t : Trouble) → is_of_link t ≡ false
+    → Breaks Tells (asked_from d xid) (packet_frames d xid packet) Growing [] old new [] came buf t → Tells → new.history ≡ old.history → halt_by d t buf ≡ Fault NoMemory
 breaks_short d xid packet old new came buf t none (inl u) told same = unsent_short d old new buf t u.first none u.why u.calls told same
 breaks_short d xid packet old new came buf t none (inr u) told same =
-    let a = packet_awaited d xid in
+    let a = asked_from d xid in
     absurd (some_said (is_joined d (state old)) d (packet_bytes xid packet) (barrier_of a ∷ []) (wait_said a u.got ++ last_said d u.by t buf) (nothing_said d _ old new told u.calls same))
 
 abbrev IfShort : Halt → Type 0
@@ -197,7 +199,7 @@ breaks_on a frames old new kept now_kept buf t (inl u) = u.calls.continues
 breaks_on a frames old new kept now_kept buf t (inr u) = u.calls.continues
 
 breaks_as : {Own : Type 0} {Tells : Type 0} (d : ℕ) (packet : Packet) (old new : Seen Own) (net : NetState) (fault : TxnFault) → is_viewed d net.views ≡ true → IsMessage (PacketOut packet) → net.xid < 2 ^ 32 → Continues Tells old new → IsCause Tells d old new fault
-    → IfFlooded Tells (packet_awaited d net.xid) (packet_steps d net.xid packet) old new fault → Moved Tells d packet old new → (Tells → new.history ≡ old.history → fault ≡ NoMemory) → BreaksAt Tells (d, packet) old new net fault
+    → IfFlooded Tells (asked_from d net.xid) (packet_steps d net.xid packet) old new fault → Moved Tells d packet old new → (Tells → new.history ≡ old.history → fault ≡ NoMemory) → BreaksAt Tells (d, packet) old new net fault
 breaks_as d packet old new net fault viewed is lt later cause flooded moved short = record {
   viewed = viewed;
   cause = cause;
@@ -222,7 +224,7 @@ packet_breaks : {Own : Type 0} {Tells : Type 0} (d : ℕ) (packet : Packet) (old
 packet_breaks {Tells = Tells} d packet old new net fault viewed is lt (inl none) =
     subst (λ (x : Seen _). BreaksAt Tells (d, packet) old x net fault) (sym none.0) (short_breaks d packet old old net fault viewed is lt (Continues-refl Tells old) (still d packet old) none.1)
 packet_breaks d packet old new net fault viewed is lt (inr (inl b)) =
-    breaks_as d packet old new net fault viewed is lt (breaks_on (packet_awaited d net.xid) (packet_frames d net.xid packet) old new [] b.came b.breaks.buf b.breaks.trouble b.breaks.breaks)
+    breaks_as d packet old new net fault viewed is lt (breaks_on (asked_from d net.xid) (packet_frames d net.xid packet) old new [] b.came b.breaks.buf b.breaks.trouble b.breaks.breaks)
     (talks_cause d (packet_bytes net.xid packet ∷ []) (Fault fault) refl b.breaks) (talks_flooded (packet_bytes net.xid packet ∷ []) (Fault fault) b.breaks)
     (breaks_moved d net.xid packet old new b.came b.breaks.buf b.breaks.trouble lt is (fault_is_none d b.breaks.trouble b.breaks.buf fault b.breaks.halt_is) b.breaks.breaks) (broke_short d net.xid packet old new fault b)
 packet_breaks d packet old new net fault viewed is lt (inr (inr b)) =
@@ -230,22 +232,22 @@ packet_breaks d packet old new net fault viewed is lt (inr (inr b)) =
 
 -- ---- Its calls are of one link, and no switch is lost by them
 
-packet_ascends : (d xid : ℕ) (packet : Packet) → FramesAscend xid 2 (packet_awaited d xid) (packet_bytes xid packet ∷ barrier_of (packet_awaited d xid) ∷ [])
-packet_ascends d xid packet = two_ascend (packet_awaited d xid) xid (PacketOut packet) (packet_bytes xid packet) refl refl refl
+packet_ascends : (d xid : ℕ) (packet : Packet) → FramesAscend xid 2 (asked_from d xid) (packet_bytes xid packet ∷ barrier_of (asked_from d xid) ∷ [])
+packet_ascends d xid packet = two_ascend (asked_from d xid) xid (PacketOut packet) (packet_bytes xid packet) refl refl refl
 
 told_speaks : {Own : Type 0} {Tells : Type 0} (d xid : ℕ) (packet : Packet) (old new : Seen Own) (came : List (ℕ × List ℕ)) → PacketTold Tells d xid packet old new came → Speaks Tells d xid 2 old new
-told_speaks d xid packet old new came t = talks_speak xid 2 (packet_awaited d xid) [] came d (packet_bytes xid packet ∷ []) (Ok t.brought) refl t.replied (packet_ascends d xid packet)
+told_speaks d xid packet old new came t = talks_speak xid 2 (asked_from d xid) [] came d (packet_bytes xid packet ∷ []) (Ok t.brought) refl t.replied (packet_ascends d xid packet)
 
 stops_speaks : {Own : Type 0} {Tells : Type 0} (d xid : ℕ) (packet : Packet) (old new : Seen Own) (fault : TxnFault) → PacketStops Tells d xid packet old new fault → Speaks Tells d xid 2 old new
 stops_speaks {Tells = Tells} d xid packet old new fault (inl none) = subst (λ (x : Seen _). Speaks Tells d xid 2 old x) (sym none.0) (speaks_none Tells d xid 2 old)
-stops_speaks d xid packet old new fault (inr (inl b)) = talks_speak xid 2 (packet_awaited d xid) [] b.came d (packet_bytes xid packet ∷ []) (Err (Fault fault)) refl b.breaks (packet_ascends d xid packet)
+stops_speaks d xid packet old new fault (inr (inl b)) = talks_speak xid 2 (asked_from d xid) [] b.came d (packet_bytes xid packet ∷ []) (Err (Fault fault)) refl b.breaks (packet_ascends d xid packet)
 stops_speaks d xid packet old new fault (inr (inr b)) = told_speaks d xid packet old new b.came b.told
 
 stops_none_lost : {Own : Type 0} {Tells : Type 0} (d xid : ℕ) (packet : Packet) (old new : Seen Own) (fault : TxnFault) → PacketStops Tells d xid packet old new fault → Tells → lost_of new ≡ lost_of old
 stops_none_lost d xid packet old new fault (inl none) told = ap lost_of none.0
 stops_none_lost d xid packet old new fault (inr (inl b)) told =
-    breaks_none_lost (packet_awaited d xid) (packet_frames d xid packet) b.breaks.buf b.breaks.trouble (fault_is_none d b.breaks.trouble b.breaks.buf fault b.breaks.halt_is) b.breaks.breaks told
-stops_none_lost d xid packet old new fault (inr (inr b)) told = replied_none_lost (packet_awaited d xid) (packet_frames d xid packet) b.told.replied told
+    breaks_none_lost (asked_from d xid) (packet_frames d xid packet) b.breaks.buf b.breaks.trouble (fault_is_none d b.breaks.trouble b.breaks.buf fault b.breaks.halt_is) b.breaks.breaks told
+stops_none_lost d xid packet old new fault (inr (inr b)) told = replied_none_lost (asked_from d xid) (packet_frames d xid packet) b.told.replied told
 
 -- ---- Its switch is lost
 
@@ -295,12 +297,9 @@ barrier_lost a old new small b = breaks_halts [] Lost small packets_none b.break
 barrier_on : {Own : Type 0} {Tells : Type 0} (a : Awaited) (old new : Seen Own) (halt : Halt) → BarrierBroke Tells a old new halt → Continues Tells old new
 barrier_on a old new halt b = breaks_on a (barrier_of a ∷ []) old new [] b.came b.breaks.buf b.breaks.trouble b.breaks.breaks
 
-lost_speaks : {Own : Type 0} {Tells : Type 0} (d xid : ℕ) (packet : Packet) (old mid new : Seen Own) → PacketSent Tells d xid packet old mid → BarrierBroke Tells (packet_awaited d xid) mid new Lost → Speaks Tells d xid 2 old new
+lost_speaks : {Own : Type 0} {Tells : Type 0} (d xid : ℕ) (packet : Packet) (old mid new : Seen Own) → PacketSent Tells d xid packet old mid → BarrierBroke Tells (asked_from d xid) mid new Lost → Speaks Tells d xid 2 old new
 lost_speaks d xid packet old mid new sent b =
-    talks_speak xid 2 (packet_awaited d xid) [] b.came d (packet_bytes xid packet ∷ []) (Err Lost) refl (talks_behind (packet_awaited d xid) [] new [] b.came (packet_bytes xid packet) (Err Lost) sent b.breaks) (packet_ascends d xid packet)
-
-abbrev with_xid : NetState → ℕ → NetState
-with_xid net xid = record net { xid = xid }
+    talks_speak xid 2 (asked_from d xid) [] b.came d (packet_bytes xid packet ∷ []) (Err Lost) refl (talks_behind (asked_from d xid) [] new [] b.came (packet_bytes xid packet) (Err Lost) sent b.breaks) (packet_ascends d xid packet)
 
 lost_is : (d : ℕ) (net now_net : NetState) (xid : ℕ) → now_net ≡ lost_net d (with_xid net xid) → now_net ≡ with_xid (lost_net d net) now_net.xid
 lost_is d net now_net xid is = let x : now_net.xid ≡ xid = ap (λ (n : NetState). n.xid) is in is ∙ ap (with_xid (lost_net d net)) (sym x)
@@ -364,7 +363,7 @@ lost_before {Tells = Tells} d packet old new net now_net queue xid viewed lt nex
 
 -- a fault behind it
 pub stops_packet : {Own : Type 0} {Tells : Type 0} (d : ℕ) (packet : Packet) (old mid new : Seen Own) (net now_net : NetState) (queue now_queue : List Event) (xid : ℕ) (fault : TxnFault) → is_viewed d net.views ≡ true → IsMessage (PacketOut packet) → net.xid < 2 ^ 32
-    → PacketSent Tells d net.xid packet old mid → StopsBeforeReply Tells (packet_awaited d net.xid) mid new (with_xid net xid) now_net fault → ReleasesPacket Tells (d, packet) old new net now_net queue now_queue (Err fault)
+    → PacketSent Tells d net.xid packet old mid → StopsBeforeReply Tells (asked_from d net.xid) mid new (with_xid net xid) now_net fault → ReleasesPacket Tells (d, packet) old new net now_net queue now_queue (Err fault)
 stops_packet d packet old mid new net now_net queue now_queue xid fault viewed is lt sent s =
     let stops = stops_of d net.xid packet old mid new fault sent s.stops in
     record {
@@ -378,7 +377,7 @@ stops_packet d packet old mid new net now_net queue now_queue xid fault viewed i
 
 pub settled_packet : {Own : Type 0} {Tells : Type 0} (d : ℕ) (packet : Packet) (old mid new : Seen Own) (net now_net : NetState) (queue now_queue : List Event) (xid : ℕ) → is_viewed d net.views ≡ true → IsMessage (PacketOut packet) → (1 ≤ net.xid) × (net.xid < 2 ^ 32)
     → xid ≡ next_xid (next_xid net.xid) → PacketSent Tells d net.xid packet old mid
-    → TakenBeforeReply Tells (packet_awaited d net.xid) mid new (with_xid net xid) now_net queue now_queue ⊎ LostBeforeReply Tells (packet_awaited d net.xid) mid new (with_xid net xid) now_net queue now_queue
+    → TakenBeforeReply Tells (asked_from d net.xid) mid new (with_xid net xid) now_net queue now_queue ⊎ LostBeforeReply Tells (asked_from d net.xid) mid new (with_xid net xid) now_net queue now_queue
     → ReleasesPacket Tells (d, packet) old new net now_net queue now_queue (Ok true)
 settled_packet d packet old mid new net now_net queue now_queue xid viewed is range next sent (inl s) =
     let told = told_of d net.xid packet old mid new s.came sent s.passed in
@@ -386,13 +385,13 @@ settled_packet d packet old mid new net now_net queue now_queue xid viewed is ra
     record {
       lost = [];
       stays = stays_then [] [] net (with_xid net xid) now_net (stays_xid net xid) s.stays;
-      calls = calls_one d net.views old new viewed (told_speaks d net.xid packet old new s.came told) (replied_none_lost (packet_awaited d net.xid) (packet_frames d net.xid packet) told.replied);
+      calls = calls_one d net.views old new viewed (told_speaks d net.xid packet old new s.came told) (replied_none_lost (asked_from d net.xid) (packet_frames d net.xid packet) told.replied);
       read = λ ok. waits_read _ (refl, (refl, tt)) (next_xid-lt net.xid range.1) (talks_waits (packet_bytes net.xid packet ∷ []) told.replied);
       ids = speaks_on_ids now_net.xid (told_speaks d net.xid packet old new s.came told) (omega arith) (λ small. taken_xid s.came (with_xid net xid) now_net queue now_queue s.taken ∙ next ∙ second_next net.xid small) (waits_leave (talks_waits (packet_bytes net.xid packet ∷ []) told.replied));
       does = inl (refl, viewed, sends_packet d packet old new net now_net queue now_queue s.came is range told took);
     }
 settled_packet {Tells = Tells} d packet old mid new net now_net queue now_queue xid viewed is range next sent (inr s) =
-    let a = packet_awaited d net.xid in
+    let a = asked_from d net.xid in
     let later = barrier_on a mid new Lost s.broke in
     let halts = barrier_lost a mid new (next_xid-lt net.xid range.1) s.broke in
     let lost = lost_sent d net.xid packet old mid new range.1 is sent later halts.0 in

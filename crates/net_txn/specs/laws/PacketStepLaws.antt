@@ -1,5 +1,5 @@
 -- Where a world keeps its word, a packet moves its switch alone, and what the switch sends for it becomes events.
-use Rattle.std.specs.Prelude.{◌≡◌, ◌≢◌, ◌⊎◌, ℕ, ◌^◌, ◌<◌, ◌≤◌, false, List, [], ◌∷◌, ◌++◌, length, drop, map, Option, Some, refl}
+use Rattle.std.specs.Prelude.{◌≡◌, ◌≢◌, ◌⊎◌, ℕ, ◌^◌, ◌<◌, ◌≤◌, false, List, [], ◌∷◌, ◌++◌, length, drop, map, Some, refl}
 use Rattle.std.specs.List.{AllByRecursion}
 use Rattle.std.proofs.Common.{sym, ap, ◌∙◌, subst, inl, inr, arith}
 use Rattle.std.proofs.lemmas.List.{map-append}
@@ -22,34 +22,35 @@ use Rattle.outside.specs.Conforming.{MaySteps, Conforming}
 use Rattle.lego_model.specs.declared.fault.TxnFault.{TxnFault}
 use Rattle.lego_model.specs.declared.fault.TxnFault.TheVariants.{SwitchBroke, Diverged, Flooded, NoMemory}
 use Rattle.lego_model.specs.declared.wait.Awaited.{Awaited}
-use Rattle.lego_model.specs.declared.wait.Heard.TheVariants.{Reply, Other}
+use Rattle.lego_model.specs.declared.wait.Heard.TheVariants.{Other}
 use Rattle.lego_model.specs.BarrierWaits.{flood, next_xid, heard, is_reply, heard_steps, wait_steps, kept_of, reply_got}
 use Rattle.lego_model.specs.Controller.{events_of}
 use Rattle.net_txn.specs.Causes.{IsCause, IsPlain}
 use Rattle.net_txn.specs.Waits.{Brought, Waits, Floods, IfFlooded}
 use Rattle.net_txn.specs.Net.{NetState}
 use Rattle.net_txn.specs.Undos.{SameSwitch}
-use Rattle.net_txn.specs.Releases.{Knows, packet_awaited, packet_steps, takes_all, PacketInStep, IsFloodBy}
+use Rattle.net_txn.specs.Releases.{Knows, packet_steps, takes_all, PacketInStep, IsFloodBy}
+use Rattle.lego_model.specs.FlowQueries.{asked_from}
 use Rattle.net_txn.specs.laws.FloodLaws.{IsGotAlone, few_got, ends_read}
-use Rattle.net_txn.specs.laws.HeardLaws.{IsMessage-barrier, next_xid-lt, heard-reply}
+use Rattle.net_txn.specs.laws.HeardLaws.{IsMessage-barrier, next_xid-lt}
 use Rattle.net_txn.specs.laws.PartLaws.{steps_other}
 use Rattle.net_txn.specs.laws.RestoreLaws.{wait_of}
 use Rattle.net_txn.specs.laws.SaidLaws.{all_two}
-use Rattle.net_txn.specs.laws.StepLaws.{told_switch, told_waits, barrier_sends, barrier_stays, gots, gots_switch, gots_empty, first_got, reply_alone}
-use Rattle.net_txn.specs.laws.PacketHeardLaws.{AllNews, packet_news, packet_events, packet_many, from_switch, all_taken}
+use Rattle.net_txn.specs.laws.StepLaws.{told_switch, told_waits, barrier_sends, barrier_stays, gots, gots_switch, gots_empty, first_got, reply_alone, other_steps, other_no_reply}
+use Rattle.net_txn.specs.laws.PacketHeardLaws.{AllNews, packet_news, packet_events, packet_many, all_taken}
+use Rattle.net_txn.specs.laws.WaitLaws.{of_switch}
 use Rattle.lego_model.specs.UndoFaults.{IsStepOf}
+use Rattle.net_txn.specs.laws.InStepLaws.{reply_to}
+use Rattle.net_txn.specs.laws.WaitMoveLaws.{some_switch}
 
 -- ---- Messages that are nothing to a wait
 
 abbrev AllOther : Awaited → List (List ℕ) → Type 0
 AllOther a ws = AllByRecursion (λ w. heard a w ≡ Other) ws
 
-news_other : (d xid : ℕ) (ws : List (List ℕ)) → AllNews ws → AllOther (packet_awaited d xid) ws
+news_other : (d xid : ℕ) (ws : List (List ℕ)) → AllNews ws → AllOther (asked_from d xid) ws
 news_other d xid [] all = tt
 news_other d xid (w ∷ ws) all = (all.0.unawaited d xid, news_other d xid ws all.1)
-
-other_steps : (a : Awaited) (w : List ℕ) → heard a w ≡ Other → heard_steps a w ≡ Acted (Got a.dpid w) ∷ []
-other_steps a w is = rw is refl
 
 others_alone : (a : Awaited) (ws : List (List ℕ)) → AllOther a ws → AllByRecursion (IsGotAlone a) ws
 others_alone a [] all = tt
@@ -59,12 +60,9 @@ others_steps : (a : Awaited) (ws : List (List ℕ)) → AllOther a ws → wait_s
 others_steps a [] all = refl
 others_steps a (w ∷ ws) all = ap (λ (steps : List WorldStep). steps ++ wait_steps a ws) (other_steps a w all.0) ∙ ap (λ (steps : List WorldStep). Acted (Got a.dpid w) ∷ steps) (others_steps a ws all.1)
 
-others_kept : (a : Awaited) (ws : List (List ℕ)) → AllOther a ws → kept_of a ws ≡ map (from_switch a.dpid) ws
+others_kept : (a : Awaited) (ws : List (List ℕ)) → AllOther a ws → kept_of a ws ≡ map (of_switch a.dpid) ws
 others_kept a [] all = refl
 others_kept a (w ∷ ws) all = rw all.0 (ap (λ (ms : List (ℕ × List ℕ)). (a.dpid, w) ∷ ms) (others_kept a ws all.1))
-
-other_no_reply : (a : Awaited) (w : List ℕ) → heard a w ≡ Other → message_bytes a.barrier BarrierReply ≡ w → ⊥
-other_no_reply a w other is = let h : Other ≡ Reply = sym other ∙ ap (heard a) (sym is) ∙ heard-reply a in absurd cc
 
 -- where they wait before the reply, they alone came before it
 others_came : (declared : List Declared) (a : Awaited) (ws got : List (List ℕ)) (t : State) → AllOther a ws → waits_of a.dpid t ≡ ws ++ message_bytes a.barrier BarrierReply ∷ [] → MaySteps declared (wait_steps a got ++ reply_got a ∷ []) t
@@ -82,12 +80,6 @@ others_came declared a (w ∷ ws) (b ∷ bs) t all waits may before =
     ap (λ (x : List ℕ). x ∷ bs) is ∙ ap (λ (xs : List (List ℕ)). w ∷ xs) rest
 
 -- ---- The packet and the barrier were sent
-
-abbrev some_switch : SwitchState → Option SwitchState
-some_switch s = Some s
-
-abbrev reply_to : ℕ → List ℕ
-reply_to xid = message_bytes (next_xid xid) BarrierReply
 
 abbrev after_both : ℕ → ℕ → Packet → State → State
 after_both d xid packet t = after_steps (packet_steps d xid packet) t
@@ -111,9 +103,9 @@ both_sent d xid packet s t lt is here none =
       waits = told_waits d (next_xid xid) BarrierRequest barrier one moved barrier_read there ∙ ap (λ (ws : List (List ℕ)). waits_of d one ++ ws) (barrier_sends (next_xid xid) moved) ∙ ap (λ (ws : List (List ℕ)). ws ++ reply_to xid ∷ []) waits_one;
     }
 
-all_of : (d xid : ℕ) (packet : Packet) (got : List (List ℕ)) → AllByRecursion (IsStepOf d) (packet_steps d xid packet ++ (wait_steps (packet_awaited d xid) got ++ reply_got (packet_awaited d xid) ∷ []))
+all_of : (d xid : ℕ) (packet : Packet) (got : List (List ℕ)) → AllByRecursion (IsStepOf d) (packet_steps d xid packet ++ (wait_steps (asked_from d xid) got ++ reply_got (asked_from d xid) ∷ []))
 all_of d xid packet got =
-    let a = packet_awaited d xid in
+    let a = asked_from d xid in
     (refl, (refl, all_two (IsStepOf d) (wait_steps a got) (reply_got a ∷ []) (wait_of a got) (refl, tt)))
 
 -- ---- What was taken
@@ -124,7 +116,7 @@ net_of k = k.0
 abbrev queue_of : Knows → List Event
 queue_of k = k.1
 
-abbrev with_xid : NetState → ℕ → NetState
+abbrev pub with_xid : NetState → ℕ → NetState
 with_xid net xid = record net { xid = xid }
 
 same_but_xid : (net now_net : NetState) (xid : ℕ) → now_net ≡ with_xid net xid → now_net ≡ with_xid net now_net.xid
@@ -133,12 +125,12 @@ same_but_xid net now_net xid is = let x : now_net.xid ≡ xid = ap (λ (n : NetS
 -- ---- The whole
 
 pub packet_in_step : {Own : Type 0} {Tells : Type 0} (d : ℕ) (packet : Packet) (s : SwitchState) (old new : Seen Own) (net now_net : NetState) (queue now_queue : List Event) (came : List (ℕ × List ℕ)) (refusal : Brought)
-    → net.xid < 2 ^ 32 → IsMessage (PacketOut packet) → Waits Tells (packet_awaited d net.xid) (packet_steps d net.xid packet) old new [] came refusal
+    → net.xid < 2 ^ 32 → IsMessage (PacketOut packet) → Waits Tells (asked_from d net.xid) (packet_steps d net.xid packet) old new [] came refusal
     → (now_net, now_queue) ≡ takes_all came (with_xid net (next_xid (next_xid net.xid)), queue)
     → Tells → Conforming new → switch_of d (state old) ≡ Some s → waits_of d (state old) ≡ [] → PacketInStep d packet s old new net now_net queue now_queue
 packet_in_step d packet s old new net now_net queue now_queue came refusal lt is w taken told keeps here none =
     let xid = net.xid in
-    let a = packet_awaited d xid in
+    let a = asked_from d xid in
     let ws = sent_by_message xid (PacketOut packet) s in
     let reply = reply_to xid in
     let steps = packet_steps d xid packet ++ (wait_steps a w.got ++ reply_got a ∷ []) in
@@ -149,11 +141,11 @@ packet_in_step d packet s old new net now_net queue now_queue came refusal lt is
     let news = packet_news xid packet s lt in
     let others = news_other d xid ws news in
     let same : w.got ≡ ws = others_came old.given.declared a ws w.got mid others b.waits may.1.1 w.hears.before_reply in
-    let of_switch : List ℕ → WorldStep = λ x. Acted (Got d x) in
+    let as_got : List ℕ → WorldStep = λ x. Acted (Got d x) in
     let rest : wait_steps a w.got ++ reply_got a ∷ [] ≡ gots d (ws ++ reply ∷ []) =
-    ap (λ (g : List (List ℕ)). wait_steps a g ++ reply_got a ∷ []) same ∙ ap (λ (xs : List WorldStep). xs ++ reply_got a ∷ []) (others_steps a ws others) ∙ sym (map-append of_switch ws (reply ∷ [])) in
+    ap (λ (g : List (List ℕ)). wait_steps a g ++ reply_got a ∷ []) same ∙ ap (λ (xs : List WorldStep). xs ++ reply_got a ∷ []) (others_steps a ws others) ∙ sym (map-append as_got ws (reply ∷ [])) in
     let end : state new ≡ after_steps (gots d (ws ++ reply ∷ [])) mid = after ∙ ap (λ (xs : List WorldStep). after_steps xs mid) rest in
-    let came_is : came ≡ map (from_switch d) ws = w.hears.kept_is ∙ ap (kept_of a) same ∙ others_kept a ws others in
+    let came_is : came ≡ map (of_switch d) ws = w.hears.kept_is ∙ ap (kept_of a) same ∙ others_kept a ws others in
     let later = with_xid net (next_xid (next_xid xid)) in
     let knows : (now_net, now_queue) ≡ (later, queue ++ events_of d ws) = taken ∙ ap (λ (ms : List (ℕ × List ℕ)). takes_all ms (later, queue)) came_is ∙ all_taken d ws (later, queue) news in
     let still : (e : ℕ) → e ≢ d → SameSwitch e (state old) (after_steps steps (state old)) = λ e other. steps_other d e steps (state old) other (all_of d xid packet w.got) in
@@ -169,9 +161,9 @@ packet_in_step d packet s old new net now_net queue now_queue came refusal lt is
 -- ---- A fault
 
 many_sent : {Own : Type 0} {Tells : Type 0} (d xid : ℕ) (packet : Packet) (s : SwitchState) (old new : Seen Own) → xid < 2 ^ 32 → IsMessage (PacketOut packet) → Tells → Conforming new → switch_of d (state old) ≡ Some s → waits_of d (state old) ≡ []
-    → Floods Tells (packet_awaited d xid) (packet_steps d xid packet) old new → flood ≤ length (sent_by_message 0 (PacketOut packet) s)
+    → Floods Tells (asked_from d xid) (packet_steps d xid packet) old new → flood ≤ length (sent_by_message 0 (PacketOut packet) s)
 many_sent d xid packet s old new lt is told keeps here none f =
-    let a = packet_awaited d xid in
+    let a = asked_from d xid in
     let ws = sent_by_message xid (PacketOut packet) s in
     let may = Conforming-rest old new (packet_steps d xid packet ++ wait_steps a f.got) f.continues.given (f.told told) keeps in
     let b = both_sent d xid packet s (state old) lt is here none in
@@ -179,7 +171,7 @@ many_sent d xid packet s old new lt is told keeps here none f =
     omega (arith, f.many, few, packet_many xid packet s)
 
 pub packet_plain : {Own : Type 0} {Tells : Type 0} (d xid : ℕ) (packet : Packet) (s : SwitchState) (old new : Seen Own) (fault : TxnFault) → xid < 2 ^ 32 → IsMessage (PacketOut packet) → Continues Tells old new → IsCause Tells d old new fault
-    → IfFlooded Tells (packet_awaited d xid) (packet_steps d xid packet) old new fault → Tells → Conforming new → switch_of d (state old) ≡ Some s → waits_of d (state old) ≡ [] → IsPlain fault ⊎ IsFloodBy (d, packet) s fault
+    → IfFlooded Tells (asked_from d xid) (packet_steps d xid packet) old new fault → Tells → Conforming new → switch_of d (state old) ≡ Some s → waits_of d (state old) ≡ [] → IsPlain fault ⊎ IsFloodBy (d, packet) s fault
 packet_plain d xid packet s old new (SwitchBroke of bytes) lt is later cause f told keeps here none = absurd (ends_read d bytes old new later.given (cause.2 told) keeps cause.1)
 packet_plain d xid packet s old new (Diverged of sent got) lt is later cause f told keeps here none = absurd cause
 packet_plain d xid packet s old new (Flooded of n) lt is later cause f told keeps here none = inr (cause.0, cause.1, many_sent d xid packet s old new lt is told keeps here none f)

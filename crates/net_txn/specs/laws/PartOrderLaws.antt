@@ -13,7 +13,7 @@ thinned_more (x ∷ xs) y ys is = inr is
 pub ends_none : (parts : List (ℕ × Part)) → EndsByBarriers [] parts
 ends_none parts = record { last = []; front = parts; parts_is = refl; no_inverse = refl; in_order = tt; each = λ d among free. absurd cc }
 
-or_here : (a b : Bool) → a ≡ true → (a || b) ≡ true
+pub or_here : (a b : Bool) → a ≡ true → (a || b) ≡ true
 or_here true b is = refl
 or_here false b is = absurd cc
 

@@ -1,28 +1,19 @@
 -- The laws of a commit: how its parts make the whole.
-use Rattle.std.specs.Prelude.{◌≡◌, ℕ, Bool, List, [], ◌∷◌, ◌++◌, map, drop, Result, Ok, Err, refl}
+use Rattle.std.specs.Prelude.{ℕ, List, ◌++◌, map, drop, Result, Ok, Err, refl}
 use Rattle.std.proofs.Common.{ap, ◌∙◌, inl, inr, arith}
-use Rattle.flow_table.specs.View.{TableView}
 use Rattle.app_frames.specs.declared.frame.Event.{Event}
 use Rattle.outside.specs.Seen.{Seen}
 use Rattle.lego_model.specs.declared.fault.TxnFault.{TxnFault}
 use Rattle.lego_model.specs.declared.fault.TxnFault.TheVariants.{NoMemory}
-use Rattle.net_txn.specs.Views.{is_viewed}
 use Rattle.net_txn.specs.Net.{NetState}
-use Rattle.net_txn.specs.Losing.{lost_net, lose_all}
 use Rattle.net_txn.specs.Undos.{Undoes, key_logged, lost_parts}
 use Rattle.net_txn.specs.Releases.{committed, Commits}
 use Rattle.net_txn.specs.ReleaseSteps.{ReleasedFront, StopsBehind}
 use Rattle.net_txn.specs.laws.OwnIdLaws.{so_far_ascends}
 use Rattle.net_txn.specs.laws.UndoIdLaws.{undone_ids}
 use Rattle.net_txn.specs.laws.LinkPresenceLaws.{stays_in}
-use Rattle.net_txn.specs.laws.AbreastLaws.{without_keys-viewed, lose_all-viewed}
-
-abbrev in_views : ℕ → List TableView → Bool
-in_views e views = is_viewed e views
-
-lose_all-moment : (lost : List ℕ) (net : NetState) → (lose_all lost net).moment ≡ net.moment
-lose_all-moment [] net = refl
-lose_all-moment (d ∷ ds) net = lose_all-moment ds (lost_net d net)
+use Rattle.net_txn.specs.laws.AbreastLaws.{without_keys-viewed, lose_all-viewed, in_views}
+use Rattle.net_txn.specs.laws.LoseAllLaws.{lose_all-moment}
 
 -- no memory was left before the release
 pub commits_undone : {Own : Type 0} {Tells : Type 0} (start : ℕ) (old new : Seen Own) (net now_net : NetState) (queue : List Event) (result : Result (Unit {0}) TxnFault) → Undoes Tells start old new net now_net result

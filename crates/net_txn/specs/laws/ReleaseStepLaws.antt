@@ -1,7 +1,7 @@
 -- Laws of a release, packet by packet: what stays, what is called, what is taken, and the packets one after the other.
 use Rattle.std.specs.Prelude.{◌≡◌, ◌==◌, ℕ, Bool, true, false, not, ◌&&◌, ◌||◌, List, [], ◌∷◌, ◌++◌, map, filter, Ok, Err, refl}
 use Rattle.std.proofs.Common.{sym, ap, ◌∙◌, subst, append_assoc, inl, inr}
-use Rattle.std.proofs.lemmas.Bool.{cases_Bool, cases_eq, eq-eqb, ne_eqb}
+use Rattle.std.proofs.lemmas.Bool.{cases_Bool}
 use Rattle.std.proofs.lemmas.List.{append-nil, map-append}
 use Rattle.of_wire.specs.declared.message.Message.{Message}
 use Rattle.of_wire.specs.declared.message.Message.TheVariants as messages
@@ -15,7 +15,8 @@ use Rattle.outside.specs.laws.InOrderLaws.{InOrder-before, messages-none, messag
 use Rattle.lego_model.specs.declared.fault.TxnFault.{TxnFault}
 use Rattle.lego_model.specs.History.{lost_of}
 use Rattle.lego_model.specs.Packets.{Held}
-use Rattle.net_txn.specs.Losing.{lost_net, is_among, IsLost}
+use Rattle.net_txn.specs.Losing.{lost_net, IsLost}
+use Rattle.of_types.specs.Membership.{is_among}
 use Rattle.net_txn.specs.Said.{Speaks}
 use Rattle.net_txn.specs.laws.OwnIdLaws.{ids_none, ids_then, stops_then}
 use Rattle.net_txn.specs.Undos.{AreJoined}
@@ -24,26 +25,21 @@ use Rattle.net_txn.specs.Net.{NetState}
 use Rattle.net_txn.specs.Arriving.{net_after}
 use Rattle.net_txn.specs.Releases.{Knows, takes_read, takes_all, ReleasesOne, ReleasesAll}
 use Rattle.net_txn.specs.ReleaseSteps.{StaysSo, CallsLinks, sent_by, size_of, ReleasedFront, ReleasesNoted, StopsBehind}
-use Rattle.net_txn.specs.laws.LinkPresenceLaws.{stays_in, stays-none, stays-then, among-append}
+use Rattle.net_txn.specs.laws.LinkPresenceLaws.{stays_in, stays-none, stays-then}
+use Rattle.net_txn.specs.laws.LostPartLaws.{among-append}
 use Rattle.net_txn.specs.laws.LinkStepLaws.{OnLinks-refl, OnLinks-trans}
 use Rattle.net_txn.specs.laws.LinkStrayLaws.{no_strays_none, no_strays_then}
 use Rattle.net_txn.specs.laws.LostLaws.{losses_then}
 use Rattle.net_txn.specs.laws.TalkLaws.{speaks_on, speaks_links, speaks_place}
 use Rattle.net_txn.specs.laws.AbreastLaws.{arrival_viewed, forget-viewed, links-lost}
+use Rattle.undo_laws.specs.laws.LookupLaws.{filter-same}
+use Rattle.net_txn.specs.laws.LoseAllLaws.{turned}
 
 -- ---- What stays
 
 -- a kept message is not of these switches
 abbrev pub stays_kept : List ℕ → ℕ × List ℕ → Bool
 stays_kept lost m = not (is_among m.0 lost)
-
-filter_like : {X : Type 0} (p r : X → Bool) → ((x : X) → p x ≡ r x) → (xs : List X) → filter p xs ≡ filter r xs
-filter_like p r same [] = refl
-filter_like p r same (x ∷ xs) =
-    elim (cases_Bool (r x)) [
-      | inl stays ↦ rw (same x, stays) (ap (λ (ys : List _). x ∷ ys) (filter_like p r same xs))
-      | inr goes ↦ rw (same x, goes) (filter_like p r same xs)
-    ]
 
 filter_two : {X : Type 0} (p q r : X → Bool) → ((x : X) → r x ≡ (p x && q x)) → (xs : List X) → filter q (filter p xs) ≡ filter r xs
 filter_two p q r same [] = refl
@@ -82,20 +78,13 @@ stays_then xs ys a b c first second = record {
 pub stays_xid : (net : NetState) (xid : ℕ) → StaysSo [] net (record net { xid = xid })
 stays_xid net xid = record { moment = refl; room = refl; kept = none_goes net.kept; switches = λ e. stays-none e (is_viewed e net.views) }
 
-same_either : (a b : ℕ) → (a == b) ≡ (b == a)
-same_either a b =
-    elim (cases_eq a b) [
-      | inl same ↦ rw (eq-eqb a b same, eq-eqb b a (sym same)) refl
-      | inr other ↦ rw (ne_eqb a b other, ne_eqb b a (λ same. other (sym same))) refl
-    ]
-
 or_none : (b : Bool) → b ≡ (b || false)
 or_none true = refl
 or_none false = refl
 
 -- of a switch that is lost nothing stays
 one_goes : (d : ℕ) (ms : List (ℕ × List ℕ)) → filter (λ m. not (m.0 == d)) ms ≡ filter (stays_kept (d ∷ [])) ms
-one_goes d ms = filter_like (λ (m : ℕ × List ℕ). not (m.0 == d)) (stays_kept (d ∷ [])) (λ m. ap not (same_either m.0 d ∙ or_none (d == m.0))) ms
+one_goes d ms = filter-same (λ (m : ℕ × List ℕ). not (m.0 == d)) (stays_kept (d ∷ [])) (λ m. ap not (turned m.0 d ∙ or_none (d == m.0))) ms
 
 lost_stays : (d : ℕ) (net : NetState) → StaysSo (d ∷ []) net (lost_net d net)
 lost_stays d net = record { moment = refl; room = refl; kept = one_goes d net.kept; switches = λ e. forget-viewed d e net.views }

@@ -1,9 +1,9 @@
 -- Laws of the parts that a switch sends for a request of its flows: what each is to a wait, and what they say together.
-use Rattle.std.specs.Prelude.{◌≡◌, ◌==◌, ℕ, ◌+◌, ◌^◌, ◌<◌, ◌≤◌, true, false, nat_le, List, [], ◌∷◌, ◌++◌, length, refl}
+use Rattle.std.specs.Prelude.{◌≡◌, ℕ, ◌+◌, ◌^◌, ◌<◌, ◌≤◌, true, false, nat_le, List, [], ◌∷◌, ◌++◌, length, refl}
 use Rattle.std.specs.List.{AllByRecursion, concat}
 use Rattle.std.specs.Str.{bytes_eq}
 use Rattle.std.proofs.Common.{inl, inr, ap, ◌∙◌, append_assoc, arith}
-use Rattle.std.proofs.lemmas.Bool.{cases_Bool, le-leb, eqb-false}
+use Rattle.std.proofs.lemmas.Bool.{cases_Bool, le-leb, eq-eqb}
 use Rattle.std.proofs.lemmas.List.{append-nil, length-append}
 use Rattle.std.proofs.lemmas.Slice.Eq.{bytes_eq-Decides}
 use Rattle.of_types.specs.Fields.{number_bytes, number_at}
@@ -81,18 +81,11 @@ pub heard_part : (a : Awaited) (xid : ℕ) (part : Part) (bytes : List ℕ) → 
 unfolding heard
 heard_part a xid part bytes small is = rw (differs a.barrier bytes small is.kind, is.kind) refl
 
-same_number : (n : ℕ) → (n == n) ≡ true
-same_number n =
-    elim (cases_Bool (n == n)) [
-      | inl same ↦ same
-      | inr other ↦ absurd (eqb-false n n other refl)
-    ]
-
 pub about_part : (xid : ℕ) (part : Part) (bytes : List ℕ) → IsPartOf xid part bytes → is_about xid 17 bytes ≡ true
 unfolding is_about
 about_part xid part bytes is =
     let long : nat_le 12 (length bytes) ≡ true = le-leb _ _ is.long in
-    rw (long, is.id, is.kind, same_number xid) refl
+    rw (long, is.id, is.kind, eq-eqb xid xid refl) refl
 
 -- ---- The parts of a reply
 

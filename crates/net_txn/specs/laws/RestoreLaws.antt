@@ -23,7 +23,7 @@ use Rattle.outside.specs.laws.LinkLaws.{waits_of-got}
 use Rattle.outside.specs.laws.StateLaws.{after_steps-append, MaySteps-front, MaySteps-rest, Conforming-rest, state-append}
 use Rattle.outside.specs.Conforming.{MaySteps, Conforming}
 use Rattle.undo_laws.specs.Removal.{without, without_all, OnlyAdded}
-use Rattle.undo_laws.specs.laws.RemovalLaws.{without_added, is_among-reverse}
+use Rattle.undo_laws.specs.laws.RemovalLaws.{without_added, is_key_among-reverse}
 use Rattle.undo_laws.specs.laws.AddedLaws.{undone-added}
 use Rattle.undo_laws.specs.Serials.{IsSerialed}
 use Rattle.lego_model.specs.declared.wait.Awaited.{Awaited}
@@ -207,7 +207,7 @@ pub restored_table : (parts : List Part) (keys : List Key) (s : SwitchState) (be
 restored_table parts keys s before same was is only =
     let es = s.table.entries in
     let now : entries_left parts es ≡ before.entries =
-    entries_left-keys parts es ∙ ap (λ (ks : List Key). without_all (reverse ks) es) same ∙ without_added keys (reverse keys) before.entries es was is.table only (is_among-reverse keys) in
+    entries_left-keys parts es ∙ ap (λ (ks : List Key). without_all (reverse ks) es) same ∙ without_added keys (reverse keys) before.entries es was is.table only (is_key_among-reverse keys) in
     ap (λ (xs : List Entry). with_entries xs s) now ∙ ap (λ (t : TableState). record s { table = t }) (sym (undone-added s.moment keys before s.table was is only))
 
 -- ---- From what is seen

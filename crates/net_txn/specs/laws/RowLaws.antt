@@ -15,6 +15,7 @@ use Rattle.flow_table.specs.Change.{is_modify, is_delete, asks_notice, key_in, d
 use Rattle.flow_table.specs.Refusals.{no_buffer}
 use Rattle.lego_model.specs.Answers.{Rows, rows_of_table, rows_of_view, would_touch, flow_mod_refused, with_notice}
 use Rattle.net_txn.specs.Views.{with_row, row_in, rows_after}
+use Rattle.flow_table.specs.RowKeys.{shown_row, held_entry}
 
 -- ---- One row more
 
@@ -25,30 +26,24 @@ with_pair r (s ∷ ss) =
     else if key_number r.0 == key_number s.0 then r ∷ ss
     else s ∷ with_pair r ss
 
-abbrev pub shown : ViewRow → Key × List Action
-shown r = (r.key, r.actions)
-
-abbrev held : Entry → Key × List Action
-held e = (e.key, e.actions)
-
-view_if : (below same : Bool) (r s : ViewRow) (ss : List ViewRow) → rows_of_view (with_row r ss) ≡ with_pair (shown r) (rows_of_view ss)
-    → rows_of_view (if below then r ∷ s ∷ ss else if same then r ∷ ss else s ∷ with_row r ss) ≡ (if below then shown r ∷ shown s ∷ rows_of_view ss else if same then shown r ∷ rows_of_view ss else shown s ∷ with_pair (shown r) (rows_of_view ss))
+view_if : (below same : Bool) (r s : ViewRow) (ss : List ViewRow) → rows_of_view (with_row r ss) ≡ with_pair (shown_row r) (rows_of_view ss)
+    → rows_of_view (if below then r ∷ s ∷ ss else if same then r ∷ ss else s ∷ with_row r ss) ≡ (if below then shown_row r ∷ shown_row s ∷ rows_of_view ss else if same then shown_row r ∷ rows_of_view ss else shown_row s ∷ with_pair (shown_row r) (rows_of_view ss))
 view_if true same r s ss rest = refl
 view_if false true r s ss rest = refl
-view_if false false r s ss rest = ap (λ (rows : Rows). shown s ∷ rows) rest
+view_if false false r s ss rest = ap (λ (rows : Rows). shown_row s ∷ rows) rest
 
-view-with_row : (r : ViewRow) (rows : List ViewRow) → rows_of_view (with_row r rows) ≡ with_pair (shown r) (rows_of_view rows)
+view-with_row : (r : ViewRow) (rows : List ViewRow) → rows_of_view (with_row r rows) ≡ with_pair (shown_row r) (rows_of_view rows)
 unfolding with_pair
 view-with_row r [] = refl
 view-with_row r (s ∷ ss) = view_if (nat_lt (key_number r.key) (key_number s.key)) (key_number r.key == key_number s.key) r s ss (view-with_row r ss)
 
-table_if : (below same : Bool) (e f : Entry) (fs : List Entry) → rows_of_table (with_entry e fs) ≡ with_pair (held e) (rows_of_table fs)
-    → rows_of_table (if below then e ∷ f ∷ fs else if same then e ∷ fs else f ∷ with_entry e fs) ≡ (if below then held e ∷ held f ∷ rows_of_table fs else if same then held e ∷ rows_of_table fs else held f ∷ with_pair (held e) (rows_of_table fs))
+table_if : (below same : Bool) (e f : Entry) (fs : List Entry) → rows_of_table (with_entry e fs) ≡ with_pair (held_entry e) (rows_of_table fs)
+    → rows_of_table (if below then e ∷ f ∷ fs else if same then e ∷ fs else f ∷ with_entry e fs) ≡ (if below then held_entry e ∷ held_entry f ∷ rows_of_table fs else if same then held_entry e ∷ rows_of_table fs else held_entry f ∷ with_pair (held_entry e) (rows_of_table fs))
 table_if true same e f fs rest = refl
 table_if false true e f fs rest = refl
-table_if false false e f fs rest = ap (λ (rows : Rows). held f ∷ rows) rest
+table_if false false e f fs rest = ap (λ (rows : Rows). held_entry f ∷ rows) rest
 
-table-with_entry : (e : Entry) (es : List Entry) → rows_of_table (with_entry e es) ≡ with_pair (held e) (rows_of_table es)
+table-with_entry : (e : Entry) (es : List Entry) → rows_of_table (with_entry e es) ≡ with_pair (held_entry e) (rows_of_table es)
 unfolding with_pair
 table-with_entry e [] = refl
 table-with_entry e (f ∷ fs) = table_if (nat_lt (place_of e) (place_of f)) (place_of e == place_of f) e f fs (table-with_entry e fs)
@@ -73,7 +68,7 @@ filter_none p q (e ∷ es) none = let n = or_parts (p e) (list_any p es) none in
 abbrev pub sent : Change → Change
 sent m = record m { buffer_id = no_buffer; flags = with_notice m.flags }
 
-known_if : (first second : Bool) (x y : OfError) (rest : Option OfError) → (if first then Some x else if second then Some y else rest) ≡ None → second ≡ false
+pub known_if : (first second : Bool) (x y : OfError) (rest : Option OfError) → (if first then Some x else if second then Some y else rest) ≡ None → second ≡ false
 known_if true second x y rest none = absurd cc
 known_if false true x y rest none = absurd cc
 known_if false false x y rest none = refl
@@ -93,7 +88,7 @@ untouched_delete : (m : Change) (es : List Entry) → is_delete m ≡ true → w
 unfolding would_touch describes
 untouched_delete m es is none =
     let c = no_command m is in
-    sym (any_of_map (λ (r : Key × List Action). describes m r.0 && sends_to m.out_port r.1) held es) ∙ (rw (c.0, c.1) at none)
+    sym (any_of_map (λ (r : Key × List Action). describes m r.0 && sends_to m.out_port r.1) held_entry es) ∙ (rw (c.0, c.1) at none)
 
 pub modifies_or_adds : (m : Change) → is_delete m ≡ false → m.command ≤ 4 → (m.command == 0) ≡ false → is_modify m ≡ true
 modifies_or_adds m other known not_add =
@@ -109,7 +104,7 @@ modifies_or_adds m other known not_add =
 adds_modify : (m : Change) (es : List Entry) → (m.command == 0) ≡ false → is_modify m ≡ true → would_touch m (rows_of_table es) ≡ false → adds (sent m) es ≡ true
 unfolding would_touch describes adds
 adds_modify m es not_add modifies none =
-    let met : list_any (λ e. describes (sent m) e.key) es ≡ false = sym (any_of_map (λ (r : Key × List Action). describes m r.0) held es) ∙ (rw (not_add, modifies) at none) in
+    let met : list_any (λ e. describes (sent m) e.key) es ≡ false = sym (any_of_map (λ (r : Key × List Action). describes m r.0) held_entry es) ∙ (rw (not_add, modifies) at none) in
     rw (not_add, modifies, met) refl
 
 adds_always : (m : Change) (es : List Entry) → (m.command == 0) ≡ true → adds (sent m) es ≡ true

@@ -19,7 +19,7 @@ use Rattle.outside.specs.Conforming.{MayStep, MayAct, MaySteps}
 use Rattle.outside.specs.InOrder.{MayCome, MayComeAll}
 use Rattle.lego_model.specs.declared.wait.Awaited.{Awaited}
 use Rattle.lego_model.specs.declared.wait.Refusal.{Refusal}
-use Rattle.lego_model.specs.declared.wait.Heard.TheVariants.{Reply, Refused}
+use Rattle.lego_model.specs.declared.wait.Heard.TheVariants.{Reply, Refused, Other}
 use Rattle.lego_model.specs.BarrierWaits.{heard, is_reply, heard_steps, wait_steps, reply_got}
 use Rattle.net_txn.specs.laws.HeardLaws.{heard-reply}
 
@@ -59,7 +59,7 @@ gots_other_waits d e (b ∷ bs) t other = gots_other_waits d e bs (after_step (A
 
 -- ---- In a world that keeps its word the messages that were got are those that waited.
 
-some_is : (a b : List ℕ) → Some a ≡ Some b → a ≡ b
+pub some_is : (a b : List ℕ) → Some a ≡ Some b → a ≡ b
 some_is a b e = cc
 
 pub first_got : (declared : List Declared) (d : ℕ) (b w : List ℕ) (ws : List (List ℕ)) (rest : List WorldStep) (t : State) → waits_of d t ≡ w ∷ ws → MaySteps declared (Acted (Got d b) ∷ rest) t → b ≡ w
@@ -107,3 +107,11 @@ error_alone declared a e r (b ∷ bs) t waits refused may before =
 pub gots_empty : (d : ℕ) (ws : List (List ℕ)) (t : State) → waits_of d t ≡ ws → waits_of d (after_steps (gots d ws) t) ≡ []
 gots_empty d [] t is = is
 gots_empty d (w ∷ ws) t is = gots_empty d ws (after_step (Acted (Got d w)) t) (waits_of-got d w t ∙ ap (drop 1) is)
+
+-- ---- A message that is nothing to a wait
+
+pub other_steps : (a : Awaited) (w : List ℕ) → heard a w ≡ Other → heard_steps a w ≡ Acted (Got a.dpid w) ∷ []
+other_steps a w is = rw is refl
+
+pub other_no_reply : (a : Awaited) (w : List ℕ) → heard a w ≡ Other → message_bytes a.barrier BarrierReply ≡ w → ⊥
+other_no_reply a w other is = let h : Other ≡ Reply = sym other ∙ ap (heard a) (sym is) ∙ heard-reply a in absurd cc

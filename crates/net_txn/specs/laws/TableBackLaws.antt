@@ -27,11 +27,8 @@ use Rattle.net_txn.specs.laws.NoticeLaws.{with_entries, inverse_moves}
 use Rattle.net_txn.specs.laws.PartLaws.{steps_other, reading_of-inverse}
 use Rattle.net_txn.specs.Undos.{IsTableBack, CanBeSent, IsBarrierPassed, alone, Part, Inverse, BarrierPassed, Stuck, part_steps, steps_of, parts_of, is_stuck, inverses_of, IsRun}
 use Rattle.net_txn.specs.laws.RestoreLaws.{part_of, AllRun, runs_here, runs_older, entries_left, keys_reverted, restored_table, older_free}
-use Rattle.net_txn.specs.laws.WaitMoveLaws.{wait_switch}
+use Rattle.net_txn.specs.laws.WaitMoveLaws.{wait_switch, some_switch}
 use Rattle.net_txn.specs.laws.LinkStrayLaws.{switch_there}
-
-abbrev some_switch : SwitchState → Option SwitchState
-some_switch x = Some x
 
 -- ---- One part of an undo
 

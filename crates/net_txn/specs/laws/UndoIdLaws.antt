@@ -27,6 +27,8 @@ use Rattle.net_txn.specs.laws.AgreeLaws.{both_none, no_fault}
 use Rattle.net_txn.specs.laws.OwnIdLaws.{own_ids_two, said_ids, wait_ids, with_none, ids_append, one_ascends, barrier_id, next_small, so_far_then}
 use Rattle.net_txn.specs.laws.RestoreLaws.{AllRun, runs_here, runs_older}
 use Rattle.net_txn.specs.laws.SaidLaws.{whole_steps}
+use Rattle.app_frames.specs.Spelling.{bit}
+use Rattle.net_txn.specs.laws.KeepLaws.{cons_not_none}
 
 -- ---- What each part says of its id, and that its switch had not failed before
 
@@ -120,15 +122,11 @@ lost_few (p ∷ older) facts none =
 
 -- ---- A switch fails once at most
 
-abbrev one_if : Bool → ℕ
-one_if true = 1
-one_if false = 0
-
 abbrev failed_links : List (ℕ × Part) → List Link → ℕ
 failed_links parts [] = 0
-failed_links parts (l ∷ ls) = one_if (is_stuck (parts_of l.declared.dpid parts)) + failed_links parts ls
+failed_links parts (l ∷ ls) = bit (is_stuck (parts_of l.declared.dpid parts)) + failed_links parts ls
 
-few_one : (b : Bool) → one_if b ≤ 1
+few_one : (b : Bool) → bit b ≤ 1
 few_one true = omega arith
 few_one false = omega arith
 
@@ -148,13 +146,13 @@ free_of older (Inverse xid k) fact = fact.1
 free_of older (BarrierPassed xid got) fact = fact.1
 free_of older (Stuck xid halt steps) fact = fact.1
 
-failed_by : (p : Part) (older : List Part) → one_if (is_stuck (p ∷ older)) ≡ failures_in p
+failed_by : (p : Part) (older : List Part) → bit (is_stuck (p ∷ older)) ≡ failures_in p
 failed_by (Inverse xid k) older = refl
 failed_by (BarrierPassed xid got) older = refl
 failed_by (Stuck xid halt steps) older = refl
 
 -- of one link: it was fine before, where the part is of its switch
-link_more : (d : ℕ) (p : ℕ × Part) (older : List (ℕ × Part)) → FactOf (parts_of p.0 older) p.1 → one_if (is_stuck (parts_of d older)) ≤ one_if (is_stuck (parts_of d (p ∷ older)))
+link_more : (d : ℕ) (p : ℕ × Part) (older : List (ℕ × Part)) → FactOf (parts_of p.0 older) p.1 → bit (is_stuck (parts_of d older)) ≤ bit (is_stuck (parts_of d (p ∷ older)))
 link_more d p older fact = elim (cases_eq p.0 d) [
   | inl same ↦
       (let free : is_stuck (parts_of d older) ≡ false = subst (λ (n : ℕ). is_stuck (parts_of n older) ≡ false) same (free_of (parts_of p.0 older) p.1 fact) in
@@ -162,7 +160,7 @@ link_more d p older fact = elim (cases_eq p.0 d) [
   | inr other ↦ rw (stuck_there d p older (ne_eqb p.0 d other)) (omega arith)
 ]
 
-link_here : (d : ℕ) (p : ℕ × Part) (older : List (ℕ × Part)) → FactOf (parts_of p.0 older) p.1 → p.0 ≡ d → one_if (is_stuck (parts_of d older)) + failures_in p.1 ≤ one_if (is_stuck (parts_of d (p ∷ older)))
+link_here : (d : ℕ) (p : ℕ × Part) (older : List (ℕ × Part)) → FactOf (parts_of p.0 older) p.1 → p.0 ≡ d → bit (is_stuck (parts_of d older)) + failures_in p.1 ≤ bit (is_stuck (parts_of d (p ∷ older)))
 link_here d p older fact same =
     let free : is_stuck (parts_of d older) ≡ false = subst (λ (n : ℕ). is_stuck (parts_of n older) ≡ false) same (free_of (parts_of p.0 older) p.1 fact) in
     rw (free, stuck_here d p older (eq-eqb p.0 d same), failed_by p.1 (parts_of d older)) (omega arith)
@@ -194,16 +192,13 @@ joined_linked : (d : ℕ) (o : Option Link) → is_some (switch_in o) ≡ true �
 joined_linked d None is = absurd cc
 joined_linked d (Some l) is = refl
 
-some_part : (p : Part) (older : List Part) → p ∷ older ≡ [] → ⊥
-some_part p older is = cc
-
 view_of : (b : Bool) (p : Part) (older : List Part) → (b ≡ false → p ∷ older ≡ []) → b ≡ true
 view_of true p older unknown = refl
-view_of false p older unknown = absurd (some_part p older (unknown refl))
+view_of false p older unknown = absurd (cons_not_none p older (unknown refl))
 
 unknown_older : (d : ℕ) (p : ℕ × Part) (older : List (ℕ × Part)) → parts_of d (p ∷ older) ≡ [] → parts_of d older ≡ []
 unknown_older d p older none = elim (cases_eq p.0 d) [
-  | inl same ↦ absurd (some_part p.1 (parts_of d older) (rw (eq-eqb p.0 d same) at none))
+  | inl same ↦ absurd (cons_not_none p.1 (parts_of d older) (rw (eq-eqb p.0 d same) at none))
   | inr other ↦ rw (ne_eqb p.0 d other) at none
 ]
 

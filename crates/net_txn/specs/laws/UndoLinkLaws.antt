@@ -34,6 +34,7 @@ use Rattle.net_txn.specs.LinkSteps.{is_link_step, AreLinkSteps}
 use Rattle.net_txn.specs.laws.LinkStepLaws.{links_append}
 use Rattle.net_txn.specs.laws.AgreeLaws.{both_none}
 use Rattle.net_txn.specs.laws.ReadLaws.{barred_brings}
+use Rattle.lego_model.specs.laws.JournalLaws.{released-nil}
 
 act_link : (d : ℕ) (act : Act) → IsStepOf d (Acted act) → is_link_step (Acted act) ≡ true
 act_link d (Stim x) of = absurd of
@@ -115,20 +116,16 @@ unfolding released journal
 wait_none a [] = refl
 wait_none a (b ∷ bs) = released_two (heard_steps a b) (wait_steps a bs) (got_none a.dpid b (steps_by a.dpid (heard a b) b) (by_none a.dpid (heard a b) b)) (wait_none a bs)
 
-none_at_all : released (journal []) ≡ []
-unfolding released journal
-none_at_all = refl
-
 part_none : (old new : Counts) (d : ℕ) (p : Part) (older : List Part) → IsRun old new d (p ∷ older) → released (journal (part_steps d p)) ≡ []
 part_none old new d (Inverse xid k) older run = sent_none d (inverse_bytes xid k) (ap (packet_read d) (reading_of-inverse xid k run.0))
 part_none old new d (BarrierPassed xid got) older run =
     let a = alone d xid in
     released_two (barrier_sent a ∷ []) (wait_steps a got ++ reply_got a ∷ []) (sent_none d (message_bytes xid BarrierRequest) (ap (packet_read d) (reading_of-message_bytes xid BarrierRequest run.0.is_xid IsMessage-barrier)))
-    (released_two (wait_steps a got) (reply_got a ∷ []) (wait_none a got) (got_none d (message_bytes xid BarrierReply) [] none_at_all))
+    (released_two (wait_steps a got) (reply_got a ∷ []) (wait_none a got) (got_none d (message_bytes xid BarrierReply) [] released-nil))
 part_none old new d (Stuck xid halt steps) older run = run.0.quiet
 
 parts_none : (old new : Counts) (parts : List (ℕ × Part)) → AllRun old new parts → released (journal (steps_of parts)) ≡ []
-parts_none old new [] run = none_at_all
+parts_none old new [] run = released-nil
 parts_none old new (p ∷ older) run = released_two (steps_of older) (part_steps p.0 p.1) (parts_none old new older (runs_older old new p older run)) (part_none old new p.0 p.1 (parts_of p.0 older) (runs_here old new p older run))
 
 pub undo_releases_none : {Own : Type 0} (old new : Seen Own) (parts : List (ℕ × Part)) → new.history ≡ old.history ++ steps_of parts → AllRun old.counts new.counts parts → released_of new ≡ released_of old

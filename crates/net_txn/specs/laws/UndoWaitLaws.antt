@@ -33,14 +33,14 @@ use Rattle.lego_model.specs.UndoFaults.{inverse_bytes, Goes, GoesWithoutStrays, 
 use Rattle.lego_model.specs.OwnIds.{own_ids, AscendWithin}
 use Rattle.net_txn.specs.MessageStore.{KeptWhereFit}
 use Rattle.net_txn.specs.Waits.{Brought, IsRead, KeptMore}
-use Rattle.net_txn.specs.Undos.{halt_by, fault_by, alone, Moves, IsFaultOf, IsHaltOf, GoesOutBy, LosesBy, EndsWait, KeepsUntil, Fails, AwaitsReplies, PassesBarrier}
+use Rattle.net_txn.specs.Undos.{halt_by, fault_by, alone, Moves, IsFaultOf, IsHaltOf, GoesOutBy, LosesBy, EndsWait, KeepsUntil, Fails, AwaitsReplies, PassesBarrier, is_of_link}
 use Rattle.net_txn.specs.Said.{Said, Says, Hears, HearsNoise, CannotSay, CannotHear, LacksMemory, ids_said, IsSaid, Calls, steps_in, said_steps, unsaid, unheard, wait_said, last_said, IsOfLink, IsBreak, AreHeard, frames_said, barrier_of, reply_heard, Replied, Breaks}
 use Rattle.net_txn.specs.laws.WaitLaws.{of_switch, kept_of_more}
 use Rattle.net_txn.specs.laws.LinkPresenceLaws.{steps_stay, losses_by, lost_none_all}
 use Rattle.net_txn.specs.laws.SaidLaws.{all_two, all_behind, all_weaker, is_fine, AreFine, fine_append, fine_none_lost, fine_frames, fine_wait, said_links, Calls-moves, whole_steps, whole_goes}
 use Rattle.net_txn.specs.laws.OwnIdLaws.{FramesAscend, said_ids, unsaid_ids, last_ids, whole_ascend, front_ascend, barrier_id, one_ascends}
 use Rattle.net_txn.specs.laws.TalkLaws.{last_of, unsent_goes}
-use Rattle.net_txn.specs.laws.LostLaws.{packets_said, packets_none, said_released, none_two, wait_none, heard_none, losses_two, IsFailed, failed_out, failed_waits, failed_lost, one_alone, some_by, IsReadSaid, said_brings, frames_read, wait_read, is_link, fine_unsaid, fine_last, barrier_none, front_none}
+use Rattle.net_txn.specs.laws.LostLaws.{packets_said, packets_none, said_released, none_two, wait_none, heard_none, losses_two, IsFailed, failed_out, failed_waits, failed_lost, one_alone, some_by, IsReadSaid, said_brings, frames_read, wait_read, fine_unsaid, fine_last, barrier_none, front_none}
 
 -- what arose later arose in the whole
 IsFaultOf-behind : (d : ℕ) (sent : List (ℕ × Key)) (old mid new : Counts) (steps : List WorldStep) (fault : TxnFault) → NoneFell old mid → IsFaultOf d sent mid new steps fault → IsFaultOf d sent old new steps fault
@@ -95,7 +95,7 @@ none_by : (said : List Said) → AreFine said → losses (journal (said_steps tr
 none_by said fine = losses_by (said_steps true said) (said_links true said) ∙ lost_none_all (said_steps true said) (fine_none_lost true said fine)
 
 -- a switch that did not lose its link stays in
-stays_by : (d : ℕ) (t : Trouble) (buf : List ℕ) (said : List Said) → is_link t ≡ false → AreFine said → LosesBy d (halt_by d t buf) (said_steps true said)
+stays_by : (d : ℕ) (t : Trouble) (buf : List ℕ) (said : List Said) → is_of_link t ≡ false → AreFine said → LosesBy d (halt_by d t buf) (said_steps true said)
 stays_by d troubles.Link buf said none fine = absurd cc
 stays_by d (troubles.Broke n) buf said none fine = none_by said fine
 stays_by d (troubles.Refused k x n) buf said none fine = none_by said fine
@@ -314,7 +314,7 @@ waited_out : (a : Awaited) (got : List (List ℕ)) (more : List Said) (last : Sa
 waited_out a got more last fine failed =
     subst (λ (s : List Said). GoesOutBy a.dpid (said_steps true s)) (last_apart a got more last) (out_by a.dpid (frames_said a.dpid (barrier_of a ∷ []) ++ (wait_said a got ++ more)) last (fine_waited a got more fine) failed)
 
-waited_stays : (a : Awaited) (got : List (List ℕ)) (by : Option (List ℕ)) (t : Trouble) (buf : List ℕ) → is_link t ≡ false → LosesBy a.dpid (halt_by a.dpid t buf) (said_steps true (waited_said a got by t buf))
+waited_stays : (a : Awaited) (got : List (List ℕ)) (by : Option (List ℕ)) (t : Trouble) (buf : List ℕ) → is_of_link t ≡ false → LosesBy a.dpid (halt_by a.dpid t buf) (said_steps true (waited_said a got by t buf))
 waited_stays a got by t buf none = stays_by a.dpid t buf (waited_said a got by t buf) none (fine_waited a got (last_said a.dpid by t buf) (fine_last a.dpid by t buf none))
 
 unreplied_loses : (a : Awaited) (got : List (List ℕ)) (by : Option (List ℕ)) (t : Trouble) (buf : List ℕ) → LosesBy a.dpid (halt_by a.dpid t buf) (said_steps true (waited_said a got by t buf))

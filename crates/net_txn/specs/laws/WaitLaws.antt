@@ -55,7 +55,7 @@ refusal_more : (a : Awaited) (got : List (List ℕ)) (b : List ℕ) → first_re
 refusal_more a [] b = first_of_none (refusal_in (heard a b))
 refusal_more a (x ∷ xs) b = ap (first_of (refusal_in (heard a x))) (refusal_more a xs b) ∙ sym (first_of_first (refusal_in (heard a x)) (first_refusal a xs) (refusal_in (heard a b)))
 
-abbrev brought : Option Refusal → List (List ℕ) → Brought
+abbrev pub brought : Option Refusal → List (List ℕ) → Brought
 brought refusal notices = record { refusal = refusal; notices = notices }
 
 pub answer_more : (a : Awaited) (got : List (List ℕ)) (b : List ℕ) → answer_of a (got ++ b ∷ []) ≡ with_heard a.notices (heard a b) b (answer_of a got)

@@ -28,7 +28,7 @@ use Rattle.net_txn.specs.laws.NoticeLaws.{kind_of_header}
 
 -- ---- An ECHO_REPLY (3) moves no switch, and bytes that are no message move none.
 
-abbrev some_switch : SwitchState → Option SwitchState
+abbrev pub some_switch : SwitchState → Option SwitchState
 some_switch x = Some x
 
 -- the front of bytes of that type is an ECHO_REPLY's, or there is a fault

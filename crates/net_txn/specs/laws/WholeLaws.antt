@@ -5,7 +5,7 @@ use Rattle.std.proofs.lemmas.List.Elements.{filter_agree}
 use Rattle.flow_table.specs.View.{TableView}
 use Rattle.lego_model.specs.Packets.{nothing_held}
 use Rattle.net_txn.specs.Ports.{PortLists, ports_lost}
-use Rattle.net_txn.specs.Losing.{is_among}
+use Rattle.of_types.specs.Membership.{is_among}
 use Rattle.of_match.specs.declared.key.Key.{Key}
 use Rattle.outside.specs.Seen.{Counts, Seen}
 use Rattle.outside.specs.laws.StateLaws.{Conforming-before}

@@ -10,7 +10,7 @@ use Rattle.of_action.specs.declared.action.Action.{Action}
 use Rattle.flow_table.specs.declared.entry.Entry.{Entry}
 use Rattle.flow_table.specs.Table.{TableState, AscendsFrom, place_of, entry_at}
 use Rattle.flow_table.specs.Undone.{undone}
-use Rattle.undo_laws.specs.Removal.{is_among}
+use Rattle.undo_laws.specs.Removal.{is_key_among}
 use Rattle.undo_laws.specs.Log.{Inverse, PutBack, Image as Said, Untouched, Absent, Gone, Acted, undo, image_at, merge, image_of}
 use Rattle.undo_laws.specs.laws.LogLaws.{image_of-append}
 use Rattle.undo_laws.specs.Stands.{Stands}
@@ -22,7 +22,8 @@ use Rattle.netlog_inverse.specs.declared.image.Logged.{Logged}
 use Rattle.netlog_inverse.specs.Meaning.{said, first_at}
 use Rattle.netlog_inverse.specs.Restoring.{Says}
 use Rattle.netlog_inverse.specs.laws.RestoringLaws.{Stands-images_sent, images-restore}
-use Rattle.netlog_inverse.specs.Sending.{KeysAscend, ActionsAscend, actions_at, wants_removal, wanted_actions, wanted_entry, AreWanted, wanted, is_inverse_of, messages_of}
+use Rattle.netlog_inverse.specs.Sending.{KeysAscend, actions_at, wants_removal, wanted_actions, wanted_entry, AreWanted, wanted, is_inverse_of, messages_of}
+use Rattle.flow_table.specs.RowKeys.{RowsAscend}
 
 -- ---- What the messages say of a key
 
@@ -65,7 +66,7 @@ image-acted k (a ∷ acted) =
       | inr there ↦ rw there (image-acted k acted)
     ]
 
-image-removed : (k : Key) (ks : List Key) → image_of k (remove_all ks) ≡ absent_if (is_among ks k)
+image-removed : (k : Key) (ks : List Key) → image_of k (remove_all ks) ≡ absent_if (is_key_among ks k)
 unfolding image_of image_at
 image-removed k [] = refl
 image-removed k (l ∷ ks) =
@@ -111,12 +112,12 @@ count-added k (e ∷ es) least up =
       | inr there ↦ rw (ne_eqb (place_of e) (key_number k) there) (count-added k es (place_of e + 1) up.1)
     ]
 
-no-acted : (k : Key) (acted : List (Key × List Action)) (least : ℕ) → ActionsAscend least acted → key_number k < least → messages_of k (map gives acted) ≡ 0
+no-acted : (k : Key) (acted : List (Key × List Action)) (least : ℕ) → RowsAscend least acted → key_number k < least → messages_of k (map gives acted) ≡ 0
 no-acted k [] least up lt = refl
 no-acted k (a ∷ acted) least up lt =
     rw (ne_eqb (key_number a.0) (key_number k) (omega arith)) (no-acted k acted (key_number a.0 + 1) up.1 (omega arith))
 
-count-acted : (k : Key) (acted : List (Key × List Action)) (least : ℕ) → ActionsAscend least acted → messages_of k (map gives acted) ≡ one_if (actions_at k acted)
+count-acted : (k : Key) (acted : List (Key × List Action)) (least : ℕ) → RowsAscend least acted → messages_of k (map gives acted) ≡ one_if (actions_at k acted)
 count-acted k [] least up = refl
 count-acted k (a ∷ acted) least up =
     elim (cases_eq (key_number a.0) (key_number k)) [
@@ -129,7 +130,7 @@ no-removed k [] least up lt = refl
 no-removed k (l ∷ ks) least up lt =
     rw (ne_eqb (key_number l) (key_number k) (omega arith)) (no-removed k ks (key_number l + 1) up.1 (omega arith))
 
-count-removed : (k : Key) (ks : List Key) (least : ℕ) → KeysAscend least ks → messages_of k (remove_all ks) ≡ one_if_true (is_among ks k)
+count-removed : (k : Key) (ks : List Key) (least : ℕ) → KeysAscend least ks → messages_of k (remove_all ks) ≡ one_if_true (is_key_among ks k)
 count-removed k [] least up = refl
 count-removed k (l ∷ ks) least up =
     elim (cases_eq (key_number l) (key_number k)) [

@@ -357,13 +357,13 @@ pub record AreSpelled (actions : List Action) (bytes : List ℕ) : Type 0 where
   pub fit : AreActions actions
   pub spelled_is : Spell actions bytes
 
-abbrev read_as : List Action → Result (List Action) ActionFault
-read_as actions = Ok actions
+abbrev pub the_actions : List Action → Result (List Action) ActionFault
+the_actions actions = Ok actions
 
-same_value : (x y : List Action) → read_as x ≡ read_as y → x ≡ y
+same_value : (x y : List Action) → the_actions x ≡ the_actions y → x ≡ y
 same_value x y e = cc
 
-nothing_spelled : (bytes : List ℕ) (actions : List Action) → length bytes ≡ 0 → read_as [] ≡ read_as actions → AreSpelled actions bytes
+nothing_spelled : (bytes : List ℕ) (actions : List Action) → length bytes ≡ 0 → the_actions [] ≡ the_actions actions → AreSpelled actions bytes
 nothing_spelled bytes actions none e =
     let same : [] ≡ actions = same_value [] actions e in
     subst (λ (xs : List Action). AreSpelled xs bytes) same (record { fit = tt; spelled_is = nil_from_length bytes none })

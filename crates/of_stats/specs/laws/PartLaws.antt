@@ -69,11 +69,11 @@ one_split kind rows (part ∷ next ∷ parts) (other ∷ next' ∷ others) are a
 -- ---- what was split is whole, and gives the rows
 
 -- the part at a place of a reply that was split
-record IsSplitAt (kind place : ℕ) (parts : List Part) : Type 0 where
-  kind_is : (part_at place parts).0 ≡ kind
-  more_is : ((part_at place parts).1 % 2 ≡ 1) ↔ (place + 1 < length parts)
+pub record IsPartAt (kind place : ℕ) (parts : List Part) : Type 0 where
+  pub kind_is : (part_at place parts).0 ≡ kind
+  pub more_is : ((part_at place parts).1 % 2 ≡ 1) ↔ (place + 1 < length parts)
 
-split_at : (kind : ℕ) (rows : List (List ℕ)) (parts : List Part) → AreParts kind rows parts → (place : ℕ) → place < length parts → IsSplitAt kind place parts
+split_at : (kind : ℕ) (rows : List (List ℕ)) (parts : List Part) → AreParts kind rows parts → (place : ℕ) → place < length parts → IsPartAt kind place parts
 split_at kind rows [] are place lt = absurd are
 split_at kind rows (part ∷ []) are zero lt =
     let flags : part.1 ≡ 0 = ap (λ (p : Part). p.1) are.0 in

@@ -1,5 +1,5 @@
 -- Laws of reading rows: what a length that was read fits, and that more steps change nothing.
-use Rattle.std.proofs.Common.{◌≡◌, ℕ, zero, suc, ◌+◌, ◌≤◌, Bool, true, false, cond, ltb, ◌||◌, List, length, take, drop, Option, Some, None, Result, Ok, Err, refl, ap, subst, arith}
+use Rattle.std.proofs.Common.{◌≡◌, ℕ, zero, suc, ◌+◌, ◌≤◌, cond, ltb, ◌||◌, List, length, take, drop, Option, Some, None, Result, Ok, Err, refl, ap, subst, arith}
 use Rattle.std.proofs.lemmas.Bool.{ltb-false, or_parts}
 use Rattle.std.proofs.lemmas.List.{length-drop}
 use Rattle.of_types.specs.Fields.{number_at}
@@ -10,16 +10,13 @@ use Rattle.of_action.specs.declared.fault.ActionFault.{ActionFault}
 use Rattle.of_stats.specs.declared.flow_row.FlowRow.{FlowRow}
 use Rattle.of_stats.specs.declared.fault.StatsFault.{StatsFault}
 use Rattle.of_stats.specs.Reading.{row_length_at, row_with, if_actions, row_of, at_place, row_at, rows_from}
+use Rattle.of_types.specs.laws.ChoiceLaws.{guard_some}
 
 -- what is known of a length that was read
 pub record IsRowLength (len : ℕ) (bytes : List ℕ) : Type 0 where
   pub said : number_at 2 0 bytes ≡ len
   pub least : 88 ≤ len
   pub within : len ≤ length bytes
-
-guard_some : {A : Type 0} (b : Bool) (o : Option A) (x : A) → cond b None o ≡ Some x → (b ≡ false) × (o ≡ Some x)
-guard_some true o x e = absurd cc
-guard_some false o x e = (refl, e)
 
 some_is : (x y : ℕ) → Some x ≡ Some y → x ≡ y
 some_is x y e = cc

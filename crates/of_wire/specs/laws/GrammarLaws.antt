@@ -13,7 +13,7 @@ use Rattle.of_action.specs.declared.fault.ActionFault.{ActionFault}
 use Rattle.of_action.specs.Spelling.{list_size, Spell}
 use Rattle.of_action.specs.Reading.{actions_of}
 use Rattle.of_action.specs.laws.ReadingLaws.{bind_ok, guard_ok}
-use Rattle.of_action.specs.laws.ActionLaws.{AreSpelled-actions_of, length-Spell}
+use Rattle.of_action.specs.laws.ActionLaws.{AreSpelled-actions_of, length-Spell, the_actions}
 use Rattle.of_wire.specs.declared.kind.MessageKind.{MessageKind}
 use Rattle.of_wire.specs.declared.kind.MessageKind.TheVariants as kinds
 use Rattle.of_wire.specs.declared.fault.WireFault.{WireFault}
@@ -107,9 +107,6 @@ the_message message = Ok message
 
 same_message : (x y : Message) → the_message x ≡ the_message y → x ≡ y
 same_message x y e = cc
-
-abbrev the_actions : List Action → Result (List Action) ActionFault
-the_actions actions = Ok actions
 
 abbrev of_wire_actions : List Action → Result (List Action) WireFault
 of_wire_actions actions = Ok actions

@@ -80,7 +80,7 @@ Receives-out {d = d} {old = old} {new = new} told call out =
     state-append old new (unreceived d (is_joined d (state old)) ∷ []) call.given (call.told told).history ∙ ap (λ (b : Bool). after_step (unreceived d b) (state old)) out
 
 -- Either way the switch is out afterwards.
-abbrev joins_in : Option SwitchState → Bool
+abbrev pub joins_in : Option SwitchState → Bool
 joins_in o = is_some o
 
 unsent_out : (d : ℕ) (s : State) (joined : Bool) → is_joined d s ≡ joined → is_joined d (after_step (unsent d joined) s) ≡ false

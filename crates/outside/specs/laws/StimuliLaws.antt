@@ -23,21 +23,21 @@ unfolding stimuli
 stimuli-append first next = filter_map-append stimulus_in first next
 
 -- the stimuli of steps
-abbrev begun_in : List WorldStep → List WorldStim
-begun_in steps = stimuli (journal steps)
+abbrev pub told_in : List WorldStep → List WorldStim
+told_in steps = stimuli (journal steps)
 
-begun_none : begun_in [] ≡ []
+pub told_none : told_in [] ≡ []
 unfolding stimuli journal
-begun_none = refl
+told_none = refl
 
-begun_more : (step : WorldStep) (steps : List WorldStep) → begun_in (step ∷ steps) ≡ begun_in (step ∷ []) ++ begun_in steps
-begun_more step steps = ap stimuli (journal-append (step ∷ []) steps) ∙ stimuli-append (journal (step ∷ [])) (journal steps)
+pub told_more : (step : WorldStep) (steps : List WorldStep) → told_in (step ∷ steps) ≡ told_in (step ∷ []) ++ told_in steps
+told_more step steps = ap stimuli (journal-append (step ∷ []) steps) ∙ stimuli-append (journal (step ∷ [])) (journal steps)
 
 -- ---- One step
 
 -- the stimulus that a step begins, with those to come behind it, was to come
 abbrev TakesNext : WorldStep → State → Type 0
-TakesNext step s = begun_in (step ∷ []) ++ (after_step step s).to_come ≡ s.to_come
+TakesNext step s = told_in (step ∷ []) ++ (after_step step s).to_come ≡ s.to_come
 
 first_to_come : (xs : List WorldStim) (x : WorldStim) → slice_get xs 0 ≡ Some x → x ∷ drop 1 xs ≡ xs
 first_to_come [] x is = absurd cc
@@ -75,13 +75,13 @@ step_next declared (RecvFailed d) s may = refl
 
 -- ---- A history
 
-steps_next : (declared : List Declared) (steps : List WorldStep) (s : State) → MayComeAll declared steps s → begun_in steps ++ (after_steps steps s).to_come ≡ s.to_come
-steps_next declared [] s may = ap (λ (xs : List WorldStim). xs ++ s.to_come) begun_none
+steps_next : (declared : List Declared) (steps : List WorldStep) (s : State) → MayComeAll declared steps s → told_in steps ++ (after_steps steps s).to_come ≡ s.to_come
+steps_next declared [] s may = ap (λ (xs : List WorldStim). xs ++ s.to_come) told_none
 steps_next declared (step ∷ steps) s may =
     let t = after_step step s in
-    ap (λ (xs : List WorldStim). xs ++ (after_steps steps t).to_come) (begun_more step steps)
-    ∙ append_assoc (begun_in (step ∷ [])) (begun_in steps) (after_steps steps t).to_come
-    ∙ ap (λ (xs : List WorldStim). begun_in (step ∷ []) ++ xs) (steps_next declared steps t may.1)
+    ap (λ (xs : List WorldStim). xs ++ (after_steps steps t).to_come) (told_more step steps)
+    ∙ append_assoc (told_in (step ∷ [])) (told_in steps) (after_steps steps t).to_come
+    ∙ ap (λ (xs : List WorldStim). told_in (step ∷ []) ++ xs) (steps_next declared steps t may.1)
     ∙ step_next declared step s may.0
 
 -- the stimuli that were begun, and then those still to come, are all that were given

@@ -29,6 +29,7 @@ use Rattle.switch_laws.specs.laws.ShownUndoLaws.{undo-ready, no-rows}
 use Rattle.batch_laws.specs.Calm.{Calm}
 use Rattle.run_laws.specs.LinkSteps.{Rests}
 use Rattle.switch_laws.specs.laws.LinkLaws.{links_switch, links_waits}
+use Rattle.net_txn.specs.Leaving.{none_left}
 
 -- ---- Where the switches stay
 
@@ -126,10 +127,6 @@ turn_stays start lost first now net0 net goes rests calm =
       begun = rests.begun ∙ calm.none_begun;
       due = rests.due ∙ calm.none_due;
     }
-
--- nothing is left of those that were told
-abbrev pub none_left : NetState → NetState
-none_left net = record net { left = [] }
 
 -- Behind the release of its packets all is calm.
 pub calm_released : {Own : Type 0} (start : ℕ) (held : HeldBack) (sent : List Held) (first old new : Seen Own) (net now_net : NetState) (queue now_queue : List Event) → TurnStays first old net

@@ -9,7 +9,7 @@ use Rattle.of_types.specs.declared.journal.Act.{Act}
 use Rattle.of_types.specs.declared.journal.Act.TheVariants.{Started, Gave, Gone}
 use Rattle.of_types.specs.declared.journal.WorldStim.{WorldStim}
 use Rattle.app_frames.specs.declared.frame.Answer.{Answer}
-use Rattle.lego_model.specs.Journal.{is_of, inputs, stimuli}
+use Rattle.lego_model.specs.Journal.{is_of, inputs, stimuli, give_act}
 use Rattle.lego_model.specs.laws.JournalLaws.{inputs-append, stimuli-append}
 use Rattle.lego_model.specs.Controller.{answer_frame, restore_frame}
 use Rattle.outside.specs.Seen.{Seen, Continues, journal}
@@ -17,7 +17,7 @@ use Rattle.outside.specs.laws.SeenLaws.{journal-append, Continues-refl, Continue
 use Rattle.outside.specs.State.{State, state, event_number, marks_at_event, is_running, after_step, after_steps}
 use Rattle.outside.specs.laws.StateLaws.{state-append}
 use Rattle.net_txn.specs.Net.{NetState}
-use Rattle.app_visor.specs.Talks.{step_of, Told, give_act}
+use Rattle.app_visor.specs.Talks.{step_of, Told}
 use Rattle.app_visor.specs.Beats.{Beat, Talk, Asks, Chain, acts_in}
 use Rattle.app_visor.specs.Attempts.{IsTry, OneTry, AreTries}
 use Rattle.journal_laws.specs.Readings.{end_acts}

@@ -28,7 +28,8 @@ use Rattle.of_wire.specs.Reading.{reading_of}
 use Rattle.lego_model.specs.BarrierWaits.{next_xid}
 use Rattle.net_txn.specs.Net.{NetState}
 use Rattle.net_txn.specs.Arriving.{event_of}
-use Rattle.net_txn.specs.Releases.{Knows, or_none, takes_read, takes_all, ReleasesOne, ReleasesAll, committed}
+use Rattle.net_txn.specs.Releases.{Knows, takes_read, takes_all, ReleasesOne, ReleasesAll, committed}
+use Rattle.lego_model.specs.Events.{event_list}
 use Rattle.app_visor.specs.declared.state.TurnEnd.{TurnEnd}
 use Rattle.app_visor.specs.Turns.{handed}
 use Rattle.app_visor.specs.declared.state.TurnEnd.TheVariants as ends
@@ -245,7 +246,7 @@ rests-take n old apps each = each-first (IsAtRest old) 0 (take n apps) (drop n a
 
 -- what comes joins the events that wait
 takes_read-joins : (d : ℕ) (read : Result Envelope WireFault) (k : Knows) → Joins k.1 (takes_read d read k).1
-takes_read-joins d (Ok e) k = (or_none (event_of d k.0.views e.message), refl)
+takes_read-joins d (Ok e) k = (event_list (event_of d k.0.views e.message), refl)
 takes_read-joins d (Err fault) k = ([], sym (append-nil k.1))
 
 joins-then : (xs ys zs : List Event) → Joins xs ys → Joins ys zs → Joins xs zs

@@ -18,6 +18,7 @@ use Rattle.of_wire.specs.Reading.{has_length, if_sized, front_of, body_of, packe
 use Rattle.net_txn.specs.Arriving.{arrival_steps}
 use Rattle.lego_model.specs.Echoes.{IsEcho, IsEchoRead}
 use Rattle.batch_laws.specs.Items.{answers}
+use Rattle.switch_laws.specs.laws.OrderlyLaws.{enveloped_as}
 
 -- ---- The type
 
@@ -76,9 +77,6 @@ front_other bytes not =
     ]
 
 -- ---- The message
-
-abbrev enveloped_as : ℕ → Result Message WireFault → Result Envelope WireFault
-enveloped_as xid r = r >>= λ m. Ok (record { xid = xid; message = m })
 
 change_other : (xid : ℕ) (r : Result (List Action) WireFault) (f : List Action → Change) → IsEchoRead (enveloped_as xid (r >>= λ actions. Ok (messages.FlowMod (f actions)))) → ⊥
 change_other xid (Ok actions) f is = is

@@ -28,7 +28,7 @@ use Rattle.lego_model.specs.AtOnce.{AtOnce}
 use Rattle.run_laws.specs.Engine.{Application, Engine, EachFrom, Stands, apps_from, rules_of}
 use Rattle.lego_model.specs.Application.{names}
 use Rattle.run_laws.specs.laws.PointLaws.{marks_more, mark_alike}
-use Rattle.net_txn.specs.Losing.{is_among}
+use Rattle.of_types.specs.Membership.{is_among}
 use Rattle.run_laws.specs.LastReport.{last_text, last_lines, switch_left}
 use Rattle.run_laws.specs.laws.LastReportLaws.{report-ends, last-shown}
 use Rattle.lego_model.specs.ReferenceRun.{Said, AreGiven, RunsAlike, told_of, fresh_from, reference_said, AreSaid}

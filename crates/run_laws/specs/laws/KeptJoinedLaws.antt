@@ -20,7 +20,8 @@ use Rattle.net_txn.specs.laws.SaidLaws.{all_front, all_two, all_behind, all_weak
 use Rattle.lego_model.specs.KeptMessages.{got_in}
 use Rattle.lego_model.specs.ViewRows.{rows_without}
 use Rattle.run_course.specs.Tables.{Tables, is_in, with_table, rows_with}
-use Rattle.run_course.specs.Messages.{is_refused, tables_left, tables_read, tables_behind, is_one_of, but_of, AreStored}
+use Rattle.run_course.specs.Messages.{is_refused, tables_left, tables_read, tables_behind, but_of, AreStored}
+use Rattle.of_types.specs.Membership.{is_among}
 use Rattle.run_course.specs.Moves.{Holding, OfJoined, HoldsStill, Notes, tables_by, Changes, Releases, Loses, TakesBack, Takes, Joins, Leaves, Go, OneByOne, ItemMove, EndMove}
 use Rattle.run_course.specs.Turns.{TalkMove, Talk, HaveTurns}
 use Rattle.run_course.specs.Parts.{Standing, KeptComeFirst, Part, Goes}
@@ -167,14 +168,14 @@ joins_keep from to joins all =
 -- ---- An undo
 
 -- one that is not lost is joined still
-stays_joined : {Own : Type 0} (from to : Holding Own) (takes : TakesBack from to) (d : ℕ) → is_one_of takes.lost d ≡ false → is_in d from.tables ≡ true → is_in d to.tables ≡ true
+stays_joined : {Own : Type 0} (from to : Holding Own) (takes : TakesBack from to) (d : ℕ) → is_among d takes.lost ≡ false → is_in d from.tables ≡ true → is_in d to.tables ≡ true
 stays_joined from to takes d stays is =
     same_in (λ e. option_map (rows_without (takes.keys e)) (from.tables e)) to.tables d (takes.tables d stays) ∙ (mapped_in (rows_without (takes.keys d)) (from.tables d) ∙ is)
 
-stay_of : (a b : ℕ → Bool) (lost : List ℕ) (ms : List (ℕ × List ℕ)) → ((d : ℕ) → is_one_of lost d ≡ false → a d ≡ true → b d ≡ true) → Of a ms → Of b (but_of lost ms)
+stay_of : (a b : ℕ → Bool) (lost : List ℕ) (ms : List (ℕ × List ℕ)) → ((d : ℕ) → is_among d lost ≡ false → a d ≡ true → b d ≡ true) → Of a ms → Of b (but_of lost ms)
 stay_of a b lost [] stays all = tt
 stay_of a b lost (m ∷ ms) stays all =
-    left_out a b m (but_of lost ms) (not (is_one_of lost m.0)) (λ is. stays m.0 (not-true (is_one_of lost m.0) is) all.0) (stay_of a b lost ms stays all.1)
+    left_out a b m (but_of lost ms) (not (is_among m.0 lost)) (λ is. stays m.0 (not-true (is_among m.0 lost) is) all.0) (stay_of a b lost ms stays all.1)
 
 stored_of : (a : ℕ → Bool) (came stored now_stored : List (ℕ × List ℕ)) → Of a came → Of a stored → AreStored came stored now_stored → Of a now_stored
 stored_of a [] stored now_stored of_came all are = subst (Of a) (sym are) all

@@ -48,7 +48,7 @@ use Rattle.net_txn.specs.Waits.{Waits, Brought}
 use Rattle.lego_model.specs.BarrierWaits.{heard, steps_by, wait_steps, barrier_sent, reply_got}
 use Rattle.net_txn.specs.Net.{NetState}
 use Rattle.net_txn.specs.LinkSteps.{OnLinks, AsksWithoutStrays}
-use Rattle.net_txn.specs.Losing.{is_among}
+use Rattle.of_types.specs.Membership.{is_among}
 use Rattle.net_txn.specs.Asks.{GivesRows, AsksLost}
 use Rattle.lego_model.specs.FlowQueries.{asked_from, request_sent}
 use Rattle.lego_model.specs.OrderlySteps.{IsOrderly}

@@ -1,15 +1,13 @@
 -- Laws of the lines of a run: the text of the reference controller's lines is what the engine prints.
 use Rattle.std.proofs.Common.{◌≡◌, ℕ, Bool, true, false, List, [], ◌∷◌, ◌++◌, length, map, Option, refl, sym, ap, ◌∙◌, subst, append_assoc}
 use Rattle.std.proofs.lemmas.List.{append-nil}
-use Rattle.std.proofs.lemmas.List.Concat.{flat_map-append}
 use Rattle.std.specs.List.{flat_map}
-use Rattle.app_frames.specs.declared.frame.Event.{Event}
 use Rattle.app_frames.specs.declared.cause.Tried.{Tried}
 use Rattle.lego_model.specs.declared.turn.TurnWord.TheVariants as words
 use Rattle.lego_model.specs.Turns.{Outcome, Completed, Failed}
 use Rattle.lego_model.specs.Packets.{Held}
-use Rattle.lego_model.specs.Controller.{Line, Started, Dispatched, gone_line, out_lines}
-use Rattle.lego_model.specs.RunReport.{event_line, out_line, start_line, gone_line as gone_line_of, outcome_word, name_of, line_text}
+use Rattle.lego_model.specs.Controller.{Started, gone_line, out_lines}
+use Rattle.lego_model.specs.RunReport.{out_line, start_line, gone_line as gone_line_of, outcome_word, name_of}
 use Rattle.app_visor.specs.declared.state.TurnEnd.{TurnEnd}
 use Rattle.app_visor.specs.declared.state.TurnEnd.TheVariants as ends
 use Rattle.app_visor.specs.Turns.{IsEnd}
@@ -46,11 +44,3 @@ word_is (ends.Failed why) unread (Failed cause) is = ap (λ c. words.Failed c) i
 pub outs_is : (names : List (List ℕ)) (packets : List Held) → out_text (map (λ h. (h.0, length h.1.payload)) packets) ≡ lines_text names (out_lines packets)
 outs_is names [] = refl
 outs_is names (h ∷ packets) = ap (λ (text : List ℕ). out_line h.0 (length h.1.payload) ++ text) (outs_is names packets)
-
--- an event's line, and the lines behind it
-pub event_lines : (names : List (List ℕ)) (lines more : List Line) (number : ℕ) (event : Event) → lines_text names ((lines ++ Dispatched number event ∷ []) ++ more) ≡ lines_text names lines ++ (event_line number event.kind event.dpid ++ lines_text names more)
-event_lines names lines more number event =
-    let here = event_line number event.kind event.dpid in
-    flat_map-append (line_text names) (lines ++ Dispatched number event ∷ []) more
-    ∙ ap (λ (text : List ℕ). text ++ lines_text names more) (flat_map-append (line_text names) lines (Dispatched number event ∷ []) ∙ ap (λ (text : List ℕ). lines_text names lines ++ text) (append-nil here))
-    ∙ append_assoc (lines_text names lines) here (lines_text names more)

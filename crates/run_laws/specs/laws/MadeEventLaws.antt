@@ -17,13 +17,15 @@ use Rattle.app_frames.specs.declared.frame.EventKind.TheVariants as kinds
 use Rattle.outside.specs.declared.step.WorldStep.TheVariants.{From}
 use Rattle.net_txn.specs.Net.{NetState}
 use Rattle.net_txn.specs.Views.{rows_at}
-use Rattle.net_txn.specs.Arriving.{key_removed, without_key, is_asked, is_told, event_from, event_of, net_after}
-use Rattle.net_txn.specs.Releases.{Knows, or_none, takes_read, takes_all}
+use Rattle.net_txn.specs.Arriving.{without_key, is_asked, is_told, event_from, event_of, net_after}
+use Rattle.flow_table.specs.RowKeys.{key_removed}
+use Rattle.net_txn.specs.Releases.{Knows, takes_read, takes_all}
+use Rattle.lego_model.specs.Events.{event_list}
 use Rattle.net_txn.specs.laws.SaidLaws.{all_weaker}
 use Rattle.batch_laws.specs.Knowledge.{Knowledge, is_known, with_event, views_by, told_read, handled, handled_all}
 use Rattle.batch_laws.specs.laws.KnownPortsLaws.{views_stay}
 use Rattle.run_course.specs.Tables.{Tables, asks}
-use Rattle.run_course.specs.Messages.{event_list, events_made, events_read, tables_left, tables_read, all_events, tables_behind}
+use Rattle.run_course.specs.Messages.{events_made, events_read, tables_left, tables_read, all_events, tables_behind}
 use Rattle.run_laws.specs.Course.{as_told}
 use Rattle.run_laws.specs.laws.TableHoldingLaws.{tables_of, table_changed, same_events, same_behind}
 
@@ -113,7 +115,7 @@ after_is d e (messages.Error kind code payload) net = refl
 
 -- ---- Messages that came as a packet was released
 
-list_or_none : (o : Option Event) → or_none o ≡ event_list o
+list_or_none : (o : Option Event) → event_list o ≡ event_list o
 list_or_none None = refl
 list_or_none (Some event) = refl
 

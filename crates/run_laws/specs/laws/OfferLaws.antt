@@ -1,6 +1,6 @@
 -- Laws of an event that is offered to one application after the other: what the engine does is what the reference controller does, whether an
 -- application is given it or passed over, and whether one stops it or not.
-use Rattle.std.proofs.Common.{◌≡◌, ◌==◌, ℕ, zero, suc, ◌+◌, ◌^◌, ◌<◌, ◌≤◌, Bool, true, false, List, [], ◌∷◌, ◌++◌, length, take, drop, map, if◌then◌else◌, Some, refl, sym, ap, ap₂, ◌∙◌, subst, inl, inr, arith, true≢false}
+use Rattle.std.proofs.Common.{◌≡◌, ◌==◌, ℕ, suc, ◌+◌, ◌^◌, ◌<◌, ◌≤◌, Bool, true, false, List, [], ◌∷◌, ◌++◌, length, drop, map, if◌then◌else◌, Some, refl, sym, ap, ap₂, ◌∙◌, subst, inl, inr, arith, true≢false}
 use Rattle.std.proofs.lemmas.Bool.{cases_Bool, eqb-true, eqb-false, eq-eqb, ne_eqb}
 use Rattle.std.proofs.lemmas.List.{append-nil, append_assoc}
 use Rattle.std.proofs.lemmas.List.Concat.{flat_map-append}
@@ -113,11 +113,6 @@ names-behind i name known (a ∷ more) are =
 pub names-from : (apps : List Application) → NamesFrom 0 (names (map (λ a. a.rule) apps)) apps
 names-from [] = tt
 names-from (a ∷ more) = (refl, names-behind 0 a.rule.name (names (map (λ x. x.rule) more)) more (names-from more))
-
-pub names-take : (n i : ℕ) (known : List (List ℕ)) (apps : List Application) → NamesFrom i known apps → NamesFrom i known (take n apps)
-names-take zero i known apps are = tt
-names-take (suc n) i known [] are = tt
-names-take (suc n) i known (a ∷ more) are = (are.0, names-take n (i + 1) known more are.1)
 
 -- ---- What the reference controller does alike
 

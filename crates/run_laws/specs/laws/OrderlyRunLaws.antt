@@ -11,7 +11,7 @@ use Rattle.app_frames.specs.declared.frame.EventKind.{EventKind}
 use Rattle.crash_policy.specs.declared.policy_file.Policy.{Policy}
 use Rattle.crash_policy.specs.declared.policy_file.Policy.TheVariants as policy
 use Rattle.crash_policy.specs.Asking.{rule_at}
-use Rattle.lego_model.specs.Journal.{is_of}
+use Rattle.lego_model.specs.Journal.{is_of, give_act}
 use Rattle.lego_model.specs.Controller.{attempts, event_frame}
 use Rattle.outside.specs.Seen.{Seen, Continues}
 use Rattle.outside.specs.Conforming.{Conforming}
@@ -23,7 +23,7 @@ use Rattle.net_txn.specs.Net.{NetState}
 use Rattle.app_visor.specs.declared.state.TurnEnd.{TurnEnd}
 use Rattle.app_visor.specs.Turns.{handed}
 use Rattle.app_visor.specs.declared.state.TurnEnd.TheVariants as ends
-use Rattle.app_visor.specs.Talks.{step_of, give_act}
+use Rattle.app_visor.specs.Talks.{step_of}
 use Rattle.app_visor.specs.Beats.{Beat, Talk, Asks, Chain}
 use Rattle.app_visor.specs.Attempts.{IsTry, OneTry, AreTries}
 use Rattle.journal_laws.specs.Readings.{end_acts}

@@ -10,7 +10,7 @@ use Rattle.flow_table.specs.View.{TableView}
 use Rattle.flow_table.specs.Switch.{Declared, SwitchState}
 use Rattle.undo_laws.specs.Corrected.{IsCorrection}
 use Rattle.undo_laws.specs.CorrectedSwitch.{corrected_switch, GoesAlong, GoTogether}
-use Rattle.lego_model.specs.Controller.{reference_mark, is_marked, marked}
+use Rattle.lego_model.specs.Controller.{reference_mark, marked}
 use Rattle.lego_model.specs.Agreement.{AgreeTables, AgreeSwitches, AgreeAt, AgreeAll, AgreeMark, AgreeMarks}
 use Rattle.outside.specs.State.{Link, State, Mark, link_of, switch_in, switch_of, mark_of, has_mark, marks_at_event, is_event as is_event_of, is_event, declared_in}
 use Rattle.outside.specs.Conforming.{AreDeclaredFrom}
@@ -30,7 +30,7 @@ event_alike : (n : ℕ) (o : Option ℕ) → is_event n o ≡ is_event_of n o
 event_alike n None = refl
 event_alike n (Some m) = refl
 
-pub marks_alike : (n : ℕ) (ms : List Mark) (qs : List Mark) → AgreeMarks ms qs → is_marked n qs ≡ has_mark n ms
+pub marks_alike : (n : ℕ) (ms : List Mark) (qs : List Mark) → AgreeMarks ms qs → has_mark n qs ≡ has_mark n ms
 marks_alike n [] [] all = refl
 marks_alike n [] (q ∷ qs) all = absurd all
 marks_alike n (m ∷ ms) [] all = absurd all

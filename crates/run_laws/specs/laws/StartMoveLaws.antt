@@ -9,7 +9,6 @@ use Rattle.app_frames.specs.declared.cause.Tried.{Tried}
 use Rattle.crash_policy.specs.declared.policy_file.Policy.{Policy}
 use Rattle.crash_policy.specs.declared.policy_file.Policy.TheVariants as policy
 use Rattle.lego_model.specs.Journal.{Reply, Start, start_of}
-use Rattle.lego_model.specs.Turns.{outcome_of}
 use Rattle.lego_model.specs.Controller.{App, restore_frame, is_ready, attempts, started, after_failure}
 use Rattle.lego_model.specs.Scripted.{IsStartFront, AreStartFronts, is_start_heard}
 use Rattle.lego_model.specs.laws.ScriptedLaws.{start-front}
@@ -28,31 +27,21 @@ use Rattle.run_laws.specs.laws.TellLaws.{tries_tell, tries_lose}
 use Rattle.run_laws.specs.laws.LeaveLaws.{end-leaves, end-keeps}
 use Rattle.run_laws.specs.laws.LineLaws.{starts_lines}
 use Rattle.run_laws.specs.EventMoves.{StartsAlike}
+use Rattle.app_visor.specs.laws.TryLaws.{first_tried, by_first, started_first}
 
 -- ---- The same starts, or fronts of those that are said
 
 restored-same : (kept : List ℕ) (told said : Start) → IsStartFront told said → restored kept said ≡ restored kept told
 restored-same kept told said front = ap₂ (λ (stands back : Bool). if stands && back then restore_frame kept ∷ [] else []) front.stands front.restored
 
--- what the first attempt leaves, where this was said of it
-abbrev tried_first : App → Start → List Start → List ℕ → App
-tried_first a s more rest = record a { alive = true; rest = rest; inputs = a.inputs ++ restored a.kept s; starts = more }
-
-abbrev by_tried : ℕ → Tried → App → App × List Tried
-by_tried n tried next = if is_ready tried then (next, tried ∷ []) else ((started n next).0, tried ∷ (started n next).1)
-
-started-first : (n : ℕ) (a : App) (s : Start) (more : List Start) (tried : Tried) (rest : List ℕ) → a.starts ≡ s ∷ more → outcome_of s ≡ (tried, rest) → started (suc n) a ≡ by_tried n tried (tried_first a s more rest)
-unfolding started
-started-first n a s more tried rest has is = rw (has, is) refl
-
 -- it is ready then
 ready_is : {Own : Type 0} (n : ℕ) (t : OneTry Own) (ts : List (OneTry Own)) (s : Start) (said : List Start) (a : App) → IsStartFront (start_of t.attempt) s → is_ready t.tried ≡ true → ts ≡ []
-    → by_tried n t.tried (tried_first a s said t.rest) ≡ restarted (t ∷ ts) (drop (length (starts_of ts)) said) a
+    → by_first n a t.tried (first_tried a s said t.rest) ≡ restarted (t ∷ ts) (drop (length (starts_of ts)) said) a
 ready_is n t ts s said a front ready last = rw (ready, last, append-nil, restored-same a.kept (start_of t.attempt) s front) refl
 
 -- it is tried again
 again_is : {Own : Type 0} (n : ℕ) (t : OneTry Own) (ts : List (OneTry Own)) (s : Start) (said : List Start) (a : App) → IsStartFront (start_of t.attempt) s → is_ready t.tried ≡ false
-    → started n (tried_first a s said t.rest) ≡ restarted ts (drop (length (starts_of ts)) said) (tried_first a s said t.rest) → by_tried n t.tried (tried_first a s said t.rest) ≡ restarted (t ∷ ts) (drop (length (starts_of ts)) said) a
+    → started n (first_tried a s said t.rest) ≡ restarted ts (drop (length (starts_of ts)) said) (first_tried a s said t.rest) → by_first n a t.tried (first_tried a s said t.rest) ≡ restarted (t ∷ ts) (drop (length (starts_of ts)) said) a
 again_is n t ts s said a front unready then_is = rw (unready, then_is, append_assoc, restored-same a.kept (start_of t.attempt) s front) refl
 
 starts_is : {Own : Type 0} (Tells : Type 0) (app : ℕ) (kept : List ℕ) (n : ℕ) (ts : List (OneTry Own)) (old new : Seen Own) → AreTries Tells app kept n ts old new → AllByRecursion (λ t. is_start_heard (start_of t.attempt) ≡ true) ts → (a : App) (said : List Start) → a.starts ≡ said → AreStartFronts (starts_of ts) said
@@ -63,10 +52,10 @@ starts_is Tells app kept zero (t ∷ ts) old new are heard a said has fronts = a
 starts_is Tells app kept (suc n) [] old new are heard a said has fronts = absurd are
 starts_is Tells app kept (suc n) (t ∷ ts) old new are heard a [] has fronts = absurd fronts
 starts_is Tells app kept (suc n) (t ∷ ts) old new are heard a (s ∷ said) has fronts =
-    started-first n a s said t.tried t.rest has (start-front (start_of t.attempt) s heard.0 fronts.0 ∙ are.0.outcome)
+    started_first n a s said t.tried t.rest has (start-front (start_of t.attempt) s heard.0 fronts.0 ∙ are.0.outcome)
     ∙ elim are.1 [
       | inl h ↦ ready_is n t ts s said a fronts.0 h.0 h.1
-      | inr h ↦ again_is n t ts s said a fronts.0 h.0 (starts_is Tells app kept n ts t.after new h.1 heard.1 (tried_first a s said t.rest) said refl fronts.1)
+      | inr h ↦ again_is n t ts s said a fronts.0 h.0 (starts_is Tells app kept n ts t.after new h.1 heard.1 (first_tried a s said t.rest) said refl fronts.1)
     ]
 
 -- an application that was started so

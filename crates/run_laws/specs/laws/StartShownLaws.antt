@@ -162,7 +162,7 @@ module _ {Own : Type 0} (i : ℕ) (a now_a : Application) (more later_apps : Lis
 
 -- ---- The whole
 
-abbrev any_views : List TableView → Bool
+abbrev pub any_views : List TableView → Bool
 any_views views = true
 
 starts-move : {Own : Type 0} (Tells : Type 0) (i : ℕ) (apps : List Application) (text : List ℕ) (old new : Seen Own) (net : NetState) (queue : List Event) (events : ℕ) (now_apps : List Application) → Tells → EachFrom (IsAtRest old) i apps → StartsFrom Tells i apps text old new net queue events now_apps

@@ -1,73 +1,23 @@
 -- The stimuli that a world told are the first of those that it was given, and the others are still to come.
-use Rattle.std.proofs.Common.{◌≡◌, ℕ, ◌<◌, ◌≤◌, false, List, [], ◌∷◌, ◌++◌, length, take, drop, Some, refl, append_assoc, sym, ap, ◌∙◌, arith, inl, inr}
+use Rattle.std.proofs.Common.{◌≡◌, ℕ, ◌<◌, ◌≤◌, false, List, [], ◌∷◌, ◌++◌, length, take, refl, sym, ap, ◌∙◌, arith, inl, inr}
 use Rattle.std.proofs.lemmas.Bool.{cases_eq}
 use Rattle.std.proofs.lemmas.List.{append-nil, length-append, take_at, take_all}
-use Rattle.std.specs.Prelude.{slice_get}
 use Rattle.of_types.specs.declared.journal.Act.TheVariants.{Stim, Started, Gave, Gone, Took, Ended, Sent, Got, Lost}
 use Rattle.of_types.specs.declared.journal.WorldStim.{WorldStim}
-use Rattle.flow_table.specs.Switch.{Declared}
 use Rattle.lego_model.specs.Journal.{stimuli}
 use Rattle.lego_model.specs.laws.JournalLaws.{stimuli-append}
 use Rattle.outside.specs.declared.step.WorldStep.{WorldStep}
 use Rattle.outside.specs.declared.step.WorldStep.TheVariants.{Acted, TookInto, From, Joined, Left, Moment, Idle, End, Opened, NotOpened, NextFailed, SendLost, RecvLost, SendFailed, RecvFailed}
 use Rattle.outside.specs.Seen.{Seen, Longer, Continues, journal}
-use Rattle.outside.specs.State.{State, at_first, after_stim, after_act, after_step, after_steps, state}
+use Rattle.outside.specs.State.{state}
 use Rattle.outside.specs.laws.SeenLaws.{journal-append}
 use Rattle.outside.specs.laws.StateLaws.{Conforming-before}
 use Rattle.outside.specs.Quiescence.{is_quiescent, NoneQuiescent, NoneQuiescentSince}
-use Rattle.outside.specs.Conforming.{MayAct, MayStep, MaySteps, Conforming}
+use Rattle.outside.specs.Conforming.{Conforming}
 use Rattle.lego_model.specs.History.{stimuli_in}
 use Rattle.lego_model.specs.WholeRun.{TookFirst}
-
--- the stimuli of steps
-abbrev pub told_in : List WorldStep → List WorldStim
-told_in steps = stimuli (journal steps)
-
--- what a step tells, with what is to come behind it, was to come
-abbrev IsNextOf : WorldStep → State → Type 0
-IsNextOf step s = told_in (step ∷ []) ++ (after_step step s).to_come ≡ s.to_come
-
-pub first_to_come : (xs : List WorldStim) (x : WorldStim) → slice_get xs 0 ≡ Some x → x ∷ drop 1 xs ≡ xs
-first_to_come [] x is = absurd cc
-first_to_come (y ∷ ys) x is = cc
-
-stim_next : (declared : List Declared) (x : WorldStim) (s : State) → MayStep declared (Acted (Stim x)) s → IsNextOf (Acted (Stim x)) s
-unfolding MayStep MayAct after_step after_act after_stim stimuli journal
-stim_next declared x s may = first_to_come s.to_come x may.to_come
-
-step_next : (declared : List Declared) (step : WorldStep) (s : State) → MayStep declared step s → IsNextOf step s
-unfolding after_step after_act stimuli journal
-step_next declared (Acted (Stim x)) s may = stim_next declared x s may
-step_next declared (Acted (Started app ok)) s may = refl
-step_next declared (Acted (Gave app bytes)) s may = refl
-step_next declared (Acted (Gone app bytes)) s may = refl
-step_next declared (Acted (Took app what)) s may = refl
-step_next declared (Acted (Ended app)) s may = refl
-step_next declared (Acted (Sent d bytes)) s may = refl
-step_next declared (Acted (Got d bytes)) s may = refl
-step_next declared (Acted (Lost d)) s may = refl
-step_next declared (TookInto app what room) s may = refl
-step_next declared (From d bytes) s may = refl
-step_next declared (Joined d bytes) s may = refl
-step_next declared (Left d) s may = refl
-step_next declared (Moment t) s may = refl
-step_next declared Idle s may = refl
-step_next declared End s may = refl
-step_next declared Opened s may = refl
-step_next declared NotOpened s may = refl
-step_next declared NextFailed s may = refl
-step_next declared (SendLost d) s may = refl
-step_next declared (RecvLost d) s may = refl
-step_next declared (SendFailed d) s may = refl
-step_next declared (RecvFailed d) s may = refl
-
--- one step, and those behind it
-pub told_more : (step : WorldStep) (steps : List WorldStep) → told_in (step ∷ steps) ≡ told_in (step ∷ []) ++ told_in steps
-told_more step steps = ap stimuli (journal-append (step ∷ []) steps) ∙ stimuli-append (journal (step ∷ [])) (journal steps)
-
-pub told_none : told_in [] ≡ []
-unfolding stimuli journal
-told_none = refl
+use Rattle.outside.specs.laws.StimuliLaws.{told_in, told_none, told_more, begun-and-to_come}
+use Rattle.batch_laws.specs.laws.KeepingLaws.{Conforming-in_order}
 
 -- steps with no quiescent point among them tell none
 step_tells_none : (step : WorldStep) → is_quiescent step ≡ false → told_in (step ∷ []) ≡ []
@@ -105,19 +55,9 @@ none-happened old new since =
     ap told_in since.history ∙ ap stimuli (journal-append old.history since.steps) ∙ stimuli-append (journal old.history) (journal since.steps)
     ∙ ap (λ (xs : List WorldStim). stimuli_in old ++ xs) (steps_tell_none since.steps since.none) ∙ append-nil (stimuli_in old)
 
-steps_next : (declared : List Declared) (steps : List WorldStep) (s : State) → MaySteps declared steps s → told_in steps ++ (after_steps steps s).to_come ≡ s.to_come
-steps_next declared [] s may = ap (λ (xs : List WorldStim). xs ++ s.to_come) told_none
-steps_next declared (step ∷ steps) s may =
-    let t = after_step step s in
-    ap (λ (xs : List WorldStim). xs ++ (after_steps steps t).to_come) (told_more step steps)
-    ∙ append_assoc (told_in (step ∷ [])) (told_in steps) (after_steps steps t).to_come
-    ∙ ap (λ (xs : List WorldStim). told_in (step ∷ []) ++ xs) (steps_next declared steps t may.1)
-    ∙ step_next declared step s may.0
-
 -- In a world that keeps its word: the stimuli that it told, and then those still to come, are all that it was given.
 pub told-and-to_come : {Own : Type 0} (seen : Seen Own) → Conforming seen → stimuli_in seen ++ (state seen).to_come ≡ seen.given.stimuli
-unfolding state at_first
-told-and-to_come seen keeps = steps_next seen.given.declared seen.history (at_first seen.given) keeps.steps
+told-and-to_come seen keeps = begun-and-to_come seen (Conforming-in_order seen keeps)
 
 -- where none is to come, they are all of them
 pub told-all : {Own : Type 0} (seen : Seen Own) → Conforming seen → (state seen).to_come ≡ [] → stimuli_in seen ≡ seen.given.stimuli

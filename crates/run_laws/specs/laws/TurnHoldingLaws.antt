@@ -15,11 +15,11 @@ use Rattle.crash_policy.specs.declared.policy_file.Policy.TheVariants as policy
 use Rattle.outside.specs.declared.step.WorldStep.{WorldStep}
 use Rattle.outside.specs.declared.step.WorldStep.TheVariants.{Acted}
 use Rattle.outside.specs.Seen.{Seen}
-use Rattle.lego_model.specs.Journal.{is_of, pieces}
+use Rattle.lego_model.specs.Journal.{is_of, pieces, give_act}
 use Rattle.lego_model.specs.Controller.{event_frame, attempts}
 use Rattle.lego_model.specs.Turns.{Outcome, Completed, Failed, Played, next_of}
 use Rattle.net_txn.specs.Net.{NetState}
-use Rattle.app_visor.specs.Talks.{Told, step_of, give_act}
+use Rattle.app_visor.specs.Talks.{Told, step_of}
 use Rattle.app_visor.specs.Beats.{Beat, Talk, Asks, Chain, acts_in, exchanges_in}
 use Rattle.app_visor.specs.Turns.{Asking, IsEnd}
 use Rattle.app_visor.specs.laws.JournalLaws.{chain_told}

@@ -14,7 +14,7 @@ use Rattle.app_frames.specs.declared.cause.Cause.{Cause}
 use Rattle.app_frames.specs.declared.cause.Tried.{Tried}
 use Rattle.crash_policy.specs.Asking.{rule_at}
 use Rattle.lego_model.specs.declared.turn.TurnWord.{TurnWord}
-use Rattle.lego_model.specs.Journal.{Reply, Start, inputs, reply_of}
+use Rattle.lego_model.specs.Journal.{Reply, Start, inputs, reply_of, give_act}
 use Rattle.lego_model.specs.Places.{Place}
 use Rattle.lego_model.specs.Packets.{Held, Play, fresh_play, HeldBack, nothing_held}
 use Rattle.lego_model.specs.Turns.{Outcome, Completed, Failed, turn_of}
@@ -34,7 +34,6 @@ use Rattle.net_txn.specs.Undos.{lost_parts, Undoes}
 use Rattle.net_txn.specs.Releases.{committed, Commits}
 use Rattle.app_visor.specs.declared.state.TurnEnd.{TurnEnd}
 use Rattle.app_visor.specs.declared.state.TurnEnd.TheVariants as ends
-use Rattle.app_visor.specs.Talks.{give_act}
 use Rattle.app_visor.specs.Beats.{Beat, Talk, acts_in}
 use Rattle.app_visor.specs.laws.BeatLaws.{Chain-continues}
 use Rattle.app_visor.specs.Turns.{IsEnd, handed, reply_by, Turns, played_on}

@@ -10,7 +10,7 @@ use Rattle.app_frames.specs.declared.frame.AppFrame.TheVariants.{Ready}
 use Rattle.app_frames.specs.Spelling.{app_bytes}
 use Rattle.lego_model.specs.Journal.{End, Closes, Stalls, Untold, pieces, end_from, any_gone}
 use Rattle.lego_model.specs.Scripted.{cut_from, pieces_of, pieces_said, start_said, IsLookedAt, IsStartFront}
-use Rattle.sim_world.specs.Scripts.{ready_bytes, garbled_bytes, steps_of_start, is_refused, given_of, left_of, taken_bytes}
+use Rattle.sim_world.specs.Scripts.{ready_bytes, steps_of_start, is_refused, given_of, left_of, taken_bytes}
 use Rattle.sim_world.specs.laws.ScriptLaws.{ready_bytes-spelled}
 use Rattle.script_laws.specs.Ahead.{is_end}
 use Rattle.script_laws.specs.Looks.{TakesNothing, LooksAt, Looks}
@@ -73,7 +73,7 @@ ready_front acts looked = subst (λ (bytes : List ℕ). IsLookedAt (pieces acts)
 -- what a start gave is the front of what its line says
 pub start_front : (s : StartScript) (acts : List Act) → is_refused s ≡ false → any_gone acts ≡ false → LooksAt (steps_of_start s) acts
     → IsStartFront (record { stands = true; restored = if any_gone acts then false else true; pieces = pieces acts; end = end_from Untold acts }) (start_said s)
-unfolding start_said steps_of_start pieces_of garbled_bytes
+unfolding start_said steps_of_start pieces_of
 start_front start.Ready acts stands none looked = record { stands = refl; restored = rw none refl; front = ready_front acts looked }
 start_front start.Refused acts stands none looked = absurd cc
 start_front start.Closed acts stands none looked = record { stands = refl; restored = rw none refl; front = looked }

@@ -1,5 +1,5 @@
 -- Laws of steps as records: one step or line more, and each by its number.
-use Rattle.std.specs.Prelude.{◌≡◌, ℕ, ◌+◌, ◌-◌, ◌<◌, List, [], ◌∷◌, ◌++◌, length, take, drop, Some, Result, Ok, Err, OnErr, refl, slice_get}
+use Rattle.std.specs.Prelude.{◌≡◌, ℕ, ◌+◌, ◌-◌, ◌<◌, List, [], ◌∷◌, ◌++◌, length, take, drop, Some, refl, slice_get}
 use Rattle.std.specs.Option.{option_map}
 use Rattle.std.proofs.Common.{zero, suc, sym, ap, ◌∙◌, arith, length-append, append_assoc}
 use Rattle.std.proofs.lemmas.List.{map-append, drop-append-le, take-append-le, drop_at, length-drop, length-map, length-take-le}
@@ -31,7 +31,7 @@ got_dropped zero i xs = same_place xs i (zero + i) (omega arith)
 got_dropped (suc n) i [] = refl
 got_dropped (suc n) i (x ∷ xs) = got_dropped n i xs ∙ same_place (x ∷ xs) (suc (n + i)) (suc n + i) (omega arith)
 
-got_taken : {A : Type 0} (n i : ℕ) (xs : List A) → i < n → slice_get (take n xs) i ≡ slice_get xs i
+pub got_taken : {A : Type 0} (n i : ℕ) (xs : List A) → i < n → slice_get (take n xs) i ≡ slice_get xs i
 got_taken zero i xs less = absurd (omega (arith, less))
 got_taken (suc n) i [] less = refl
 got_taken (suc n) zero (x ∷ xs) less = refl
@@ -90,10 +90,6 @@ pub added_line : (records all more : List (StepKind × List ℕ)) (lines added :
     → added ≡ lines ++ record { app = app; first = first; end = end } ∷ [] → all ≡ records ++ more → first ≡ length records → end ≡ length all → replies_in all added ≡ replies_in records lines ++ (app, steps_in more) ∷ []
 added_line records all more lines added app first end within is_added is begins ends =
     rw (is_added, is) (replies_more records more lines app first end within begins (ends ∙ ap (λ (xs : List (StepKind × List ℕ)). length xs) is))
-
-pub err_holds : {T E P : Type 0} (r : Result T E) → P → OnErr r P
-err_holds (Ok x) p = tt
-err_holds (Err e) p = p
 
 -- ---- One record after the other
 

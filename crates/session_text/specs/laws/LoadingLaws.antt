@@ -117,11 +117,7 @@ stimulus_of (Port port change) may = may
 stimulus_of (Counts priority packets bytes) may = (omega (arith, may.0), omega (arith, may.1), omega (arith, may.2))
 stimulus_of (Raw bytes) may = (may.0.0, may.0.1, may.1)
 
--- the moments that are named are not before one
-abbrev NotBefore : ℕ → ℕ → Type 0
-NotBefore moment later = moment ≤ later
-
-can_come : (ds : List (ℕ × ℕ × List ℕ)) (moment : ℕ) (xs : List WorldStim) → All (IsStimulus ds) xs → AllPairs NotBefore (moments xs) → All (NotBefore moment) (moments xs) → CanCome (declared_with [] ds) moment xs
+can_come : (ds : List (ℕ × ℕ × List ℕ)) (moment : ℕ) (xs : List WorldStim) → All (IsStimulus ds) xs → AllPairs (λ (m n : ℕ). m ≤ n) (moments xs) → All (λ (n : ℕ). moment ≤ n) (moments xs) → CanCome (declared_with [] ds) moment xs
 unfolding IsWorldStim
 can_come ds moment [] are rise after = tt
 can_come ds moment (Join n ∷ xs) are rise after =
@@ -129,7 +125,7 @@ can_come ds moment (Join n ∷ xs) are rise after =
 can_come ds moment (Leave n ∷ xs) are rise after =
     (known_declared n ds (All-head (IsStimulus ds) (Leave n) xs are), can_come ds moment xs (All-tail (IsStimulus ds) (Leave n) xs are) rise after)
 can_come ds moment (At t ∷ xs) are rise after = (
-  (All-head (NotBefore moment) t (moments xs) after, All-head (IsStimulus ds) (At t) xs are),
+  (All-head (λ (n : ℕ). moment ≤ n) t (moments xs) after, All-head (IsStimulus ds) (At t) xs are),
   can_come ds t xs (All-tail (IsStimulus ds) (At t) xs are)
       (λ i j e less within. rise (suc i) (suc j) e (omega arith) (omega arith))
       (λ i e less. rise zero (suc i) e (omega arith) (omega arith)),

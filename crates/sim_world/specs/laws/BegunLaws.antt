@@ -1,6 +1,6 @@
 -- Laws of the stimuli that were begun: they are those that stand before the ones to come.
-use Rattle.std.specs.Prelude.{◌≡◌, ℕ, ◌<◌, ◌≤◌, List, [], ◌∷◌, ◌++◌, length, take, drop, None, refl, slice_get}
-use Rattle.std.proofs.Common.{zero, suc, sym, ap, ◌∙◌, arith}
+use Rattle.std.specs.Prelude.{◌≡◌, ℕ, ◌<◌, ◌≤◌, List, ◌++◌, length, take, drop, None, slice_get}
+use Rattle.std.proofs.Common.{sym, ap, ◌∙◌, arith}
 use Rattle.std.proofs.lemmas.List.{append_cancel_right, take-append-drop, length-take}
 use Rattle.std.proofs.lemmas.Option.{slice_get_past}
 use Rattle.of_types.specs.declared.journal.WorldStim.{WorldStim}
@@ -11,17 +11,12 @@ use Rattle.outside.specs.laws.StimuliLaws.{begun-and-to_come}
 use Rattle.sim_world.specs.World.{WorldData, given_of, seen_of}
 use Rattle.sim_world.specs.Keeping.{Keeps}
 use Rattle.sim_world.specs.laws.StandingLaws.{in_order}
+use Rattle.session_lists.specs.laws.StepLaws.{got_taken}
 
 -- ---- The front of a list
 
 front_is : (n : ℕ) (begun all : List WorldStim) → begun ++ drop n all ≡ all → begun ≡ take n all
 front_is n begun all is = append_cancel_right begun (take n all) (drop n all) (is ∙ sym (take-append-drop n all))
-
-got_taken : {A : Type 0} (n i : ℕ) (xs : List A) → i < n → slice_get (take n xs) i ≡ slice_get xs i
-got_taken zero i xs less = absurd (omega (arith, less))
-got_taken (suc n) i [] less = refl
-got_taken (suc n) zero (x ∷ xs) less = refl
-got_taken (suc n) (suc i) (x ∷ xs) less = got_taken n i xs (omega (arith, less))
 
 -- one of those that were begun is the one of all by its number
 pub begun_at : (n i : ℕ) (begun all : List WorldStim) → begun ++ drop n all ≡ all → i < n → slice_get begun i ≡ slice_get all i

@@ -32,6 +32,7 @@ use Rattle.sim_world.specs.Lives.{ScriptedLives, life_in}
 use Rattle.sim_world.specs.World.{WorldData, all_declared, given_of, seen_of, nexts_through, IsHistory, Stands, CanCome}
 use Rattle.sim_world.specs.Keeping.{Keeps}
 use Rattle.sim_world.specs.Building.{Begins, Gets, nothing_given, insert_declared, with_switch, with_stimulus, with_fail, with_start, with_reply, with_replies, with_stimuli, last_moment_from, last_moment_of, MayBeGiven, AreZero, IsNew}
+use Rattle.of_types.specs.laws.ChoiceLaws.{and_second}
 
 -- ---- One switch more
 
@@ -189,10 +190,6 @@ both_true : (a b : Bool) → a ≡ true → b ≡ true → (a && b) ≡ true
 both_true true b is other = other
 both_true false b is other = absurd (false≢true is)
 
-second_false : (a b : Bool) → b ≡ false → (a && b) ≡ false
-second_false true b is = is
-second_false false b is = refl
-
 -- a call that is none of a link tells no switch
 links-other : (fails : List FailCall) (f : FailCall) (ds : List Declared) → is_link_call f.kind ≡ false → map (link_at_first (fails ++ f ∷ [])) ds ≡ map (link_at_first fails) ds
 links-other fails f [] apart = refl
@@ -206,7 +203,7 @@ links-higher fails f least [] less are = refl
 links-higher fails f least (d ∷ ds) less are =
     let apart : (f.of == d.dpid) ≡ false = ne_eqb f.of d.dpid (λ same. absurd (omega (arith, less, are.0, same))) in
     both_same d (fails_of d.dpid (fails ++ f ∷ [])) (fails_of d.dpid fails) _ _
-    (fails_of-other d.dpid fails f (second_false (is_link_call f.kind) (f.of == d.dpid) apart)) (links-higher fails f (d.dpid + 1) ds (omega (arith, less, are.0)) are.2)
+    (fails_of-other d.dpid fails f (and_second (is_link_call f.kind) (f.of == d.dpid) apart)) (links-higher fails f (d.dpid + 1) ds (omega (arith, less, are.0)) are.2)
 
 -- a call of a link tells its switch
 links-fail : (fails : List FailCall) (f : FailCall) (least : ℕ) (ds : List Declared) → is_link_call f.kind ≡ true → AreDeclaredFrom least ds
@@ -223,7 +220,7 @@ links-fail fails f least (d ∷ ds) link are =
     (λ there.
     let apart : (f.of == d.dpid) ≡ false = ne_eqb f.of d.dpid (λ same. eqb-false d.dpid f.of there (sym same)) in
     both_same d (fails_of d.dpid fails) (fails_of d.dpid (fails ++ f ∷ [])) _ _
-    (sym (fails_of-other d.dpid fails f (second_false (is_link_call f.kind) (f.of == d.dpid) apart)))
+    (sym (fails_of-other d.dpid fails f (and_second (is_link_call f.kind) (f.of == d.dpid) apart)))
     (links-fail fails f (d.dpid + 1) ds link are.2))
 
 -- ---- Counts, with one switch more

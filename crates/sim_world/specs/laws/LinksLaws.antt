@@ -12,10 +12,10 @@ use Rattle.of_types.specs.declared.journal.WorldStim.TheVariants.{Join, Leave, A
 use Rattle.flow_table.specs.Switch.{Declared}
 use Rattle.outside.specs.declared.step.WorldStep.{WorldStep}
 use Rattle.outside.specs.declared.step.WorldStep.TheVariants.{From}
-use Rattle.outside.specs.State.{Link, State, link_of, with_link, links_after, join_due, due_of, stimulus_sends, link_stimulated, is_joined, after_stim, upcoming, link_joined, link_left, switch_of, waits_in, declared_in}
+use Rattle.outside.specs.State.{Link, State, link_of, with_link, links_after, join_due, due_of, stimulus_sends, link_stimulated, is_joined, after_stim, upcoming, link_joined, link_left, switch_of, waits_in, declared_in, waiting_in}
 use Rattle.outside.specs.Seen.{is_declared}
 use Rattle.outside.specs.Conforming.{AreDeclaredFrom}
-use Rattle.sim_world.specs.Links.{Held, links_in, waiting_in, insert_link, AreLinks, HasPlace, HasNoPlace, WaitsFirst, NoneWaits, IsReady, AreReady, insert_held, due_in, IsPlaceOf}
+use Rattle.sim_world.specs.Links.{Held, links_in, insert_link, AreLinks, HasPlace, HasNoPlace, WaitsFirst, NoneWaits, IsReady, AreReady, insert_held, due_in, IsPlaceOf}
 
 -- ---- What holds of each
 

@@ -1,5 +1,5 @@
 -- Laws of a whole call of `next`, one for each way in which it ends.
-use Rattle.std.specs.Prelude.{◌≡◌, ℕ, ◌+◌, ◌-◌, ◌^◌, ◌<◌, ◌≤◌, ◌↔◌, All, Bool, true, false, is_some, List, [], ◌∷◌, length, Option, None, Some, Ok, Err, IfSome, slice_get, refl}
+use Rattle.std.specs.Prelude.{◌≡◌, ℕ, ◌+◌, ◌-◌, ◌^◌, ◌<◌, ◌≤◌, ◌↔◌, All, true, false, is_some, List, [], ◌∷◌, length, Option, None, Some, Ok, Err, IfSome, slice_get, refl}
 use Rattle.std.specs.List.{AllByRecursion}
 use Rattle.std.proofs.Common.{sym, ap, ◌∙◌, subst}
 use Rattle.std.proofs.lemmas.Bool.{false≢true}
@@ -12,18 +12,19 @@ use Rattle.outside.specs.declared.faults.NextFault.TheVariants as coming
 use Rattle.outside.specs.declared.item.Item.{Item}
 use Rattle.outside.specs.declared.item.Item.TheVariants as items
 use Rattle.outside.specs.declared.step.WorldStep.TheVariants.{Acted, NextFailed, End}
-use Rattle.outside.specs.State.{Link, State, but_marks, after_step, after_act, after_stim, upcoming, links_after}
+use Rattle.outside.specs.State.{Link, State, but_marks, after_step, after_act, after_stim, upcoming, links_after, waiting_in}
 use Rattle.outside.specs.Calls.{item_step, next_steps, IsIdle, IsOver}
 use Rattle.outside.specs.Conforming.{IsWorldStim, MayStep, MayAct}
 use Rattle.outside.specs.InOrder.{MayCome}
 use Rattle.outside.specs.laws.CallLaws.{no_idle}
 use Rattle.sim_world.specs.Tally.{tally_short}
-use Rattle.sim_world.specs.Links.{IsDue, StandsAt, waiting_in}
+use Rattle.sim_world.specs.Links.{IsDue, StandsAt}
 use Rattle.sim_world.specs.laws.LinksLaws.{few_upcoming}
 use Rattle.sim_world.specs.World.{WorldData, Moves, IsAsTold, all_declared, next_told, CanCome}
 use Rattle.sim_world.specs.laws.WorldLaws.{Moves_both, Moves_ready, MayComeAll-same, AreAsTold-same, declared_but, declared-stays}
 use Rattle.sim_world.specs.Doing.{Tells, NextStands, DoesNext}
 use Rattle.sim_world.specs.Lives.{life_in}
+use Rattle.sim_world.specs.laws.NextLaws.{is_end}
 
 -- ---- It wants memory, or fails as it is told
 
@@ -71,12 +72,8 @@ Next_told old new item buf untold tells = record {
   due = tt;
 }
 
-abbrev is_the_end : Item → Bool
-is_the_end items.End = true
-is_the_end other = false
-
 end_is_no_idle : items.End ≡ items.Idle → ⊥
-end_is_no_idle is = false≢true (sym (ap is_the_end is))
+end_is_no_idle is = false≢true (sym (ap is_end is))
 
 pub Next_end : (old new : WorldData) (buf : List ℕ) → next_told old.told old.nexts ≡ false → old.state.begun ≡ false → old.state.to_come ≡ [] → Moves old new (End ∷ []) old.tally → DoesNext old new (Ok items.End) buf
 unfolding next_steps item_step after_step MayCome MayStep IsAsTold

@@ -14,13 +14,13 @@ use Rattle.outside.specs.declared.call.FailCall.{FailCall}
 use Rattle.outside.specs.declared.item.Item.{Item}
 use Rattle.outside.specs.declared.item.Item.TheVariants as items
 use Rattle.flow_table.specs.Switch.{Declared}
-use Rattle.outside.specs.State.{State, due_of, after_step, upcoming}
+use Rattle.outside.specs.State.{State, due_of, after_step, upcoming, waiting_in}
 use Rattle.outside.specs.Calls.{item_step, IsIdle, IsOver}
 use Rattle.outside.specs.Conforming.{MayStep}
 use Rattle.outside.specs.InOrder.{MayCome}
 use Rattle.sim_world.specs.Scripts.{Scripts, Life, life_after}
 use Rattle.sim_world.specs.World.{IsAsTold, counted_next, next_told}
-use Rattle.sim_world.specs.Links.{IsDue, due_in, waiting_in}
+use Rattle.sim_world.specs.Links.{IsDue, due_in}
 use Rattle.sim_world.specs.laws.LinksLaws.{due_of-links}
 use Rattle.sim_world.specs.laws.LifeLaws.{slice_get-drop}
 

@@ -114,9 +114,6 @@ not_in : (b : Bool) → ¬ (b ≡ false) → not b ≡ false
 not_in true out = refl
 not_in false out = absurd (out refl)
 
-stays_in : (b : Bool) → b ≡ true → not b ≡ false
-stays_in b is = rw is refl
-
 -- ---- Each call
 
 pub open_places : {T : Type 0} (result : Result T OpenFault) (s : State) (t : TallyState) → (IsTrue s.opened → IsErr result) → AreExpected (open_steps result) s
@@ -142,7 +139,7 @@ pub give_places : {T : Type 0} (app : ℕ) (bytes : List ℕ) (result : Result T
     → FewStrays t (tally_stray (not (is_running app s)) (give_tally result t))
 unfolding give_steps
 give_places app bytes (Ok x) s t out are = unstrayed (not (is_running app s)) t t (not_in (is_running app s) (λ is. false≢true (out is))) refl refl
-give_places app bytes (Err giving.Gone) s t out are = unstrayed (not (is_running app s)) t (record t { closings = raised t.closings }) (stays_in (is_running app s) are.0) refl refl
+give_places app bytes (Err giving.Gone) s t out are = unstrayed (not (is_running app s)) t (record t { closings = raised t.closings }) (ap not are.0) refl refl
 give_places app bytes (Err giving.Short) s t out are = wanting (not (is_running app s)) t (tally_short t) refl refl
 
 is_shut : Taken → Bool
@@ -153,7 +150,7 @@ pub take_places : (app : ℕ) (result : Result Taken Short) (buf : List ℕ) (s 
     → FewStrays t (tally_stray (not (is_running app s)) (take_tally result t))
 unfolding take_steps is_shut
 take_places app (Ok (gave.Some n)) buf s t out are = unstrayed (not (is_running app s)) t t (not_in (is_running app s) (λ is. false≢true (ap is_shut (out is)))) refl refl
-take_places app (Ok gave.Closed) buf s t out are = unstrayed (not (is_running app s)) t (record t { closings = raised t.closings }) (stays_in (is_running app s) are.0) refl refl
+take_places app (Ok gave.Closed) buf s t out are = unstrayed (not (is_running app s)) t (record t { closings = raised t.closings }) (ap not are.0) refl refl
 take_places app (Ok gave.Silent) buf s t out are = unstrayed (not (is_running app s)) t (record t { silences = raised t.silences }) (not_in (is_running app s) (λ is. false≢true (ap is_shut (out is)))) refl refl
 take_places app (Err short) buf s t out are = wanting (not (is_running app s)) t (tally_short t) refl refl
 
@@ -171,7 +168,7 @@ send_places d frame (Err linking.Short) s t out are = wanting (not (is_joined d 
 
 -- and where a message of it waits
 unreceived_places : (d : ℕ) (joined : Bool) (s : State) → IsExpected (unreceived d joined) s → not (can_receive d s) ≡ false
-unreceived_places d true s is = stays_in (can_receive d s) is
+unreceived_places d true s is = ap not is
 unreceived_places d false s is = absurd is
 
 pub receive_places : (d : ℕ) (result : Result ℕ LinkFault) (buf : List ℕ) (s : State) (t : TallyState) → (can_receive d s ≡ false → IsErr result) → AreExpected (receive_steps d (is_joined d s) result buf) s

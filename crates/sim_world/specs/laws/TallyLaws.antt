@@ -1,5 +1,5 @@
 -- Laws of the counts of a simulated world: what each change of the tally makes of the counts that are seen.
-use Rattle.std.specs.Prelude.{◌≡◌, ◌==◌, ℕ, ◌-◌, ◌^◌, ◌≤◌, Bool, true, false, ◌||◌, List, [], ◌∷◌, All, refl, if◌then◌else◌}
+use Rattle.std.specs.Prelude.{◌≡◌, ◌==◌, ℕ, ◌-◌, ◌^◌, ◌≤◌, Bool, true, false, List, [], ◌∷◌, All, refl, if◌then◌else◌}
 use Rattle.std.specs.List.{list_any}
 use Rattle.std.proofs.Common.{sym, ap, ◌∙◌, arith}
 use Rattle.std.proofs.lemmas.Bool.{eqb-true, eq-eqb, false≢true, or_parts}
@@ -9,6 +9,7 @@ use Rattle.lego_io.specs.laws.CountLaws.{Rose-raised}
 use Rattle.flow_table.specs.Switch.{Declared}
 use Rattle.outside.specs.Seen.{Counts, NoneFell, AreCounts, is_declared, with_stray, with_short, with_short_of, with_link_fault}
 use Rattle.sim_world.specs.Tally.{last_count, LinkCounts, TallyState, count_at, counts_of, counts_at, one_fault, one_short, tally_stray, tally_short, tally_short_of, tally_fault_of, CountsFor}
+use Rattle.of_types.specs.laws.ChoiceLaws.{or_later}
 
 -- ---- One switch's counts
 
@@ -33,17 +34,13 @@ one_raised count change keeps rises d e other before l ls true is rest false it 
 one_raised count change keeps rises d e other before l ls false is rest true it = rw (ap (λ n. n == e) (keeps l) ∙ is) (rest refl)
 one_raised count change keeps rises d e other before l ls false is rest false it = rw is (rest refl)
 
-found_later : (here later : Bool) → (here || later) ≡ true → here ≡ false → later ≡ true
-found_later true later found is = absurd (false≢true (sym is))
-found_later false later found is = found
-
 count-raised : (count : LinkCounts → ℕ) (change : LinkCounts → LinkCounts) → KeepsNumber change → ((l : LinkCounts) → count (change l) ≡ raised (count l)) → (d e other before : ℕ) (ls : List LinkCounts)
     → list_any (λ l. l.dpid == e) ls ≡ true
     → count_at count other e (counts_at d change ls) ≡ (if e == d then raised (count_at count before e ls) else count_at count before e ls)
 count-raised count change keeps rises d e other before [] there = absurd (false≢true there)
 count-raised count change keeps rises d e other before (l ∷ ls) there =
     one_raised count change keeps rises d e other before l ls (l.dpid == e) refl
-    (λ elsewhere. count-raised count change keeps rises d e other before ls (found_later (l.dpid == e) _ there elsewhere))
+    (λ elsewhere. count-raised count change keeps rises d e other before ls (or_later (l.dpid == e) _ there elsewhere))
     (l.dpid == d) refl
 
 -- a count that does not change, whichever switch's counts do
@@ -64,7 +61,7 @@ count-kept : (count : LinkCounts → ℕ) (change : LinkCounts → LinkCounts) �
 count-kept count change keeps same d e other before [] there = absurd (false≢true there)
 count-kept count change keeps same d e other before (l ∷ ls) there =
     one_kept count change keeps same e other before l ls (counts_at d change ls) (l.dpid == e) refl
-    (λ elsewhere. count-kept count change keeps same d e other before ls (found_later (l.dpid == e) _ there elsewhere))
+    (λ elsewhere. count-kept count change keeps same d e other before ls (or_later (l.dpid == e) _ there elsewhere))
     (l.dpid == d)
 
 -- a count that is looked up does not depend on what stands for a switch that is not there, where it is
@@ -77,7 +74,7 @@ one_same count e other before l ls false later = later refl
 count-same : (count : LinkCounts → ℕ) (e other before : ℕ) (ls : List LinkCounts) → list_any (λ l. l.dpid == e) ls ≡ true → count_at count other e ls ≡ count_at count before e ls
 count-same count e other before [] there = absurd (false≢true there)
 count-same count e other before (l ∷ ls) there =
-    one_same count e other before l ls (l.dpid == e) (λ elsewhere. count-same count e other before ls (found_later (l.dpid == e) _ there elsewhere))
+    one_same count e other before l ls (l.dpid == e) (λ elsewhere. count-same count e other before ls (or_later (l.dpid == e) _ there elsewhere))
 
 -- ---- No count falls
 
@@ -377,8 +374,8 @@ count-within count each d other is [] all = is
 count-within count each d other is (l ∷ ls) all =
     one_in count d other l ls (each l (All-head IsWithin l ls all)) (count-within count each d other is ls (All-tail IsWithin l ls all)) (l.dpid == d)
 
-rose_one : (n : ℕ) → n ≤ last_count → Rose n (raised n)
-rose_one n within = Rose-raised n (omega (arith, within))
+pub rose-raised : (n : ℕ) → n ≤ last_count → Rose n (raised n)
+rose-raised n within = Rose-raised n (omega (arith, within))
 
 rose_there : (count : LinkCounts → ℕ) (change : LinkCounts → LinkCounts) → KeepsNumber change → ((l : LinkCounts) → count (change l) ≡ raised (count l)) → ((l : LinkCounts) → IsWithin l → count l ≤ last_count)
     → (d before other : ℕ) (ls : List LinkCounts) → before ≤ last_count → All IsWithin ls → (there : Bool) → list_any (λ l. l.dpid == d) ls ≡ there → (there ≡ false → Rose before other)
@@ -386,7 +383,7 @@ rose_there : (count : LinkCounts → ℕ) (change : LinkCounts → LinkCounts) �
 rose_there count change keeps rises each d before other ls within all true is rose =
     let risen : count_at count other d (counts_at d change ls) ≡ raised (count_at count before d ls) =
     count-raised count change keeps rises d d other before ls is ∙ ap (λ (b : Bool). if b then raised (count_at count before d ls) else count_at count before d ls) (eq-eqb d d refl) in
-    rw risen (rose_one (count_at count before d ls) (count-within count each d before within ls all))
+    rw risen (rose-raised (count_at count before d ls) (count-within count each d before within ls all))
 rose_there count change keeps rises each d before other ls within all false is rose =
     rw (count-absent count d before ls is, count-absent count d other (counts_at d change ls) (any-kept d d change keeps ls ∙ is)) (rose refl)
 
@@ -396,14 +393,11 @@ pub rose-fault_of : (declared : List Declared) (stray : Bool) (d : ℕ) (t : Tal
 unfolding counts_of
 rose-fault_of declared stray d t for out =
     rose_there (λ l. l.faults) one_fault (λ l. refl) (λ l. refl) (λ l is. is.0) d t.strays _ t.links for.within.strays for.within.links _ refl
-    (λ none. rw (out (sym (for.switches d) ∙ none)) (rose_one t.strays for.within.strays))
+    (λ none. rw (out (sym (for.switches d) ∙ none)) (rose-raised t.strays for.within.strays))
 
 pub rose-short_of : (declared : List Declared) (stray : Bool) (d : ℕ) (t : TallyState) → CountsFor declared t
     → Rose ((counts_of t).shorts_of d) ((counts_of (tally_stray stray (tally_short_of d t))).shorts_of d)
 unfolding counts_of
 rose-short_of declared stray d t for =
     rose_there (λ l. l.shorts) one_short (λ l. refl) (λ l. refl) (λ l is. is.1) d t.shorts _ t.links for.within.shorts for.within.links _ refl
-    (λ none. rose_one t.shorts for.within.shorts)
-
-pub rose-raised : (n : ℕ) → n ≤ last_count → Rose n (raised n)
-rose-raised n within = rose_one n within
+    (λ none. rose-raised t.shorts for.within.shorts)

@@ -6,11 +6,11 @@ use Rattle.outside.specs.declared.item.Item.{Item}
 use Rattle.outside.specs.declared.item.Item.TheVariants as items
 use Rattle.outside.specs.declared.step.WorldStep.{WorldStep}
 use Rattle.outside.specs.declared.step.WorldStep.TheVariants.{Idle}
-use Rattle.outside.specs.State.{State, upcoming}
+use Rattle.outside.specs.State.{State, upcoming, waiting_in}
 use Rattle.outside.specs.Calls.{item_step, IsItemIn}
 use Rattle.outside.specs.Conforming.{MayStep}
 use Rattle.outside.specs.InOrder.{MayCome}
-use Rattle.sim_world.specs.Links.{IsDue, waiting_in}
+use Rattle.sim_world.specs.Links.{IsDue}
 use Rattle.sim_world.specs.World.{WorldData, Moves, IsAsTold, all_declared, next_told}
 use Rattle.sim_world.specs.laws.NextLaws.{IsMessage, is_idle, is_end, due_item, due_may, due_is_told, told_something, told_idle, first_waiting, nothing_upcoming}
 use Rattle.sim_world.specs.Doing.{Tells}

@@ -21,9 +21,9 @@ use Rattle.flow_table.specs.Undone.{undone}
 use Rattle.flow_table.specs.Switch.{SwitchState}
 use Rattle.flow_table.specs.Refusals.{message_refusal}
 use Rattle.flow_table.specs.Step.{after_message}
-use Rattle.undo_laws.specs.Removal.{is_among as is_key_among, OnlyAdded}
+use Rattle.undo_laws.specs.Removal.{is_key_among, OnlyAdded}
 use Rattle.undo_laws.specs.laws.LookupLaws.{entry_at-same_place}
-use Rattle.undo_laws.specs.laws.RemovalLaws.{is_among-append}
+use Rattle.undo_laws.specs.laws.RemovalLaws.{is_key_among-append}
 use Rattle.undo_laws.specs.laws.AddedLaws.{undone-added}
 use Rattle.app_frames.specs.declared.frame.Answer.{Answer}
 use Rattle.app_frames.specs.declared.frame.Answer.TheVariants.{Unknown}
@@ -39,7 +39,7 @@ use Rattle.net_txn.specs.Views.{rows_at, is_viewed, is_row_at, has_key_in}
 use Rattle.net_txn.specs.Net.{NetState}
 use Rattle.net_txn.specs.Answering.{known_rows}
 use Rattle.net_txn.specs.Changes.{answer_of_host, log_in_flight, MayMove, ChangesJoined, Changes}
-use Rattle.net_txn.specs.Losing.{is_among}
+use Rattle.of_types.specs.Membership.{is_among}
 use Rattle.net_txn.specs.ChangeSteps.{Agrees}
 use Rattle.net_txn.specs.Undos.{key_logged, keys_of, is_stuck, parts_of, lost_parts, is_lost_in, AreJoined, Undoes}
 use Rattle.lego_model.specs.AfterFault.{FailsInUndo, HasEntriesAgain, WasLost, UndoneButFailed}
@@ -112,7 +112,7 @@ tables-since Tells start lost first now net0 net told later goes = record {
 -- ---- A key that no entry has, logged or not, leaves a table such that only keys were added.
 
 one_of : (ks : List Key) (l k : Key) → is_key_among (ks ++ l ∷ []) k ≡ (is_key_among ks k || (key_number l == key_number k))
-one_of ks l k = is_among-append ks (l ∷ []) k ∙ ap (λ (b : Bool). is_key_among ks k || b) (or-false (key_number l == key_number k))
+one_of ks l k = is_key_among-append ks (l ∷ []) k ∙ ap (λ (b : Bool). is_key_among ks k || b) (or-false (key_number l == key_number k))
 
 added-absent : (ks : List Key) (l : Key) (before now : List Entry) → entry_at l now ≡ None → OnlyAdded ks before now → OnlyAdded (ks ++ l ∷ []) before now
 added-absent ks l before now absent only = record {

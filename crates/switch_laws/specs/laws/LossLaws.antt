@@ -32,7 +32,8 @@ use Rattle.net_txn.specs.declared.ports.KnownPorts.{KnownPorts}
 use Rattle.net_txn.specs.ChangeSteps.{Agrees}
 use Rattle.net_txn.specs.Arriving.{without_key}
 use Rattle.net_txn.specs.Leaving.{port_text, ports_text, left_event}
-use Rattle.net_txn.specs.Losing.{lost_net, lose_all, GoesOut, is_among}
+use Rattle.net_txn.specs.Losing.{lost_net, lose_all, GoesOut}
+use Rattle.of_types.specs.Membership.{is_among}
 use Rattle.net_txn.specs.Net.{NetState}
 use Rattle.net_txn.specs.Undos.{without_keys, AreJoined}
 use Rattle.net_txn.specs.Views.{rows_at, with_rows}
@@ -120,10 +121,6 @@ lose_all-xid (d ∷ ds) net xid = lose_all-xid ds (lost_net d net) xid
 pub lose_all-views : (ds : List ℕ) (m n : NetState) → m.views ≡ n.views → (lose_all ds m).views ≡ (lose_all ds n).views
 lose_all-views [] m n same = same
 lose_all-views (d ∷ ds) m n same = lose_all-views ds (lost_net d m) (lost_net d n) (ap (λ (vs : List TableView). filter (λ v. not (v.dpid == d)) vs) same)
-
-pub lose_all-moment : (ds : List ℕ) (net : NetState) → (lose_all ds net).moment ≡ net.moment
-lose_all-moment [] net = refl
-lose_all-moment (d ∷ ds) net = lose_all-moment ds (lost_net d net)
 
 pub lose_all-rows : (ds : List ℕ) (e : ℕ) (net : NetState) → is_among e ds ≡ false → rows_at e (lose_all ds net).views ≡ rows_at e net.views
 lose_all-rows [] e net none = refl

@@ -48,7 +48,7 @@ use Rattle.net_txn.specs.Changes.{ChangesJoined, Changes, answer_of_host, change
 use Rattle.net_txn.specs.LinkSteps.{is_link_step, AreLinkSteps, LinkSteps, MakesNoStrayCall}
 use Rattle.net_txn.specs.Joining.{greeting, greeted_from, delete_all}
 use Rattle.net_txn.specs.Undos.{AreJoined, Undoes}
-use Rattle.net_txn.specs.Releases.{packet_awaited, packet_steps, Commits}
+use Rattle.net_txn.specs.Releases.{packet_steps, Commits}
 use Rattle.net_txn.specs.Views.{rows_at, is_viewed}
 use Rattle.net_txn.specs.laws.AgreeLaws.{viewed as viewed_rows}
 use Rattle.net_txn.specs.laws.NoticeLaws.{kind_of_header}
@@ -57,6 +57,7 @@ use Rattle.switch_laws.specs.laws.AskedLaws.{asked}
 use Rattle.switch_laws.specs.Orderly.{OrderlySince}
 use Rattle.lego_model.specs.OrderlySteps.{IsOrderly}
 use Rattle.switch_laws.specs.Released.{released_by, ReleasesNone, LosesNone}
+use Rattle.lego_model.specs.laws.JournalLaws.{released-nil}
 
 -- ---- Messages of another type than PACKET_OUT (13)
 
@@ -64,7 +65,7 @@ abbrev is_free : MessageKind → Bool
 is_free kinds.PacketOut = false
 is_free other = true
 
-abbrev enveloped_as : ℕ → Result Message WireFault → Result Envelope WireFault
+abbrev pub enveloped_as : ℕ → Result Message WireFault → Result Envelope WireFault
 enveloped_as xid r = r >>= λ m. Ok (record { xid = xid; message = m })
 
 change_free : (d xid : ℕ) (r : Result (List Action) WireFault) (f : List Action → Change) → packet_read d (enveloped_as xid (r >>= λ actions. Ok (FlowMod (f actions)))) ≡ None
@@ -214,8 +215,8 @@ ended-loses-none : (a : Awaited) (got : List (List ℕ)) → LosesNone (wait_ste
 ended-loses-none a got = loses-none-both (wait_steps a got) (reply_got a ∷ []) (wait-loses-none a got) (refl, tt)
 
 -- a packet is sent
-pub packet-loses-none : (d xid : ℕ) (packet : Packet) (got : List (List ℕ)) → LosesNone (packet_steps d xid packet ++ (wait_steps (packet_awaited d xid) got ++ reply_got (packet_awaited d xid) ∷ []))
-packet-loses-none d xid packet got = (refl, (refl, ended-loses-none (packet_awaited d xid) got))
+pub packet-loses-none : (d xid : ℕ) (packet : Packet) (got : List (List ℕ)) → LosesNone (packet_steps d xid packet ++ (wait_steps (asked_from d xid) got ++ reply_got (asked_from d xid) ∷ []))
+packet-loses-none d xid packet got = (refl, (refl, ended-loses-none (asked_from d xid) got))
 
 -- ---- What a history releases
 
@@ -236,10 +237,6 @@ released-step (SendLost d) steps is = refl
 released-step (RecvLost d) steps is = refl
 released-step (SendFailed d) steps is = refl
 released-step (RecvFailed d) steps is = refl
-
-pub released-nil : released (journal []) ≡ []
-unfolding released journal
-released-nil = refl
 
 -- Such steps released none.
 pub released-none : (steps : List WorldStep) → ReleasesNone steps → released (journal steps) ≡ []

@@ -45,7 +45,8 @@ use Rattle.net_txn.specs.ChangeSteps.{Agrees}
 use Rattle.net_txn.specs.Answering.{known_rows}
 use Rattle.net_txn.specs.Losing.{lost_net, lose_all, GoesOut}
 use Rattle.net_txn.specs.Net.{NetState}
-use Rattle.net_txn.specs.Releases.{packet_awaited, packet_steps, IsFloodBy, Knows, takes_read, takes_all, PacketInStep, MovesBy, SendsPacket, PassesOver, LosesPacket, ReleasesOne, ReleasesAll, StopsRelease, committed}
+use Rattle.net_txn.specs.Releases.{packet_steps, IsFloodBy, Knows, takes_read, takes_all, PacketInStep, MovesBy, SendsPacket, PassesOver, LosesPacket, ReleasesOne, ReleasesAll, StopsRelease, committed}
+use Rattle.lego_model.specs.FlowQueries.{asked_from}
 use Rattle.net_txn.specs.Undos.{AreJoined}
 use Rattle.net_txn.specs.Views.{rows_at, is_viewed}
 use Rattle.net_txn.specs.Waits.{IfFlooded}
@@ -62,13 +63,16 @@ use Rattle.switch_laws.specs.laws.ClockLaws.{switch-in_time}
 use Rattle.switch_laws.specs.laws.FaceLaws.{face-packet, face-ports_of}
 use Rattle.switch_laws.specs.laws.FaultLaws.{lost-still, lost-later}
 use Rattle.switch_laws.specs.laws.LossLaws.{rows-gone, rows-stay, losses-still, leaves-none, leaves-then, leavers-append, lose_all-append, lose_all-xid, ready-joined, lost-ready, lost-leaves, lost-places}
-use Rattle.switch_laws.specs.laws.OrderlyLaws.{released-nil, released-on, packet-loses-none}
+use Rattle.switch_laws.specs.laws.OrderlyLaws.{released-on, packet-loses-none}
+use Rattle.lego_model.specs.laws.JournalLaws.{released-nil}
 use Rattle.switch_laws.specs.laws.PlaceLaws.{with_place-places}
-use Rattle.switch_laws.specs.laws.ShownExchangeLaws.{some_switch, switch_at-shown, declared_of}
+use Rattle.switch_laws.specs.laws.ShownExchangeLaws.{switch_at-shown, declared_of}
+use Rattle.net_txn.specs.laws.WaitMoveLaws.{some_switch}
 use Rattle.switch_laws.specs.laws.ShownUndoLaws.{viewed, unviewed}
 use Rattle.switch_laws.specs.laws.SoundLaws.{packet-sound}
 use Rattle.switch_laws.specs.laws.SoundStepLaws.{lost-sound}
 use Rattle.switch_laws.specs.laws.StandLaws.{all-stand}
+use Rattle.net_txn.specs.laws.PacketMoveLaws.{none_map}
 
 -- ---- A release, packet by packet
 
@@ -116,16 +120,12 @@ packets-append : (d : ℕ) (ps qs : List Held) (o : Option SwitchState) → opti
 packets-append d ps qs None = refl
 packets-append d ps qs (Some s) = ap (λ (t : SwitchState). Some t) (sym (fold-append (λ (t : SwitchState) (h : Held). if h.0 == d then after_message (PacketOut h.1) t else t) s ps qs))
 
-no_packets : (d : ℕ) (o : Option SwitchState) → o ≡ option_map (after_packets d []) o
-no_packets d None = refl
-no_packets d (Some s) = refl
-
 other_packet : (h : Held) (e : ℕ) (o : Option SwitchState) → e ≢ h.0 → o ≡ option_map (after_packets e (h ∷ [])) o
 other_packet h e None other = refl
 other_packet h e (Some s) other = rw (ne_eqb h.0 e (λ same. other (sym same))) refl
 
 moves-none : {Own : Type 0} (seen : Seen Own) → MovesOrLoses [] seen seen
-moves-none seen = record { steps = []; history = sym (append-nil seen.history); released_is = released-nil; moved = λ e. inl (no_packets e (switch_of e (state seen))) }
+moves-none seen = record { steps = []; history = sym (append-nil seen.history); released_is = released-nil; moved = λ e. inl (none_map e (switch_of e (state seen))) }
 
 pub moves-or : {Own : Type 0} (packets : List Held) (old new : Seen Own) → MovesBy packets old new → MovesOrLoses packets old new
 moves-or packets old new moves = record { steps = moves.steps; history = moves.history; released_is = moves.released_is; moved = λ e. inl (moves.moved e) }
@@ -215,7 +215,7 @@ one-moves Tells h sent old new net now_net queue now_queue told joined (inr (inl
 one-moves Tells h sent old new net now_net queue now_queue told joined (inr (inr (inl loses))) =
     let out = loses.1.is_lost.out told (joined h.0 loses.1.viewed) in
     record {
-      moves = subst (λ (ps : List Held). MovesOrLoses ps old new) (sym loses.0) (loses-or h.0 [] old new (λ e o other. no_packets e o) out);
+      moves = subst (λ (ps : List Held). MovesOrLoses ps old new) (sym loses.0) (loses-or h.0 [] old new (λ e o other. none_map e o) out);
       joined = loses-joined h.0 [] old new net now_net out loses.1.net_is joined;
     }
 one-moves Tells h sent old new net now_net queue now_queue told joined (inr (inr (inr loses))) =
@@ -593,10 +593,10 @@ mid-keeps old mid new whole before moves keeps = Conforming-front mid new moves.
 
 -- a packet that made its switch send too many messages
 flood-stops : {Own : Type 0} (Tells : Type 0) (h : Held) (s : SwitchState) (old mid new : Seen Own) (net : NetState) (fault : TxnFault) → Tells → Continues Tells old new → Continues Tells old mid → switch_of h.0 (state mid) ≡ Some s
-    → IfFlooded Tells (packet_awaited h.0 net.xid) (packet_steps h.0 net.xid h.1) mid new fault → IsFloodBy h s fault → (d : ℕ) × ((fault ≡ Flooded d flood) × FloodedByPacket d old new)
+    → IfFlooded Tells (asked_from h.0 net.xid) (packet_steps h.0 net.xid h.1) mid new fault → IsFloodBy h s fault → (d : ℕ) × ((fault ≡ Flooded d flood) × FloodedByPacket d old new)
 flood-stops Tells h s old mid new net (Flooded of n) told whole before stands floods by =
     let first : WorldStep = Acted (Sent h.0 (message_bytes net.xid (PacketOut h.1))) in
-    let rest = barrier_sent (packet_awaited h.0 net.xid) ∷ wait_steps (packet_awaited h.0 net.xid) floods.got in
+    let rest = barrier_sent (asked_from h.0 net.xid) ∷ wait_steps (asked_from h.0 net.xid) floods.got in
     let by_packet : FloodedByPacket h.0 old new = record {
       mid = mid;
       given = before.given ∙ sym whole.given;

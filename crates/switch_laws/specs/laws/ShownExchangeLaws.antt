@@ -52,6 +52,8 @@ use Rattle.switch_laws.specs.laws.StandLaws.{all-stand}
 use Rattle.switch_laws.specs.laws.PlaceLaws.{switch_at-declared, switch_at-undeclared, with_place-places}
 use Rattle.switch_laws.specs.laws.ShownChangeLaws.{passes, refusal-shown, taken-shown, refused-shown}
 use Rattle.switch_laws.specs.laws.AskedLaws.{asked}
+use Rattle.net_txn.specs.laws.InStepLaws.{rows_by}
+use Rattle.net_txn.specs.laws.WaitMoveLaws.{some_switch}
 
 -- ---- What the host knows
 
@@ -108,10 +110,6 @@ declared_before old new same keeps = subst (λ (g : Given _). AreDeclaredFrom 1 
 
 -- ---- The views then
 
-abbrev rows_by : Option Refusal → Change → List ViewRow → List ViewRow
-rows_by None m rows = rows_after m rows
-rows_by (Some r) m rows = rows
-
 shown-here : (refusal : Option Refusal) (d : ℕ) (m : Change) (views : List TableView) (rows : List ViewRow) → rows_at d views ≡ Some rows → corrections (views_by refusal d m views) d ≡ correction_in (rows_by refusal m rows)
 shown-here None d m views rows is = ap (λ (o : Option (List ViewRow)). correction_in (rows_or_none o)) (rows_at-same d (rows_after m) views rows is)
 shown-here (Some r) d m views rows is = ap (λ (o : Option (List ViewRow)). correction_in (rows_or_none o)) is
@@ -135,9 +133,6 @@ moved-shown None m rows s is p refused = taken-shown m rows s is p (sym refused)
 moved-shown (Some r) m rows s is p refused = refused-shown m rows s r.error p (sym refused)
 
 -- ---- A change that the switch judged
-
-abbrev pub some_switch : SwitchState → Option SwitchState
-some_switch s = Some s
 
 known-from : (d : ℕ) (bytes : List ℕ) (m : Change) (xid : ℕ) (views : List TableView) (s : State) (o : Option (List ViewRow)) (x : Option SwitchState) → rows_at d views ≡ o → switch_of d s ≡ x
     → option_map rows_of_view o ≡ option_map (λ y. rows_of_table y.table.entries) x → host_answer (option_map rows_of_view o) bytes ≡ None → reading_of bytes ≡ Ok (enveloped xid (FlowMod m)) → Known d m views s

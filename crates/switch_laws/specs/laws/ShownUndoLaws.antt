@@ -24,7 +24,8 @@ use Rattle.net_txn.specs.declared.ports.KnownPorts.{KnownPorts}
 use Rattle.net_txn.specs.Views.{rows_at, is_viewed}
 use Rattle.net_txn.specs.Net.{NetState}
 use Rattle.net_txn.specs.ChangeSteps.{Agrees}
-use Rattle.net_txn.specs.Losing.{lose_all, is_among}
+use Rattle.net_txn.specs.Losing.{lose_all}
+use Rattle.of_types.specs.Membership.{is_among}
 use Rattle.net_txn.specs.Undos.{parts_of, is_stuck, lost_parts, keys_of, Undoes}
 use Rattle.net_txn.specs.laws.LostPartLaws.{free-among, lost-distinct}
 use Rattle.switch_laws.specs.Lost.{UndoShown}

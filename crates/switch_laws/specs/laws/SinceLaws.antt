@@ -1,6 +1,6 @@
 -- What follows about a transaction that is open: it stands so where it began, and each message that was answered keeps it so, whether or not
 -- its switch was lost.
-use Rattle.std.proofs.Common.{◌≡◌, ◌≢◌, ◌==◌, ℕ, ◌≤◌, Bool, true, false, not, ◌&&◌, ◌||◌, List, [], ◌∷◌, ◌++◌, length, drop, map, filter, Option, Some, None, Ok, refl, sym, ap, ap₂, ◌∙◌, subst, append_assoc, inl, inr, arith, true≢false}
+use Rattle.std.proofs.Common.{◌≡◌, ◌≢◌, ◌==◌, ℕ, ◌≤◌, true, false, not, ◌&&◌, List, [], ◌∷◌, ◌++◌, length, drop, map, filter, Option, Some, None, Ok, refl, sym, ap, ap₂, ◌∙◌, subst, append_assoc, inl, inr, arith, true≢false}
 use Rattle.std.proofs.lemmas.Bool.{cases_Bool, cases_eq, eqb-true, eq-eqb, ne_eqb, or_parts}
 use Rattle.std.proofs.lemmas.List.{drop-append-le, map-append, length-append, append-nil}
 use Rattle.std.specs.List.{list_any}
@@ -40,7 +40,8 @@ use Rattle.net_txn.specs.declared.ports.KnownPorts.{KnownPorts}
 use Rattle.net_txn.specs.Answering.{known_rows}
 use Rattle.net_txn.specs.Changes.{answer_of_host, error_in, views_by, log_by, Asked, ChangesJoined, Changes}
 use Rattle.net_txn.specs.ChangeSteps.{Agrees, InStep}
-use Rattle.net_txn.specs.Losing.{lost_net, lose_all, GoesOut, is_among}
+use Rattle.net_txn.specs.Losing.{lost_net, lose_all, GoesOut}
+use Rattle.of_types.specs.Membership.{is_among}
 use Rattle.net_txn.specs.Undos.{key_logged, without_keys, keys_of}
 use Rattle.net_txn.specs.laws.TableBoundLaws.{second_none}
 use Rattle.net_txn.specs.laws.LostLaws.{losses_then}
@@ -52,6 +53,7 @@ use Rattle.switch_laws.specs.laws.LossLaws.{without_keys-lost, lose_all-append, 
 use Rattle.switch_laws.specs.laws.AbsentLaws.{absent-entry, absent-row}
 use Rattle.switch_laws.specs.laws.ShownExchangeLaws.{known, judged}
 use Rattle.switch_laws.specs.Since.{ports_known, Ready, logged_since, SwitchSince, JoinedSince, Since, Goes, GoesOn, keys_by}
+use Rattle.of_types.specs.laws.ChoiceLaws.{or_later}
 
 -- ---- Where it begins
 
@@ -320,10 +322,6 @@ module _ {Own : Type 0} (Tells : Type 0) (d : ℕ) (bytes : List ℕ) (start : �
 
 -- ---- One message whose switch was lost
 
-or_left : (a b : Bool) → (a || b) ≡ true → a ≡ false → b ≡ true
-or_left true b is none = absurd (true≢false none)
-or_left false b is none = is
-
 module _ {Own : Type 0} (d start : ℕ) (lost : List ℕ) (first old new : Seen Own) (net0 net now_net : NetState) (packets : List Held) (out : GoesOut d packets old new) (net_is : now_net ≡ record (lost_net d net) { xid = now_net.xid }) where
   log-same : logged_since start now_net ≡ logged_since start net
   log-same = ap (λ (n : NetState). logged_since start n) net_is
@@ -361,7 +359,7 @@ module _ {Own : Type 0} (d start : ℕ) (lost : List ℕ) (first old new : Seen 
     joined = joined-still since;
     lost_out = λ e among. gone-out e (λ other. since.lost_out e (elim (cases_Bool (is_among e lost)) [
       | inl before ↦ before
-      | inr never ↦ absurd (other (sym (eqb-true d e (or_left (is_among e lost) (d == e) (sym (among-last e d lost) ∙ among) never))))
+      | inr never ↦ absurd (other (sym (eqb-true d e (or_later (is_among e lost) (d == e) (sym (among-last e d lost) ∙ among) never))))
     ]));
     out = λ e none. gone-out e (λ other. since.out e none);
   }

@@ -1,6 +1,6 @@
 -- What follows about sound entries: a change and a packet that the engine sends, a stimulus and an undo keep them so, their notices are
 -- messages, and the rows of their statistics are spelled and read again.
-use Rattle.std.proofs.Common.{◌≡◌, ◌≢◌, ◌==◌, ℕ, ◌+◌, ◌*◌, ◌/◌, ◌%◌, ◌^◌, ◌<◌, ◌≤◌, Bool, true, false, not, ◌&&◌, ◌||◌, nat_lt, List, [], ◌∷◌, map, filter, Option, Some, None, if◌then◌else◌, refl, sym, ◌∙◌, subst, inl, inr, arith, true≢false}
+use Rattle.std.proofs.Common.{◌≡◌, ◌≢◌, ◌==◌, ℕ, ◌+◌, ◌*◌, ◌/◌, ◌%◌, ◌^◌, ◌<◌, ◌≤◌, Bool, true, false, not, ◌&&◌, ◌||◌, nat_lt, List, [], ◌∷◌, map, filter, Option, Some, None, refl, sym, ◌∙◌, subst, inl, inr, arith, true≢false}
 use Rattle.std.proofs.lemmas.Bool.{cases_Bool, eq-eqb, eqb-true, ne_eqb, leb-true, ltb-false}
 use Rattle.std.proofs.lemmas.Option.{same_Some}
 use Rattle.of_types.specs.declared.errors.OfError.{OfError}
@@ -33,7 +33,7 @@ use Rattle.flow_table.specs.Statistics.{flow_row}
 use Rattle.flow_table.specs.Frames.{after_output, after_outputs, after_counts, after_lookup, hit_outputs, entry_hit, after_packet_output, after_packet_outputs, after_packet_out, takes, after_arrival, after_frame}
 use Rattle.flow_table.specs.Step.{flow_removed, can_add, after_taken, after_message, after_port_change, after_stimulus}
 use Rattle.lego_model.specs.Answers.{as_sent, with_notice}
-use Rattle.net_txn.specs.laws.RowLaws.{sent}
+use Rattle.net_txn.specs.laws.RowLaws.{sent, known_if}
 use Rattle.net_txn.specs.AskSteps.{own_rows}
 use Rattle.switch_laws.specs.Sound.{SoundEntry, AllSound}
 use Rattle.switch_laws.specs.laws.ShownChangeLaws.{addition_passed}
@@ -73,15 +73,10 @@ both_none : (a b : Option OfError) → or_else a b ≡ None → a ≡ None
 both_none None b h = refl
 both_none (Some e) b h = absurd cc
 
-size_passed : (buffered long : Bool) (x y : OfError) (rest : Option OfError) → (if buffered then Some x else if long then Some y else rest) ≡ None → long ≡ false
-size_passed true long x y rest h = absurd cc
-size_passed false true x y rest h = absurd cc
-size_passed false false x y rest h = refl
-
 actions-fit : (had : List ℕ) (m : Change) → flow_actions_refusal had m ≡ None → list_size m.actions ≤ most_action_bytes
 unfolding flow_actions_refusal
 actions-fit had m h =
-    let short : nat_lt most_action_bytes (list_size m.actions) ≡ false = size_passed (not (m.buffer_id == no_buffer)) (nat_lt most_action_bytes (list_size m.actions)) _ _ _ h in
+    let short : nat_lt most_action_bytes (list_size m.actions) ≡ false = known_if (not (m.buffer_id == no_buffer)) (nat_lt most_action_bytes (list_size m.actions)) _ _ _ h in
     ltb-false most_action_bytes (list_size m.actions) short
 
 change-fits : (had : List ℕ) (m : Change) → flow_refusal had m ≡ None → Fits m

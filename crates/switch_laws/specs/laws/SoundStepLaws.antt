@@ -19,7 +19,8 @@ use Rattle.net_txn.specs.Net.{NetState}
 use Rattle.net_txn.specs.Answering.{known_rows}
 use Rattle.net_txn.specs.Changes.{answer_of_host, ChangesJoined, Changes}
 use Rattle.net_txn.specs.ChangeSteps.{InStep}
-use Rattle.net_txn.specs.Losing.{GoesOut, is_among}
+use Rattle.net_txn.specs.Losing.{GoesOut}
+use Rattle.of_types.specs.Membership.{is_among}
 use Rattle.net_txn.specs.Undos.{parts_of, is_stuck, Undoes}
 use Rattle.switch_laws.specs.laws.AskedLaws.{asked}
 use Rattle.switch_laws.specs.Since.{Ready, Since}

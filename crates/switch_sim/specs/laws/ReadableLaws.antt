@@ -13,7 +13,8 @@ use Rattle.of_wire.specs.laws.SpellingLaws.{SpellMessage-message_bytes}
 use Rattle.of_wire.specs.Grammar.{IsMessage, enveloped}
 use Rattle.of_wire.specs.Reading.{reading_of}
 use Rattle.of_wire.specs.laws.ReadingLaws.{reading_of-message_bytes}
-use Rattle.switch_sim.specs.Readable.{IsReadable, AreReadable, AreShort, IsFeaturesOf}
+use Rattle.switch_sim.specs.Readable.{IsReadable, AreReadable, AreShort}
+use Rattle.of_wire.specs.Handshake.{IsFeaturesOf}
 
 -- ---- One message
 

@@ -14,13 +14,12 @@ use Rattle.outside.specs.InOrder.{InOrder}
 use Rattle.outside.specs.laws.InOrderLaws.{InOrder-before, Conforming-on}
 use Rattle.lego_model.specs.declared.fault.TxnFault.{TxnFault}
 use Rattle.lego_model.specs.declared.fault.TxnFault.TheVariants.{NoMemory}
-use Rattle.lego_model.specs.Journal.{released}
+use Rattle.lego_model.specs.Journal.{released, give_act}
 use Rattle.lego_model.specs.Packets.{Held}
 use Rattle.net_txn.specs.Net.{NetState}
 use Rattle.net_txn.specs.Undos.{keys_of, AreJoined, Undoes}
 use Rattle.net_txn.specs.Releases.{committed, StopsRelease, Commits}
 use Rattle.app_visor.specs.declared.state.TurnEnd.{TurnEnd}
-use Rattle.app_visor.specs.Talks.{give_act}
 use Rattle.app_visor.specs.Beats.{Beat, Talk, Chain, Halts, Stops}
 use Rattle.app_visor.specs.laws.BeatLaws.{Chain-continues, halts_continue, Stops-continues}
 use Rattle.app_visor.specs.laws.CallOrderLaws.{chain_messages}

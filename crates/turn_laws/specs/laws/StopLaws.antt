@@ -18,7 +18,7 @@ use Rattle.net_txn.specs.Causes.{IsPlain}
 use Rattle.net_txn.specs.Changes.{answer_of_host, ChangesJoined, Changes}
 use Rattle.net_txn.specs.Releases.{Commits}
 use Rattle.app_visor.specs.declared.state.TurnEnd.{TurnEnd}
-use Rattle.app_visor.specs.Talks.{give_act}
+use Rattle.lego_model.specs.Journal.{give_act}
 use Rattle.app_visor.specs.Beats.{Talk, Halts, Stops}
 use Rattle.app_visor.specs.laws.BeatLaws.{Chain-continues, halts_continue}
 use Rattle.app_visor.specs.Turns.{Turns}

@@ -8,7 +8,7 @@ use Rattle.flow_table.specs.Table.{TableState, entry_at, IsTable}
 use Rattle.flow_table.specs.laws.TableLaws.{entry_at-map, IsTable-map}
 use Rattle.flow_table.specs.Undone.{restored, undone}
 use Rattle.undo_laws.specs.laws.LookupLaws.{table_from_lookups}
-use Rattle.undo_laws.specs.Removal.{is_among, OnlyAdded}
+use Rattle.undo_laws.specs.Removal.{is_key_among, OnlyAdded}
 use Rattle.undo_laws.specs.Serials.{IsSerialed}
 use Rattle.undo_laws.specs.laws.SerialsLaws.{used_or-stands}
 
@@ -19,7 +19,7 @@ restored-still now k after (Some e) h stands =
 
 still : (ks : List Key) (before after : List Entry) → OnlyAdded ks before after → (k : Key) (e : Entry) → entry_at k before ≡ Some e → entry_at k after ≡ Some e
 still ks before after only k e found =
-    elim (cases_Bool (is_among ks k)) [
+    elim (cases_Bool (is_key_among ks k)) [
       | inl among ↦ let none = only.added k among in absurd cc
       | inr other ↦ only.others k other ∙ found
     ]

@@ -12,7 +12,8 @@ use Rattle.flow_table.specs.laws.TableLaws.{if_passes, IsTable-filter, entry_at-
 use Rattle.flow_table.specs.Change.{key_in, is_strict, is_modify, is_delete, describes, sends_to, deletes, adds, asks_notice, new_entry, refusal, notice, notices_of, entries_after, changed, change, tells}
 use Rattle.flow_table.specs.laws.ChangeLaws.{describes-strict, notices_of-delete, entries_after-adds, entries_after-delete, refusal-delete}
 use Rattle.undo_laws.specs.laws.LookupLaws.{at_key, listed, entry_at-same_place, entry_at-key_number, table_from_lookups, filter-same, filter-at_key}
-use Rattle.undo_laws.specs.Removal.{without, without_all, IsRemoval, AreRemovals, removal_notices, after_all, is_among, OnlyAdded}
+use Rattle.undo_laws.specs.Removal.{without, without_all, IsRemoval, AreRemovals, removal_notices, after_all, is_key_among, OnlyAdded}
+use Rattle.std.proofs.Math.Bool.{or-false}
 
 -- ---- A table without a key
 
@@ -117,31 +118,31 @@ without_all-none (k ∷ ks) l es is none =
       | inr other ↦ entry_at-without-other k l es is other ∙ none
     ])
 
-pub without_all-among : (ks : List Key) (l : Key) (es : List Entry) → IsTable es → is_among ks l ≡ true → entry_at l (without_all ks es) ≡ None
+pub without_all-among : (ks : List Key) (l : Key) (es : List Entry) → IsTable es → is_key_among ks l ≡ true → entry_at l (without_all ks es) ≡ None
 without_all-among [] l es is among = absurd cc
 without_all-among (k ∷ ks) l es is among =
     elim (cases_eq (key_number k) (key_number l)) [
       | inl same ↦ without_all-none ks l (without k es) (IsTable-without k es is) (entry_at-without-same k l es is same)
       | inr other ↦ without_all-among ks l (without k es) (IsTable-without k es is)
-          (sym (ap (λ b. b || is_among ks l) (ne_eqb (key_number k) (key_number l) other)) ∙ among)
+          (sym (ap (λ b. b || is_key_among ks l) (ne_eqb (key_number k) (key_number l) other)) ∙ among)
     ]
 
-pub without_all-others : (ks : List Key) (l : Key) (es : List Entry) → IsTable es → is_among ks l ≡ false → entry_at l (without_all ks es) ≡ entry_at l es
+pub without_all-others : (ks : List Key) (l : Key) (es : List Entry) → IsTable es → is_key_among ks l ≡ false → entry_at l (without_all ks es) ≡ entry_at l es
 without_all-others [] l es is among = refl
 without_all-others (k ∷ ks) l es is among =
-    let parts = or_parts (key_number k == key_number l) (is_among ks l) among in
+    let parts = or_parts (key_number k == key_number l) (is_key_among ks l) among in
     without_all-others ks l (without k es) (IsTable-without k es is) parts.1
     ∙ entry_at-without-other k l es is (eqb-false (key_number k) (key_number l) parts.0)
 
 -- the keys that were added, taken away in any order, leave the earlier table
-pub without_added : (ks ls : List Key) (before after : List Entry) → IsTable before → IsTable after → OnlyAdded ks before after → ((k : Key) → is_among ls k ≡ is_among ks k) → without_all ls after ≡ before
+pub without_added : (ks ls : List Key) (before after : List Entry) → IsTable before → IsTable after → OnlyAdded ks before after → ((k : Key) → is_key_among ls k ≡ is_key_among ks k) → without_all ls after ≡ before
 without_added ks ls before after was is only same =
-    table_from_lookups (without_all ls after) before (IsTable-without_all ls after is) was (λ k. elim (cases_Bool (is_among ks k)) [
+    table_from_lookups (without_all ls after) before (IsTable-without_all ls after is) was (λ k. elim (cases_Bool (is_key_among ks k)) [
       | inl among ↦ without_all-among ls k after is (same k ∙ among) ∙ sym (only.added k among)
       | inr other ↦ without_all-others ls k after is (same k ∙ other) ∙ only.others k other
     ])
 
-pub removals-restore : (now : ℕ) (ks ls : List Key) (ms : List FlowMod) (before : List Entry) (t : TableState) → IsTable before → IsTable t.entries → OnlyAdded ks before t.entries → ((k : Key) → is_among ls k ≡ is_among ks k) → AreRemovals ls ms → after_all now ms t ≡ record t { entries = before }
+pub removals-restore : (now : ℕ) (ks ls : List Key) (ms : List FlowMod) (before : List Entry) (t : TableState) → IsTable before → IsTable t.entries → OnlyAdded ks before t.entries → ((k : Key) → is_key_among ls k ≡ is_key_among ks k) → AreRemovals ls ms → after_all now ms t ≡ record t { entries = before }
 removals-restore now ks ls ms before t was is only same are =
     after-removals now ls ms t are ∙ ap (λ (es : List Entry). record t { entries = es }) (without_added ks ls before t.entries was is only same)
 
@@ -155,24 +156,20 @@ or_assoc : (a b c : Bool) → ((a || b) || c) ≡ (a || (b || c))
 or_assoc true b c = refl
 or_assoc false b c = refl
 
-or_false : (a : Bool) → (a || false) ≡ a
-or_false true = refl
-or_false false = refl
-
-pub is_among-append : (ks ls : List Key) (k : Key) → is_among (ks ++ ls) k ≡ (is_among ks k || is_among ls k)
-is_among-append [] ls k = refl
-is_among-append (l ∷ ks) ls k =
-    ap (λ b. (key_number l == key_number k) || b) (is_among-append ks ls k) ∙ sym (or_assoc (key_number l == key_number k) (is_among ks k) (is_among ls k))
+pub is_key_among-append : (ks ls : List Key) (k : Key) → is_key_among (ks ++ ls) k ≡ (is_key_among ks k || is_key_among ls k)
+is_key_among-append [] ls k = refl
+is_key_among-append (l ∷ ks) ls k =
+    ap (λ b. (key_number l == key_number k) || b) (is_key_among-append ks ls k) ∙ sym (or_assoc (key_number l == key_number k) (is_key_among ks k) (is_key_among ls k))
 
 -- newest first are the same keys
-pub is_among-reverse : (ks : List Key) (k : Key) → is_among (reverse ks) k ≡ is_among ks k
-is_among-reverse [] k = refl
-is_among-reverse (l ∷ ks) k =
+pub is_key_among-reverse : (ks : List Key) (k : Key) → is_key_among (reverse ks) k ≡ is_key_among ks k
+is_key_among-reverse [] k = refl
+is_key_among-reverse (l ∷ ks) k =
     let here : Bool = key_number l == key_number k in
-    ap (λ xs. is_among xs k) (reverse-append (l ∷ []) ks)
-    ∙ is_among-append (reverse ks) (l ∷ []) k
-    ∙ ap₂ (λ a b. a || b) (is_among-reverse ks k) (or_false here)
-    ∙ or_swap (is_among ks k) here
+    ap (λ xs. is_key_among xs k) (reverse-append (l ∷ []) ks)
+    ∙ is_key_among-append (reverse ks) (l ∷ []) k
+    ∙ ap₂ (λ a b. a || b) (is_key_among-reverse ks k) (or-false here)
+    ∙ or_swap (is_key_among ks k) here
 
 -- ---- What keeps it
 
@@ -183,20 +180,20 @@ OnlyAdded-nothing es = record { added = λ k among. absurd cc; others = λ k oth
 pub OnlyAdded-more : (now : ℕ) (ks : List Key) (m : FlowMod) (before : List Entry) (t : TableState) → OnlyAdded ks before t.entries → adds m t.entries ≡ true → entry_at (key_in m) t.entries ≡ None → OnlyAdded (ks ++ key_in m ∷ []) before (changed now m t).entries
 unfolding changed new_entry
 OnlyAdded-more now ks m before t only puts absent = rw (entries_after-adds now t.next m t.entries puts) (record {
-  added = λ k among. elim (or_cases (is_among ks k) (key_number (key_in m) == key_number k) (sym (split k) ∙ among)) [
+  added = λ k among. elim (or_cases (is_key_among ks k) (key_number (key_in m) == key_number k) (sym (split k) ∙ among)) [
     | inl old ↦ only.added k old
     | inr fresh ↦ was k (eqb-true (key_number (key_in m)) (key_number k) fresh)
   ];
   others = λ k other.
-      let parts = or_parts (is_among ks k) (key_number (key_in m) == key_number k) (sym (split k) ∙ other) in
+      let parts = or_parts (is_key_among ks k) (key_number (key_in m) == key_number k) (sym (split k) ∙ other) in
       entry_at-with_entry-other t.entries (new_entry now t.next m) k (eqb-false (key_number (key_in m)) (key_number k) parts.1) ∙ only.others k parts.0;
 })
   where
-    split : (k : Key) → is_among (ks ++ key_in m ∷ []) k ≡ (is_among ks k || (key_number (key_in m) == key_number k))
-    split k = is_among-append ks (key_in m ∷ []) k ∙ ap (λ b. is_among ks k || b) (or_false (key_number (key_in m) == key_number k))
+    split : (k : Key) → is_key_among (ks ++ key_in m ∷ []) k ≡ (is_key_among ks k || (key_number (key_in m) == key_number k))
+    split k = is_key_among-append ks (key_in m ∷ []) k ∙ ap (λ b. is_key_among ks k || b) (or-false (key_number (key_in m) == key_number k))
 
     was : (k : Key) → key_number (key_in m) ≡ key_number k → entry_at k before ≡ None
-    was k same = elim (cases_Bool (is_among ks k)) [
+    was k same = elim (cases_Bool (is_key_among ks k)) [
       | inl old ↦ only.added k old
       | inr other ↦ sym (only.others k other) ∙ sym (entry_at-same_place t.entries (key_in m) k same) ∙ absent
     ]
@@ -204,9 +201,9 @@ OnlyAdded-more now ks m before t only puts absent = rw (entries_after-adds now t
 -- the newest keys taken away again
 pub OnlyAdded-fewer : (ks ls : List Key) (before after : List Entry) → IsTable after → OnlyAdded (ks ++ ls) before after → OnlyAdded ks before (without_all ls after)
 OnlyAdded-fewer ks ls before after is only = record {
-  added = λ k among. only.added k (is_among-append ks ls k ∙ or_left (is_among ks k) (is_among ls k) among);
-  others = λ k other. elim (cases_Bool (is_among ls k)) [
-    | inl fresh ↦ without_all-among ls k after is fresh ∙ sym (only.added k (is_among-append ks ls k ∙ or_right (is_among ks k) (is_among ls k) fresh))
-    | inr neither ↦ without_all-others ls k after is neither ∙ only.others k (is_among-append ks ls k ∙ or_from (is_among ks k) (is_among ls k) other neither)
+  added = λ k among. only.added k (is_key_among-append ks ls k ∙ or_left (is_key_among ks k) (is_key_among ls k) among);
+  others = λ k other. elim (cases_Bool (is_key_among ls k)) [
+    | inl fresh ↦ without_all-among ls k after is fresh ∙ sym (only.added k (is_key_among-append ks ls k ∙ or_right (is_key_among ks k) (is_key_among ls k) fresh))
+    | inr neither ↦ without_all-others ls k after is neither ∙ only.others k (is_key_among-append ks ls k ∙ or_from (is_key_among ks k) (is_key_among ls k) other neither)
   ];
 }

@@ -8,6 +8,7 @@ use Rattle.undo_laws.specs.laws.SerialsLaws.{some_mapped}
 use Rattle.undo_laws.specs.Log.{Image, Untouched, Absent, Gone, Acted, with_actions, back, merge, given_back, seen}
 use Rattle.undo_laws.specs.laws.LogLaws.{merge-untouched, given_back-merge, given_back-seen, Undoes, leaves, removes, puts, gives}
 use Rattle.undo_laws.specs.Stands.{restored_at, is_gone, Standing}
+use Rattle.undo_laws.specs.CorrectedSwitch.{with_use}
 
 -- the serial of an earlier entry lies below the earlier table's next one
 abbrev pub IsBelow : ℕ → Option Entry → Type 0
@@ -51,18 +52,15 @@ restored-actions : (now : ℕ) (actions : List Action) (earlier present : Option
 restored-actions now actions earlier None = refl
 restored-actions now actions earlier (Some e) = refl
 
-abbrev anew : ℕ → Entry → Entry
-anew now e = record e { used = now }
+with_use-restored : (now : ℕ) (earlier present : Option Entry) → option_map (with_use now) (option_map (restored_at now present) earlier) ≡ option_map (restored_at now None) earlier
+with_use-restored now None present = refl
+with_use-restored now (Some f) present = refl
 
-anew-restored : (now : ℕ) (earlier present : Option Entry) → option_map (anew now) (option_map (restored_at now present) earlier) ≡ option_map (restored_at now None) earlier
-anew-restored now None present = refl
-anew-restored now (Some f) present = refl
-
-anew-given : (now : ℕ) (i : Image) (e : Entry) → option_map (anew now) (option_map seen (given_back now i (Some e))) ≡ option_map seen (given_back now i (Some (anew now (seen e))))
-anew-given now Untouched e = refl
-anew-given now Absent e = refl
-anew-given now (Gone f) e = refl
-anew-given now (Acted actions) e = refl
+with_use-given : (now : ℕ) (i : Image) (e : Entry) → option_map (with_use now) (option_map seen (given_back now i (Some e))) ≡ option_map seen (given_back now i (Some (with_use now (seen e))))
+with_use-given now Untouched e = refl
+with_use-given now Absent e = refl
+with_use-given now (Gone f) e = refl
+with_use-given now (Acted actions) e = refl
 
 -- ---- One change at a key
 
@@ -99,8 +97,8 @@ module _ (now next serial : ℕ) (earlier : Option Entry) (i : Image) (later : n
   pub after_goes : (e : Entry) (present : Option Entry) → IsYounger next present → Standing now next earlier i (Some e) → Standing now next earlier (merge i (Gone (seen e))) present
   after_goes e present young h = record {
     effect =
-        ap (option_map seen) (given_back-merge now i (Gone (seen e)) present) ∙ sym (anew-given now i e)
-        ∙ ap (option_map (anew now)) h.effect ∙ anew-restored now earlier (Some e)
+        ap (option_map seen) (given_back-merge now i (Gone (seen e)) present) ∙ sym (with_use-given now i e)
+        ∙ ap (option_map (with_use now)) h.effect ∙ with_use-restored now earlier (Some e)
         ∙ sym (restored-younger now next earlier present below young);
     younger = λ _. young;
     older = not_older present young;
@@ -143,7 +141,7 @@ module _ (now next serial : ℕ) (earlier : Option Entry) (i : Image) (later : n
       let young = is_younger b refl in
       record {
         effect =
-            given_back-seen now i (Some b) (Some (anew now e)) refl
+            given_back-seen now i (Some b) (Some (with_use now e)) refl
             ∙ sym (ap (option_map seen) (given_back-merge now i (Gone e) o)) ∙ h.effect
             ∙ restored-younger now next earlier o below (h.younger (gone-gone i e))
             ∙ sym (restored-younger now next earlier (Some b) below young);

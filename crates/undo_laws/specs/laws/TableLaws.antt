@@ -12,7 +12,7 @@ use Rattle.flow_table.specs.declared.entry.Entry.{Entry}
 use Rattle.flow_table.specs.Table.{TableState, IsTable, place_of, has_key, entry_at, with_entry}
 use Rattle.flow_table.specs.Undone.{restored, undone}
 use Rattle.flow_table.specs.laws.TableLaws.{with_entry-before, with_entry-after, with_entry-same, entry_at-map}
-use Rattle.undo_laws.specs.Removal.{is_among}
+use Rattle.undo_laws.specs.Removal.{is_key_among}
 use Rattle.undo_laws.specs.Serials.{IsSerialed}
 use Rattle.undo_laws.specs.Log.{Inverse, Remove, PutBack, Image, Untouched, Absent, Gone, Acted, back, undo_one, undo, image_of, given_back, with_actions, give_actions, seen}
 use Rattle.undo_laws.specs.laws.RemovalLaws.{entry_at-without-other}
@@ -152,14 +152,14 @@ met-one : (now : ℕ) (k l : Key) (t : TableState) → IsTable t.entries → key
 unfolding undo_one
 met-one now k l t is other = entry_at-without-other k l t.entries is other
 
-met-all : (now : ℕ) (ks : List Key) (l : Key) (t : TableState) → IsSerialed t → is_among ks l ≡ false → entry_at l (undo now (remove_all ks) t).entries ≡ entry_at l t.entries
+met-all : (now : ℕ) (ks : List Key) (l : Key) (t : TableState) → IsSerialed t → is_key_among ks l ≡ false → entry_at l (undo now (remove_all ks) t).entries ≡ entry_at l t.entries
 unfolding undo
 met-all now [] l t h out = refl
 met-all now (k ∷ ks) l t h out =
     elim (cases_eq (key_number k) (key_number l)) [
-      | inl same ↦ let here : is_among (k ∷ ks) l ≡ true = rw (eq-eqb (key_number k) (key_number l) same) refl in absurd cc
+      | inl same ↦ let here : is_key_among (k ∷ ks) l ≡ true = rw (eq-eqb (key_number k) (key_number l) same) refl in absurd cc
       | inr other ↦
-          let rest : is_among ks l ≡ false = rw (ne_eqb (key_number k) (key_number l) other) at out in
+          let rest : is_key_among ks l ≡ false = rw (ne_eqb (key_number k) (key_number l) other) at out in
           met-one now k l (undo now (remove_all ks) t) (IsSerialed-undo now (remove_all ks) t h).table other ∙ met-all now ks l t h rest
     ]
 

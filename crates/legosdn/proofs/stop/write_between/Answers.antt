@@ -1,7 +1,7 @@
 use Rattle.std.proofs.Common.{◌++◌, arith}
 use Rattle.std.proofs.lemmas.Result.{on_err_weaker, on_ok_weaker}
 use Rattle.lego_io.specs.laws.CountLaws.{Rose-after}
-use Rattle.event_dispatch.specs.laws.TalkingLaws.{holds_on_err}
+use Rattle.of_types.specs.laws.ChoiceLaws.{holds_on_err}
 use Rattle.legosdn.proofs.Pieces.{part_of_two, part_of_second, part_of_third, whole_of_three}
 use Rattle.legosdn.proofs.stop.write_between.Goals as goal
 

@@ -1,8 +1,8 @@
 use Rattle.std.proofs.Common.{List, length, sym, ap, subst, ◌∙◌, arith}
 use Rattle.of_types.specs.declared.journal.Stimulus.TheVariants.{Advance}
-use Rattle.outside.specs.State.{Link, link_stimulated, declared_in}
+use Rattle.outside.specs.State.{Link, link_stimulated, declared_in, waiting_in}
 use Rattle.outside.specs.laws.LinkKeptLaws.{declared_in-map, keeps_stimulated}
-use Rattle.sim_world.specs.Links.{AreLinks, links_in, waiting_in}
+use Rattle.sim_world.specs.Links.{AreLinks, links_in}
 use Rattle.sim_world.specs.laws.LinksLaws.{few_passed}
 use Rattle.sim_world.proofs.links.advance.Goals as goal
 

@@ -2,8 +2,8 @@ use Rattle.std.proofs.Common.{◌≡◌, Some, refl, sym, ◌∙◌, subst}
 use Rattle.outside.specs.declared.step.WorldStep.TheVariants.{From}
 use Rattle.sim_world.specs.Links.{HasPlace}
 use Rattle.std.specs.Prelude.{slice_get}
-use Rattle.outside.specs.State.{link_told}
-use Rattle.sim_world.specs.Links.{links_in, waiting_in}
+use Rattle.outside.specs.State.{link_told, waiting_in}
+use Rattle.sim_world.specs.Links.{links_in}
 use Rattle.sim_world.specs.laws.LinksLaws.{links_in-changed, declared_in-set, HasPlace-ascending, waiting_in-first, waiting_in-none}
 use Rattle.sim_world.proofs.links.told.Goals as goal
 

@@ -1,18 +1,19 @@
 use Rattle.std.proofs.Common.{◌++◌, ◌∷◌, [], ap, ◌∙◌}
 use Rattle.session_lists.specs.declared.reply_list.ReplyLine.{ReplyLine}
 use Rattle.session_lists.specs.Steps.{steps_in}
-use Rattle.session_lists.specs.laws.StepLaws.{kept_lines, added_line, err_holds}
+use Rattle.session_lists.specs.laws.StepLaws.{kept_lines, added_line}
 use Rattle.session_lists.proofs.reply_list.ReplyList.push.Goals as goal
+use Rattle.of_types.specs.laws.ChoiceLaws.{holds_on_err}
 
 pub returns-in_err-append-clause-err : goal.returns-in_err-append-clause-err
 returns-in_err-append-clause-err c =
     let more = c.in_err-append.ensures.err in
-    err_holds c.from_residual-in_err-append.result
+    holds_on_err c.from_residual-in_err-append.result
     (kept_lines c.self.inside.steps _ more.0 c.self.inside.lines.items _ c.self.invariant c.reserve.ensures.items more.1 ∙ c.self.view_is)
 
 pub returns-in_err-end-clause-err : goal.returns-in_err-end-clause-err
 returns-in_err-end-clause-err c =
-    err_holds c.from_residual-in_err-end.result
+    holds_on_err c.from_residual-in_err-end.result
     (kept_lines c.self.inside.steps _ c.script.inside.records c.self.inside.lines.items _ c.self.invariant c.reserve.ensures.items c.in_ok-append.ensures.ok ∙ c.self.view_is)
 
 pub returns-clause-ok : goal.returns-clause-ok

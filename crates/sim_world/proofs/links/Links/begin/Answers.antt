@@ -1,6 +1,5 @@
 use Rattle.std.proofs.Common.{◌≤◌, ◌+◌, List, length, sym, subst, arith}
-use Rattle.outside.specs.State.{Link, with_link, link_joined}
-use Rattle.sim_world.specs.Links.{waiting_in}
+use Rattle.outside.specs.State.{Link, with_link, link_joined, waiting_in}
 use Rattle.sim_world.specs.laws.LinksLaws.{few_joined, few_left}
 use Rattle.sim_world.proofs.Places.{either_way}
 use Rattle.sim_world.proofs.links.Links.begin.Goals as goal

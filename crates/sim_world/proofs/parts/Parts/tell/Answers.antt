@@ -1,6 +1,6 @@
 use Rattle.std.proofs.Common.{◌≡◌, [], ◌∷◌, subst, ◌∙◌}
 use Rattle.outside.specs.declared.step.WorldStep.TheVariants.{Idle}
-use Rattle.sim_world.specs.Links.{waiting_in}
+use Rattle.outside.specs.State.{waiting_in}
 use Rattle.sim_world.specs.World.{WorldData, Moves}
 use Rattle.sim_world.specs.laws.TellLaws.{Tells_by_idle}
 use Rattle.sim_world.proofs.parts.Parts.tell.Goals as goal
