@@ -19,7 +19,6 @@ use Rattle.outside.specs.Conforming.{MayBegin, Conforming}
 use Rattle.switch_laws.specs.Orderly.{OrderlySince}
 use Rattle.batch_laws.specs.Knowledge.{knowledge_of, handled_all, LosesAt, known_lost}
 use Rattle.batch_laws.specs.Batches.{Standing}
-use Rattle.batch_laws.specs.Tells.{FitsItem}
 use Rattle.app_frames.specs.declared.frame.Event.{Event}
 use Rattle.net_txn.specs.Net.{NetState}
 
@@ -51,7 +50,6 @@ pub record InBatch {Own : Type 0} (x : WorldStim) (n : ℕ) (first now : Standin
   pub told : List WorldStep
   pub count : length told ≡ n
   pub read : AllByRecursion IsReadable told
-  pub fits : AllByRecursion FitsItem told
   pub order : told ++ upcoming (state now.seen) ≡ upcoming (after_stim x (state first.seen))
   pub knowledge : knowledge_of now.net now.queue ≡ handled_all told (knowledge_of first.net first.queue)
   pub kept : now.net.kept ≡ []
@@ -68,8 +66,7 @@ pub record InBatch {Own : Type 0} (x : WorldStim) (n : ℕ) (first now : Standin
 
 -- ---- When it is over
 
--- Idle was told: all items of the stimulus were told, could be read and say numbers that fit, and the engine knows what they make of what
--- it knew.
+-- Idle was told: all items of the stimulus were told and could be read, and the engine knows what they make of what it knew.
 pub record BatchDone {Own : Type 0} (x : WorldStim) (first now : Standing Own) : Type 0 where
   pub given : now.seen.given ≡ first.seen.given
   pub began : MayBegin first.seen.given.declared x (state first.seen)
@@ -79,7 +76,6 @@ pub record BatchDone {Own : Type 0} (x : WorldStim) (first now : Standing Own) :
   pub waits : (d : ℕ) → waits_of d (state now.seen) ≡ []
   pub switches : (d : ℕ) → switch_of d (state now.seen) ≡ switch_of d (after_stim x (state first.seen))
   pub read : AllByRecursion IsReadable (upcoming (after_stim x (state first.seen)))
-  pub fits : AllByRecursion FitsItem (upcoming (after_stim x (state first.seen)))
   pub knowledge : knowledge_of now.net now.queue ≡ handled_all (upcoming (after_stim x (state first.seen))) (knowledge_of first.net first.queue)
   pub kept : now.net.kept ≡ []
   pub log : now.net.log ≡ first.net.log

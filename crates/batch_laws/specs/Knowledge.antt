@@ -21,7 +21,8 @@ use Rattle.net_txn.specs.Net.{NetState}
 use Rattle.net_txn.specs.Views.{rows_at, with_rows}
 use Rattle.net_txn.specs.Joining.{with_view}
 use Rattle.net_txn.specs.Leaving.{ports_at, ports_text, left_event}
-use Rattle.net_txn.specs.Arriving.{without_key, known_after, event_of}
+use Rattle.net_txn.specs.Arriving.{known_after, event_of}
+use Rattle.flow_table.specs.Sorted.{without_key}
 use Rattle.flow_table.specs.RowKeys.{key_removed}
 use Rattle.switch_laws.specs.Shown.{corrections}
 

@@ -27,7 +27,6 @@ use Rattle.switch_laws.specs.Sound.{AllSound}
 use Rattle.batch_laws.specs.Knowledge.{known_by, Knowledge}
 use Rattle.batch_laws.specs.Calm.{known_ports}
 use Rattle.batch_laws.specs.Lasting.{Lasts}
-use Rattle.batch_laws.specs.Tells.{FitsRead}
 use Rattle.lego_model.specs.Places.{table_rows}
 
 -- what may happen to a switch that is joined
@@ -36,7 +35,7 @@ Happens (Frame port bytes) = Unit {0}
 Happens (Advance t) = t < 2 ^ 32
 Happens (Port port change) = (1 ≤ port) × (port ≤ 65280)
 Happens (Counts priority packets bytes) = Unit {0}
-Happens (Raw bytes) = IsTrue (may_be_raw (reading_of bytes)) × FitsRead (reading_of bytes)
+Happens (Raw bytes) = IsTrue (may_be_raw (reading_of bytes))
 
 -- what holds of a switch that is joined, between stimuli
 pub record StandsWell (d : ℕ) (s : SwitchState) : Type 0 where

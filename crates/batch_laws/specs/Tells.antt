@@ -1,9 +1,9 @@
 -- What the items of a stimulus tell the engine of a switch, and what it knows once they are handled. All of this is our own.
-use Rattle.std.specs.Prelude.{◌≡◌, ◌≢◌, ℕ, ◌^◌, ◌<◌, List, ◌++◌, Some, None, Result, Ok, Err}
+use Rattle.std.specs.Prelude.{◌≡◌, ◌≢◌, ℕ, List, ◌++◌, Some, None, Result, Ok, Err}
 use Rattle.std.specs.List.{AllByRecursion}
 use Rattle.of_types.specs.declared.journal.Stimulus.{Stimulus}
 use Rattle.of_wire.specs.declared.message.Message.{Message}
-use Rattle.of_wire.specs.declared.message.Message.TheVariants.{Error, FlowRemoved, PortStatus}
+use Rattle.of_wire.specs.declared.message.Message.TheVariants.{FlowRemoved, PortStatus}
 use Rattle.of_wire.specs.declared.message.Envelope.{Envelope}
 use Rattle.of_wire.specs.declared.fault.WireFault.{WireFault}
 use Rattle.of_wire.specs.Reading.{reading_of}
@@ -16,8 +16,6 @@ use Rattle.lego_model.specs.Answers.{rows_of_table, rows_of_view}
 use Rattle.lego_model.specs.Events.{ports_of, events_of}
 use Rattle.lego_model.specs.Controller.{places_after, events_after, left_at}
 use Rattle.lego_model.specs.Places.{Place, with_place}
-use Rattle.outside.specs.declared.step.WorldStep.{WorldStep}
-use Rattle.outside.specs.declared.step.WorldStep.TheVariants.{From}
 use Rattle.net_txn.specs.Views.{rows_at, ViewsAscend}
 use Rattle.switch_laws.specs.Shown.{shown_places, correction_in, shown_by}
 use Rattle.switch_laws.specs.Since.{ports_known}
@@ -31,18 +29,6 @@ use Rattle.net_txn.specs.Net.{NetState}
 use Rattle.net_txn.specs.ChangeSteps.{Agrees}
 use Rattle.switch_laws.specs.Sound.{Sound}
 
-abbrev pub FitsMessage : Message → Type 0
-FitsMessage (Error kind code payload) = (kind < 2 ^ 16) × (code < 2 ^ 16)
-FitsMessage other = Unit {0}
-
-abbrev pub FitsRead : Result Envelope WireFault → Type 0
-FitsRead (Ok e) = FitsMessage e.message
-FitsRead (Err fault) = Unit {0}
-
-abbrev pub FitsItem : WorldStep → Type 0
-FitsItem (From d bytes) = FitsRead (reading_of bytes)
-FitsItem other = Unit {0}
-
 abbrev pub IsPlain : Message → Type 0
 IsPlain (FlowRemoved f) = ⊥
 IsPlain (PortStatus status) = ⊥
@@ -52,10 +38,9 @@ abbrev pub IsPlainRead : Result Envelope WireFault → Type 0
 IsPlainRead (Ok e) = IsPlain e.message
 IsPlainRead (Err fault) = Unit {0}
 
--- bytes of a message that is no news of a port and no notice of an entry that went, and whose numbers fit
-pub record PlainBytes (bytes : List ℕ) : Type 0 where
-  pub plain : IsPlainRead (reading_of bytes)
-  pub fits : FitsRead (reading_of bytes)
+-- bytes of a message that is no news of a port and no notice of an entry that went
+abbrev pub PlainBytes : List ℕ → Type 0
+PlainBytes bytes = IsPlainRead (reading_of bytes)
 
 abbrev pub AllPlain : List (List ℕ) → Type 0
 AllPlain list = AllByRecursion PlainBytes list

@@ -18,7 +18,6 @@ use Rattle.batch_laws.specs.Batches.{Standing}
 use Rattle.batch_laws.specs.InBatch.{SameBesides, IsReadable}
 use Rattle.batch_laws.specs.Items.{Handles, IsFresh}
 use Rattle.batch_laws.specs.Knowledge.{ports_lost}
-use Rattle.batch_laws.specs.Tells.{FitsItem}
 use Rattle.batch_laws.specs.Waiting.{NoneWait}
 
 -- from the state s before an item to the state t behind it: of what was upcoming the item is gone, and nothing else changed
@@ -47,7 +46,6 @@ pub record Later {Own : Type 0} (Tells : Type 0) (item : WorldStep) (text : List
   pub given : mid.given ≡ now.seen.given
   pub longer : mid.history ≡ now.seen.history ++ item ∷ []
   pub may : MayStep now.seen.given.declared item (state now.seen)
-  pub fits : FitsItem item
   pub handles : Handles Tells item text mid new now.net net now.queue queue
 
 -- what holds between batches: nothing waits, nothing is kept or due, and what is known of each switch is so

@@ -45,6 +45,14 @@ IsFoundAt {X} place n xs (Err i) = (i ≤ length xs) × Around place n i i xs
 abbrev pub row_place : ViewRow → ℕ
 row_place r = key_number r.key
 
+-- the rows with this one, in place of one with its key
+abbrev pub with_row : ViewRow → List ViewRow → List ViewRow
+with_row r rows = with_item row_place r rows
+
+-- the rows but for the one with this key
+abbrev pub without_key : Key → List ViewRow → List ViewRow
+without_key k rows = without_place row_place (key_number k) rows
+
 abbrev pub lost_place : Key × Lost → ℕ
 lost_place c = key_number c.0
 

@@ -27,6 +27,7 @@ use Rattle.flow_table.specs.Refusals.{or_else, no_buffer, is_emergency, most_act
 use Rattle.flow_table.specs.Switch.{SwitchState}
 use Rattle.app_frames.specs.declared.frame.Answer.{Answer}
 use Rattle.app_frames.specs.declared.frame.Answer.TheVariants.{Fine, Error, Unknown}
+use Rattle.flow_table.specs.RowKeys.{shown_row, held_entry}
 
 -- ---- Bytes that are no message
 
@@ -47,10 +48,10 @@ abbrev pub Rows : Type 0
 Rows = List (Key × List Action)
 
 abbrev pub rows_of_table : List Entry → Rows
-rows_of_table es = map (λ e. (e.key, e.actions)) es
+rows_of_table es = map held_entry es
 
 abbrev pub rows_of_view : List ViewRow → Rows
-rows_of_view rows = map (λ r. (r.key, r.actions)) rows
+rows_of_view rows = map shown_row rows
 
 -- another key of the priority overlaps, and that was to be checked
 abbrev pub would_clash : FlowModBody → Rows → Bool

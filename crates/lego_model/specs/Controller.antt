@@ -26,7 +26,7 @@ use Rattle.lego_model.specs.Journal.{Reply, Start, Untold}
 use Rattle.lego_model.specs.Turns.{Outcome, Completed, Failed, Table, turn_of, outcome_of}
 use Rattle.lego_model.specs.Places.{Place, switch_at, with_place}
 use Rattle.lego_model.specs.Losses.{PacketLoss, Stays, BeforeSent, AfterSent, TurnLosses, Losses, next_flag, next_packet, next_turn, batch_fewer, turn_fewer}
-pub use Rattle.lego_model.specs.Events.{ports_of, two_bytes, event_of_message, event_of_read, events_of, join_event, leave_event}
+pub use Rattle.lego_model.specs.Events.{ports_of, event_of_message, event_of_read, events_of, join_event, leave_event}
 use Rattle.lego_model.specs.Packets.{Held, HeldBack, Play, fresh_play, play, play_undo}
 pub use Rattle.lego_model.specs.Packets.{lose_at, lose, undoing}
 use Rattle.outside.specs.State.{Mark, moment_after, has_mark}

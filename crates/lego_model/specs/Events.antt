@@ -1,6 +1,6 @@
 -- The events of a run: what switches send becomes events (OpenFlow 1.0.0, 5.4 Asynchronous Messages), and so do their joins and leaves. Which
 -- messages are events is our own choice.
-use Rattle.std.specs.Prelude.{ℕ, ◌/◌, ◌%◌, List, [], ◌∷◌, ◌++◌, map, filter_map, Option, Some, None, Result, Ok, Err}
+use Rattle.std.specs.Prelude.{ℕ, List, [], ◌∷◌, ◌++◌, map, filter_map, Option, Some, None, Result, Ok, Err}
 use Rattle.of_types.specs.declared.port_desc.PortDesc.{PortDesc}
 use Rattle.of_wire.specs.declared.message.Message.{Message}
 use Rattle.of_wire.specs.declared.message.Message.TheVariants.{Error, PacketIn, FlowRemoved, PortStatus}
@@ -13,6 +13,7 @@ use Rattle.flow_table.specs.Switch.{SwitchState, features_reply, port_desc}
 use Rattle.flow_table.specs.Step.{flow_removed_bytes}
 use Rattle.app_frames.specs.declared.frame.Event.{Event}
 use Rattle.app_frames.specs.declared.frame.EventKind.TheVariants as events
+use Rattle.of_types.specs.Fields.{number_bytes}
 
 abbrev pub event_list : Option Event → List Event
 event_list None = []
@@ -22,14 +23,11 @@ event_list (Some event) = event ∷ []
 abbrev pub ports_of : SwitchState → List PortDesc
 ports_of s = map (port_desc s.declared.dpid) s.ports
 
-abbrev pub two_bytes : ℕ → List ℕ
-two_bytes n = n / 256 ∷ n % 256 ∷ []
-
 abbrev pub event_of_message : ℕ → Message → Option Event
 event_of_message dpid (PacketIn m) = Some (record { kind = events.PacketIn; dpid = dpid; body = message_bytes 0 (PacketIn m) })
 event_of_message dpid (FlowRemoved m) = Some (record { kind = events.FlowRemoved; dpid = dpid; body = message_bytes 0 (FlowRemoved m) })
 event_of_message dpid (PortStatus m) = Some (record { kind = events.PortStatus; dpid = dpid; body = message_bytes 0 (PortStatus m) })
-event_of_message dpid (Error kind code payload) = Some (record { kind = events.SwitchError; dpid = dpid; body = two_bytes kind ++ two_bytes code })
+event_of_message dpid (Error kind code payload) = Some (record { kind = events.SwitchError; dpid = dpid; body = number_bytes 2 kind ++ number_bytes 2 code })
 event_of_message dpid other = None
 
 abbrev pub event_of_read : ℕ → Result Envelope WireFault → Option Event

@@ -52,12 +52,6 @@ pub record Reached (input rest : List ℕ) (number : ℕ) : Type 0 where
   pub first : number ≡ 1 → length rest ≡ length input
   pub passed : (rest ≡ []) ⊎ Passed input rest
 
-none_passed : (input : List ℕ) → Passed input input
-none_passed input = record { front = []; whole = refl; before = refl }
-
-pub begins : (input rest : List ℕ) → rest ≡ input → (rest ≡ []) ⊎ Passed input rest
-begins input rest is = rw is (inr (none_passed input))
-
 -- what a test of the first line says, where there is one
 abbrev pub Tells : Bool → List ℕ → Type 0
 Tells answer text = (line : List ℕ) → (lines : List (List ℕ)) → lines_of text ≡ line ∷ lines → answer ≡ is_separator line

@@ -1,25 +1,20 @@
 -- What the host makes of a message that came of itself: an event, or none; and what it then knows (OpenFlow 1.0.0, 5.4 Asynchronous
 -- Messages and 5.5.2 Echo Request). Which messages are events is our own choice.
-use Rattle.std.specs.Prelude.{◌≡◌, ◌==◌, ◌⊎◌, ℕ, Bool, false, not, ◌&&◌, List, [], ◌∷◌, ◌++◌, filter, Option, Some, None, Result, Ok, Err, IsErr, IsOkAnd, IfOk, IfErr, OnErr, if◌then◌else◌}
-use Rattle.std.specs.List.{list_any, flat_map}
+use Rattle.std.specs.Prelude.{◌≡◌, ◌==◌, ◌⊎◌, ℕ, Bool, false, not, List, [], ◌∷◌, ◌++◌, filter, Option, None, Result, Ok, Err, IsErr, IsOkAnd, IfOk, IfErr, OnErr, if◌then◌else◌}
+use Rattle.std.specs.List.{flat_map}
 use Rattle.std.proofs.Common.{zero, suc}
-use Rattle.of_types.specs.Fields.{number_bytes}
 use Rattle.of_types.specs.declared.port_desc.PortDesc.{PortDesc}
 use Rattle.of_types.specs.declared.journal.Act.TheVariants.{Sent}
-use Rattle.of_match.specs.declared.key.Key.{Key}
-use Rattle.of_match.specs.Key.{key_number}
 use Rattle.of_wire.specs.declared.bodies.FlowRemoved.{FlowRemoved as Removed}
 use Rattle.of_wire.specs.declared.bodies.PortStatus.{PortStatus as Status}
 use Rattle.of_wire.specs.declared.message.Message.{Message}
 use Rattle.of_wire.specs.declared.message.Envelope.{Envelope}
 use Rattle.of_wire.specs.declared.fault.WireFault.{WireFault}
-use Rattle.of_wire.specs.declared.message.Message.TheVariants.{Error, EchoRequest, EchoReply, PacketIn, FlowRemoved, PortStatus}
+use Rattle.of_wire.specs.declared.message.Message.TheVariants.{EchoRequest, EchoReply, FlowRemoved, PortStatus}
 use Rattle.of_wire.specs.Reading.{reading_of}
 use Rattle.of_wire.specs.Spelling.{message_bytes}
-use Rattle.flow_table.specs.declared.view.ViewRow.{ViewRow}
 use Rattle.flow_table.specs.View.{TableView}
-use Rattle.flow_table.specs.Sorted.{with_item, port_number}
-use Rattle.flow_table.specs.Change.{asks_notice}
+use Rattle.flow_table.specs.Sorted.{with_item, port_number, without_key}
 use Rattle.app_frames.specs.declared.frame.Event.{Event}
 use Rattle.app_frames.specs.declared.frame.EventKind.{EventKind}
 use Rattle.app_frames.specs.declared.frame.EventKind.TheVariants as kinds
@@ -40,19 +35,13 @@ use Rattle.net_txn.specs.declared.halt.Halt.{Halt}
 use Rattle.net_txn.specs.declared.halt.Halt.TheVariants.{Lost}
 use Rattle.lego_model.specs.History.{lost_of}
 use Rattle.flow_table.specs.RowKeys.{key_removed}
+use Rattle.lego_model.specs.Events.{event_of_message}
+use Rattle.lego_model.specs.ViewRows.{is_asked}
 
 -- ---- Flows that were removed
 
--- the owner of the entry asked for a notice when it goes
-abbrev pub is_asked : Key → Option (List ViewRow) → Bool
-is_asked k None = false
-is_asked k (Some rows) = list_any (λ r. key_number r.key == key_number k && asks_notice r.flags) rows
-
 abbrev pub is_told : ℕ → List TableView → Removed → Bool
 is_told d views f = is_asked (key_removed f) (rows_at d views)
-
-abbrev pub without_key : Key → List ViewRow → List ViewRow
-without_key k rows = filter (λ r. not (key_number r.key == key_number k)) rows
 
 -- ---- Ports that changed: ADD 0, DELETE 1, MODIFY 2
 
@@ -83,11 +72,8 @@ abbrev pub event_from : EventKind → ℕ → Message → Event
 event_from kind d m = record { kind = kind; dpid = d; body = message_bytes 0 m }
 
 abbrev pub event_of : ℕ → List TableView → Message → Option Event
-event_of d views (PacketIn packet) = Some (event_from kinds.PacketIn d (PacketIn packet))
-event_of d views (PortStatus status) = Some (event_from kinds.PortStatus d (PortStatus status))
-event_of d views (Error kind code payload) = Some (record { kind = kinds.SwitchError; dpid = d; body = number_bytes 2 kind ++ number_bytes 2 code })
-event_of d views (FlowRemoved f) = if is_told d views f then Some (event_from kinds.FlowRemoved d (FlowRemoved f)) else None
-event_of d views other = None
+event_of d views (FlowRemoved f) = if is_told d views f then event_of_message d (FlowRemoved f) else None
+event_of d views other = event_of_message d other
 
 -- the events of notices: of each entry whose owner asked for one
 

@@ -43,6 +43,7 @@ use Rattle.lego_model.specs.Events.{event_list}
 
 -- ---- One packet
 
+-- The packet is sent, and then a barrier, whose reply alone is awaited: an ERROR for the packet is taken as any other message.
 abbrev pub packet_steps : ℕ → ℕ → Packet → List WorldStep
 packet_steps d xid packet = Acted (Sent d (message_bytes xid (PacketOut packet))) ∷ barrier_sent (asked_from d xid) ∷ []
 

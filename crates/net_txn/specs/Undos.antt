@@ -44,7 +44,7 @@ use Rattle.lego_model.specs.KeptMessages.{got_in}
 use Rattle.net_txn.specs.LinkSteps.{OnLinks, MakesNoStrayCall}
 use Rattle.lego_model.specs.UndoFaults.{inverse_bytes, AreBefore, EndsBy, Refuses, Overruns, IsStepOf, GoesWithoutStrays}
 use Rattle.net_txn.specs.Views.{with_rows, is_viewed}
-use Rattle.net_txn.specs.Arriving.{without_key}
+use Rattle.flow_table.specs.Sorted.{without_key}
 use Rattle.net_txn.specs.Net.{NetState, no_progress}
 use Rattle.lego_model.specs.AfterFault.{FailsInUndo}
 use Rattle.net_txn.specs.MessageStore.{KeptWhereFit}

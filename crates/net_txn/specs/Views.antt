@@ -1,5 +1,5 @@
 -- The tables of the joined switches as their owner sees them, each by its switch. All of this is our own.
-use Rattle.std.specs.Prelude.{◌≡◌, ◌==◌, ℕ, ◌+◌, ◌%◌, ◌<◌, ◌≤◌, Bool, false, List, [], ◌∷◌, Option, Some, None, nat_lt, if◌then◌else◌}
+use Rattle.std.specs.Prelude.{◌≡◌, ◌==◌, ℕ, ◌+◌, ◌<◌, ◌≤◌, Bool, false, List, [], ◌∷◌, Option, Some, None, if◌then◌else◌}
 use Rattle.std.specs.List.{list_any}
 use Rattle.std.proofs.Common.{zero, suc}
 use Rattle.of_match.specs.declared.key.Key.{Key}
@@ -7,7 +7,9 @@ use Rattle.of_match.specs.Key.{key_number}
 use Rattle.of_wire.specs.declared.bodies.FlowMod.{FlowMod}
 use Rattle.flow_table.specs.declared.view.ViewRow.{ViewRow}
 use Rattle.flow_table.specs.View.{TableView}
-use Rattle.flow_table.specs.Change.{key_in, is_delete}
+use Rattle.flow_table.specs.Change.{is_delete}
+use Rattle.flow_table.specs.Sorted.{with_row}
+use Rattle.lego_model.specs.ViewRows.{row_in}
 
 -- the rows of a switch, while it is joined
 abbrev pub rows_at : ℕ → List TableView → Option (List ViewRow)
@@ -42,14 +44,6 @@ IsViewAt d [] i = ⊥
 IsViewAt d (v ∷ vs) zero = v.dpid ≡ d
 IsViewAt d (v ∷ vs) (suc i) = ((v.dpid == d) ≡ false) × IsViewAt d vs i
 
--- the rows with this one, in place of one with its key
-abbrev pub with_row : ViewRow → List ViewRow → List ViewRow
-with_row r [] = r ∷ []
-with_row r (s ∷ ss) =
-    if nat_lt (key_number r.key) (key_number s.key) then r ∷ s ∷ ss
-    else if key_number r.key == key_number s.key then r ∷ ss
-    else s ∷ with_row r ss
-
 -- where a row goes: the rows before it have lower places
 abbrev pub IsRowPlace : ℕ → List ViewRow → ℕ → Type 0
 IsRowPlace p [] i = i ≡ 0
@@ -57,17 +51,6 @@ IsRowPlace p (r ∷ rs) zero = p ≤ key_number r.key
 IsRowPlace p (r ∷ rs) (suc i) = (key_number r.key < p) × IsRowPlace p rs i
 
 -- ---- What a FLOW_MOD that touches no row leaves (OpenFlow 1.0.0, 4.6): it adds a row, unless it is a DELETE.
-
--- the row, as the owner asked for it; of the flags SEND_FLOW_REM counts alone
-abbrev pub row_in : FlowMod → ViewRow
-row_in m = record {
-  key = key_in m;
-  actions = m.actions;
-  cookie = m.cookie;
-  idle = m.idle;
-  hard = m.hard;
-  flags = m.flags % 2;
-}
 
 abbrev pub row_added : FlowMod → Option ViewRow
 row_added m = if is_delete m then None else Some (row_in m)

@@ -7,7 +7,8 @@ ghost use Rattle.of_wire.specs.Grammar.{IsMessage};
 ghost use Rattle.of_wire.specs.Spelling.{message_bytes};
 ghost use Rattle.flow_table.specs.Change.{is_delete};
 ghost use Rattle.lego_model.specs.Answers.{as_sent};
-ghost use Rattle.net_txn.specs.Views.{row_in, row_added};
+ghost use Rattle.net_txn.specs.Views.{row_added};
+ghost use Rattle.lego_model.specs.ViewRows.{row_in};
 ghost use Rattle.net_txn.specs.Net.{logged_by};
 
 use crate::logged::{Logged, undoing};

@@ -8,7 +8,8 @@ ghost use Rattle.match_overlap.specs.Relations.{is_overlapping};
 ghost use Rattle.flow_table.specs.declared.view.ViewRow.{ViewRow};
 ghost use Rattle.flow_table.specs.Change.{is_modify, key_in, is_output_to, describes, sends_to};
 ghost use Rattle.lego_model.specs.Answers.{rows_of_view, would_clash, would_touch};
-ghost use Rattle.net_txn.specs.Views.{with_row, IsRowPlace};
+ghost use Rattle.net_txn.specs.Views.{IsRowPlace};
+ghost use Rattle.flow_table.specs.Sorted.{with_row};
 
 use flow_table::ViewRow;
 use match_overlap::{overlaps, subsumes};

@@ -3,8 +3,8 @@
 ghost use Rattle.std.specs.Prelude.{◌≡◌, ◌==◌, None, Some, MatchOption, OnOk, OnErr};
 ghost use Rattle.std.specs.List.{list_any};
 ghost use Rattle.flow_table.specs.View.{plains};
-ghost use Rattle.net_txn.specs.Views.{rows_at, is_viewed, is_row_at, with_rows, with_row, with_added, IsViewAt};
-ghost use Rattle.net_txn.specs.Arriving.{without_key};
+ghost use Rattle.net_txn.specs.Views.{rows_at, is_viewed, is_row_at, with_rows, with_added, IsViewAt};
+ghost use Rattle.flow_table.specs.Sorted.{without_key, with_row};
 
 use crate::rows::{has_key, is_same, put_row};
 use flow_table::{TableView, ViewList, ViewRow};

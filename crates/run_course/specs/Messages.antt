@@ -3,10 +3,9 @@
 -- the room, is our own choice.
 use Rattle.std.specs.Prelude.{◌≡◌, ◌⊎◌, ℕ, Bool, true, false, not, List, [], ◌∷◌, ◌++◌, map, filter, Option, Result, Ok, Err, if◌then◌else◌}
 use Rattle.std.specs.List.{list_any}
-use Rattle.of_types.specs.Fields.{number_bytes}
 use Rattle.of_types.specs.declared.journal.Act.TheVariants.{Sent}
 use Rattle.of_wire.specs.declared.message.Message.{Message}
-use Rattle.of_wire.specs.declared.message.Message.TheVariants.{FlowRemoved, Error}
+use Rattle.of_wire.specs.declared.message.Message.TheVariants.{FlowRemoved}
 use Rattle.of_wire.specs.declared.message.Envelope.{Envelope}
 use Rattle.of_wire.specs.declared.fault.WireFault.{WireFault}
 use Rattle.of_wire.specs.Reading.{reading_of}
@@ -22,8 +21,8 @@ use Rattle.lego_model.specs.declared.wait.Heard.TheVariants.{Refused}
 use Rattle.lego_model.specs.Events.{event_of_message, event_list}
 use Rattle.lego_model.specs.BarrierWaits.{heard, kept_by, barrier_sent, wait_steps, reply_got}
 use Rattle.lego_model.specs.KeptMessages.{got_in, fits}
-use Rattle.lego_model.specs.ViewRows.{rows_without}
-use Rattle.run_course.specs.Tables.{Tables, with_table, asks}
+use Rattle.lego_model.specs.ViewRows.{rows_without, is_asked}
+use Rattle.run_course.specs.Tables.{Tables, with_table}
 use Rattle.flow_table.specs.RowKeys.{key_removed}
 use Rattle.of_types.specs.Membership.{is_among}
 
@@ -32,8 +31,7 @@ use Rattle.of_types.specs.Membership.{is_among}
 -- The events that a message of a joined switch makes, by the rows of that switch. A notice makes one if the owner of the entry asked for it (5.4.2
 -- Flow Removed Message). An ERROR makes one with its type and code (5.4.4 Error Message).
 abbrev pub events_made : ℕ → Option (List ViewRow) → Message → List Event
-events_made d rows (FlowRemoved f) = if asks (key_removed f) rows then event_list (event_of_message d (FlowRemoved f)) else []
-events_made d rows (Error kind code payload) = record { kind = kinds.SwitchError; dpid = d; body = number_bytes 2 kind ++ number_bytes 2 code } ∷ []
+events_made d rows (FlowRemoved f) = if is_asked (key_removed f) rows then event_list (event_of_message d (FlowRemoved f)) else []
 events_made d rows m = event_list (event_of_message d m)
 
 abbrev pub events_read : ℕ → Option (List ViewRow) → Result Envelope WireFault → List Event

@@ -2,10 +2,9 @@
 use Rattle.std.specs.Prelude.{◌==◌, ℕ, List, map, if◌then◌else◌}
 use Rattle.of_types.specs.declared.port_desc.PortDesc.{PortDesc}
 use Rattle.of_match.specs.declared.key.Key.{Key}
-use Rattle.of_match.specs.Key.{key_number}
 use Rattle.flow_table.specs.declared.view.ViewRow.{ViewRow}
 use Rattle.flow_table.specs.View.{TableView}
-use Rattle.flow_table.specs.Sorted.{with_item, without_place, row_place, port_number}
+use Rattle.flow_table.specs.Sorted.{with_item, without_place, port_number, with_row, without_key}
 
 -- a joined switch: the rows of its table in key order, as their owners asked for them, and its ports
 pub record Known : Type 0 where
@@ -26,18 +25,11 @@ views ks = map view_of ks
 
 -- ---- Rows
 
--- the rows with this one, in place of one with its key
-abbrev pub with_row : ViewRow → List ViewRow → List ViewRow
-with_row row rows = with_item row_place row rows
-
-abbrev pub without_row : Key → List ViewRow → List ViewRow
-without_row key rows = without_place row_place (key_number key) rows
-
 abbrev pub put_row : ViewRow → Known → Known
 put_row row k = record k { rows = with_row row k.rows }
 
 abbrev pub drop_row : Key → Known → Known
-drop_row key k = record k { rows = without_row key k.rows }
+drop_row key k = record k { rows = without_key key k.rows }
 
 -- ---- Ports (OpenFlow 1.0.0, 5.4.3 Port Status Message: ADD 0, DELETE 1, MODIFY 2). A port that is told of for the first time is put
 -- in by its number, whatever the reason.

@@ -2,10 +2,9 @@
 
 ghost use Rattle.std.specs.Prelude.{◌≡◌, ◌≤◌, None};
 ghost use Rattle.of_match.specs.Key.{key_number};
-ghost use Rattle.flow_table.specs.Sorted.{AreRows, IsFoundAt, row_place};
+ghost use Rattle.flow_table.specs.Sorted.{AreRows, IsFoundAt, row_place, with_row, without_key};
 ghost use Rattle.flow_table.specs.Corrected.{row_at};
 ghost use Rattle.flow_table.specs.ViewRows.{KeepsRoom};
-ghost use Rattle.shadow_tables.specs.Known.{with_row, without_row};
 
 use flow_table::{ViewList, ViewRow};
 use of_match::Key;
@@ -34,7 +33,7 @@ pub(crate) fn put_row(rows: &mut ViewList, row: ViewRow)
 /// Takes the row of a key out, if there is one.
 pub(crate) fn drop_row(rows: &mut ViewList, key: &Key)
     requires in_order { AreRows rows.old.rows }
-    ensures rows { rows.new.rows ≡ without_row key.now rows.old.rows }
+    ensures rows { rows.new.rows ≡ without_key key.now rows.old.rows }
     ensures room { KeepsRoom rows.old rows.new }
 {
     match position(rows, key) {

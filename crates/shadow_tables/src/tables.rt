@@ -2,9 +2,8 @@
 
 ghost use Rattle.std.specs.Prelude.{◌≡◌, ◌<◌, ◌≤◌, None, Some, IsSome, MatchOption, Ok, Err, OnOk, length, slice_index_or};
 ghost use Rattle.flow_table.specs.declared.view.TableView.{TableView};
-ghost use Rattle.flow_table.specs.Sorted.{IsFoundAt, at_place};
+ghost use Rattle.flow_table.specs.Sorted.{IsFoundAt, at_place, with_row, without_key};
 ghost use Rattle.flow_table.specs.Corrected.{row_at};
-ghost use Rattle.shadow_tables.specs.Known.{with_row, without_row};
 ghost use Rattle.shadow_tables.specs.InStep.{lent_place, AreLent, AreTables, ChangesRows};
 
 use crate::rows::{drop_row, put_row};
@@ -96,7 +95,7 @@ pub(crate) fn put_at(views: &mut Vec<TableView>, at: usize, row: ViewRow)
 pub(crate) fn remove_at(views: &mut Vec<TableView>, at: usize, key: &Key)
     requires within { at < length views.old.items }
     requires in_order { AreTables views.old.items }
-    ensures { ChangesRows at (without_row key.now) views.old.items views.new.items }
+    ensures { ChangesRows at (without_key key.now) views.old.items views.new.items }
 {
     drop_row(&mut views[at].rows, key);
 }

@@ -9,7 +9,8 @@ ghost use Rattle.flow_table.specs.declared.view.ViewRow.{ViewRow};
 ghost use Rattle.flow_table.specs.Change.{key_in, new_entry};
 ghost use Rattle.undo_laws.specs.Corrected.{AgreeBut};
 ghost use Rattle.undo_laws.specs.CorrectedSwitch.{GoesAlong, GoTogether};
-ghost use Rattle.net_txn.specs.Views.{with_row, row_in};
+ghost use Rattle.lego_model.specs.ViewRows.{row_in};
+ghost use Rattle.flow_table.specs.Sorted.{with_row};
 ghost use Rattle.net_txn.specs.laws.RowLaws.{sent};
 ghost use Rattle.switch_laws.specs.Shown.{flags_in, correction_in};
 

@@ -30,7 +30,7 @@ use Rattle.app_visor.specs.laws.BeatLaws.{same, Leads-refl}
 use Rattle.app_visor.specs.Dialogues.{is_done}
 use Rattle.journal_laws.specs.laws.AtOnceLaws.{sends_none_both}
 use Rattle.app_visor.specs.laws.DialogueLaws.{Converses-refl, Converses-then, converses_told, converses_takes, takes_send_none, converses_event}
-use Rattle.app_visor.specs.Turns.{IsEnd, handed, IsShort, IsPlayEnd, turn_end, handed_at, LeavesNone, TurnsFrom, Turns, with_handed, StagesTurn, cause_of, Goes, EndsSo, FramePlayed, Plays, GoesOn, unread_after}
+use Rattle.app_visor.specs.Turns.{IsEnd, handed, IsPlayEnd, turn_end, handed_at, LeavesNone, TurnsFrom, Turns, with_handed, StagesTurn, cause_of, Goes, EndsSo, FramePlayed, Plays, GoesOn, unread_after}
 use Rattle.app_visor.specs.laws.TurnLaws.{turn_taken, goes_answered, ends_unanswered, given_more, given_none, IsUnbalanced, IsOver, turn_over}
 
 -- ---- One message
@@ -205,13 +205,6 @@ pub turns_given : {Own : Type 0} {Tells : Type 0} {accepts : List TableView → 
 turns_given {Tells = Tells} {accepts = accepts} {app = app} {budget = budget} {rest = rest} {unread = unread} {old = old} {mid = mid} {new = new} {net = net} {now_net = now_net} {end = end} {slots = slots} {now_slots = now_slots} answer left frame event taken so is spelled begun staged told t =
     rw (so, is) (stages_given Tells accepts app budget rest event unread old mid new net now_net end slots now_slots staged (subst (λ (f : List ℕ). Told Tells (Gave app f) old mid) spelled told)
     (subst (λ (r : List ℕ). TurnsFrom Tells accepts app budget r mid new net now_net end unread) begun t))
-
--- a checkpoint that it hands over is as short as it has to be
-short_at : (end : PlayEnd) (unread : List ℕ) (outcome : Outcome) → IsPlayEnd end unread outcome → IsShort (handed_at end)
-short_at (plays.Done stop checkpoint) unread (Completed stops handed rest) is = is.1.1.1
-short_at (plays.Done stop checkpoint) unread (Failed why) is = absurd is
-short_at (plays.Failed cause) unread (Completed stop checkpoint rest) is = absurd is
-short_at (plays.Failed cause) unread (Failed why) is = tt
 
 pub leads_turn : {Own : Type 0} {Tells : Type 0} {accepts : List TableView → Bool} {app left : ℕ} {rest unread : List ℕ} {old new : Seen Own} {net now_net : NetState} {end : PlayEnd} → TurnsFrom Tells accepts app left rest old new net now_net end unread
     → Leads Tells app old new net now_net

@@ -28,7 +28,6 @@ use Rattle.switch_laws.specs.Shown.{rows_or_none, shown_switch, shown_places, co
 use Rattle.switch_laws.specs.laws.SoundLaws.{stimulus-sound}
 use Rattle.batch_laws.specs.Knowledge.{known_by, Knowledge, handled, handled_all}
 use Rattle.batch_laws.specs.Calm.{known_ports}
-use Rattle.batch_laws.specs.Tells.{FitsItem}
 use Rattle.batch_laws.specs.laws.LinkTellLaws.{switch-step, links-step}
 use Rattle.batch_laws.specs.LinkTells.{KnownIn, StandsIn, HappensIn, KnownThen, SwitchStep, items_of, seen_events, LinkReady, LinkThen, LinksStep}
 use Rattle.lego_model.specs.Places.{table_rows}
@@ -224,19 +223,19 @@ pub items-of-one : (d : ℕ) (x : Stimulus) (s : State) → NoneWait s.links →
 unfolding upcoming after_stim switch_of
 items-of-one d x s waits due = ap₂ (λ (first : List WorldStep) rest. (first ++ []) ++ rest) due (waiting-one d x s.links waits)
 
--- it may happen, as it is a stimulus and what is said fits
-happens-by : (x : Stimulus) (d : ℕ) (o : Option SwitchState) → IsStimulus x → AllByRecursion FitsItem (map (From d) (stimulus_sends x o)) → HappensIn x o
+-- it may happen, as it is a stimulus
+happens-by : (x : Stimulus) (d : ℕ) (o : Option SwitchState) → IsStimulus x → HappensIn x o
 unfolding IsStimulus sent_by_stimulus
-happens-by x d None is fits = tt
-happens-by (Frame port bytes) d (Some s) is fits = tt
-happens-by (Advance t) d (Some s) is fits = absurd is
-happens-by (Port port change) d (Some s) is fits = is
-happens-by (Counts priority packets bytes) d (Some s) is fits = tt
-happens-by (Raw bytes) d (Some s) is fits = (is.2, fits.0)
+happens-by x d None is = tt
+happens-by (Frame port bytes) d (Some s) is = tt
+happens-by (Advance t) d (Some s) is = absurd is
+happens-by (Port port change) d (Some s) is = is
+happens-by (Counts priority packets bytes) d (Some s) is = tt
+happens-by (Raw bytes) d (Some s) is = is.2
 
-pub after-happened : (d : ℕ) (x : Stimulus) (s : State) (k : Knowledge) → Facts s k → IsTrue (is_declared d (declared_in s.links)) → IsStimulus x → AllByRecursion FitsItem (upcoming (after_stim (Of d x) s))
+pub after-happened : (d : ℕ) (x : Stimulus) (s : State) (k : Knowledge) → Facts s k → IsTrue (is_declared d (declared_in s.links)) → IsStimulus x
     → After (Of d x) s k (handled_all (upcoming (after_stim (Of d x) s)) k)
-after-happened d x s k facts declared is fits =
+after-happened d x s k facts declared is =
     let items = items-of-one d x s facts.waits facts.due in
-    let may = happens-by x d (switch_of d s) is (subst (AllByRecursion FitsItem) items fits) in
+    let may = happens-by x d (switch_of d s) is in
     subst (λ (list : List WorldStep). After (Of d x) s k (handled_all list k)) (sym items) (after-one d x s k facts may declared)

@@ -6,8 +6,6 @@ use Rattle.std.proofs.Common.{sym, ap, ap₂, ◌∙◌, subst, inl, inr, append
 use Rattle.std.proofs.lemmas.Bool.{cases_Bool, eqb-true, eqb-false}
 use Rattle.std.proofs.lemmas.List.{append-nil}
 use Rattle.std.proofs.lemmas.List.Elements.{filter-append}
-use Rattle.of_types.specs.Fields.{IsBytes}
-use Rattle.of_types.specs.laws.FieldLaws.{IsBytes-take}
 use Rattle.of_types.specs.declared.journal.Act.{Act}
 use Rattle.of_types.specs.declared.journal.Stimulus.{Stimulus}
 use Rattle.of_types.specs.declared.journal.WorldStim.{WorldStim}
@@ -46,8 +44,6 @@ use Rattle.lego_model.specs.Places.{table_rows}
 use Rattle.batch_laws.specs.Told.{IsTold, TellsDue, TellsNone, Later, Stills, LostAlone}
 use Rattle.batch_laws.specs.Batches.{Standing}
 use Rattle.batch_laws.specs.Items.{HandlesStill, HandlesLost, Fresh, IsFresh, IsItem}
-use Rattle.batch_laws.specs.Tells.{FitsItem}
-use Rattle.batch_laws.specs.laws.StimulusLaws.{bytes-fit}
 use Rattle.batch_laws.specs.laws.LinkTellLaws.{handled_all-append}
 use Rattle.batch_laws.specs.laws.AloneLaws.{echo-alone, join-alone}
 use Rattle.batch_laws.specs.laws.GoneLaws.{lost-leaves}
@@ -213,16 +209,6 @@ all_more : (P : WorldStep → Type 0) (xs : List WorldStep) (x : WorldStep) → 
 all_more P [] x all last = (last, tt)
 all_more P (y ∷ ys) x all last = (all.0, all_more P ys x all.1 last)
 
--- the numbers of an item whose bytes stand in a buffer of bytes
-pub item_fits : (item : Item) (buf : List ℕ) → IsBytes buf → FitsItem (item_step item buf)
-unfolding item_step
-item_fits (items.From d k) buf fit = bytes-fit d (take k buf) (IsBytes-take k buf fit)
-item_fits (items.Joined d k) buf fit = tt
-item_fits (items.Left d) buf fit = tt
-item_fits (items.Moment t) buf fit = tt
-item_fits items.Idle buf fit = tt
-item_fits items.End buf fit = tt
-
 mid_state : {Own Tells : Type 0} {item : WorldStep} {text : List ℕ} {now : Standing Own} {mid new : Seen Own} {net : NetState} {queue : List Event} → Later Tells item text now mid new net queue → state mid ≡ after_step item (state now.seen)
 mid_state {item = item} {now = now} {mid = mid} later = state-append now.seen mid (item ∷ []) later.given later.longer
 
@@ -245,7 +231,6 @@ one_more {x = x} {n = n} {first = first} {now = now} {item = item} {text = text}
       told = batch.told ++ item ∷ [];
       count = length-append batch.told (item ∷ []) ∙ ap (λ (k : ℕ). k + 1) batch.count;
       read = all_more IsReadable batch.told item batch.read told.readable;
-      fits = all_more FitsItem batch.told item batch.fits later.fits;
       order = ap (λ (xs : List WorldStep). (batch.told ++ item ∷ []) ++ xs) leaves.upcoming_is ∙ append_assoc batch.told (item ∷ []) (upcoming (state mid))
           ∙ ap (λ (xs : List WorldStep). batch.told ++ xs) (sym told.first) ∙ batch.order;
       knowledge = stays.knowledge ∙ ap (handled item) batch.knowledge ∙ sym (handled_all-append batch.told (item ∷ []) (knowledge_of first.net first.queue));
@@ -478,7 +463,6 @@ told_idle {x = x} {first = first} {now = now} {mid = mid} {new = new} {text = te
       waits = λ d. (nothing_waits d (state new) after).1;
       switches = λ d. leaves.switches d ∙ ap (switch_of d) is ∙ idle_switch d s ∙ batch.switches d;
       read = subst (λ (xs : List WorldStep). AllByRecursion IsReadable xs) all batch.read;
-      fits = subst (λ (xs : List WorldStep). AllByRecursion FitsItem xs) all batch.fits;
       knowledge = stays.knowledge ∙ idle_is (knowledge_of now.net now.queue) ∙ batch.knowledge ∙ ap (λ (xs : List WorldStep). handled_all xs (knowledge_of first.net first.queue)) all;
       kept = done.kept;
       log = later.handles.log ∙ batch.log;
@@ -548,11 +532,6 @@ lost_idle {x = x} {first = first} {now = now} {mid = mid} {new = new} {net = net
       released = done.done.released ∙ released_later now.seen mid Idle idle_none later.longer ∙ batch.released;
       orderly = orderly_later first.seen now.seen mid new Idle idle_none later.longer batch.orderly done.done.orderly;
     }
-
--- only Idle comes then
-abbrev IsQuiet : WorldStep → Type 0
-IsQuiet Idle = Unit {0}
-IsQuiet other = ⊥
 
 pub only_idle : {Own : Type 0} {x : WorldStim} {first now : Standing Own} (declared : List Declared) (item : Item) (buf : List ℕ) → upcoming (state now.seen) ≡ [] → BatchLost x true first now → MayStep declared (item_step item buf) (state now.seen) → item ≡ items.Idle
 unfolding item_step MayStep

@@ -36,7 +36,7 @@ use Rattle.switch_laws.specs.Standing.{FaceKept}
 use Rattle.switch_laws.specs.laws.FaceLaws.{face-same, face-frame}
 use Rattle.batch_laws.specs.Knowledge.{Knowledge, handled_all}
 use Rattle.batch_laws.specs.laws.TellLaws.{is-known, plain-handled, view-kept}
-use Rattle.batch_laws.specs.Tells.{FitsRead, IsPlainRead, PlainBytes, AllPlain, SwitchHandled, SwitchKnown}
+use Rattle.batch_laws.specs.Tells.{IsPlainRead, PlainBytes, AllPlain, SwitchHandled, SwitchKnown}
 use Rattle.net_txn.specs.laws.PacketHeardLaws.{packet-type}
 
 -- ---- A PACKET_IN is plain
@@ -62,8 +62,8 @@ plain-type : (bytes : List ℕ) → number_at 1 1 bytes ≡ 10 → PlainBytes by
 unfolding reading_of body_of kind_of_number
 plain-type bytes type =
     elim (front-kind bytes 10 wire.PacketIn type refl) [
-      | inl is ↦ record { plain = rw is tt; fits = rw is tt }
-      | inr (fault, is) ↦ record { plain = rw is tt; fits = rw is tt }
+      | inl is ↦ rw is tt
+      | inr (fault, is) ↦ rw is tt
     ]
 
 packet-plain : (reason in_port : ℕ) (frame : List ℕ) → PlainBytes (packet_in reason in_port frame)
@@ -185,8 +185,8 @@ unfolding after_stimulus sent_by_stimulus
 counts-switch d priority packets bytes s rows k known =
     plain-switch d (Counts priority packets bytes) s rows k tt known tt (record { declared = refl; ports = λ n. refl; rows = rows-counts priority packets bytes s.table.entries })
 
-pub raw-switch : (d : ℕ) (bytes : List ℕ) (s : SwitchState) (rows : List ViewRow) (k : Knowledge) → SwitchKnown d s rows k → IsTrue (may_be_raw (reading_of bytes)) → FitsRead (reading_of bytes)
+pub raw-switch : (d : ℕ) (bytes : List ℕ) (s : SwitchState) (rows : List ViewRow) (k : Knowledge) → SwitchKnown d s rows k → IsTrue (may_be_raw (reading_of bytes))
     → SwitchHandled d (Raw bytes) s rows k (handled_all (map (From d) (sent_by_stimulus (Raw bytes) s)) k)
 unfolding after_stimulus sent_by_stimulus
-raw-switch d bytes s rows k known may fits =
-    plain-switch d (Raw bytes) s rows k tt known (record { plain = raw-plain (reading_of bytes) may; fits = fits }, tt) (face-same s)
+raw-switch d bytes s rows k known may =
+    plain-switch d (Raw bytes) s rows k tt known (raw-plain (reading_of bytes) may, tt) (face-same s)

@@ -35,7 +35,7 @@ use Rattle.batch_laws.specs.laws.UpcomingLaws.{no_message_joined, one_due_by}
 use Rattle.batch_laws.specs.laws.ItemLaws.{links_ascend, none_waiting}
 use Rattle.batch_laws.specs.InBatch.{InBatch, BatchLost, BatchOver, SoFar, GoesOn, CanTake, CanTakeNext, standing}
 use Rattle.batch_laws.specs.laws.HandleLaws.{end_is}
-use Rattle.batch_laws.specs.laws.BatchItemLaws.{due_tells, joined_step, due_in, fresh_in, item_fits, loses_none, told_in, none_upcoming, only_idle, lost_in_batch}
+use Rattle.batch_laws.specs.laws.BatchItemLaws.{due_tells, joined_step, due_in, fresh_in, loses_none, told_in, none_upcoming, only_idle, lost_in_batch}
 
 -- ---- The beginning
 
@@ -83,7 +83,6 @@ begins x first still may =
       told = [];
       count = refl;
       read = tt;
-      fits = tt;
       order = ap upcoming same;
       knowledge = refl;
       kept = still.kept;
@@ -191,7 +190,6 @@ first_told {first = first} {new = new} item (Some x) told keeps still takes is =
       given = takes.nexts.given;
       longer = behind;
       may = (Conforming-rest now.seen mid (step ∷ []) takes.nexts.given behind kept).0;
-      fits = item_fits item takes.buf takes.fit;
       handles = takes.handles;
     })
 
@@ -211,7 +209,6 @@ next_told {now = now} {new = new} item None told keeps still batch takes is =
       given = takes.nexts.given;
       longer = longer;
       may = (Conforming-rest now.seen mid (step ∷ []) takes.nexts.given longer kept).0;
-      fits = item_fits item takes.buf takes.fit;
       handles = takes.handles;
     })
 next_told {now = now} {new = new} item (Some y) told keeps still batch takes is =
@@ -239,7 +236,6 @@ after_loss n {now = now} {new = new} item None told keeps batch takes is =
       given = takes.nexts.given;
       longer = longer;
       may = may;
-      fits = item_fits item takes.buf takes.fit;
       handles = takes.handles;
     })
 after_loss n {now = now} {new = new} item (Some y) told keeps batch takes is =

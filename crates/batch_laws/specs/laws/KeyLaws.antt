@@ -11,12 +11,12 @@ use Rattle.flow_table.specs.Table.{place_of, AscendsFrom, keys}
 use Rattle.flow_table.specs.Change.{asks_notice}
 use Rattle.flow_table.specs.Expiry.{end_of, among, by_deadline}
 use Rattle.lego_model.specs.Answers.{rows_of_table, rows_of_view}
-use Rattle.net_txn.specs.Arriving.{is_asked, without_key}
 use Rattle.switch_laws.specs.Shown.{flags_in}
 use Rattle.batch_laws.specs.Keys.{Distinct}
 use Rattle.flow_table.specs.RowKeys.{RowsAscend}
 use Rattle.net_txn.specs.laws.LoseAllLaws.{keep_all, turned}
-use Rattle.lego_model.specs.ViewRows.{rows_without}
+use Rattle.lego_model.specs.ViewRows.{rows_without, is_asked}
+use Rattle.flow_table.specs.Sorted.{without_key}
 use Rattle.undo_laws.specs.Removal.{is_key_among}
 
 -- ---- Lists

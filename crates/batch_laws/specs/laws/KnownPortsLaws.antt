@@ -24,7 +24,8 @@ use Rattle.net_txn.specs.declared.ports.KnownPorts.{KnownPorts}
 use Rattle.net_txn.specs.Net.{NetState}
 use Rattle.net_txn.specs.Views.{rows_at}
 use Rattle.net_txn.specs.Joining.{with_view}
-use Rattle.net_txn.specs.Arriving.{without_key, ports_after, known_after}
+use Rattle.net_txn.specs.Arriving.{ports_after, known_after}
+use Rattle.flow_table.specs.Sorted.{without_key}
 use Rattle.flow_table.specs.RowKeys.{key_removed}
 use Rattle.net_txn.specs.laws.ViewLaws.{rows_at-stays}
 use Rattle.net_txn.specs.laws.JoiningLaws.{rows_at-with_view, rows_at-with_view-other}

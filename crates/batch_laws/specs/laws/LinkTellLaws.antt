@@ -41,7 +41,7 @@ stimulus-switch d (Frame port bytes) s rows k known stands may = frame-switch d 
 stimulus-switch d (Advance t) s rows k known stands may = advance-switch d t s rows k known stands.table stands.sound may
 stimulus-switch d (Port port change) s rows k known stands may = port-switch d port change s rows k known stands.number stands.lasts may.0 may.1
 stimulus-switch d (Counts priority packets bytes) s rows k known stands may = counts-switch d priority packets bytes s rows k known
-stimulus-switch d (Raw bytes) s rows k known stands may = raw-switch d bytes s rows k known may.0 may.1
+stimulus-switch d (Raw bytes) s rows k known stands may = raw-switch d bytes s rows k known may
 
 -- ---- A switch that is joined or not
 

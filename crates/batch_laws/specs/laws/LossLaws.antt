@@ -1,6 +1,5 @@
 -- What the engine knows once a switch was lost at the item of a stimulus: what the reference controller has then.
 use Rattle.std.specs.Prelude.{◌≡◌, ◌≢◌, ◌==◌, ℕ, Bool, true, false, List, [], ◌∷◌, ◌++◌, Option, Some, None, Result, Ok, Err, is_some, if◌then◌else◌, refl}
-use Rattle.std.specs.List.{AllByRecursion}
 use Rattle.std.specs.Option.{option_map}
 use Rattle.std.proofs.Common.{sym, ap, ap₂, ◌∙◌, subst, inl, inr, true≢false}
 use Rattle.std.proofs.lemmas.Bool.{cases_eq, ne_eqb}
@@ -45,7 +44,7 @@ use Rattle.batch_laws.specs.Batches.{Standing}
 use Rattle.batch_laws.specs.Calm.{Calm}
 use Rattle.batch_laws.specs.InBatch.{BatchLost}
 use Rattle.batch_laws.specs.Waiting.{NoneWait}
-use Rattle.batch_laws.specs.Tells.{FitsItem, FitsRead, StimulusHandled, StimulusLost}
+use Rattle.batch_laws.specs.Tells.{StimulusHandled, StimulusLost}
 use Rattle.batch_laws.specs.laws.AloneLaws.{echo-alone, join-alone}
 use Rattle.batch_laws.specs.laws.HistoryLaws.{links-last, links-declared, stim-lasts, lasts_in}
 use Rattle.batch_laws.specs.laws.StimulusLaws.{none-wait, stimulus-handled}
@@ -137,14 +136,6 @@ echo-handled : (d : ℕ) (bytes : List ℕ) (k : Knowledge) → is_known d k ≡
 unfolding handled
 echo-handled d bytes k known is = rw known (read-same d (reading_of bytes) k is)
 
-echo-message : (m : Message) → IsEcho m → FitsRead (Ok (record { xid = 0; message = m }))
-echo-message (EchoRequest payload) is = tt
-echo-message other is = absurd is
-
-echo-fits : (r : Result Envelope WireFault) → IsEchoRead r → FitsRead r
-echo-fits (Ok e) is = echo-message e.message is
-echo-fits (Err fault) is = absurd is
-
 -- the Leave event is that of the switch as its owners see it
 echo-left : (d : ℕ) (ds : List Declared) (views : List TableView) (s : State) (ports : List KnownPorts) → is_declared d ds ≡ true → ((y : SwitchState) → switch_of d s ≡ Some y → y.declared.dpid ≡ d) → ports_lost d ports ≡ ports_known d (switch_of d s)
     → left_events (ports_lost d ports) ≡ left_of (switch_at d (shown_places ds (corrections views) s))
@@ -175,10 +166,10 @@ record LostAt {Own : Type 0} (x : WorldStim) (d : ℕ) (item : WorldStep) (first
   knowledge : knowledge_of now.net now.queue ≡ known_lost d item (known_at_first first)
 
 -- what the engine would know had it not been lost
-would-know : {Own : Type 0} (x : WorldStim) (d : ℕ) (item : WorldStep) (first now : Standing Own) → LostAt x d item first now → FitsItem item → StimulusHandled x first.seen first.net first.queue (handled item (known_at_first first))
-would-know x d item first now l fits =
+would-know : {Own : Type 0} (x : WorldStim) (d : ℕ) (item : WorldStep) (first now : Standing Own) → LostAt x d item first now → StimulusHandled x first.seen first.net first.queue (handled item (known_at_first first))
+would-know x d item first now l =
     subst (λ (items : List WorldStep). StimulusHandled x first.seen first.net first.queue (handled_all items (known_at_first first))) l.alone
-    (stimulus-handled x first.seen first.net first.queue l.keeps l.calm l.may (subst (AllByRecursion FitsItem) (sym l.alone) (fits, tt)))
+    (stimulus-handled x first.seen first.net first.queue l.keeps l.calm l.may)
 
 silent : {Own : Type 0} (x : WorldStim) (d : ℕ) (item : WorldStep) (first now : Standing Own) → LostAt x d item first now → NoneWait (state first.seen).links
 silent x d item first now l =
@@ -201,7 +192,7 @@ echo-loss x d bytes first now l =
     let alone = echo-alone x (state first.seen) d bytes [] [] (silent x d (From d bytes) first now l) l.calm.none_due l.at.2 (sym l.alone) in
     let handled : StimulusHandled x first.seen first.net first.queue k =
     subst (λ (known : Knowledge). StimulusHandled x first.seen first.net first.queue known) (echo-handled d bytes k l.at.1 l.at.2)
-    (would-know x d (From d bytes) first now l (echo-fits (reading_of bytes) l.at.2)) in
+    (would-know x d (From d bytes) first now l) in
     let declared = happened-declared x d alone.what ds (state first.seen).moment alone.stimulus l.may in
     let out : OutOf d s (state now.seen) k (lost_by d k) = record {
       switch = l.out;
@@ -260,7 +251,7 @@ join-loss x d bytes first now l =
     let ds = first.seen.given.declared in
     let after = places_after x (state first.seen).moment (shown_places ds (shown_by first.net) (state first.seen)) in
     let alone = join-alone x (state first.seen) d bytes [] [] (silent x d (Joined d bytes) first now l) l.calm.none_due (sym l.alone) in
-    let would = would-know x d (Joined d bytes) first now l tt in
+    let would = would-know x d (Joined d bytes) first now l in
     let only = joined-handled d bytes k l.at.1 in
     let rows : rows_at d k.views ≡ None = unknown-rows (rows_at d k.views) l.at.1 in
     let before : switch_of d (state first.seen) ≡ None = unknown-switch (switch_of d (state first.seen)) (sym (ap (option_map rows_of_view) rows) ∙ l.calm.ready.agrees d) in

@@ -33,7 +33,6 @@ use Rattle.lego_model.specs.Events.{event_of_read, events_of}
 use Rattle.outside.specs.declared.step.WorldStep.TheVariants.{From}
 use Rattle.net_txn.specs.Views.{rows_at, with_rows, ViewsAscend}
 use Rattle.net_txn.specs.laws.ViewLaws.{rows_at-same, rows_at-other}
-use Rattle.net_txn.specs.Arriving.{is_asked, without_key}
 use Rattle.switch_laws.specs.Shown.{flags_in, correction_in}
 use Rattle.switch_laws.specs.laws.CorrectionLaws.{goes_along, go_together, notices-shown, shown-alike}
 use Rattle.switch_laws.specs.Sound.{SoundEntry, AllSound}
@@ -45,7 +44,8 @@ use Rattle.batch_laws.specs.Keys.{Distinct, notice_keys}
 use Rattle.flow_table.specs.RowKeys.{RowsAscend}
 use Rattle.batch_laws.specs.laws.TellLaws.{known-handled, is-known}
 use Rattle.batch_laws.specs.Tells.{ViewChanged, SwitchHandled, SwitchKnown}
-use Rattle.lego_model.specs.ViewRows.{rows_without}
+use Rattle.lego_model.specs.ViewRows.{rows_without, is_asked}
+use Rattle.flow_table.specs.Sorted.{without_key}
 use Rattle.undo_laws.specs.Removal.{is_key_among}
 use Rattle.net_txn.specs.laws.LoseAllLaws.{turned}
 

@@ -1,22 +1,12 @@
 -- One stimulus in a world that keeps its word, where nothing waited: once the engine handled all that it makes, what it knows and the events
 -- that wait are what the reference controller has.
-use Rattle.std.proofs.Common.{◌≡◌, ℕ, List, [], ◌++◌, Option, Some, None, Result, Ok, Err, refl, sym, ap, ◌∙◌, subst, arith}
-use Rattle.std.specs.List.{AllByRecursion}
+use Rattle.std.proofs.Common.{◌≡◌, ℕ, List, [], ◌++◌, Option, Some, None, refl, sym, ap, ◌∙◌, subst, arith}
 use Rattle.std.proofs.lemmas.Option.{same_Some}
-use Rattle.of_types.specs.Fields.{IsBytes}
 use Rattle.of_types.specs.declared.journal.WorldStim.{WorldStim}
 use Rattle.of_types.specs.declared.journal.WorldStim.TheVariants.{Join, Leave, At, Of}
-use Rattle.of_wire.specs.declared.message.Message.{Message}
-use Rattle.of_wire.specs.declared.message.Message.TheVariants.{Hello, Error, EchoRequest, EchoReply, Vendor, FeaturesRequest, FeaturesReply, GetConfigRequest, GetConfigReply, SetConfig, PacketIn, FlowRemoved, PortStatus, PacketOut, FlowMod, PortMod, StatsRequest, StatsReply, BarrierRequest, BarrierReply, QueueGetConfigRequest, QueueGetConfigReply}
-use Rattle.of_wire.specs.declared.message.Envelope.{Envelope}
-use Rattle.of_wire.specs.declared.fault.WireFault.{WireFault}
-use Rattle.of_wire.specs.Grammar.{IsMessage}
-use Rattle.of_wire.specs.laws.GrammarLaws.{IsRead-reading_of}
-use Rattle.of_wire.specs.Reading.{reading_of}
 use Rattle.flow_table.specs.Switch.{Declared, SwitchState}
 use Rattle.app_frames.specs.declared.frame.Event.{Event}
 use Rattle.lego_model.specs.Controller.{places_after, events_after}
-use Rattle.outside.specs.declared.step.WorldStep.TheVariants.{From}
 use Rattle.outside.specs.Seen.{Seen}
 use Rattle.outside.specs.State.{Link, State, link_of, waits_in, waits_of, switch_of, after_stim, upcoming, state, declared_in}
 use Rattle.outside.specs.Conforming.{AreDeclaredFrom, IsWorldStim, Conforming}
@@ -28,7 +18,7 @@ use Rattle.switch_laws.specs.laws.StandLaws.{all-stand}
 use Rattle.batch_laws.specs.Knowledge.{known_by, Knowledge, knowledge_of, handled_all}
 use Rattle.batch_laws.specs.Calm.{Calm}
 use Rattle.batch_laws.specs.laws.HistoryLaws.{links-last, links-declared, switch-lasts}
-use Rattle.batch_laws.specs.Tells.{FitsMessage, FitsRead, FitsItem, StimulusHandled}
+use Rattle.batch_laws.specs.Tells.{StimulusHandled}
 use Rattle.batch_laws.specs.LinkTells.{StandsIn}
 use Rattle.batch_laws.specs.laws.ReferenceLaws.{links-found}
 use Rattle.batch_laws.specs.Waiting.{NoneWait}
@@ -37,39 +27,6 @@ use Rattle.batch_laws.specs.After.{Facts, SoundIn, After}
 use Rattle.batch_laws.specs.laws.KnownPortsLaws.{KnowsOnce, known-first, known-once, ready-once, handled_all-once}
 use Rattle.batch_laws.specs.laws.LeaveTellLaws.{after-leave}
 use Rattle.batch_laws.specs.laws.JoinTellLaws.{after-join}
-
--- ---- Bytes say numbers that fit
-
-message-fits : (m : Message) → IsMessage m → FitsMessage m
-message-fits (Error kind code payload) is = (is.fields.0, is.fields.1.0)
-message-fits (Hello payload) is = tt
-message-fits (EchoRequest payload) is = tt
-message-fits (EchoReply payload) is = tt
-message-fits (Vendor payload) is = tt
-message-fits FeaturesRequest is = tt
-message-fits (FeaturesReply features) is = tt
-message-fits GetConfigRequest is = tt
-message-fits (GetConfigReply config) is = tt
-message-fits (SetConfig config) is = tt
-message-fits (PacketIn packet) is = tt
-message-fits (FlowRemoved flow) is = tt
-message-fits (PortStatus status) is = tt
-message-fits (PacketOut packet) is = tt
-message-fits (FlowMod flow) is = tt
-message-fits (PortMod port) is = tt
-message-fits (StatsRequest stats) is = tt
-message-fits (StatsReply stats) is = tt
-message-fits BarrierRequest is = tt
-message-fits BarrierReply is = tt
-message-fits (QueueGetConfigRequest payload) is = tt
-message-fits (QueueGetConfigReply payload) is = tt
-
-read-fits : (bytes : List ℕ) (r : Result Envelope WireFault) → IsBytes bytes → reading_of bytes ≡ r → FitsRead r
-read-fits bytes (Ok e) are read = message-fits e.message (IsRead-reading_of bytes e are read).message
-read-fits bytes (Err fault) are read = tt
-
-pub bytes-fit : (d : ℕ) (bytes : List ℕ) → IsBytes bytes → FitsItem (From d bytes)
-bytes-fit d bytes are = read-fits bytes (reading_of bytes) are refl
 
 -- ---- What stands before
 
@@ -100,12 +57,12 @@ facts-before seen net queue keeps calm =
 
 -- ---- Each stimulus
 
-after-each : (x : WorldStim) (s : State) (k : Knowledge) → Facts s k → IsWorldStim (declared_in s.links) s.moment x → AllByRecursion FitsItem (upcoming (after_stim x s)) → After x s k (handled_all (upcoming (after_stim x s)) k)
+after-each : (x : WorldStim) (s : State) (k : Knowledge) → Facts s k → IsWorldStim (declared_in s.links) s.moment x → After x s k (handled_all (upcoming (after_stim x s)) k)
 unfolding IsWorldStim
-after-each (Join d) s k facts may fits = after-join d s k facts may
-after-each (Leave d) s k facts may fits = after-leave d s k facts may
-after-each (At t) s k facts may fits = after-moment t s k facts (omega (arith, may.1))
-after-each (Of d x) s k facts may fits = after-happened d x s k facts may.0 may.1 fits
+after-each (Join d) s k facts may = after-join d s k facts may
+after-each (Leave d) s k facts may = after-leave d s k facts may
+after-each (At t) s k facts may = after-moment t s k facts (omega (arith, may.1))
+after-each (Of d x) s k facts may = after-happened d x s k facts may.0 may.1
 
 sound-by : (o : Option SwitchState) (y : SwitchState) → SoundIn o → o ≡ Some y → AllSound y.table.entries
 sound-by None y sound is = absurd cc
@@ -125,11 +82,10 @@ handled-by x seen net queue k once after =
       sound = record { entries = λ d y is. sound-by (switch_of d (after_stim x s)) y (after.sound d) is };
     }
 
--- Where nothing waited, the engine that handles the items of a stimulus comes to know what the reference controller has. What it is told must
--- say numbers that fit their fields, as all bytes do.
+-- Where nothing waited, the engine that handles the items of a stimulus comes to know what the reference controller has.
 pub stimulus-handled : {Own : Type 0} (x : WorldStim) (seen : Seen Own) (net : NetState) (queue : List Event) → Conforming seen → Calm seen net → IsWorldStim seen.given.declared (state seen).moment x
-    → AllByRecursion FitsItem (upcoming (after_stim x (state seen))) → StimulusHandled x seen net queue (handled_all (upcoming (after_stim x (state seen))) (knowledge_of net queue))
-stimulus-handled x seen net queue keeps calm may fits =
+    → StimulusHandled x seen net queue (handled_all (upcoming (after_stim x (state seen))) (knowledge_of net queue))
+stimulus-handled x seen net queue keeps calm may =
     let s : State = state seen in
     let here : IsWorldStim (declared_in s.links) s.moment x = subst (λ (ds : List Declared). IsWorldStim ds s.moment x) (sym (links-declared seen)) may in
-    handled-by x seen net queue (handled_all (upcoming (after_stim x s)) (knowledge_of net queue)) (handled_all-once (upcoming (after_stim x s)) (knowledge_of net queue) (ready-once seen net queue calm.ready)) (after-each x s (knowledge_of net queue) (facts-before seen net queue keeps calm) here fits)
+    handled-by x seen net queue (handled_all (upcoming (after_stim x s)) (knowledge_of net queue)) (handled_all-once (upcoming (after_stim x s)) (knowledge_of net queue) (ready-once seen net queue calm.ready)) (after-each x s (knowledge_of net queue) (facts-before seen net queue keeps calm) here)

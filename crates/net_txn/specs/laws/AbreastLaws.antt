@@ -27,7 +27,8 @@ use Rattle.net_txn.specs.Views.{with_rows, is_viewed}
 use Rattle.net_txn.specs.Net.{NetState}
 use Rattle.net_txn.specs.Joining.{with_view}
 use Rattle.net_txn.specs.laws.JoiningLaws.{rows_at-with_view, rows_at-with_view-other}
-use Rattle.net_txn.specs.Arriving.{without_key, net_after, arrival_steps, Becomes, ArrivesLost, Arrives}
+use Rattle.net_txn.specs.Arriving.{net_after, arrival_steps, Becomes, ArrivesLost, Arrives}
+use Rattle.flow_table.specs.Sorted.{without_key}
 use Rattle.net_txn.specs.Changes.{Changes}
 use Rattle.net_txn.specs.Undos.{without_keys, key_logged, lost_parts, AreJoined, Undoes}
 use Rattle.net_txn.specs.Releases.{Commits}

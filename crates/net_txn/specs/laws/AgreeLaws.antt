@@ -17,11 +17,11 @@ use Rattle.outside.specs.laws.StateLaws.{Conforming-rest, state-append}
 use Rattle.outside.specs.Conforming.{Conforming}
 use Rattle.undo_laws.specs.Removal.{without}
 use Rattle.lego_model.specs.ViewRows.{rows_without}
+use Rattle.flow_table.specs.Sorted.{without_key}
 use Rattle.lego_model.specs.declared.fault.TxnFault.{TxnFault}
 use Rattle.net_txn.specs.Views.{rows_at, with_rows, is_viewed}
 use Rattle.net_txn.specs.laws.ViewLaws.{rows_at-changed, rows_at-other}
 pub use Rattle.net_txn.specs.laws.ViewLaws.{viewed}
-use Rattle.net_txn.specs.Arriving.{without_key}
 use Rattle.net_txn.specs.ChangeSteps.{Agrees}
 use Rattle.net_txn.specs.laws.NoticeLaws.{with_entries}
 use Rattle.net_txn.specs.Undos.{Part, Inverse, BarrierPassed, Stuck, steps_of, parts_of, is_stuck, without_keys, keys_of, first_fault_of, ended_by, IsRevertedOn, AgreesAgain}

@@ -3,7 +3,6 @@ use Rattle.std.proofs.Common.{◌≡◌, ◌==◌, ℕ, Bool, true, false, ◌||
 use Rattle.std.specs.Prelude.{Result, Ok, IsOk}
 use Rattle.std.proofs.lemmas.Bool.{cases_Bool, cases_eq, eq-eqb, ne_eqb}
 use Rattle.of_types.specs.declared.journal.Act.{Act}
-use Rattle.outside.specs.declared.step.WorldStep.{WorldStep}
 use Rattle.outside.specs.Seen.{Counts, Seen, journal}
 use Rattle.outside.specs.State.{State, after_steps, state, switch_of, waits_of}
 use Rattle.outside.specs.laws.SeenLaws.{journal-append}
@@ -83,10 +82,6 @@ stuck_lost old new d p older stuck runs none =
     sym (none_failed old new (Ok tt) ((d, p) ∷ older) d runs same refl) ∙ rw (eq-eqb d d refl) (stuck (parts_of d older))
 
 -- ---- What the journal has of them
-
-losses_none : (steps : List WorldStep) → losses (journal steps) ≡ [] → (more : List WorldStep) → losses (journal (steps ++ more)) ≡ losses (journal more)
-losses_none steps none more =
-    ap (λ (acts : List Act). losses acts) (journal-append steps more) ∙ losses_two (journal steps) (journal more) ∙ ap (λ (ds : List ℕ). ds ++ losses (journal more)) none
 
 part_losses : (old new : Counts) (d : ℕ) (p : Part) (older : List Part) → IsRun old new d (p ∷ older) → LosesIn d p → losses (journal (part_steps d p)) ≡ lost_in d p
 part_losses old new d (Inverse xid k) older run so = losses_by (part_steps d (Inverse xid k)) (refl, tt) ∙ lost_none_all (part_steps d (Inverse xid k)) refl

@@ -1,6 +1,6 @@
 -- What a switch sends for a packet: PACKET_INs, or one ERROR (OpenFlow 1.0.0, 5.4.1 Packet-In Message and 5.4.4 Error Message). A wait keeps
 -- each of them, and each becomes an event, whatever the transaction id was.
-use Rattle.std.specs.Prelude.{◌≡◌, ◌==◌, ◌⊎◌, ℕ, ◌/◌, ◌%◌, ◌<◌, ◌^◌, Bool, true, false, ◌&&◌, nat_le, nat_lt, List, [], ◌∷◌, ◌++◌, length, take, map, Option, Some, None, Ok, Err, refl}
+use Rattle.std.specs.Prelude.{◌≡◌, ◌==◌, ◌⊎◌, ℕ, ◌<◌, ◌^◌, Bool, true, false, ◌&&◌, nat_le, nat_lt, List, [], ◌∷◌, ◌++◌, length, take, map, Option, Some, None, Ok, Err, refl}
 use Rattle.std.specs.List.{AllByRecursion, flat_map, cons_option}
 use Rattle.std.specs.Str.{bytes_eq}
 use Rattle.std.proofs.Common.{sym, ap, ◌∙◌, subst, append_assoc, inl, inr, arith}
@@ -32,7 +32,7 @@ use Rattle.app_frames.specs.declared.frame.Event.{Event}
 use Rattle.lego_model.specs.declared.wait.Awaited.{Awaited}
 use Rattle.lego_model.specs.declared.wait.Heard.TheVariants.{Other}
 use Rattle.lego_model.specs.BarrierWaits.{next_xid, is_awaited, heard}
-use Rattle.lego_model.specs.Events.{two_bytes, event_of_read, events_of, event_list}
+use Rattle.lego_model.specs.Events.{event_of_read, events_of, event_list}
 use Rattle.net_txn.specs.Releases.{Knows, takes_read, takes_all}
 use Rattle.lego_model.specs.FlowQueries.{asked_from}
 use Rattle.net_txn.specs.laws.HeardLaws.{IsSmall, known_small, small_actions, IsMessage-error}
@@ -131,10 +131,6 @@ packet-news reason in_port frame = record { unawaited = unawaited _ (inl (packet
 
 -- ---- An ERROR
 
-two-bytes : (n : ℕ) → n < 256 ^ 2 → number_bytes 2 n ≡ two_bytes n
-unfolding number_bytes
-two-bytes n small = let high : n / 256 % 256 ≡ n / 256 = omega (arith, small) in ap (λ (x : ℕ). x ∷ n % 256 ∷ []) high
-
 error-read : (xid : ℕ) (m : Message) (e : OfError) → xid < 2 ^ 32 → (e.kind < 256 ^ 2) × (e.code < 256 ^ 2) → reading_of (error_bytes xid m e) ≡ Ok (enveloped xid (Error e.kind e.code (take 64 (message_bytes xid m))))
 unfolding error_bytes
 error-read xid m e lt small = reading_of-message_bytes xid (Error e.kind e.code (take 64 (message_bytes xid m))) lt (IsMessage-error xid m e small)
@@ -144,7 +140,7 @@ unfolding error_bytes
 error-type xid m e lt small = (SpellMessage-message_bytes xid (Error e.kind e.code (take 64 (message_bytes xid m))) lt (IsMessage-error xid m e small)).header.1.0
 
 error-taken : (xid : ℕ) (m : Message) (e : OfError) → xid < 2 ^ 32 → (e.kind < 256 ^ 2) × (e.code < 256 ^ 2) → IsTakenAlone (error_bytes xid m e)
-error-taken xid m e lt small d k = rw (error-read xid m e lt small, two-bytes e.kind small.0, two-bytes e.code small.1) refl
+error-taken xid m e lt small d k = rw (error-read xid m e lt small) refl
 
 error-news : (xid : ℕ) (m : Message) (e : OfError) → xid < 2 ^ 32 → (e.kind < 256 ^ 2) × (e.code < 256 ^ 2) → IsNews (error_bytes xid m e)
 error-news xid m e lt small = record { unawaited = unawaited _ (inr (error-type xid m e lt small)); taken = error-taken xid m e lt small }

@@ -14,7 +14,9 @@ use Rattle.flow_table.specs.Table.{place_of, with_entry}
 use Rattle.flow_table.specs.Change.{is_modify, is_delete, asks_notice, key_in, describes, sends_to, deletes, adds, new_entry, entries_after, notices_of}
 use Rattle.flow_table.specs.Refusals.{no_buffer}
 use Rattle.lego_model.specs.Answers.{Rows, rows_of_table, rows_of_view, would_touch, flow_mod_refused, with_notice}
-use Rattle.net_txn.specs.Views.{with_row, row_in, rows_after}
+use Rattle.net_txn.specs.Views.{rows_after}
+use Rattle.lego_model.specs.ViewRows.{row_in}
+use Rattle.flow_table.specs.Sorted.{with_row}
 use Rattle.flow_table.specs.RowKeys.{shown_row, held_entry}
 
 -- ---- One row more

@@ -7,7 +7,8 @@ use Rattle.std.proofs.lemmas.Bool.{eqb-true, ne_eqb, lt-ltb, le-ltb}
 use Rattle.of_match.specs.Key.{key_number}
 use Rattle.flow_table.specs.declared.view.ViewRow.{ViewRow}
 use Rattle.flow_table.specs.View.{TableView}
-use Rattle.net_txn.specs.Views.{rows_at, is_viewed, with_rows, IsViewAt, with_row, IsRowPlace}
+use Rattle.net_txn.specs.Views.{rows_at, is_viewed, with_rows, IsViewAt, IsRowPlace}
+use Rattle.flow_table.specs.Sorted.{with_row}
 
 -- ---- Views
 

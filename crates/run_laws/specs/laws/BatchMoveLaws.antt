@@ -244,7 +244,7 @@ batch-happens Tells x text first now e told later keeps_old settled same_net sam
     let old = first.seen in
     let new = now.seen in
     let calm : Calm old first.net = subst (λ (n : NetState). Calm old n) same_net settled.calm in
-    let h = subst (StimulusHandled x old first.net first.queue) (sym done.knowledge) (stimulus-handled x old first.net first.queue keeps_old calm done.began.stimulus done.fits) in
+    let h = subst (StimulusHandled x old first.net first.queue) (sym done.knowledge) (stimulus-handled x old first.net first.queue keeps_old calm done.began.stimulus) in
     let none : [] ≡ text = append_cancel_left first.text [] text (append-nil first.text ∙ sym done.text ∙ noted) in
     subst (λ (t : List ℕ). OneHappens t old new e (engine_then e now.net now.queue)) none (record {
       stimulus = x;

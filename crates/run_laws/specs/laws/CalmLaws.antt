@@ -15,7 +15,7 @@ use Rattle.outside.specs.Conforming.{Conforming}
 use Rattle.net_txn.specs.laws.OrderLaws.{left-ascends}
 use Rattle.net_txn.specs.Net.{NetState}
 use Rattle.net_txn.specs.Views.{rows_at, with_rows, is_viewed, ViewsAscend}
-use Rattle.net_txn.specs.Arriving.{without_key}
+use Rattle.flow_table.specs.Sorted.{without_key}
 use Rattle.net_txn.specs.Undos.{key_logged, without_keys, next_free, lost_parts, is_lost_in, undone_net, StandsReady, Undoes}
 use Rattle.net_txn.specs.Losing.{lost_net, lose_all}
 use Rattle.net_txn.specs.Releases.{committed}

@@ -1,11 +1,10 @@
 -- Moves of the network, as the course of a run says them: messages of applications for switches, and packets that are released.
-use Rattle.std.specs.Prelude.{◌==◌, ◌||◌, nat_lt, if◌then◌else◌}
+use Rattle.std.specs.Prelude.{◌==◌, ◌||◌, if◌then◌else◌}
 use Rattle.std.specs.List.{AllByRecursion}
 use Rattle.std.specs.Option.{is_some, option_map}
 use Rattle.std.proofs.Common.{◌≡◌, ℕ, Bool, true, false, List, [], ◌∷◌, ◌++◌, Option, Some, None, Result, Ok, Err, refl, sym, ap, ◌∙◌, subst, inl, inr, append_assoc}
 use Rattle.std.proofs.lemmas.List.{append-nil}
 use Rattle.std.proofs.lemmas.Bool.{cases_Bool, eqb-true}
-use Rattle.of_match.specs.Key.{key_number}
 use Rattle.of_wire.specs.declared.bodies.FlowMod.{FlowMod as Change}
 use Rattle.of_wire.specs.declared.message.Message.TheVariants.{FlowMod, PacketOut}
 use Rattle.of_wire.specs.declared.message.Envelope.{Envelope}
@@ -15,7 +14,7 @@ use Rattle.of_wire.specs.Spelling.{message_bytes}
 use Rattle.flow_table.specs.declared.view.ViewRow.{ViewRow}
 use Rattle.flow_table.specs.View.{TableView}
 use Rattle.flow_table.specs.Change.{is_delete}
-use Rattle.flow_table.specs.Sorted.{row_place, with_item}
+use Rattle.flow_table.specs.Sorted.{with_row}
 use Rattle.app_frames.specs.declared.frame.Answer.{Answer}
 use Rattle.app_frames.specs.declared.frame.Event.{Event}
 use Rattle.outside.specs.declared.step.WorldStep.{WorldStep}
@@ -29,7 +28,7 @@ use Rattle.lego_model.specs.Packets.{Held}
 use Rattle.lego_model.specs.BarrierWaits.{heard, barrier_sent, wait_steps, reply_got}
 use Rattle.net_txn.specs.declared.ports.KnownPorts.{KnownPorts}
 use Rattle.net_txn.specs.Net.{NetState, awaited_from}
-use Rattle.net_txn.specs.Views.{rows_at, is_viewed, with_row, row_in, with_added, rows_after}
+use Rattle.net_txn.specs.Views.{rows_at, is_viewed, with_added, rows_after}
 use Rattle.net_txn.specs.laws.ViewLaws.{viewed}
 use Rattle.net_txn.specs.laws.ChangeLaws.{host_unknown}
 use Rattle.net_txn.specs.Waits.{refusal_in, first_of, first_refusal, Brought, answer_of, Waits}
@@ -41,7 +40,8 @@ use Rattle.net_txn.specs.Releases.{Knows, takes_read, takes_all, SendsPacket, Lo
 use Rattle.switch_laws.specs.laws.AskedLaws.{asked}
 use Rattle.switch_laws.specs.laws.LossLaws.{rows-gone, rows-stay}
 use Rattle.batch_laws.specs.Knowledge.{left_events, ports_lost}
-use Rattle.run_course.specs.Tables.{rows_with, row_asked}
+use Rattle.run_course.specs.Tables.{rows_with}
+use Rattle.lego_model.specs.ViewRows.{row_in}
 use Rattle.lego_model.specs.KeptMessages.{got_in}
 use Rattle.lego_model.specs.laws.KeptMessageLaws.{got_append}
 use Rattle.run_course.specs.Messages.{GotNone, is_refusal, is_refused, all_events, tables_behind, sent_steps, Waited}
@@ -167,13 +167,9 @@ refused_is : (a : Awaited) (got : List (List ℕ)) → is_some (first_refusal a 
 refused_is a [] = refl
 refused_is a (b ∷ bs) = refusal_is (heard a b) (first_refusal a bs) ∙ ap (λ (rest : Bool). is_refusal (heard a b) || rest) (refused_is a bs)
 
-row_same : (r : ViewRow) (rows : List ViewRow) → with_row r rows ≡ with_item row_place r rows
-row_same r [] = refl
-row_same r (s ∷ ss) = ap (λ (rest : List ViewRow). if nat_lt (key_number r.key) (key_number s.key) then r ∷ s ∷ ss else if key_number r.key == key_number s.key then r ∷ ss else s ∷ rest) (row_same r ss)
-
-added_same : (m : Change) (is : Bool) (rows : List ViewRow) → with_added (if is then None else Some (row_in m)) rows ≡ (if is then rows else with_item row_place (row_asked m) rows)
+added_same : (m : Change) (is : Bool) (rows : List ViewRow) → with_added (if is then None else Some (row_in m)) rows ≡ (if is then rows else with_row (row_in m) rows)
 added_same m true rows = refl
-added_same m false rows = row_same (row_in m) rows
+added_same m false rows = refl
 
 rows_same : (m : Change) (rows : List ViewRow) → rows_after m rows ≡ rows_with m rows
 unfolding rows_after

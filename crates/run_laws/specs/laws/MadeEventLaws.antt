@@ -4,36 +4,31 @@ use Rattle.std.specs.Prelude.{if◌then◌else◌}
 use Rattle.std.proofs.Common.{◌≡◌, ℕ, Bool, true, false, List, [], ◌∷◌, ◌++◌, Option, Some, None, Result, Ok, Err, refl, sym, ap, ◌∙◌, append_assoc}
 use Rattle.std.proofs.lemmas.List.{append-nil}
 use Rattle.std.specs.List.{AllByRecursion}
-use Rattle.of_match.specs.declared.key.Key.{Key}
 use Rattle.of_wire.specs.declared.message.Message.{Message}
 use Rattle.of_wire.specs.declared.message.Message.TheVariants as messages
 use Rattle.of_wire.specs.declared.message.Envelope.{Envelope}
 use Rattle.of_wire.specs.declared.fault.WireFault.{WireFault}
 use Rattle.of_wire.specs.Reading.{reading_of}
-use Rattle.flow_table.specs.declared.view.ViewRow.{ViewRow}
 use Rattle.flow_table.specs.View.{TableView}
 use Rattle.app_frames.specs.declared.frame.Event.{Event}
 use Rattle.app_frames.specs.declared.frame.EventKind.TheVariants as kinds
 use Rattle.outside.specs.declared.step.WorldStep.TheVariants.{From}
 use Rattle.net_txn.specs.Net.{NetState}
 use Rattle.net_txn.specs.Views.{rows_at}
-use Rattle.net_txn.specs.Arriving.{without_key, is_asked, is_told, event_from, event_of, net_after}
+use Rattle.net_txn.specs.Arriving.{is_told, event_from, event_of, net_after}
+use Rattle.flow_table.specs.Sorted.{without_key}
 use Rattle.flow_table.specs.RowKeys.{key_removed}
 use Rattle.net_txn.specs.Releases.{Knows, takes_read, takes_all}
 use Rattle.lego_model.specs.Events.{event_list}
 use Rattle.net_txn.specs.laws.SaidLaws.{all_weaker}
 use Rattle.batch_laws.specs.Knowledge.{Knowledge, is_known, with_event, views_by, told_read, handled, handled_all}
 use Rattle.batch_laws.specs.laws.KnownPortsLaws.{views_stay}
-use Rattle.run_course.specs.Tables.{Tables, asks}
+use Rattle.run_course.specs.Tables.{Tables}
 use Rattle.run_course.specs.Messages.{events_made, events_read, tables_left, tables_read, all_events, tables_behind}
 use Rattle.run_laws.specs.Course.{as_told}
 use Rattle.run_laws.specs.laws.TableHoldingLaws.{tables_of, table_changed, same_events, same_behind}
 
 -- ---- One message
-
-asks_same : (k : Key) (rows : Option (List ViewRow)) → is_asked k rows ≡ asks k rows
-asks_same k None = refl
-asks_same k (Some rows) = refl
 
 told_or_not : (event : Event) (told : Bool) → event_list (if told then Some event else None) ≡ (if told then event ∷ [] else [])
 told_or_not event true = refl
@@ -42,7 +37,7 @@ told_or_not event false = refl
 made_is : (d : ℕ) (views : List TableView) (m : Message) → event_list (event_of d views m) ≡ events_made d (rows_at d views) m
 made_is d views (messages.FlowRemoved f) =
     let event = event_from kinds.FlowRemoved d (messages.FlowRemoved f) in
-    told_or_not event (is_told d views f) ∙ ap (λ (told : Bool). if told then event ∷ [] else []) (asks_same (key_removed f) (rows_at d views))
+    told_or_not event (is_told d views f)
 made_is d views (messages.Hello payload) = refl
 made_is d views (messages.EchoRequest payload) = refl
 made_is d views (messages.EchoReply payload) = refl

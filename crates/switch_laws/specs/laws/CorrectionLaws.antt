@@ -16,7 +16,8 @@ use Rattle.undo_laws.specs.Corrected.{AgreeBut}
 use Rattle.undo_laws.specs.CorrectedSwitch.{GoesAlong, GoTogether, AskAll, owner_flags, is_asked_for}
 use Rattle.undo_laws.specs.laws.LookupLaws.{filter-same}
 use Rattle.undo_laws.specs.laws.ShownEntryLaws.{shown_entry-goes_along, shown_entry-together, rest-of_none, expiry-owned}
-use Rattle.net_txn.specs.Views.{with_row, row_in}
+use Rattle.lego_model.specs.ViewRows.{row_in}
+use Rattle.flow_table.specs.Sorted.{with_row}
 use Rattle.net_txn.specs.laws.RowLaws.{sent}
 use Rattle.switch_laws.specs.Shown.{flags_in, correction_in}
 use Rattle.switch_laws.specs.laws.FlagLaws.{flags_in-added, flags_in-kept}

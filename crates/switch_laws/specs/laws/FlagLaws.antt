@@ -4,7 +4,7 @@ use Rattle.std.proofs.lemmas.Bool.{cases_Bool, eqb-true, eqb-false, eq-eqb, ne_e
 use Rattle.of_match.specs.declared.key.Key.{Key}
 use Rattle.of_match.specs.Key.{key_number}
 use Rattle.flow_table.specs.declared.view.ViewRow.{ViewRow}
-use Rattle.net_txn.specs.Views.{with_row}
+use Rattle.flow_table.specs.Sorted.{with_row}
 use Rattle.switch_laws.specs.Shown.{flags_in}
 
 pub flags_in-here : (r : ViewRow) (rows : List ViewRow) (k : Key) → key_number r.key ≡ key_number k → flags_in (r ∷ rows) k ≡ r.flags

@@ -30,7 +30,7 @@ use Rattle.outside.specs.Conforming.{AreDeclaredFrom}
 use Rattle.outside.specs.laws.SeenLaws.{journal-append}
 use Rattle.net_txn.specs.declared.ports.KnownPorts.{KnownPorts}
 use Rattle.net_txn.specs.ChangeSteps.{Agrees}
-use Rattle.net_txn.specs.Arriving.{without_key}
+use Rattle.flow_table.specs.Sorted.{without_key}
 use Rattle.net_txn.specs.Leaving.{port_text, ports_text, left_event}
 use Rattle.net_txn.specs.Losing.{lost_net, lose_all, GoesOut}
 use Rattle.of_types.specs.Membership.{is_among}

@@ -19,7 +19,9 @@ use Rattle.undo_laws.specs.Corrected.{IsCorrection, corrected, AsksTheSame}
 use Rattle.undo_laws.specs.laws.CorrectedLaws.{refusal-corrected, refusal-asked, kept-corrected, addition-corrected}
 use Rattle.undo_laws.specs.CorrectedSwitch.{corrected_switch}
 use Rattle.lego_model.specs.Answers.{Rows, rows_of_table, would_touch, addition_refused, flow_mod_refused, not_yet, refused_or, host_refusal, host_answer, with_notice, as_sent}
-use Rattle.net_txn.specs.Views.{with_row, row_in, rows_after}
+use Rattle.net_txn.specs.Views.{rows_after}
+use Rattle.lego_model.specs.ViewRows.{row_in}
+use Rattle.flow_table.specs.Sorted.{with_row}
 use Rattle.net_txn.specs.laws.RowLaws.{sent, sent_adds, known_command}
 use Rattle.switch_laws.specs.Shown.{correction_in, correction_after, Passes}
 use Rattle.switch_laws.specs.laws.CorrectionLaws.{goes_along, shown-but, new-shown}

@@ -31,7 +31,9 @@ use Rattle.outside.specs.State.{state, switch_of, waits_of}
 use Rattle.outside.specs.Conforming.{Conforming}
 use Rattle.lego_model.specs.declared.wait.Refusal.{Refusal}
 use Rattle.net_txn.specs.declared.logged.Logged.{Logged}
-use Rattle.net_txn.specs.Views.{rows_at, with_rows, with_row, row_in, rows_after}
+use Rattle.net_txn.specs.Views.{rows_at, with_rows, rows_after}
+use Rattle.lego_model.specs.ViewRows.{row_in}
+use Rattle.flow_table.specs.Sorted.{with_row}
 use Rattle.net_txn.specs.laws.LostPartLaws.{among-last}
 use Rattle.net_txn.specs.laws.ViewLaws.{with_rows-kept}
 use Rattle.net_txn.specs.laws.RowLaws.{sent, sent_adds, known_command, filter_all, no_command, any_of_map}

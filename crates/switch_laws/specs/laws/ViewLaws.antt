@@ -6,8 +6,8 @@ use Rattle.of_match.specs.declared.key.Key.{Key}
 use Rattle.of_match.specs.Key.{key_number}
 use Rattle.flow_table.specs.declared.view.ViewRow.{ViewRow}
 use Rattle.flow_table.specs.View.{TableView}
-use Rattle.net_txn.specs.Views.{rows_at, with_rows, with_row}
-use Rattle.net_txn.specs.Arriving.{without_key}
+use Rattle.net_txn.specs.Views.{rows_at, with_rows}
+use Rattle.flow_table.specs.Sorted.{without_key, with_row}
 use Rattle.net_txn.specs.Undos.{without_keys}
 use Rattle.net_txn.specs.laws.AgreeLaws.{swap}
 use Rattle.switch_laws.specs.Shown.{has_row}

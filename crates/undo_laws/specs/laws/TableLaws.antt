@@ -93,11 +93,6 @@ longer-one : (now : ℕ) (e : Entry) (t : TableState) → length t.entries ≤ l
 unfolding undo_one
 longer-one now e t = length-with_entry-ge t.entries (back now t.next e)
 
-longer : (now : ℕ) (es : List Entry) (t : TableState) → length t.entries ≤ length (undo now (map PutBack es) t).entries
-unfolding undo
-longer now [] t = omega arith
-longer now (e ∷ es) t = omega (arith, longer now es t, longer-one now e (undo now (map PutBack es) t))
-
 can-add : (cap now : ℕ) (es : List Entry) (t : TableState) → length (undo now (map PutBack es) t).entries ≤ cap → CanRevert cap now (map PutBack es) t
 unfolding undo
 can-add cap now [] t fits = fits

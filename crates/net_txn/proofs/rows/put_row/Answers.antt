@@ -2,7 +2,8 @@ use Rattle.std.proofs.Common.{◌≡◌, ◌≢◌, ℕ, ◌<◌, List, length, 
 use Rattle.std.specs.List.{insert}
 use Rattle.of_match.specs.Key.{key_number}
 use Rattle.flow_table.specs.declared.view.ViewRow.{ViewRow}
-use Rattle.net_txn.specs.Views.{with_row, IsRowPlace}
+use Rattle.net_txn.specs.Views.{IsRowPlace}
+use Rattle.flow_table.specs.Sorted.{with_row}
 use Rattle.net_txn.specs.laws.ViewLaws.{with_row-found, with_row-absent, IsRowPlace-le}
 use Rattle.net_txn.proofs.rows.put_row.Goals as goal
 

@@ -1,6 +1,6 @@
 use Rattle.std.proofs.Common.{sym, arith}
 use Rattle.std.proofs.lemmas.Result.{on_ok_weaker, on_err_weaker}
-use Rattle.net_txn.specs.Views.{with_row}
+use Rattle.flow_table.specs.Sorted.{with_row}
 use Rattle.net_txn.specs.laws.ViewLaws.{with_rows-none}
 use Rattle.net_txn.proofs.ViewPositions.{view_within, rows_placed, room_placed}
 use Rattle.net_txn.proofs.views.put_in.Goals as goal

@@ -1,5 +1,5 @@
 use Rattle.std.proofs.Common.{sym, arith}
-use Rattle.net_txn.specs.Arriving.{without_key}
+use Rattle.flow_table.specs.Sorted.{without_key}
 use Rattle.net_txn.specs.laws.ViewLaws.{with_rows-none}
 use Rattle.net_txn.proofs.ViewPositions.{view_within, rows_placed}
 use Rattle.net_txn.proofs.views.remove_in.Goals as goal

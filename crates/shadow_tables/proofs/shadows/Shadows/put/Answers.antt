@@ -1,6 +1,5 @@
-use Rattle.flow_table.specs.Sorted.{row_place}
+use Rattle.flow_table.specs.Sorted.{row_place, with_row}
 use Rattle.flow_table.specs.laws.SortedLaws.{Ascends-with_item}
-use Rattle.shadow_tables.specs.Known.{with_row}
 use Rattle.shadow_tables.proofs.Switches.{joined_in, room_there, rows_change, rows_held}
 use Rattle.shadow_tables.proofs.shadows.Shadows.put.Goals as goal
 
