@@ -5,9 +5,9 @@ Clones the last commit into a temporary folder and runs `rt ci` there, from noth
 runs passed. Where it takes names, only these crates and those below them are run if any are named.
 Prints, for each crate, the processor minutes of its proof, of its tests' proof, of what its edits begin with, and of its edits, and the
 commit at which they were taken; then the whole, and how busy the machine was with other work. With --write the figures go into
-docs/GATE.md too.
+bench/gate.md too.
 
-With --kept the run takes what earlier runs on this machine passed. What it does not prove again keeps the figures that docs/GATE.md has,
+With --kept the run takes what earlier runs on this machine passed. What it does not prove again keeps the figures that bench/gate.md has,
 with their commit. So a table can be made in parts, as the crates change.
 
 How the figures are made: four times a second it reads from /proc the processor time of each process below `rt`, and adds it to what
@@ -26,7 +26,7 @@ import time
 
 HERE = os.path.dirname(os.path.abspath(__file__))
 TOP = os.path.join(HERE, "..")
-PAGE = os.path.join(TOP, "docs", "GATE.md")
+PAGE = os.path.join(HERE, "gate.md")
 BEGIN, END = "<!-- figures: bench/gate.py --write -->\n", "<!-- end of figures -->\n"
 TICKS = os.sysconf("SC_CLK_TCK")
 KINDS = ("proof", "tests", "start", "edits")
