@@ -18,7 +18,7 @@ pub struct Bounds {
     pub seconds: u64,
 }
 
-/// A live world that is over where nothing waits and so many packets came from its switches, or so many seconds passed.
+/// A live world that is over where nothing waits and a given number of packets came from its switches, or after a given number of seconds.
 #[derive(Drop)]
 pub struct Bounded<R, C> {
     world: LiveWorld<R, C>,
