@@ -9,10 +9,9 @@ A program that is started again knows nothing of its first life. To crash only o
 """
 
 import os
-import sys
 import tempfile
 
-sys.path.insert(0, os.path.join(os.path.dirname(os.path.abspath(__file__)), ".."))
+import uninstalled
 from legosdn import App, Match, Output
 
 CRASHED = os.environ.get("CRASHED", os.path.join(tempfile.gettempdir(), "crash_on_purpose"))

@@ -8,10 +8,7 @@ by an entry without actions, which needs no application at all: if this program 
 The two entries of a connection go together, after two minutes. Its next frame is then told again.
 """
 
-import os
-import sys
-
-sys.path.insert(0, os.path.join(os.path.dirname(os.path.abspath(__file__)), ".."))
+import uninstalled
 from legosdn import App, Match, OpenFlowError, Output, PacketInReason, Port
 
 INSIDE, OUTSIDE = 1, 2

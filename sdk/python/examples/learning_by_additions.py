@@ -13,10 +13,7 @@ hands the state over once a second at most, since a state has all that is rememb
 in it: then an addition of an entry that stands is refused, and passed over.
 """
 
-import os
-import sys
-
-sys.path.insert(0, os.path.join(os.path.dirname(os.path.abspath(__file__)), ".."))
+import uninstalled
 from legosdn import App, Match, OpenFlowError, Output, PacketInReason, Port, from_json, to_json
 
 ARP = 0x0806

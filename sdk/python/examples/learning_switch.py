@@ -12,10 +12,7 @@ today's controller: such a frame is learnt from, and lost. `learning_by_addition
 What was learnt is handed over as a checkpoint at the end of each turn, and is given back after a crash.
 """
 
-import os
-import sys
-
-sys.path.insert(0, os.path.join(os.path.dirname(os.path.abspath(__file__)), ".."))
+import uninstalled
 from legosdn import App, Match, OpenFlowError, Output, Port, UnknownSwitch, from_json, to_json
 
 IDLE_SECONDS, HARD_SECONDS = 60, 300

@@ -9,10 +9,7 @@ It is written with functions in place of a class, and needs additions alone. All
 one of them is refused, none of them stays.
 """
 
-import os
-import sys
-
-sys.path.insert(0, os.path.join(os.path.dirname(os.path.abspath(__file__)), ".."))
+import uninstalled
 from legosdn import App, Match, Output, Port, PortState, SetDlDst, SetDlSrc
 
 ROUTER = 1

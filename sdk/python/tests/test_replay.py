@@ -7,8 +7,7 @@ import subprocess
 import sys
 import unittest
 
-import session
-from legosdn import UnknownSwitch, messages
+from legosdn import UnknownSwitch, messages, session
 from legosdn.rehearsal import join, leave, packet_in, rehearse
 
 from . import PYTHON, TOP

@@ -7,7 +7,7 @@ import subprocess
 import sys
 import unittest
 
-import session
+from legosdn import session
 
 from . import PYTHON, TOP
 from .vectors import ANY, OUT_2, F, G, flow_mod, in_port
