@@ -10,6 +10,7 @@ about 2 where the work is linear. For frames of applications (a Save of 5 bytes,
 a checkpoint of 64 KiB and of 1 MiB, and the last but for its last byte) it prints frames a second. A switch forwards frames of 64 bytes that hit one entry of 10, 1,000 and 4,096.
 """
 
+import argparse
 import os
 import subprocess
 import sys
@@ -41,7 +42,9 @@ def busy(program, operation, over, rounds):
 
 
 def main():
-    program = sys.argv[1] if len(sys.argv) > 1 else PROGRAM
+    parser = argparse.ArgumentParser(description=__doc__, formatter_class=argparse.RawDescriptionHelpFormatter)
+    parser.add_argument("program", nargs="?", default=PROGRAM, metavar="PROGRAM")
+    program = parser.parse_args().program
     for operation in ("key", "edit"):
         for size in ("64", "1500"):
             seconds, frames, octets = busy(program, operation, size, ROUNDS[operation])

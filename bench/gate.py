@@ -16,6 +16,7 @@ quarter of a second can be missing. The whole is the kernel's own sum over all p
 no crate was seen to take: `rt` itself, compilers and links, tests and programs that run.
 """
 
+import argparse
 import os
 import re
 import subprocess
@@ -232,21 +233,18 @@ def write(text):
         file.write(page[:front] + "\n" + text + "\n" + page[back:])
 
 
-def main(words):
-    if set(words) & {"-h", "--help"}:
-        print(__doc__.strip())
-        return 0
-    names = [word for word in words if not word.startswith("-")]
-    unknown = [word for word in words if word.startswith("-") and word not in ("--kept", "--write")]
-    if unknown:
-        print("bench/gate.py: there is no %s" % unknown[0], file=sys.stderr)
-        return 2
+def main():
+    parser = argparse.ArgumentParser(description=__doc__, formatter_class=argparse.RawDescriptionHelpFormatter)
+    parser.add_argument("--kept", action="store_true", help="take what earlier runs on this machine passed")
+    parser.add_argument("--write", action="store_true", help="put the figures into bench/gate.md")
+    parser.add_argument("crates", nargs="*", metavar="CRATE")
+    asked = parser.parse_args()
     with tempfile.TemporaryDirectory(prefix="gate-") as room:
-        status, text = measured(names, room, "--kept" in words)
+        status, text = measured(asked.crates, room, asked.kept)
     print(text)
-    if "--write" in words:
+    if asked.write:
         write(text)
     return status
 
 
-sys.exit(main(sys.argv[1:]))
+sys.exit(main())

@@ -7,6 +7,7 @@ once half as long: the line behind it says how much longer the whole takes, whic
 that is more, where 32 applications take a millisecond or more, or where a text that is a policy is refused.
 """
 
+import argparse
 import os
 import resource
 import subprocess
@@ -46,7 +47,9 @@ def seconds(program, text, many, policy):
 
 
 def main():
-    program = sys.argv[1] if len(sys.argv) > 1 else PROGRAM
+    parser = argparse.ArgumentParser(description=__doc__, formatter_class=argparse.RawDescriptionHelpFormatter)
+    parser.add_argument("program", nargs="?", default=PROGRAM, metavar="PROGRAM")
+    program = parser.parse_args().program
     wrong = 0
     text = b"".join(application(number) for number in range(32))
     taken = seconds(program, text, True, True)

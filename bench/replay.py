@@ -8,6 +8,7 @@ how many stimuli it had a second, at least 200,000 where they are small. Ends wi
 session takes longer or more. SHARE, as 0.01, makes all sessions shorter, for a trial.
 """
 
+import argparse
 import os
 import resource
 import subprocess
@@ -139,8 +140,11 @@ def main():
     if sys.argv[1:2] == ["--one"]:
         one(*sys.argv[2:])
         return 0
-    program = sys.argv[1] if len(sys.argv) > 1 else PROGRAM
-    share = float(sys.argv[2]) if len(sys.argv) > 2 else 1.0
+    parser = argparse.ArgumentParser(description=__doc__, formatter_class=argparse.RawDescriptionHelpFormatter)
+    parser.add_argument("program", nargs="?", default=PROGRAM, metavar="PROGRAM")
+    parser.add_argument("share", nargs="?", type=float, default=1.0, metavar="SHARE")
+    asked = parser.parse_args()
+    program, share = asked.program, asked.share
     wrong = 0
     for name, data, line in refused() if share == 1.0 else ():
         wrong += not run(program, name, data, 3, line, line)[1]

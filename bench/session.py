@@ -5,6 +5,7 @@ The program reads a session text from standard input into a simulated world, and
 each input: its name, its size in bytes, seconds, the peak of memory in MiB, and the program's line.
 """
 
+import argparse
 import os
 import resource
 import subprocess
@@ -60,7 +61,9 @@ def main():
     if sys.argv[1:2] == ["--one"]:
         one(sys.argv[2], sys.argv[3:])
         return
-    program = sys.argv[1:] or PROGRAM
+    parser = argparse.ArgumentParser(description=__doc__, formatter_class=argparse.RawDescriptionHelpFormatter)
+    parser.add_argument("words", nargs="*", default=PROGRAM, metavar="PROGRAM WORD ..")
+    program = parser.parse_args().words
     wrong = 0
     for name, data, wanted in inputs():
         seconds, mebibytes, line = run(program, data)

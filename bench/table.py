@@ -14,6 +14,7 @@ and in a scattered one, and that is found and taken out in that: kept in key ord
 All of it is processor time of the program, the least of five runs.
 """
 
+import argparse
 import os
 import subprocess
 import sys
@@ -106,10 +107,13 @@ def calls(program):
 
 
 def main():
-    program = sys.argv[1] if len(sys.argv) > 1 else PROGRAM
+    parser = argparse.ArgumentParser(description=__doc__, formatter_class=argparse.RawDescriptionHelpFormatter)
+    parser.add_argument("program", nargs="?", default=PROGRAM, metavar="PROGRAM")
+    parser.add_argument("netlog", nargs="?", default=NETLOG, metavar="NETLOG")
+    asked = parser.parse_args()
+    program, logs = asked.program, asked.netlog
     if program != "-":
         calls(program)
-    logs = sys.argv[2] if len(sys.argv) > 2 else NETLOG
     if logs != "-" and not os.path.exists(logs):
         print("there is no %s: bench/build builds it last" % logs)
         return 1

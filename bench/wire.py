@@ -6,6 +6,7 @@ folder. Prints, for each operation and corpus, messages and MiB a second of both
 plain codec's rate that of_wire reaches.
 """
 
+import argparse
 import os
 import subprocess
 import sys
@@ -41,7 +42,9 @@ def rate(program, operation, corpus):
 
 
 def main():
-    program = sys.argv[1] if len(sys.argv) > 1 else PROGRAM
+    parser = argparse.ArgumentParser(description=__doc__, formatter_class=argparse.RawDescriptionHelpFormatter)
+    parser.add_argument("program", nargs="?", default=PROGRAM, metavar="PROGRAM")
+    program = parser.parse_args().program
     with tempfile.TemporaryDirectory() as folder:
         plain = os.path.join(folder, "wire")
         subprocess.run(["rustc", "--edition=2021", "-O", "-o", plain, os.path.join(HERE, "wire.rs")], check=True,
