@@ -71,6 +71,8 @@ impl<R: Net + Processes<Started = SystemProcess> + Env + AllocGlobal + Drop, C: 
 
     ghost Own = { Unit {0} };
 
+    ghost CanPart = { Unit {0} };
+
     ghost seen = { λ s. ⟦<LiveWorld<R, C> as World>⟧.seen s.world };
 
     fn open(&mut self, port: u16) -> Result<(), OpenFault> {
@@ -115,5 +117,13 @@ impl<R: Net + Processes<Started = SystemProcess> + Env + AllocGlobal + Drop, C: 
             self.count(&buf[..size]);
         }
         received
+    }
+
+    fn can_part(&self) -> bool {
+        self.world.can_part()
+    }
+
+    fn part(&mut self, dpid: Dpid) {
+        self.world.part(dpid);
     }
 }

@@ -328,6 +328,13 @@ impl Links {
         }
     }
 
+    /// Parts with the switch: its connection is closed, with all that came on it, and no `Left` is told for it.
+    pub(crate) fn part(&mut self, dpid: Dpid) {
+        if let Some(place) = place_of(&self.connections, dpid) {
+            self.close(place);
+        }
+    }
+
     /// Sends the message to the switch, within 5 seconds. Where that fails the switch is lost: its connection is closed, with all
     /// that came on it, and no `Left` is told for it.
     pub(crate) fn send<C: Clock>(

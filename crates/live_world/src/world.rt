@@ -131,6 +131,8 @@ impl<R: Net + Processes<Started = SystemProcess> + Env + AllocGlobal + Drop, C: 
 
     ghost Own = { Unit {0} };
 
+    ghost CanPart = { Unit {0} };
+
     ghost seen = { λ s. live_seen s.counts };
 
     fn open(&mut self, port: u16) -> Result<(), OpenFault> {
@@ -234,6 +236,17 @@ impl<R: Net + Processes<Started = SystemProcess> + Env + AllocGlobal + Drop, C: 
             Err(LinkFault::Short) => self.counts.raise_shorts_of(dpid),
         }
         received
+    }
+
+    fn can_part(&self) -> bool {
+        true
+    }
+
+    fn part(&mut self, dpid: Dpid) {
+        if let Some(links) = &mut self.links {
+            links.part(dpid);
+        }
+        self.counts.raise_link(dpid);
     }
 }
 

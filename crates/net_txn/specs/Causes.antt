@@ -30,6 +30,7 @@ halt_by d (troubles.Refused k xid n) buf = Fault (Diverged d (inverse_bytes xid 
 halt_by d troubles.Flooded buf = Fault (Flooded d flood)
 halt_by d troubles.Short buf = Fault NoMemory
 halt_by d troubles.Full buf = Fault NoMemory
+halt_by d troubles.Parted buf = Lost
 
 -- ---- Why it came
 

@@ -2,7 +2,8 @@
 -- on both exits of a function which of these it made; what else is known of them (no call for an application, no call out of place, the
 -- cause of a fault) are laws over that list. All of this is our own but for the messages of OpenFlow 1.0.0.
 use Rattle.std.specs.Prelude.{◌≡◌, ℕ, ◌+◌, ◌^◌, ◌<◌, ◌≤◌, Bool, true, false, List, [], ◌∷◌, ◌++◌, length, take, map, filter_map, ◌⊎◌, Option, Some, None, Result, IsErr, MatchResult}
-use Rattle.std.specs.List.{AllByRecursion, flat_map}
+use Rattle.std.specs.List.{AllByRecursion, flat_map, list_any}
+use Rattle.std.specs.Option.{is_some}
 use Rattle.lego_io.specs.Count.{Rose}
 use Rattle.of_types.specs.Fields.{number_at}
 use Rattle.of_types.specs.declared.journal.Act.TheVariants.{Sent, Got}
@@ -17,6 +18,7 @@ use Rattle.outside.specs.State.{state, is_joined}
 use Rattle.outside.specs.Calls.{unsent, unreceived}
 use Rattle.net_txn.specs.declared.halt.Halt.{Halt}
 use Rattle.net_txn.specs.declared.halt.Halt.TheVariants.{Lost, Fault}
+use Rattle.lego_model.specs.declared.fault.TxnFault.{TxnFault}
 use Rattle.lego_model.specs.declared.fault.TxnFault.TheVariants.{NoMemory}
 use Rattle.lego_model.specs.declared.wait.Awaited.{Awaited}
 use Rattle.lego_model.specs.declared.wait.Heard.{Heard}
@@ -41,7 +43,7 @@ pub data Said : Type 0 where
   Hears : ℕ → List ℕ → Said
   -- bytes were got from it that are no message
   HearsNoise : ℕ → List ℕ → Said
-  -- its link failed where a message was to be sent
+  -- its link failed where a message was to be sent, or it was parted with
   CannotSay : ℕ → Said
   -- its link failed where a message was to be got
   CannotHear : ℕ → Said
@@ -122,6 +124,7 @@ abbrev pub unheard : ℕ → Trouble → List ℕ → List Said
 unheard d troubles.Link buf = CannotHear d ∷ []
 unheard d troubles.Short buf = LacksMemory d ∷ []
 unheard d (troubles.Broke n) buf = HearsNoise d (take n buf) ∷ []
+unheard d troubles.Parted buf = CannotSay d ∷ []
 unheard d other buf = []
 
 -- the link of the switch failed, or the world's own memory ran out
@@ -180,6 +183,15 @@ pub record TreatsNot {Own : Type 0} (Tells : Type 0) (a : Awaited) (storage : St
   pub calls : Calls Tells a.dpid (unsaid a.dpid t) old new
   pub kept_is : now_kept ≡ kept
 
+-- It was, and then its switch was parted with.
+pub record TreatsAndParts {Own : Type 0} (Tells : Type 0) (a : Awaited) (storage : Storage) (bytes : List ℕ) (old new : Seen Own) (kept now_kept : List (ℕ × List ℕ)) (t : Trouble) : Type 0 where
+  pub kept_is : KeptAs storage kept (kept_by a.dpid (heard a bytes) bytes) now_kept
+  pub calls : Calls Tells a.dpid (said_by a.dpid (heard a bytes) bytes ++ CannotSay a.dpid ∷ []) old new
+  pub parted : t ≡ troubles.Parted
+
+abbrev pub PartsBehind : {Own : Type 0} → Type 0 → Awaited → Storage → List ℕ → Seen Own → Seen Own → List (ℕ × List ℕ) → List (ℕ × List ℕ) → Trouble → Type 0
+PartsBehind Tells a storage bytes old new kept now_kept t = TreatsNot Tells a storage bytes old new kept now_kept t ⊎ TreatsAndParts Tells a storage bytes old new kept now_kept t
+
 -- messages before the reply to a barrier, none of which refuses an inverse
 pub record AreHeard (a : Awaited) (sent : List (ℕ × Key)) (got : List (List ℕ)) : Type 0 where
   pub read : AllByRecursion IsRead got
@@ -199,7 +211,38 @@ IsBreakBehind a sent storage bytes trouble buf = IsUntreated storage (heard a by
 abbrev pub IsBreak : Awaited → List (ℕ × Key) → Storage → ℕ → Option (List ℕ) → Trouble → List ℕ → Type 0
 IsBreak a sent storage n (Some bytes) trouble buf = IsRead bytes × IsBreakBehind a sent storage bytes trouble buf
 IsBreak a sent storage n None troubles.Flooded buf = n ≡ flood
+IsBreak a sent storage n None troubles.Parted buf = Unit {0}
 IsBreak a sent storage n None trouble buf = IsOfHearing trouble
+
+-- ---- A switch is parted with
+
+abbrev pub is_parted : Trouble → Bool
+is_parted troubles.Parted = true
+is_parted other = false
+
+-- the inverses that none of the messages refuses: of a switch that is parted with, nothing is said
+abbrev pub unrefused_by : Trouble → List (ℕ × Key) → List (ℕ × Key)
+unrefused_by troubles.Parted sent = []
+unrefused_by other sent = sent
+
+-- it refuses an inverse
+abbrev pub refuses_any : List (ℕ × Key) → List ℕ → Bool
+refuses_any sent bytes = is_some (key_refused sent bytes)
+
+-- why: so many messages came, or one of them refuses an inverse
+abbrev pub IsParting : Trouble → List (ℕ × Key) → List (List ℕ) → Type 0
+IsParting troubles.Parted sent got = (length got ≡ flood) ⊎ (list_any (refuses_any sent) got ≡ true)
+IsParting other sent got = Unit {0}
+
+-- One message was got that refuses an inverse. What was to be done with it was done, and then the switch was parted with.
+pub record HearsAndParts {Own : Type 0} (Tells : Type 0) (a : Awaited) (storage : Storage) (sent : List (ℕ × Key)) (old new : Seen Own) (kept now_kept : List (ℕ × List ℕ)) (t : Trouble) : Type 0 where
+  pub bytes : List ℕ
+  pub read : IsRead bytes
+  pub refuses : refuses_any sent bytes ≡ true
+  pub before_reply : is_reply (heard a bytes) ≡ false
+  pub kept_is : KeptAs storage kept (kept_by a.dpid (heard a bytes) bytes) now_kept
+  pub calls : Calls Tells a.dpid (heard_said a bytes ++ CannotSay a.dpid ∷ []) old new
+  pub parted : t ≡ troubles.Parted
 
 -- one message was got, and what was to be done with it was done
 pub record HearsNext {Own : Type 0} (Tells : Type 0) (a : Awaited) (storage : Storage) (sent : List (ℕ × Key)) (old new : Seen Own) (kept now_kept : List (ℕ × List ℕ)) (answer now_answer : Brought) (ended : Bool) : Type 0 where
@@ -213,9 +256,14 @@ pub record HearsNext {Own : Type 0} (Tells : Type 0) (a : Awaited) (storage : St
 
 pub record HearsLast {Own : Type 0} (Tells : Type 0) (a : Awaited) (storage : Storage) (sent : List (ℕ × Key)) (old new : Seen Own) (kept now_kept : List (ℕ × List ℕ)) (buf : List ℕ) (t : Trouble) : Type 0 where
   pub by : Option (List ℕ)
+  pub unparted : is_parted t ≡ false
   pub why : IsBreak a sent storage 0 by t buf
   pub calls : Calls Tells a.dpid (last_said a.dpid by t buf) old new
   pub kept_is : now_kept ≡ kept
+
+-- no message was got with which the wait goes on
+abbrev pub HearsNoMore : {Own : Type 0} → Type 0 → Awaited → Storage → List (ℕ × Key) → Seen Own → Seen Own → List (ℕ × List ℕ) → List (ℕ × List ℕ) → List ℕ → Trouble → Type 0
+HearsNoMore Tells a storage sent old new kept now_kept buf t = HearsLast Tells a storage sent old new kept now_kept buf t ⊎ HearsAndParts Tells a storage sent old new kept now_kept t
 
 -- ---- A wait
 
@@ -227,6 +275,15 @@ pub record WaitsOn {Own : Type 0} (Tells : Type 0) (a : Awaited) (storage : Stor
   pub kept_is : KeptAs storage kept (kept_of a got) now_kept
   pub answer_is : answer ≡ answer_of a got
   pub calls : Calls Tells a.dpid (wait_said a got) old new
+
+-- the switch was parted with, or nothing was done
+abbrev pub PartsOrNot : {Own : Type 0} → Type 0 → ℕ → Seen Own → Seen Own → Bool → Type 0
+PartsOrNot Tells d old new true = Calls Tells d (CannotSay d ∷ []) old new
+PartsOrNot Tells d old new false = new ≡ old
+
+-- The reply did not come, and the switch was parted with, or not.
+abbrev pub GivesUp : {Own : Type 0} → Type 0 → ℕ → Seen Own → Seen Own → Trouble → Type 0
+GivesUp Tells d old new t = ((t ≡ troubles.Flooded) × (new ≡ old)) ⊎ ((t ≡ troubles.Parted) × Calls Tells d (CannotSay d ∷ []) old new)
 
 -- messages that are sent before a wait
 abbrev pub frames_said : ℕ → List (List ℕ) → List Said
@@ -251,7 +308,8 @@ pub record Replied {Own : Type 0} (Tells : Type 0) (a : Awaited) (frames : List 
 pub record Unreplied {Own : Type 0} (Tells : Type 0) (a : Awaited) (frames : List (List ℕ)) (storage : Storage) (sent : List (ℕ × Key)) (old new : Seen Own) (kept now_kept : List (ℕ × List ℕ)) (buf : List ℕ) (t : Trouble) : Type 0 where
   pub is_xid : a.barrier < 2 ^ 32
   pub got : List (List ℕ)
-  pub before : AreHeard a sent got
+  pub before : AreHeard a (unrefused_by t sent) got
+  pub parting : IsParting t sent got
   pub kept_is : KeptAs storage kept (kept_of a got) now_kept
   pub by : Option (List ℕ)
   pub why : IsBreak a sent storage (length got) by t buf
@@ -275,10 +333,20 @@ Exchanges Tells a frames storage sent old new kept now_kept buf result =
 
 -- ---- The same, with a fault that takes memory
 
--- A link that failed loses the switch. Any other trouble is its fault, or want of memory for that.
+-- A link that failed loses the switch, and so does parting with it. Any other trouble is its fault, or want of memory for that.
 abbrev pub IsHaltBy : ℕ → Trouble → List ℕ → Halt → Type 0
 IsHaltBy d troubles.Link buf halt = halt ≡ Lost
+IsHaltBy d troubles.Parted buf halt = halt ≡ Lost
 IsHaltBy d trouble buf halt = (halt ≡ halt_by d trouble buf) ⊎ (halt ≡ Fault NoMemory)
+
+-- a fault of the switch, and none of memory
+abbrev pub is_of_switch : TxnFault → Bool
+is_of_switch NoMemory = false
+is_of_switch other = true
+
+-- What came is this fault, or the switch was parted with for it.
+abbrev pub PartsOrFails : {Own : Type 0} → Type 0 → ℕ → TxnFault → Seen Own → Seen Own → Halt → Type 0
+PartsOrFails Tells d fault old new halt = ((halt ≡ Fault fault) × (new ≡ old)) ⊎ ((is_of_switch fault ≡ true) × (halt ≡ Lost) × Calls Tells d (CannotSay d ∷ []) old new)
 
 -- one message could not be sent
 pub record SaysNot {Own : Type 0} (Tells : Type 0) (d : ℕ) (old new : Seen Own) (halt : Halt) : Type 0 where

@@ -407,6 +407,7 @@ ports_of d (Err trouble) buf ports = ports_by d (halt_by d trouble buf) ports
 -- whether it is lost
 abbrev pub is_of_link : Trouble → Bool
 is_of_link troubles.Link = true
+is_of_link troubles.Parted = true
 is_of_link other = false
 
 abbrev pub loses_by : Result (Unit {0}) Trouble → Bool

@@ -1,9 +1,10 @@
 //! A message, a barrier behind it, and what the switch answers.
 
-ghost use Rattle.std.specs.Prelude.{◌≡◌, ◌≤◌, [], ◌∷◌, length, IsOk, IfOk};
+ghost use Rattle.std.specs.Prelude.{◌≡◌, ◌≤◌, [], ◌∷◌, true, length, IsOk, IfOk};
 ghost use Rattle.of_wire.specs.Reading.{reading_of};
 ghost use Rattle.outside.specs.Calls.{most_message};
 ghost use Rattle.net_txn.specs.Causes.{halt_by};
+ghost use Rattle.net_txn.specs.Undos.{is_of_link};
 ghost use Rattle.net_txn.specs.Said.{barrier_of, IsHaltBy, SaysTo, Exchanges, Talks};
 ghost use Rattle.net_txn.specs.declared.queue.Storage.TheVariants.{Growing};
 
@@ -22,10 +23,10 @@ use std::alloc::{AllocError, Global};
 /// Tells how calls end by a switch's trouble, with copies of its bytes.
 fn halt_with(alloc: Global, dpid: Dpid, trouble: Trouble, buf: &[u8]) -> Result<Halt, AllocError>
     ensures halt { IfOk result (λ halt. halt ≡ halt_by dpid trouble buf.now) }
-    ensures link { trouble ≡ Trouble.Link → IsOk result }
+    ensures link { is_of_link trouble ≡ true → IsOk result }
 {
     match trouble {
-        Trouble::Link => Ok(Halt::Lost),
+        Trouble::Link | Trouble::Parted => Ok(Halt::Lost),
         Trouble::Broke(len) => {
             let bytes = ByteList::from_slice(alloc, front(buf, len))?;
             Ok(Halt::Fault(TxnFault::SwitchBroke(dpid, bytes)))

@@ -50,7 +50,7 @@ fn mark(log: &mut [Logged], at: usize, progress: UndoProgress)
 fn is_lost(called: &Result<(), Trouble>) -> bool
     ensures { result ≡ loses_by called.now }
 {
-    matches!(called, Err(Trouble::Link))
+    matches!(called, Err(Trouble::Link | Trouble::Parted))
 }
 
 /// Sends the inverse of the first of some entries.

@@ -98,7 +98,7 @@ fn fault_by(
     ensures none { result ≡ None → vec_len rooms.new ≡ vec_len rooms.old }
 {
     match trouble {
-        Trouble::Link => None,
+        Trouble::Link | Trouble::Parted => None,
         Trouble::Broke(len) => {
             let bytes = take_room(rooms).keep_got(front(buf, len));
             Some(TxnFault::SwitchBroke(dpid, bytes))
@@ -117,7 +117,7 @@ fn lose_by(ports: &mut PortTable, dpid: Dpid, trouble: Trouble)
     ensures { (buf : List ℕ) → ports.new ≡ ports_by dpid (halt_by dpid trouble buf) ports.old }
 {
     match trouble {
-        Trouble::Link => ports.lose(dpid),
+        Trouble::Link | Trouble::Parted => ports.lose(dpid),
         Trouble::Broke(_)
         | Trouble::Refused(_, _, _)
         | Trouble::Flooded

@@ -13,6 +13,7 @@ use crate::halt::Halt;
 use crate::net::{Net, following};
 use crate::queue::MessageQueue;
 use crate::replies::{read_replies, sort_out};
+use crate::wait::part_or_fail;
 use lego_model::{Awaited, Notices, TxnFault};
 use of_match::Match;
 use of_stats::RowList;
@@ -84,12 +85,13 @@ fn request_rows<W: World>(
     let replies = sort_out(alloc, came, kept, xid)?;
     match read_replies(alloc, dpid, request, awaited.barrier, replies) {
         Ok(rows) => Ok(rows),
-        Err(fault) => Err(Halt::Fault(fault)),
+        Err(fault) => Err(part_or_fail(world, dpid, fault)),
     }
 }
 
 impl Net {
-    /// Asks a switch for the rows of all its flows, behind a barrier. There are none where it was lost meanwhile.
+    /// Asks a switch for the rows of all its flows, behind a barrier. There are none where it was lost meanwhile. Where the
+    /// world can part with switches, one whose answer is at fault is parted with, and is lost.
     ///
     /// `SwitchBroke` has the part that is at fault, or the last one where the whole spells no rows. `Diverged` has the
     /// request and the ERROR that answered it, or the reply to the barrier where nothing did.

@@ -18,4 +18,6 @@ pub(crate) enum Trouble {
     Short,
     /// No memory was left to keep a message.
     Full,
+    /// It was parted with, since it refused an inverse or sent too many messages.
+    Parted,
 }

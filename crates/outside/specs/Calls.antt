@@ -286,3 +286,9 @@ pub record Receives {Own : Type 0} (Tells : Type 0) (d : ℕ) (old new : Seen Ow
   pub short : IsErrOf result linking.Short → Rose old.counts.shorts new.counts.shorts
   pub short_of : IsErrOf result linking.Short → Rose (old.counts.shorts_of d) (new.counts.shorts_of d)
   pub told : Tells → ToldReceive d old new result buf
+
+-- ---- part
+
+-- The link of the switch ends: the same as where a message could not be sent to it. One that is joined is lost.
+abbrev pub PartsWith : {Own : Type 0} → Type 0 → ℕ → Seen Own → Seen Own → Type 0
+PartsWith Tells d old new = Sends {T = Unit {0}} Tells d [] old new (Err linking.Failed)

@@ -45,6 +45,8 @@ impl<W: World + Drop> World for Counting<W> {
 
     ghost Own = { W.Own };
 
+    ghost CanPart = { W.CanPart };
+
     ghost seen = { λ s. W.seen s.world };
 
     fn open(&mut self, port: u16) -> Result<(), OpenFault> {
@@ -85,5 +87,14 @@ impl<W: World + Drop> World for Counting<W> {
     fn recv(&mut self, dpid: Dpid, buf: &mut [u8]) -> Result<usize, LinkFault> {
         self.count();
         self.world.recv(dpid, buf)
+    }
+
+    fn can_part(&self) -> bool {
+        self.world.can_part()
+    }
+
+    fn part(&mut self, dpid: Dpid) {
+        self.count();
+        self.world.part(dpid);
     }
 }

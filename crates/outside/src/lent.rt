@@ -14,6 +14,8 @@ impl<W: World> World for &mut W {
 
     ghost Own = { W.Own };
 
+    ghost CanPart = { W.CanPart };
+
     ghost seen = { λ world. W.seen world.now };
 
     fn open(&mut self, port: u16) -> Result<(), OpenFault> {
@@ -46,6 +48,14 @@ impl<W: World> World for &mut W {
 
     fn recv(&mut self, dpid: Dpid, buf: &mut [u8]) -> Result<usize, LinkFault> {
         (**self).recv(dpid, buf)
+    }
+
+    fn can_part(&self) -> bool {
+        (**self).can_part()
+    }
+
+    fn part(&mut self, dpid: Dpid) {
+        (**self).part(dpid);
     }
 }
 

@@ -39,6 +39,8 @@ impl World for Mute {
 
     ghost Own = { Unit {0} };
 
+    ghost CanPart = { ⊥ };
+
     ghost seen = { λ s. mute_seen s.faults };
 
     fn open(&mut self, _port: u16) -> Result<(), OpenFault>
@@ -98,4 +100,10 @@ impl World for Mute {
         self.raise();
         Err(LinkFault::Failed)
     }
+
+    fn can_part(&self) -> bool {
+        false
+    }
+
+    fn part(&mut self, _dpid: Dpid) {}
 }

@@ -29,11 +29,11 @@ pub enum WorldStep {
     NotOpened,
     /// `next` answered `Failed`.
     NextFailed,
-    /// `send` to the switch answered `Failed` while it was joined; the journal has it as `Lost`.
+    /// `send` to the switch answered `Failed` while it was joined, or `part` parted with it; the journal has it as `Lost`.
     SendLost(Dpid),
     /// `recv` from the switch answered `Failed` while it was joined; the journal has it as `Lost`.
     RecvLost(Dpid),
-    /// `send` to the switch answered `Failed`, and it was not joined.
+    /// `send` to the switch answered `Failed`, or `part` was called for it, and it was not joined.
     SendFailed(Dpid),
     /// `recv` from the switch answered `Failed`, and it was not joined.
     RecvFailed(Dpid),

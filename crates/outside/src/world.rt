@@ -1,9 +1,9 @@
 //! The one object that stands for the switches and the applications.
 
-ghost use Rattle.std.specs.Prelude.{◌<◌, ◌≤◌, length, IsOk};
+ghost use Rattle.std.specs.Prelude.{◌≡◌, ◌<◌, ◌≤◌, true, length, IsOk};
 ghost use Rattle.of_wire.specs.Reading.{reading_of};
 ghost use Rattle.outside.specs.Seen.{Seen};
-ghost use Rattle.outside.specs.Calls.{most_message, Opens, Nexts, Starts, Gives, Takes, Ends, Sends, Receives};
+ghost use Rattle.outside.specs.Calls.{most_message, Opens, Nexts, Starts, Gives, Takes, Ends, Sends, Receives, PartsWith};
 
 use crate::faults::{GiveFault, LinkFault, NextFault, OpenFault, Short, StartFault};
 use crate::item::{Item, Taken};
@@ -17,6 +17,9 @@ pub trait World {
 
     // What else it was given and never changes, as the scripts of applications.
     ghost Own: { Type 0 };
+
+    // Whether its switches can be parted with: nothing is of this type where they cannot, one value where they can.
+    ghost CanPart: { Type 0 };
 
     // What is seen of it.
     ghost seen: { Self → Seen Own };
@@ -58,4 +61,13 @@ pub trait World {
     fn recv(&mut self, dpid: Dpid, buf: &mut [u8]) -> Result<usize, LinkFault>
         requires { most_message ≤ length buf.old }
         ensures { Receives Tells dpid (seen self.old) (seen self.new) result buf.new };
+
+    /// Tells whether its switches can be parted with: true only where they can.
+    fn can_part(&self) -> bool
+        ensures { result ≡ true → CanPart };
+
+    /// Parts with a switch that broke the rules of its link: the link ends. A switch that is joined is lost, as where `send`
+    /// answers `Failed`. Where switches cannot be parted with, nothing is promised.
+    fn part(&mut self, dpid: Dpid)
+        ensures { CanPart → PartsWith Tells dpid (seen self.old) (seen self.new) };
 }

@@ -60,6 +60,8 @@ impl World for SimWorld {
 
     ghost Own = { Scripts };
 
+    ghost CanPart = { ⊥ };
+
     ghost seen = { λ w. seen_of w };
 
     #[tactic(auto, using(crate::specs::laws::StandingLaws::links_stand, crate::specs::laws::StandingLaws::short_kept, crate::specs::laws::DoingLaws::Opens_by, crate::specs::laws::KeepingLaws::keeps_open))]
@@ -144,4 +146,11 @@ impl World for SimWorld {
         self.parts.are_few();
         self.parts.recv(dpid, buf)
     }
+
+    /// Simulated switches are never parted with.
+    fn can_part(&self) -> bool {
+        false
+    }
+
+    fn part(&mut self, _dpid: Dpid) {}
 }

@@ -126,6 +126,11 @@ impl<K: Sink + Drop> Scribe<K> {
         }
     }
 
+    /// The switch was parted with, since it broke the rules of its link by what stands in the lines before.
+    pub(crate) fn parted(&mut self, dpid: Dpid) {
+        self.write(format!(in self.alloc; "switch {dpid} parted with\n"));
+    }
+
     /// `start` answered. Where it began a life, its bytes are read as frames.
     pub(crate) fn started(&mut self, app: u32, answer: Result<(), StartFault>) {
         let what = match answer {

@@ -82,6 +82,8 @@ impl<W: World + Drop, K: Sink + Drop> World for Traced<W, K> {
 
     ghost Own = { W.Own };
 
+    ghost CanPart = { W.CanPart };
+
     ghost seen = { W.seen };
 
     fn open(&mut self, port: u16) -> Result<(), OpenFault> {
@@ -145,6 +147,17 @@ impl<W: World + Drop, K: Sink + Drop> World for Traced<W, K> {
             self.scribe.received(dpid, answer, buf);
         }
         answer
+    }
+
+    fn can_part(&self) -> bool {
+        self.world.can_part()
+    }
+
+    fn part(&mut self, dpid: Dpid) {
+        self.world.part(dpid);
+        if !self.is_silent {
+            self.scribe.parted(dpid);
+        }
     }
 }
 

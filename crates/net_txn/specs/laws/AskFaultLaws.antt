@@ -31,12 +31,12 @@ use Rattle.net_txn.specs.declared.halt.Halt.TheVariants.{Lost, Fault}
 use Rattle.net_txn.specs.declared.queue.Storage.TheVariants.{Growing}
 use Rattle.net_txn.specs.Net.{NetState}
 use Rattle.net_txn.specs.Losing.{lost_net, WaitHalts}
-use Rattle.net_txn.specs.Said.{frames_said, barrier_of, Replied, BreaksBy}
+use Rattle.net_txn.specs.Said.{CannotSay, Calls, Speaks, frames_said, barrier_of, Replied, BreaksBy}
 use Rattle.net_txn.specs.laws.AskLaws.{no_flood_of}
 use Rattle.net_txn.specs.laws.OwnIdLaws.{FramesAscend, two_ascend, second_next, waits_leave, speaks_on_ids, speaks_over_ids}
-use Rattle.net_txn.specs.laws.LostLaws.{packets_said, breaks_halts, replied_none_lost, waits_none_lost}
+use Rattle.net_txn.specs.laws.LostLaws.{packets_said, breaks_halts, replied_lost, replied_none_lost, waits_none_lost}
 use Rattle.net_txn.specs.laws.ReadLaws.{waits_read}
-use Rattle.net_txn.specs.laws.TalkLaws.{speaks_on, speaks_links, speaks_place}
+use Rattle.net_txn.specs.laws.TalkLaws.{parted_speaks, speaks_on, speaks_links, speaks_place}
 use Rattle.lego_model.specs.FlowQueries.{all_flows, flows_request, request_sent, asked_from, parts_in, refusals_in, all_parts, IsBroken}
 use Rattle.net_txn.specs.laws.ReplyLaws.{IsSmallPart, IsPartOf-part_bytes, heard_part}
 use Rattle.net_txn.specs.laws.TableBoundLaws.{table_few}
@@ -200,10 +200,30 @@ asked_halts {Tells = Tells} d xid a frame old new before came kept now_kept halt
     let b2 = subst (λ (f : List ℕ). BreaksBy Tells here (f ∷ barrier_of here ∷ []) old new before came halt) frame_is b1 in
     ask_halts Tells d xid old new kept now_kept halt (breaks_halts (flows_request xid ∷ []) halt (next_xid-lt xid lt) (none_released d xid lt) b2)
 
+-- its transaction ids
+pub request_ascends : (d xid : ℕ) (a : Awaited) (frame : List ℕ) → a ≡ asked_from d xid → frame ≡ flows_request xid → FramesAscend xid 2 a (frame ∷ barrier_of a ∷ [])
+request_ascends d xid a frame is same = two_ascend a xid (StatsRequest asking) frame refl same (ap (λ (x : Awaited). x.barrier) is)
+
 -- no memory was left behind the reply
 pub asked_short : {Own : Type 0} {Tells : Type 0} (d xid : ℕ) (a : Awaited) (frames : List (List ℕ)) (old new : Seen Own) (before came kept now_kept : List (ℕ × List ℕ)) (answer : Brought) → Replied Tells a frames Growing [] old new before came answer
     → AskHalts Tells d xid old new kept now_kept (Fault NoMemory)
 asked_short d xid a frames old new before came kept now_kept answer r = (inl tt, tt, replied_none_lost a frames r)
+
+-- what came is at fault, and the switch was parted with
+pub asked_parted : {Own : Type 0} {Tells : Type 0} (d xid : ℕ) (a : Awaited) (frame : List ℕ) (old mid new : Seen Own) (before came kept now_kept : List (ℕ × List ℕ)) (answer : Brought) → xid < 2 ^ 32 → a ≡ asked_from d xid → frame ≡ flows_request xid
+    → Replied Tells a (frame ∷ barrier_of a ∷ []) Growing [] old mid before came answer → Calls Tells d (CannotSay d ∷ []) mid new → AskHalts Tells d xid old new kept now_kept Lost
+asked_parted {Tells = Tells} d xid a frame old mid new before came kept now_kept answer lt is frame_is r c =
+    let here = asked_from d xid in
+    let r1 = subst (λ (x : Awaited). Replied Tells x (frame ∷ barrier_of x ∷ []) Growing [] old mid before came answer) is r in
+    let r2 = subst (λ (f : List ℕ). Replied Tells here (f ∷ barrier_of here ∷ []) Growing [] old mid before came answer) frame_is r1 in
+    replied_lost here (flows_request xid ∷ []) (next_xid-lt xid lt) (none_released d xid lt) r2 c
+
+pub asked_parted_speaks : {Own : Type 0} {Tells : Type 0} (d xid : ℕ) (a : Awaited) (frame : List ℕ) (old mid new : Seen Own) (before came : List (ℕ × List ℕ)) (answer : Brought) → a ≡ asked_from d xid → frame ≡ flows_request xid
+    → Replied Tells a (frame ∷ barrier_of a ∷ []) Growing [] old mid before came answer → Calls Tells d (CannotSay d ∷ []) mid new → Speaks Tells d xid 2 old new
+asked_parted_speaks {Tells = Tells} d xid a frame old mid new before came answer is frame_is r c =
+    let here = asked_from d xid in
+    let r1 = subst (λ (x : Awaited). Replied Tells x (frame ∷ barrier_of x ∷ []) Growing [] old mid before came answer) is r in
+    parted_speaks xid 2 here (frame ∷ []) r1 c (request_ascends d xid here frame refl frame_is)
 
 -- what came is at fault
 pub asked_broke : {Own : Type 0} {Tells : Type 0} (d xid : ℕ) (a : Awaited) (frames : List (List ℕ)) (old new : Seen Own) (before came kept now_kept : List (ℕ × List ℕ)) (answer : Brought) (request reply : List ℕ) (parts refusals : List (List ℕ)) (fault : TxnFault)
@@ -212,10 +232,6 @@ asked_broke {Tells = Tells} d xid a frames old new before came kept now_kept ans
     (cause, no_flood_of Tells d xid (asked_from d xid) (request_sent d xid ∷ barrier_sent (asked_from d xid) ∷ []) old new request reply parts refusals fault is, replied_none_lost a frames r)
 
 -- ---- The whole
-
--- its transaction ids
-pub request_ascends : (d xid : ℕ) (a : Awaited) (frame : List ℕ) → a ≡ asked_from d xid → frame ≡ flows_request xid → FramesAscend xid 2 a (frame ∷ barrier_of a ∷ [])
-request_ascends d xid a frame is same = two_ascend a xid (StatsRequest asking) frame refl same (ap (λ (x : Awaited). x.barrier) is)
 
 others_go : {Own : Type 0} {Tells : Type 0} (d xid : ℕ) (old new : Seen Own) (kept now_kept : List (ℕ × List ℕ)) (rows : List FlowRow) → xid < 2 ^ 32 → AsksFrom Tells d xid old new kept now_kept (Ok rows) → Tells → lost_of new ≡ lost_of old
 others_go d xid old new kept now_kept rows lt asks told = waits_none_lost (request_sent d xid ∷ barrier_sent (asked_from d xid) ∷ []) (refl, (refl, tt)) refl asks.answer.answered.waits told

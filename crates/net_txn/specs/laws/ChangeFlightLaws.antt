@@ -131,6 +131,7 @@ stays_unsaid d (troubles.Refused k x n) none joined t = refl
 stays_unsaid d troubles.Flooded none joined t = refl
 stays_unsaid d troubles.Short none joined t = refl
 stays_unsaid d troubles.Full none joined t = refl
+stays_unsaid d troubles.Parted none joined t = absurd cc
 
 stays_unheard : (d : ℕ) (trouble : Trouble) (buf : List ℕ) → is_of_link trouble ≡ false → Stays d (unheard d trouble buf)
 stays_unheard d troubles.Link buf none joined t = absurd cc
@@ -139,6 +140,7 @@ stays_unheard d (troubles.Refused k x n) buf none joined t = refl
 stays_unheard d troubles.Flooded buf none joined t = refl
 stays_unheard d troubles.Short buf none joined t = refl
 stays_unheard d troubles.Full buf none joined t = refl
+stays_unheard d troubles.Parted buf none joined t = absurd cc
 
 pub stays_last : (d : ℕ) (by : Option (List ℕ)) (trouble : Trouble) (buf : List ℕ) → is_of_link trouble ≡ false → Stays d (last_said d by trouble buf)
 stays_last d None trouble buf none = stays_unheard d trouble buf none

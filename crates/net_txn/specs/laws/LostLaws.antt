@@ -7,7 +7,7 @@ use Rattle.std.proofs.lemmas.Grind.{flat_map-append}
 use Rattle.std.proofs.lemmas.List.Elements.{filter_map-append, filter-append}
 use Rattle.lego_io.specs.Count.{Rose}
 use Rattle.of_types.specs.declared.journal.Act.{Act}
-use Rattle.of_wire.specs.declared.message.Message.TheVariants.{BarrierRequest}
+use Rattle.of_wire.specs.declared.message.Message.TheVariants.{BarrierRequest, BarrierReply}
 use Rattle.of_wire.specs.Reading.{reading_of}
 use Rattle.of_wire.specs.Spelling.{message_bytes}
 use Rattle.of_wire.specs.laws.ReadingLaws.{reading_of-message_bytes}
@@ -43,10 +43,10 @@ use Rattle.net_txn.specs.Losing.{GoesOut, SaysNone, IsLost, SaysHalt, WaitHalts}
 use Rattle.net_txn.specs.Said.{Said, Says, Hears, HearsNoise, CannotSay, CannotHear, LacksMemory, steps_in, joined_behind, said_steps, IsSaid, IsSaidTo, AreSaidTo, Calls, unsaid, unheard, last_said, said_by, heard_said, wait_said, frames_said, barrier_of, IsOfLink, reply_heard, IsBreak, Replied, Breaks, BreaksBy, IsHaltBy, SaysNot}
 use Rattle.net_txn.specs.laws.OwnIdLaws.{leaves_by}
 use Rattle.net_txn.specs.laws.EchoLaws.{echo_reply-reading}
-use Rattle.net_txn.specs.laws.HeardLaws.{IsMessage-barrier}
+use Rattle.net_txn.specs.laws.HeardLaws.{IsMessage-barrier, IsMessage-reply}
 use Rattle.net_txn.specs.laws.LinkPresenceLaws.{losses_by, lost_none_all, loses-append}
 use Rattle.net_txn.specs.laws.PartLaws.{steps_other}
-use Rattle.net_txn.specs.laws.SaidLaws.{all_two, all_behind, all_of_switch, is_fine, AreFine, fine_append, fine_none_lost, fine_frames, fine_wait, said_links, wait_none_lost, Calls-same, Calls-moves}
+use Rattle.net_txn.specs.laws.SaidLaws.{all_two, all_behind, all_of_switch, is_fine, AreFine, fine_append, fine_none_lost, fine_frames, fine_wait, said_links, wait_none_lost, Calls-same, Calls-then, Calls-moves}
 use Rattle.net_txn.specs.laws.TalkLaws.{front_steps, talks_cause, talks_flooded}
 use Rattle.net_txn.specs.Undos.{is_of_link}
 
@@ -326,14 +326,25 @@ either_fault : (x y : TxnFault) → (Lost ≡ Fault x) ⊎ (Lost ≡ Fault y) �
 either_fault x y (inl same) = absurd cc
 either_fault x y (inr same) = absurd cc
 
--- a switch is lost by its link alone
-pub lost_is_link : (d : ℕ) (t : Trouble) (buf : List ℕ) → IsHaltBy d t buf Lost → t ≡ troubles.Link
-lost_is_link d troubles.Link buf is = refl
-lost_is_link d (troubles.Broke n) buf is = absurd (either_fault _ _ is)
-lost_is_link d (troubles.Refused k x n) buf is = absurd (either_fault _ _ is)
-lost_is_link d troubles.Flooded buf is = absurd (either_fault _ _ is)
-lost_is_link d troubles.Short buf is = absurd (either_fault _ _ is)
-lost_is_link d troubles.Full buf is = absurd (either_fault _ _ is)
+-- a switch is lost where its link fails, or it is parted with
+lost_of_link : (d : ℕ) (t : Trouble) (buf : List ℕ) → IsHaltBy d t buf Lost → is_of_link t ≡ true
+lost_of_link d troubles.Link buf is = refl
+lost_of_link d (troubles.Broke n) buf is = absurd (either_fault _ _ is)
+lost_of_link d (troubles.Refused k x n) buf is = absurd (either_fault _ _ is)
+lost_of_link d troubles.Flooded buf is = absurd (either_fault _ _ is)
+lost_of_link d troubles.Short buf is = absurd (either_fault _ _ is)
+lost_of_link d troubles.Full buf is = absurd (either_fault _ _ is)
+lost_of_link d troubles.Parted buf is = refl
+
+-- of a message that could not be sent
+unsent_is_link : (t : Trouble) → IsOfLink t → is_of_link t ≡ true → t ≡ troubles.Link
+unsent_is_link troubles.Link why is = refl
+unsent_is_link (troubles.Broke n) why is = absurd why
+unsent_is_link (troubles.Refused k x n) why is = absurd why
+unsent_is_link troubles.Flooded why is = absurd why
+unsent_is_link troubles.Short why is = absurd cc
+unsent_is_link troubles.Full why is = absurd why
+unsent_is_link troubles.Parted why is = absurd why
 
 pub fault_is_none : (d : ℕ) (t : Trouble) (buf : List ℕ) (fault : TxnFault) → IsHaltBy d t buf (Fault fault) → is_of_link t ≡ false
 fault_is_none d troubles.Link buf fault is = absurd cc
@@ -342,6 +353,7 @@ fault_is_none d (troubles.Refused k x n) buf fault is = refl
 fault_is_none d troubles.Flooded buf fault is = refl
 fault_is_none d troubles.Short buf fault is = refl
 fault_is_none d troubles.Full buf fault is = refl
+fault_is_none d troubles.Parted buf fault is = absurd cc
 
 pub fine_unsaid : (d : ℕ) (t : Trouble) → is_of_link t ≡ false → AreFine (unsaid d t)
 fine_unsaid d troubles.Link none = absurd cc
@@ -350,6 +362,7 @@ fine_unsaid d (troubles.Refused k x n) none = tt
 fine_unsaid d troubles.Flooded none = tt
 fine_unsaid d troubles.Short none = (refl, tt)
 fine_unsaid d troubles.Full none = tt
+fine_unsaid d troubles.Parted none = absurd cc
 
 fine_unheard : (d : ℕ) (t : Trouble) (buf : List ℕ) → is_of_link t ≡ false → AreFine (unheard d t buf)
 fine_unheard d troubles.Link buf none = absurd cc
@@ -358,6 +371,7 @@ fine_unheard d (troubles.Refused k x n) buf none = tt
 fine_unheard d troubles.Flooded buf none = tt
 fine_unheard d troubles.Short buf none = (refl, tt)
 fine_unheard d troubles.Full buf none = tt
+fine_unheard d troubles.Parted buf none = absurd cc
 
 pub fine_last : (d : ℕ) (by : Option (List ℕ)) (t : Trouble) (buf : List ℕ) → is_of_link t ≡ false → AreFine (last_said d by t buf)
 fine_last d None t buf none = fine_unheard d t buf none
@@ -376,10 +390,11 @@ short_is d troubles.Short buf fault why is = one is
     one (inl same) = cc
     one (inr same) = cc
 short_is d troubles.Full buf fault why is = absurd why
+short_is d troubles.Parted buf fault why is = absurd why
 
 pub says_halts : {Own : Type 0} {Tells : Type 0} {d : ℕ} {old new : Seen Own} (halt : Halt) → SaysNot Tells d old new halt → SaysHalt Tells d old new halt
 says_halts {Tells = Tells} {d = d} {old = old} {new = new} Lost s =
-    let c = subst (λ (t : Trouble). Calls Tells d (unsaid d t) old new) (lost_is_link d s.trouble s.buf s.halt_is) s.calls in
+    let c = subst (λ (t : Trouble). Calls Tells d (unsaid d t) old new) (unsent_is_link s.trouble s.why (lost_of_link d s.trouble s.buf s.halt_is)) s.calls in
     (is_lost d [] [] (CannotSay d) tt refl packets_none c, Calls-read (CannotSay d ∷ []) c (tt, tt))
 says_halts {d = d} {old = old} {new = new} (Fault fault) s =
     (short_is d s.trouble s.buf fault s.why s.halt_is, losses_none (unsaid d s.trouble) old new s.calls (fine_unsaid d s.trouble (fault_is_none d s.trouble s.buf fault s.halt_is)))
@@ -409,18 +424,30 @@ pub front_none : (d : ℕ) (frames xs ys : List (List ℕ)) → frames ≡ xs ++
 front_none d frames xs ys same none =
     first_none (packets_said (frames_said d xs)) (packets_said (frames_said d ys)) (sym (frames_append d xs ys) ∙ ap (λ (fs : List (List ℕ)). packets_said (frames_said d fs)) (sym same) ∙ none)
 
-unreplied_lost : {Own : Type 0} {Tells : Type 0} {old new : Seen Own} (a : Awaited) (frames got : List (List ℕ)) (by : Option (List ℕ)) (buf : List ℕ) (n : ℕ) → packets_said (frames_said a.dpid frames) ≡ [] → AllByRecursion IsRead got
-    → IsBreak a [] Growing n by troubles.Link buf → Calls Tells a.dpid (frames_said a.dpid frames ++ (wait_said a got ++ last_said a.dpid by troubles.Link buf)) old new → IsLost Tells a.dpid [] old new × (Tells → MessagesSince old new)
-unreplied_lost {Tells = Tells} {old = old} {new = new} a frames got None buf n none read why c =
+-- behind messages that came, its link failed, or it was parted with
+ended_lost : {Own : Type 0} {Tells : Type 0} {old new : Seen Own} (a : Awaited) (frames got : List (List ℕ)) (last : Said) → packets_said (frames_said a.dpid frames) ≡ [] → AllByRecursion IsRead got → IsReadSaid last → IsFailed a.dpid last
+    → Calls Tells a.dpid (frames_said a.dpid frames ++ (wait_said a got ++ last ∷ [])) old new → IsLost Tells a.dpid [] old new × (Tells → MessagesSince old new)
+ended_lost {Tells = Tells} {old = old} {new = new} a frames got last none read last_read failed c =
     let d = a.dpid in
     let xs = frames_said d frames in
     let ys = wait_said a got in
-    let said = all_two IsReadSaid xs (ys ++ CannotHear d ∷ []) (frames_read d frames) (all_two IsReadSaid ys (CannotHear d ∷ []) (wait_read a got read) (tt, tt)) in (
-      is_lost d [] (xs ++ ys) (CannotHear d) (all_two (λ x. is_fine x ≡ true) xs ys (fine_frames d frames) (fine_wait a got)) refl (none_two xs ys none (wait_none a got read))
-          (Calls-same (sym (append_assoc xs ys (CannotHear d ∷ []))) c),
-      Calls-read (xs ++ (ys ++ CannotHear d ∷ [])) c said,
+    let said = all_two IsReadSaid xs (ys ++ last ∷ []) (frames_read d frames) (all_two IsReadSaid ys (last ∷ []) (wait_read a got read) (last_read, tt)) in (
+      is_lost d [] (xs ++ ys) last (all_two (λ x. is_fine x ≡ true) xs ys (fine_frames d frames) (fine_wait a got)) failed (none_two xs ys none (wait_none a got read))
+          (Calls-same (sym (append_assoc xs ys (last ∷ []))) c),
+      Calls-read (xs ++ (ys ++ last ∷ [])) c said,
     )
-unreplied_lost {Tells = Tells} {old = old} {new = new} a frames got (Some b) buf n none read why c =
+
+unreplied_lost : {Own : Type 0} {Tells : Type 0} {old new : Seen Own} (a : Awaited) (frames got : List (List ℕ)) (by : Option (List ℕ)) (buf : List ℕ) (n : ℕ) → packets_said (frames_said a.dpid frames) ≡ [] → AllByRecursion IsRead got
+    → (t : Trouble) → is_of_link t ≡ true → IsBreak a [] Growing n by t buf → Calls Tells a.dpid (frames_said a.dpid frames ++ (wait_said a got ++ last_said a.dpid by t buf)) old new → IsLost Tells a.dpid [] old new × (Tells → MessagesSince old new)
+unreplied_lost a frames got None buf n none read troubles.Link of why c = ended_lost a frames got (CannotHear a.dpid) none read tt refl c
+unreplied_lost a frames got None buf n none read troubles.Parted of why c = ended_lost a frames got (CannotSay a.dpid) none read tt refl c
+unreplied_lost a frames got by buf n none read (troubles.Broke m) of why c = absurd cc
+unreplied_lost a frames got by buf n none read (troubles.Refused k x m) of why c = absurd cc
+unreplied_lost a frames got by buf n none read troubles.Flooded of why c = absurd cc
+unreplied_lost a frames got by buf n none read troubles.Short of why c = absurd cc
+unreplied_lost a frames got by buf n none read troubles.Full of why c = absurd cc
+unreplied_lost a frames got (Some b) buf n none read troubles.Parted of why c = absurd why.1.0
+unreplied_lost {Tells = Tells} {old = old} {new = new} a frames got (Some b) buf n none read troubles.Link of why c =
     let d = a.dpid in
     let xs = frames_said d frames in
     let ys = wait_said a got in
@@ -434,14 +461,15 @@ unreplied_lost {Tells = Tells} {old = old} {new = new} a frames got (Some b) buf
     )
 
 pub breaks_lost : {Own : Type 0} {Tells : Type 0} {old new : Seen Own} {kept now_kept : List (ℕ × List ℕ)} (a : Awaited) (frames : List (List ℕ)) (buf : List ℕ) → packets_said (frames_said a.dpid frames) ≡ []
-    → Breaks Tells a frames Growing [] old new kept now_kept buf troubles.Link → IsLost Tells a.dpid [] old new × (Tells → MessagesSince old new)
-breaks_lost a frames buf none (inl u) =
+    → (t : Trouble) → is_of_link t ≡ true → Breaks Tells a frames Growing [] old new kept now_kept buf t → IsLost Tells a.dpid [] old new × (Tells → MessagesSince old new)
+breaks_lost {Tells = Tells} {old = old} {new = new} a frames buf none t of (inl u) =
     let d = a.dpid in
-    let xs = frames_said d u.first in (
-      is_lost d [] xs (CannotSay d) (fine_frames d u.first) refl (front_none d frames u.first u.rest u.frames_is none) u.calls,
-      Calls-read (xs ++ CannotSay d ∷ []) u.calls (all_two IsReadSaid xs (CannotSay d ∷ []) (frames_read d u.first) (tt, tt)),
+    let xs = frames_said d u.first in
+    let calls = subst (λ (x : Trouble). Calls Tells d (xs ++ unsaid d x) old new) (unsent_is_link t u.why of) u.calls in (
+      is_lost d [] xs (CannotSay d) (fine_frames d u.first) refl (front_none d frames u.first u.rest u.frames_is none) calls,
+      Calls-read (xs ++ CannotSay d ∷ []) calls (all_two IsReadSaid xs (CannotSay d ∷ []) (frames_read d u.first) (tt, tt)),
     )
-breaks_lost a frames buf none (inr u) = unreplied_lost a frames u.got u.by buf (length u.got) none u.before.read u.why u.calls
+breaks_lost a frames buf none t of (inr u) = unreplied_lost a frames u.got u.by buf (length u.got) none u.before.read t of u.why u.calls
 
 pub breaks_none_lost : {Own : Type 0} {Tells : Type 0} {old new : Seen Own} {kept now_kept : List (ℕ × List ℕ)} (a : Awaited) (frames : List (List ℕ)) (buf : List ℕ) (t : Trouble) → is_of_link t ≡ false
     → Breaks Tells a frames Growing [] old new kept now_kept buf t → Tells → lost_of new ≡ lost_of old
@@ -461,13 +489,29 @@ pub breaks_halts : {Own : Type 0} {Tells : Type 0} {a : Awaited} {old new : Seen
     → BreaksBy Tells a (first ++ barrier_of a ∷ []) old new kept now_kept halt → WaitHalts Tells a (front_steps a first) old new halt
 breaks_halts {Tells = Tells} {a = a} {old = old} {new = new} {kept = kept} {now_kept = now_kept} first Lost small none b =
     let frames = first ++ barrier_of a ∷ [] in
-    breaks_lost a frames b.buf (both_none a first small none)
-    (subst (λ (t : Trouble). Breaks Tells a frames Growing [] old new kept now_kept b.buf t) (lost_is_link a.dpid b.trouble b.buf b.halt_is) b.breaks)
+    breaks_lost a frames b.buf (both_none a first small none) b.trouble (lost_of_link a.dpid b.trouble b.buf b.halt_is) b.breaks
 breaks_halts {a = a} first (Fault fault) small none b = (
   talks_cause a.dpid first (Fault fault) refl b,
   talks_flooded first (Fault fault) b,
   breaks_none_lost a (first ++ barrier_of a ∷ []) b.buf b.trouble (fault_is_none a.dpid b.trouble b.buf fault b.halt_is) b.breaks,
 )
+
+-- the reply came, and then the switch was parted with
+pub replied_lost : {Own : Type 0} {Tells : Type 0} {old mid new : Seen Own} {kept now_kept : List (ℕ × List ℕ)} {answer : Brought} (a : Awaited) (first : List (List ℕ)) → a.barrier < 2 ^ 32 → packets_said (frames_said a.dpid first) ≡ []
+    → Replied Tells a (first ++ barrier_of a ∷ []) Growing [] old mid kept now_kept answer → Calls Tells a.dpid (CannotSay a.dpid ∷ []) mid new → IsLost Tells a.dpid [] old new × (Tells → MessagesSince old new)
+replied_lost a first small none r c =
+    let d = a.dpid in
+    let frames = first ++ barrier_of a ∷ [] in
+    let xs = frames_said d frames in
+    let ys = wait_said a r.got ++ reply_heard a ∷ [] in
+    let fine = all_two (λ x. is_fine x ≡ true) xs ys (fine_frames d frames) (all_two (λ x. is_fine x ≡ true) (wait_said a r.got) (reply_heard a ∷ []) (fine_wait a r.got) (refl, tt)) in
+    let reply : IsOk (reading_of (message_bytes a.barrier BarrierReply)) = rw (reading_of-message_bytes a.barrier BarrierReply small IsMessage-reply) refl in
+    let read = all_two IsReadSaid xs ys (frames_read d frames) (all_two IsReadSaid (wait_said a r.got) (reply_heard a ∷ []) (wait_read a r.got r.before.read) (reply, tt)) in
+    let calls = Calls-then r.calls c in (
+      is_lost d [] (xs ++ ys) (CannotSay d) fine refl
+          (none_two xs ys (both_none a first small none) (none_two (wait_said a r.got) (reply_heard a ∷ []) (wait_none a r.got r.before.read) (heard_none d (message_bytes a.barrier BarrierReply)))) calls,
+      Calls-read ((xs ++ ys) ++ CannotSay d ∷ []) calls (all_two IsReadSaid (xs ++ ys) (CannotSay d ∷ []) read (tt, tt)),
+    )
 
 pub replied_none_lost : {Own : Type 0} {Tells : Type 0} {old new : Seen Own} {kept now_kept : List (ℕ × List ℕ)} {answer : Brought} (a : Awaited) (frames : List (List ℕ)) → Replied Tells a frames Growing [] old new kept now_kept answer → Tells → lost_of new ≡ lost_of old
 replied_none_lost {old = old} {new = new} a frames r =

@@ -75,6 +75,7 @@ unsaid_ids d (troubles.Refused k x n) = refl
 unsaid_ids d troubles.Flooded = refl
 unsaid_ids d troubles.Short = refl
 unsaid_ids d troubles.Full = refl
+unsaid_ids d troubles.Parted = refl
 
 unheard_ids : (d : ℕ) (t : Trouble) (buf : List ℕ) → ids_said (unheard d t buf) ≡ []
 unheard_ids d troubles.Link buf = refl
@@ -83,6 +84,7 @@ unheard_ids d (troubles.Refused k x n) buf = refl
 unheard_ids d troubles.Flooded buf = refl
 unheard_ids d troubles.Short buf = refl
 unheard_ids d troubles.Full buf = refl
+unheard_ids d troubles.Parted buf = refl
 
 pub last_ids : (d : ℕ) (by : Option (List ℕ)) (t : Trouble) (buf : List ℕ) → ids_said (last_said d by t buf) ≡ []
 last_ids d None t buf = unheard_ids d t buf

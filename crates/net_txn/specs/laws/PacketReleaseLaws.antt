@@ -174,6 +174,7 @@ unsent_short d old new buf (troubles.Refused k x n) [] none why calls told same 
 unsent_short d old new buf troubles.Flooded [] none why calls told same = absurd why
 unsent_short d old new buf troubles.Short [] none why calls told same = refl
 unsent_short d old new buf troubles.Full [] none why calls told same = absurd why
+unsent_short d old new buf troubles.Parted [] none why calls told same = absurd why
 unsent_short d old new buf t (f ∷ fs) none why calls told same = absurd (some_said (is_joined d (state old)) d f fs (unsaid d t) (nothing_said d _ old new told calls same))
 
 breaks_short : {Own : Type 0} {Tells : Type 0} (d xid : ℕ) (packet : Packet) (old new : Seen Own) (came : List (ℕ × List ℕ)) (buf : List ℕ) (t : Trouble) → is_of_link t ≡ false

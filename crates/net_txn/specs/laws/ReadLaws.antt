@@ -9,8 +9,6 @@ use Rattle.of_wire.specs.declared.message.Message.{Message}
 use Rattle.of_wire.specs.declared.message.Message.TheVariants as messages
 use Rattle.of_wire.specs.declared.fault.WireFault.{WireFault}
 use Rattle.of_wire.specs.Reading.{reading_of}
-use Rattle.of_wire.specs.Spelling.{message_size}
-use Rattle.of_wire.specs.Grammar.{IsMessage}
 use Rattle.of_wire.specs.laws.ReadingLaws.{reading_of-message_bytes}
 use Rattle.app_frames.specs.declared.frame.Answer.{Answer}
 use Rattle.app_frames.specs.declared.frame.Event.{Event}
@@ -24,7 +22,7 @@ use Rattle.lego_model.specs.declared.wait.Heard.{Heard}
 use Rattle.lego_model.specs.declared.wait.Heard.TheVariants.{Reply, Refused, Notice, Echo, Other}
 use Rattle.net_txn.specs.Net.{NetState}
 use Rattle.lego_model.specs.BarrierWaits.{next_xid, heard, steps_by, wait_steps, reply_got}
-use Rattle.net_txn.specs.laws.HeardLaws.{next_xid-lt}
+use Rattle.net_txn.specs.laws.HeardLaws.{IsMessage-reply, next_xid-lt}
 use Rattle.net_txn.specs.Waits.{Brought, IsRead, Waits}
 use Rattle.net_txn.specs.Changes.{Asked, Stopped}
 use Rattle.net_txn.specs.Arriving.{arrival_steps, Becomes, ArrivesLost, Arrives}
@@ -42,10 +40,6 @@ by_brings d Other bytes = tt
 wait_brings : (a : Awaited) (got : List (List ℕ)) → AllByRecursion (λ b. IsOk (reading_of b)) got → BringMessages (wait_steps a got)
 wait_brings a [] read = tt
 wait_brings a (b ∷ bs) read = (read.0, messages-append (steps_by a.dpid (heard a b) b) (wait_steps a bs) (by_brings a.dpid (heard a b) b) (wait_brings a bs read.1))
-
-IsMessage-reply : IsMessage messages.BarrierReply
-unfolding message_size
-IsMessage-reply = record { fields = tt; tail = tt; size = omega arith }
 
 abbrev is_read : Result Envelope WireFault → Bool
 is_read r = is_ok r

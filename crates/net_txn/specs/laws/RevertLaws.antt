@@ -73,7 +73,7 @@ barred e = with_progress (record { xid = e.progress.xid; since = 0; failed = fal
 abbrev pub failed_at : Bool → Logged → Logged
 failed_at lost e = with_progress (record { xid = e.progress.xid; since = 0; failed = true; lost = lost }) e
 
--- a switch is lost by its link alone
+-- a switch is lost where its link fails, or it is parted with
 pub lost_link : (d : ℕ) (t : Trouble) (buf : List ℕ) → is_of_link t ≡ is_lost (halt_by d t buf)
 lost_link d troubles.Link buf = refl
 lost_link d (troubles.Broke n) buf = refl
@@ -81,6 +81,7 @@ lost_link d (troubles.Refused k x n) buf = refl
 lost_link d troubles.Flooded buf = refl
 lost_link d troubles.Short buf = refl
 lost_link d troubles.Full buf = refl
+lost_link d troubles.Parted buf = refl
 
 pub barred_in : {Own : Type 0} {Tells : Type 0} {views : List TableView} {base now next : Seen Own} {kept kept1 kept2 : List (ℕ × List ℕ)} {ps qs : PortLists} {x y z : ℕ} {switches more : List ℕ} {fault : Option TxnFault} (d : ℕ) (reverted : List Logged) (j : ℕ) (e : Logged) → IsProgressAt d reverted j → y < 2 ^ 32 → z ≡ next_xid y
     → Pending Tells views base now kept kept1 ps qs x y switches reverted fault d → is_viewed d views ≡ true → EndsStep d switches more → AwaitsReplies Tells (alone d y) (barrier_sent (alone d y) ∷ []) (inverses_in d reverted) now next kept1 kept2 → Further Tells views base next kept kept2 ps qs x z more (set reverted j (barred (get_or reverted j e))) fault

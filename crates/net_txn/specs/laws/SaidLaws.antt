@@ -12,7 +12,7 @@ use Rattle.outside.specs.declared.faults.LinkFault.TheVariants as linking
 use Rattle.outside.specs.declared.step.WorldStep.{WorldStep}
 use Rattle.outside.specs.declared.step.WorldStep.TheVariants.{Acted, SendLost, RecvLost, SendFailed, RecvFailed}
 use Rattle.flow_table.specs.Switch.{SwitchState}
-use Rattle.outside.specs.Calls.{Sends, Receives, send_steps, receive_steps, unsent, unreceived}
+use Rattle.outside.specs.Calls.{Sends, Receives, PartsWith, send_steps, receive_steps, unsent, unreceived}
 use Rattle.outside.specs.Seen.{Counts, NoneFell, Seen}
 use Rattle.outside.specs.laws.SeenLaws.{Continues-refl, Continues-trans, Sends-continues, Receives-continues}
 use Rattle.outside.specs.State.{State, after_steps, state, is_joined, has_waiting}
@@ -239,6 +239,10 @@ pub says_not : {Own : Type 0} {Tells : Type 0} {d : ℕ} {frame : List ℕ} {old
 says_not T linking.Failed call = (tt, cannot_say T call)
 says_not T linking.Short call = (tt, lacks_to_say T call)
 
+-- the switch was parted with
+pub parts_said : {Own : Type 0} {Tells : Type 0} {d : ℕ} {old new : Seen Own} → PartsWith Tells d old new → Calls Tells d (CannotSay d ∷ []) old new
+parts_said call = cannot_say (Unit {0}) call
+
 pub hears_not : {Own : Type 0} {Tells : Type 0} {d : ℕ} {buf : List ℕ} {old new : Seen Own} (f : LinkFault) → Receives Tells d old new (Err f) buf → IsOfHearing (link_trouble f) × Calls Tells d (unheard d (link_trouble f) buf) old new
 hears_not linking.Failed call = (tt, cannot_hear call)
 hears_not linking.Short call = (tt, lacks_to_hear call)
@@ -318,6 +322,7 @@ unsaid_goes d front (troubles.Refused k x n) stay placed = goes_same d front pla
 unsaid_goes d front troubles.Flooded stay placed = goes_same d front placed
 unsaid_goes d front troubles.Short stay placed = goes_same d front placed
 unsaid_goes d front troubles.Full stay placed = goes_same d front placed
+unsaid_goes d front troubles.Parted stay placed = goes_same d front placed
 
 unheard_goes : (d : ℕ) (front : List WorldStep) (t : Trouble) (buf : List ℕ) → list_any loses front ≡ false → GoesWithoutStrays d front → ThenWaits d front → GoesWithoutStrays d (front ++ said_steps true (unheard d t buf))
 unheard_goes d front troubles.Link buf stay placed waits = goes_recv_lost d front stay placed waits
@@ -326,6 +331,7 @@ unheard_goes d front (troubles.Refused k x n) buf stay placed waits = goes_same 
 unheard_goes d front troubles.Flooded buf stay placed waits = goes_same d front placed
 unheard_goes d front troubles.Short buf stay placed waits = goes_same d front placed
 unheard_goes d front troubles.Full buf stay placed waits = goes_same d front placed
+unheard_goes d front troubles.Parted buf stay placed waits = goes_send_lost d front stay placed
 
 last_goes : (d : ℕ) (front : List WorldStep) (by : Option (List ℕ)) (t : Trouble) (buf : List ℕ) → list_any loses front ≡ false → GoesWithoutStrays d front → ThenWaits d front → GoesWithoutStrays d (front ++ said_steps true (last_said d by t buf))
 last_goes d front None t buf stay placed waits = unheard_goes d front t buf stay placed waits

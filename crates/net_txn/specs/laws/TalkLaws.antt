@@ -24,15 +24,15 @@ use Rattle.lego_model.specs.UndoFaults.{GoesWithoutStrays, key_sent, key_refused
 use Rattle.net_txn.specs.Causes.{EndsByGot, IsHaltCause, IsLinkCause}
 use Rattle.net_txn.specs.Waits.{Brought, Waits, IfFlooded, KeptMore}
 use Rattle.net_txn.specs.Undos.{halt_by}
-use Rattle.net_txn.specs.Said.{Said, Says, HearsNoise, ids_said, Speaks, said_steps, IsSaid, Calls, unsaid, wait_said, last_said, IsOfLink, IsBreak, frames_said, barrier_of, reply_heard, Replied, Breaks, IsHaltBy, BreaksBy, Talks, SaysNot, SaysTo}
+use Rattle.net_txn.specs.Said.{Said, Says, HearsNoise, CannotSay, ids_said, Speaks, said_steps, IsSaid, Calls, unsaid, wait_said, last_said, IsOfLink, IsBreak, frames_said, barrier_of, reply_heard, Replied, Breaks, IsHaltBy, BreaksBy, Talks, SaysNot, SaysTo}
 use Rattle.net_txn.specs.laws.WaitLaws.{kept_of_more}
 use Rattle.net_txn.specs.laws.LinkStepLaws.{links_append, wait_links}
 use Rattle.net_txn.specs.laws.LinkStrayLaws.{sure_settled, no_strays_by}
-use Rattle.net_txn.specs.laws.UndoWithoutStraysLaws.{goes_none, goes_append, goes_sure}
-use Rattle.net_txn.specs.laws.SaidLaws.{all_behind, steps_append, joined_after, fine_append, fine_none_lost, fine_frames, Calls-none, Calls-links, whole_steps, frames_go, unsaid_goes, whole_goes}
+use Rattle.net_txn.specs.laws.UndoWithoutStraysLaws.{goes_none, goes_append, goes_sure, goes_send_lost}
+use Rattle.net_txn.specs.laws.SaidLaws.{all_two, all_behind, steps_append, joined_after, is_fine, fine_append, fine_none_lost, fine_frames, fine_wait, Calls-none, Calls-then, Calls-links, whole_steps, frames_go, unsaid_goes, whole_goes}
 use Rattle.net_txn.specs.laws.ExchangeLaws.{replied_behind, breaks_behind}
 use Rattle.lego_model.specs.OwnIds.{AscendWithin}
-use Rattle.net_txn.specs.laws.OwnIdLaws.{FramesAscend, whole_ascend, front_ascend, unsaid_ids, last_ids}
+use Rattle.net_txn.specs.laws.OwnIdLaws.{FramesAscend, ids_append, whole_ascend, front_ascend, unsaid_ids, last_ids}
 
 -- ---- A message before
 
@@ -94,6 +94,25 @@ talks_speak {Tells = Tells} {old = old} {new = new} xid most a kept now_kept d f
     subst (λ (x : ℕ). Speaks Tells x xid most old new) is (replied_speaks xid most a first old new kept now_kept answer r ascend)
 talks_speak {Tells = Tells} {old = old} {new = new} xid most a kept now_kept d first (Err halt) is b ascend =
     subst (λ (x : ℕ). Speaks Tells x xid most old new) is (breaks_speaks xid most a first old new kept now_kept b.buf b.trouble b.breaks ascend)
+
+-- behind the reply the switch was parted with
+pub parted_speaks : {Own : Type 0} {Tells : Type 0} {old mid new : Seen Own} {kept now_kept : List (ℕ × List ℕ)} {answer : Brought} (xid most : ℕ) (a : Awaited) (first : List (List ℕ))
+    → Replied Tells a (first ++ barrier_of a ∷ []) Growing [] old mid kept now_kept answer → Calls Tells a.dpid (CannotSay a.dpid ∷ []) mid new → FramesAscend xid most a (first ++ barrier_of a ∷ []) → Speaks Tells a.dpid xid most old new
+unfolding replied_speaks
+parted_speaks {old = old} {mid = mid} {kept = kept} {now_kept = now_kept} {answer = answer} xid most a first r c ascend =
+    let d = a.dpid in
+    let frames = frames_said d (first ++ barrier_of a ∷ []) in
+    let behind = wait_said a r.got ++ reply_heard a ∷ [] in
+    let said = frames ++ behind in
+    let last = CannotSay d ∷ [] in
+    let fine = all_two (λ x. is_fine x ≡ true) frames behind (fine_frames d (first ++ barrier_of a ∷ [])) (all_two (λ x. is_fine x ≡ true) (wait_said a r.got) (reply_heard a ∷ []) (fine_wait a r.got) (refl, tt)) in
+    let before = replied_speaks xid most a first old mid kept now_kept answer r ascend in
+    record {
+      said = said ++ last;
+      calls = Calls-then r.calls c;
+      goes = subst (GoesWithoutStrays d) (sym (fine_append true said last fine)) (goes_send_lost d (said_steps true said) (fine_none_lost true said fine) before.goes);
+      ids = λ small. subst (λ (ids : List ℕ). AscendWithin xid ids (xid + most)) (sym (ids_append said last ∙ append-nil (ids_said said))) (before.ids small);
+    }
 
 -- one message alone
 pub says_speak : {Own T : Type 0} {Tells : Type 0} {d : ℕ} {old new : Seen Own} (xid most : ℕ) (frame : List ℕ) (result : Result T Halt) → SaysTo Tells d frame old new result → (xid + most < 2 ^ 32 → AscendWithin xid (ids_said (Says d frame ∷ [])) (xid + most))
@@ -162,6 +181,7 @@ unsent_cause d frames old new (troubles.Refused k x n) buf why c = absurd why
 unsent_cause d frames old new troubles.Flooded buf why c = absurd why
 unsent_cause d frames old new troubles.Short buf why c = tt
 unsent_cause d frames old new troubles.Full buf why c = absurd why
+unsent_cause d frames old new troubles.Parted buf why c = absurd why
 
 unsent_is : {Own : Type 0} (Tells : Type 0) (d : ℕ) (old new : Seen Own) (t : Trouble) (buf : List ℕ) → IsOfLink t → IsLinkCause d old new (halt_by d t buf) → IsHaltCause Tells d old new (halt_by d t buf)
 unsent_is Tells d old new troubles.Link buf why cause = cause
@@ -170,6 +190,7 @@ unsent_is Tells d old new (troubles.Refused k x n) buf why cause = absurd why
 unsent_is Tells d old new troubles.Flooded buf why cause = absurd why
 unsent_is Tells d old new troubles.Short buf why cause = tt
 unsent_is Tells d old new troubles.Full buf why cause = absurd why
+unsent_is Tells d old new troubles.Parted buf why cause = absurd why
 
 -- the last of what was said
 pub last_of : {Own : Type 0} {Tells : Type 0} {d : ℕ} {old new : Seen Own} (xs ys last : List Said) → Calls Tells d (xs ++ (ys ++ last)) old new → AllByRecursion (IsSaid d old.counts new.counts) last
@@ -203,12 +224,14 @@ unreplied_cause a d xs ys old new n None (troubles.Refused k x m) buf why c = ab
 unreplied_cause a d xs ys old new n None troubles.Flooded buf why c = (refl, refl)
 unreplied_cause a d xs ys old new n None troubles.Short buf why c = tt
 unreplied_cause a d xs ys old new n None troubles.Full buf why c = tt
+unreplied_cause a d xs ys old new n None troubles.Parted buf why c = (last_of xs ys _ c).0.1
 unreplied_cause a d xs ys old new n (Some b) troubles.Link buf why c = (last_of xs ys _ c).1.0.1
 unreplied_cause a d xs ys old new n (Some b) (troubles.Broke m) buf why c = absurd why.1.0
 unreplied_cause a d xs ys old new n (Some b) (troubles.Refused k x m) buf why c = absurd (none_refused b k why.1.1)
 unreplied_cause a d xs ys old new n (Some b) troubles.Flooded buf why c = absurd why.1.0
 unreplied_cause a d xs ys old new n (Some b) troubles.Short buf why c = tt
 unreplied_cause a d xs ys old new n (Some b) troubles.Full buf why c = tt
+unreplied_cause a d xs ys old new n (Some b) troubles.Parted buf why c = absurd why.1.0
 
 breaks_cause : {Own : Type 0} {Tells : Type 0} (a : Awaited) (frames : List (List ℕ)) (old new : Seen Own) (kept now_kept : List (ℕ × List ℕ)) (buf : List ℕ) (t : Trouble) → Breaks Tells a frames Growing [] old new kept now_kept buf t
     → IsHaltCause Tells a.dpid old new (halt_by a.dpid t buf)
@@ -227,6 +250,7 @@ halt_or P d (troubles.Refused k x n) buf halt is holds none = halt_of P halt _ i
 halt_or P d troubles.Flooded buf halt is holds none = halt_of P halt _ is holds none
 halt_or P d troubles.Short buf halt is holds none = halt_of P halt _ is holds none
 halt_or P d troubles.Full buf halt is holds none = halt_of P halt _ is holds none
+halt_or P d troubles.Parted buf halt is holds none = subst P (sym is) holds
 
 pub talks_cause : {Own : Type 0} {Tells : Type 0} {a : Awaited} {old new : Seen Own} {kept now_kept : List (ℕ × List ℕ)} (d : ℕ) (first : List (List ℕ)) (halt : Halt) → a.dpid ≡ d → BreaksBy Tells a (first ++ barrier_of a ∷ []) old new kept now_kept halt
     → IsHaltCause Tells d old new halt
@@ -273,6 +297,7 @@ flooded_by a first old new kept now_kept buf troubles.Flooded (inr u) = record {
     none_last (Some b) why = absurd why.1.0
 flooded_by a first old new kept now_kept buf troubles.Short b = tt
 flooded_by a first old new kept now_kept buf troubles.Full b = tt
+flooded_by a first old new kept now_kept buf troubles.Parted b = tt
 
 pub talks_flooded : {Own : Type 0} {Tells : Type 0} {a : Awaited} {old new : Seen Own} {kept now_kept : List (ℕ × List ℕ)} (first : List (List ℕ)) (halt : Halt) → BreaksBy Tells a (first ++ barrier_of a ∷ []) old new kept now_kept halt
     → IfHaltFlooded Tells a (front_steps a first) old new halt

@@ -34,7 +34,7 @@ use Rattle.lego_model.specs.OwnIds.{own_ids, AscendWithin}
 use Rattle.net_txn.specs.MessageStore.{KeptWhereFit}
 use Rattle.net_txn.specs.Waits.{Brought, IsRead, KeptMore}
 use Rattle.net_txn.specs.Undos.{halt_by, fault_by, alone, Moves, IsFaultOf, IsHaltOf, GoesOutBy, LosesBy, EndsWait, KeepsUntil, Fails, AwaitsReplies, PassesBarrier, is_of_link}
-use Rattle.net_txn.specs.Said.{Said, Says, Hears, HearsNoise, CannotSay, CannotHear, LacksMemory, ids_said, IsSaid, Calls, steps_in, said_steps, unsaid, unheard, wait_said, last_said, IsOfLink, IsBreak, AreHeard, frames_said, barrier_of, reply_heard, Replied, Breaks}
+use Rattle.net_txn.specs.Said.{Said, Says, Hears, HearsNoise, CannotSay, CannotHear, LacksMemory, ids_said, IsSaid, Calls, steps_in, said_steps, unsaid, unheard, wait_said, last_said, IsOfLink, IsBreak, AreHeard, frames_said, barrier_of, reply_heard, Replied, Breaks, unrefused_by}
 use Rattle.net_txn.specs.laws.WaitLaws.{of_switch, kept_of_more}
 use Rattle.net_txn.specs.laws.LinkPresenceLaws.{steps_stay, losses_by, lost_none_all}
 use Rattle.net_txn.specs.laws.SaidLaws.{all_two, all_behind, all_weaker, is_fine, AreFine, fine_append, fine_none_lost, fine_frames, fine_wait, said_links, Calls-moves, whole_steps, whole_goes}
@@ -102,6 +102,7 @@ stays_by d (troubles.Refused k x n) buf said none fine = none_by said fine
 stays_by d troubles.Flooded buf said none fine = none_by said fine
 stays_by d troubles.Short buf said none fine = none_by said fine
 stays_by d troubles.Full buf said none fine = none_by said fine
+stays_by d troubles.Parted buf said none fine = absurd cc
 
 -- what failed, by what was said
 fails_by : {Own : Type 0} {Tells : Type 0} {old new : Seen Own} {kept now_kept : List (ℕ × List ℕ)} (d xid : ℕ) (sent : List (ℕ × Key)) (said : List Said) (steps : List WorldStep) (halt : Halt) → Calls Tells d said old new → said_steps (is_joined d (state old)) said ≡ steps → IsHaltOf d sent old.counts new.counts steps halt
@@ -153,6 +154,7 @@ unsent_brings d [] (troubles.Refused k x n) b = refl
 unsent_brings d [] troubles.Flooded b = refl
 unsent_brings d [] troubles.Short b = refl
 unsent_brings d [] troubles.Full b = refl
+unsent_brings d [] troubles.Parted b = refl
 unsent_brings d (frame ∷ frames) t b = unsent_brings d frames t b
 
 pub says_moves : {Own : Type 0} {Tells : Type 0} {d : ℕ} {frame : List ℕ} {old new : Seen Own} → Calls Tells d (frames_said d (frame ∷ [])) old new → Moves Tells d (Acted (Sent d frame) ∷ []) old new
@@ -166,6 +168,7 @@ none_unsaid d (troubles.Refused k x n) = refl
 none_unsaid d troubles.Flooded = refl
 none_unsaid d troubles.Short = refl
 none_unsaid d troubles.Full = refl
+none_unsaid d troubles.Parted = refl
 
 unsent_halt : {Own : Type 0} {Tells : Type 0} (d : ℕ) (sent : List (ℕ × Key)) (frames : List (List ℕ)) (old new : Seen Own) (t : Trouble) (buf : List ℕ) (b : Bool) → IsOfLink t → Calls Tells d (frames_said d frames ++ unsaid d t) old new
     → IsHaltOf d sent old.counts new.counts (said_steps b (frames_said d frames ++ unsaid d t)) (halt_by d t buf)
@@ -181,6 +184,7 @@ unsent_halt d sent frames old new troubles.Short buf b why c =
     let last = (all_behind (IsSaid d old.counts new.counts) (frames_said d frames) (unsaid d troubles.Short) c.each).0 in
     (last.1, last.2)
 unsent_halt d sent frames old new troubles.Full buf b why c = absurd why
+unsent_halt d sent frames old new troubles.Parted buf b why c = absurd why
 
 unsent_loses : (d : ℕ) (frames : List (List ℕ)) (t : Trouble) (buf : List ℕ) → IsOfLink t → LosesBy d (halt_by d t buf) (said_steps true (frames_said d frames ++ unsaid d t))
 unsent_loses d frames troubles.Link buf why = out_by d (frames_said d frames) (CannotSay d) (fine_frames d frames) refl
@@ -191,22 +195,24 @@ unsent_loses d frames troubles.Short buf why =
     let said = frames_said d frames ++ unsaid d troubles.Short in
     stays_by d troubles.Short buf said refl (all_two (λ x. is_fine x ≡ true) (frames_said d frames) (unsaid d troubles.Short) (fine_frames d frames) (fine_unsaid d troubles.Short refl))
 unsent_loses d frames troubles.Full buf why = absurd why
+unsent_loses d frames troubles.Parted buf why = absurd why
 
 -- a switch that was lost
-unsent_some : (d : ℕ) (frames : List (List ℕ)) (t : Trouble) (buf : List ℕ) (b : Bool) → halt_by d t buf ≡ Lost → 1 ≤ length (said_steps b (frames_said d frames ++ unsaid d t))
-unsent_some d frames troubles.Link buf b lost = some_by d b (frames_said d frames) (CannotSay d) refl
-unsent_some d frames (troubles.Broke n) buf b lost = absurd cc
-unsent_some d frames (troubles.Refused k x n) buf b lost = absurd cc
-unsent_some d frames troubles.Flooded buf b lost = absurd cc
-unsent_some d frames troubles.Short buf b lost = absurd cc
-unsent_some d frames troubles.Full buf b lost = absurd cc
+unsent_some : (d : ℕ) (frames : List (List ℕ)) (t : Trouble) (buf : List ℕ) (b : Bool) → IsOfLink t → halt_by d t buf ≡ Lost → 1 ≤ length (said_steps b (frames_said d frames ++ unsaid d t))
+unsent_some d frames troubles.Link buf b why lost = some_by d b (frames_said d frames) (CannotSay d) refl
+unsent_some d frames (troubles.Broke n) buf b why lost = absurd cc
+unsent_some d frames (troubles.Refused k x n) buf b why lost = absurd cc
+unsent_some d frames troubles.Flooded buf b why lost = absurd cc
+unsent_some d frames troubles.Short buf b why lost = absurd cc
+unsent_some d frames troubles.Full buf b why lost = absurd cc
+unsent_some d frames troubles.Parted buf b why lost = absurd why
 
 unsent_fails : {Own : Type 0} {Tells : Type 0} {kept now_kept : List (ℕ × List ℕ)} (d xid : ℕ) (sent : List (ℕ × Key)) (frames : List (List ℕ)) (old new : Seen Own) (t : Trouble) (buf : List ℕ) → now_kept ≡ kept → packets_said (frames_said d frames) ≡ [] → IsOfLink t → Calls Tells d (frames_said d frames ++ unsaid d t) old new
     → (xid + 1 < 2 ^ 32 → AscendWithin xid (ids_said (frames_said d frames ++ unsaid d t)) (xid + 1)) → Fails Tells d xid sent old new kept now_kept (halt_by d t buf)
 unsent_fails d xid sent frames old new t buf same none why c ascends =
     let b = is_joined d (state old) in
     fails_by d xid sent (frames_said d frames ++ unsaid d t) _ (halt_by d t buf) c refl (unsent_halt d sent frames old new t buf (is_joined d (state old)) why c) (unsent_goes d frames t)
-    (none_two (frames_said d frames) (unsaid d t) none (none_unsaid d t)) (unsent_loses d frames t buf why) ascends (unsent_some d frames t buf b)
+    (none_two (frames_said d frames) (unsaid d t) none (none_unsaid d t)) (unsent_loses d frames t buf why) ascends (unsent_some d frames t buf b why)
     (keeps_none (alone d xid) (fault_by (halt_by d t buf)) (said_steps b (frames_said d frames ++ unsaid d t)) same (unsent_brings d frames t b))
 
 pub says_fails : {Own : Type 0} {Tells : Type 0} {d : ℕ} {old new : Seen Own} {kept : List (ℕ × List ℕ)} (xid : ℕ) (sent : List (ℕ × Key)) (t : Trouble) (buf : List ℕ) → (IsOfLink t × Calls Tells d (unsaid d t) old new) → Fails Tells d xid sent old new kept kept (halt_by d t buf)
@@ -239,7 +245,7 @@ waited_said a got by t buf = frames_said a.dpid (barrier_of a ∷ []) ++ (wait_s
 heard_read : (a : Awaited) (got : List (List ℕ)) (last : List Said) → AllByRecursion IsRead got → AllByRecursion IsReadSaid last → AllByRecursion IsReadSaid (frames_said a.dpid (barrier_of a ∷ []) ++ (wait_said a got ++ last))
 heard_read a got last read end = (tt, all_two IsReadSaid (wait_said a got) last (wait_read a got read) end)
 
-unreplied_halt : {Own : Type 0} {Tells : Type 0} (a : Awaited) (sent : List (ℕ × Key)) (got : List (List ℕ)) (old new : Seen Own) (by : Option (List ℕ)) (t : Trouble) (buf : List ℕ) (b : Bool) → a.barrier < 2 ^ 32 → AreHeard a sent got
+unreplied_halt : {Own : Type 0} {Tells : Type 0} (a : Awaited) (sent : List (ℕ × Key)) (got : List (List ℕ)) (old new : Seen Own) (by : Option (List ℕ)) (t : Trouble) (buf : List ℕ) (b : Bool) → a.barrier < 2 ^ 32 → AreHeard a (unrefused_by t sent) got
     → IsBreak a sent Reserved (length got) by t buf → Calls Tells a.dpid (waited_said a got by t buf) old new → IsHaltOf a.dpid sent old.counts new.counts (waited b a got by t buf) (halt_by a.dpid t buf)
 unreplied_halt a sent got old new None troubles.Link buf b small h why c = (
   (last_of (frames_said a.dpid (barrier_of a ∷ [])) (wait_said a got) _ c).0.1,
@@ -265,6 +271,10 @@ unreplied_halt a sent got old new None troubles.Short buf b small h why c =
     let last = (last_of (frames_said a.dpid (barrier_of a ∷ [])) (wait_said a got) _ c).0 in
     (last.1, last.2)
 unreplied_halt a sent got old new None troubles.Full buf b small h why c = absurd why
+unreplied_halt a sent got old new None troubles.Parted buf b small h why c = (
+  (last_of (frames_said a.dpid (barrier_of a ∷ [])) (wait_said a got) _ c).0.1,
+  subst BringMessages (whole_steps b a [] got (CannotSay a.dpid ∷ [])) (said_brings b (waited_said a got None troubles.Parted buf) (heard_read a got (CannotSay a.dpid ∷ []) h.read (tt, tt))),
+)
 unreplied_halt a sent got old new (Some m) troubles.Link buf b small h why c = (
   (last_of (frames_said a.dpid (barrier_of a ∷ [])) (wait_said a got) _ c).1.0.1,
   subst BringMessages (whole_steps b a [] got (Hears a.dpid m ∷ CannotSay a.dpid ∷ [])) (said_brings b (waited_said a got (Some m) troubles.Link buf) (heard_read a got (Hears a.dpid m ∷ CannotSay a.dpid ∷ []) h.read (why.0.1, (tt, tt)))),
@@ -289,6 +299,7 @@ unreplied_halt a sent got old new (Some m) troubles.Short buf b small h why c =
     let last = (last_of (frames_said a.dpid (barrier_of a ∷ [])) (wait_said a got) _ c).1.0 in
     (last.1, last.2)
 unreplied_halt a sent got old new (Some m) troubles.Full buf b small h why c = absurd cc
+unreplied_halt a sent got old new (Some m) troubles.Parted buf b small h why c = absurd why.1.0
 
 pub none_unheard : (d : ℕ) (t : Trouble) (buf : List ℕ) → packets_said (unheard d t buf) ≡ []
 unfolding packets_said
@@ -298,6 +309,7 @@ none_unheard d (troubles.Refused k x n) buf = refl
 none_unheard d troubles.Flooded buf = refl
 none_unheard d troubles.Short buf = refl
 none_unheard d troubles.Full buf = refl
+none_unheard d troubles.Parted buf = refl
 
 pub none_last : (d : ℕ) (by : Option (List ℕ)) (t : Trouble) (buf : List ℕ) → packets_said (last_said d by t buf) ≡ []
 none_last d None t buf = none_unheard d t buf
@@ -317,14 +329,16 @@ waited_out a got more last fine failed =
 waited_stays : (a : Awaited) (got : List (List ℕ)) (by : Option (List ℕ)) (t : Trouble) (buf : List ℕ) → is_of_link t ≡ false → LosesBy a.dpid (halt_by a.dpid t buf) (said_steps true (waited_said a got by t buf))
 waited_stays a got by t buf none = stays_by a.dpid t buf (waited_said a got by t buf) none (fine_waited a got (last_said a.dpid by t buf) (fine_last a.dpid by t buf none))
 
-unreplied_loses : (a : Awaited) (got : List (List ℕ)) (by : Option (List ℕ)) (t : Trouble) (buf : List ℕ) → LosesBy a.dpid (halt_by a.dpid t buf) (said_steps true (waited_said a got by t buf))
-unreplied_loses a got None troubles.Link buf = waited_out a got [] (CannotHear a.dpid) tt refl
-unreplied_loses a got (Some m) troubles.Link buf = waited_out a got (Hears a.dpid m ∷ []) (CannotSay a.dpid) (refl, tt) refl
-unreplied_loses a got by (troubles.Broke n) buf = waited_stays a got by (troubles.Broke n) buf refl
-unreplied_loses a got by (troubles.Refused k x n) buf = waited_stays a got by (troubles.Refused k x n) buf refl
-unreplied_loses a got by troubles.Flooded buf = waited_stays a got by troubles.Flooded buf refl
-unreplied_loses a got by troubles.Short buf = waited_stays a got by troubles.Short buf refl
-unreplied_loses a got by troubles.Full buf = waited_stays a got by troubles.Full buf refl
+unreplied_loses : (a : Awaited) (sent : List (ℕ × Key)) (n : ℕ) (got : List (List ℕ)) (by : Option (List ℕ)) (t : Trouble) (buf : List ℕ) → IsBreak a sent Reserved n by t buf → LosesBy a.dpid (halt_by a.dpid t buf) (said_steps true (waited_said a got by t buf))
+unreplied_loses a sent count got None troubles.Link buf why = waited_out a got [] (CannotHear a.dpid) tt refl
+unreplied_loses a sent count got None troubles.Parted buf why = waited_out a got [] (CannotSay a.dpid) tt refl
+unreplied_loses a sent count got (Some m) troubles.Parted buf why = absurd why.1.0
+unreplied_loses a sent count got (Some m) troubles.Link buf why = waited_out a got (Hears a.dpid m ∷ []) (CannotSay a.dpid) (refl, tt) refl
+unreplied_loses a sent count got by (troubles.Broke n) buf why = waited_stays a got by (troubles.Broke n) buf refl
+unreplied_loses a sent count got by (troubles.Refused k x n) buf why = waited_stays a got by (troubles.Refused k x n) buf refl
+unreplied_loses a sent count got by troubles.Flooded buf why = waited_stays a got by troubles.Flooded buf refl
+unreplied_loses a sent count got by troubles.Short buf why = waited_stays a got by troubles.Short buf refl
+unreplied_loses a sent count got by troubles.Full buf why = waited_stays a got by troubles.Full buf refl
 
 barrier_ascends : (a : Awaited) → a.barrier < 2 ^ 32 → FramesAscend a.barrier 1 a (barrier_of a ∷ [])
 barrier_ascends a small few = one_ascends a.barrier (a.barrier + 1) a.dpid (barrier_of a) (barrier_id a.barrier small) (omega arith)
@@ -338,6 +352,8 @@ last_ends a sent n None (troubles.Refused k x m) buf b why = absurd why
 last_ends a sent n None troubles.Flooded buf b why = inl refl
 last_ends a sent n None troubles.Short buf b why = inl refl
 last_ends a sent n None troubles.Full buf b why = absurd why
+last_ends a sent n None troubles.Parted buf true why = inl refl
+last_ends a sent n None troubles.Parted buf false why = inl refl
 last_ends a sent n (Some bytes) troubles.Link buf true why = inr (bytes, refl, why.1.1)
 last_ends a sent n (Some bytes) troubles.Link buf false why = inr (bytes, refl, why.1.1)
 last_ends a sent n (Some bytes) (troubles.Broke m) buf b why = absurd why.1.0
@@ -345,6 +361,7 @@ last_ends a sent n (Some bytes) (troubles.Refused k x m) buf b why = inr (bytes,
 last_ends a sent n (Some bytes) troubles.Flooded buf b why = absurd why.1.0
 last_ends a sent n (Some bytes) troubles.Short buf b why = inr (bytes, refl, why.1.1)
 last_ends a sent n (Some bytes) troubles.Full buf b why = absurd cc
+last_ends a sent n (Some bytes) troubles.Parted buf b why = absurd why.1.0
 
 breaks_fails : {Own : Type 0} {Tells : Type 0} (d xid : ℕ) (sent : List (ℕ × Key)) (old new : Seen Own) (kept now_kept : List (ℕ × List ℕ)) (buf : List ℕ) (t : Trouble) → xid < 2 ^ 32 → Breaks Tells (alone d xid) (barrier_of (alone d xid) ∷ []) Reserved sent old new kept now_kept buf t
     → Fails Tells d xid sent old new kept now_kept (halt_by d t buf)
@@ -358,7 +375,7 @@ breaks_fails d xid sent old new kept now_kept buf t small (inr u) =
     fails_by d xid sent (waited_said a u.got u.by t buf) (waited b a u.got u.by t buf) (halt_by a.dpid t buf) u.calls (whole_steps b a [] u.got (last_said a.dpid u.by t buf))
     (unreplied_halt a sent u.got old new u.by t buf b u.is_xid u.before u.why u.calls) (whole_goes a [] u.got u.by t buf u.is_xid u.before.before_reply)
     (none_two (frames_said a.dpid (barrier_of a ∷ [])) (wait_said a u.got ++ last_said a.dpid u.by t buf) (barrier_none a.dpid a.barrier small) (none_two (wait_said a u.got) (last_said a.dpid u.by t buf) (wait_none a u.got u.before.read) (none_last a.dpid u.by t buf)))
-    (unreplied_loses a u.got u.by t buf) (whole_ascend a.barrier 1 a (barrier_of a ∷ []) u.got (last_said a.dpid u.by t buf) (last_ids a.dpid u.by t buf) (barrier_ascends a small)) (λ lost. omega arith)
+    (unreplied_loses a sent (length u.got) u.got u.by t buf u.why) (whole_ascend a.barrier 1 a (barrier_of a ∷ []) u.got (last_said a.dpid u.by t buf) (last_ids a.dpid u.by t buf) (barrier_ascends a small)) (λ lost. omega arith)
     (record {
       front = barrier_sent a ∷ [];
       got = u.got;

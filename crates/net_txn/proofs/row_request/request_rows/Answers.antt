@@ -1,10 +1,13 @@
-use Rattle.std.proofs.Common.{[], ◌∷◌, Ok, Err, refl, inl, ap, ◌∙◌, arith}
+use Rattle.std.proofs.Common.{[], ◌∷◌, Ok, Err, refl, inl, inr, sym, ap, subst, ◌∙◌, arith}
 use Rattle.std.proofs.lemmas.Result.{err_from_is_err_and}
 use Rattle.of_wire.specs.declared.message.Message.TheVariants.{BarrierReply}
 use Rattle.of_wire.specs.Spelling.{message_bytes}
+use Rattle.outside.specs.Seen.{Seen}
 use Rattle.lego_model.specs.declared.wait.Awaited.{Awaited}
+use Rattle.net_txn.specs.declared.halt.Halt.TheVariants.{Fault}
+use Rattle.net_txn.specs.AskSteps.{AsksFrom}
 use Rattle.net_txn.specs.laws.AskLaws.{long_parts, sorted_more, sorted_some, came_more, asked_waits, answer_by_replies}
-use Rattle.net_txn.specs.laws.AskFaultLaws.{request_ascends, asked_halts, asked_short, asked_broke}
+use Rattle.net_txn.specs.laws.AskFaultLaws.{request_ascends, asked_halts, asked_short, asked_parted, asked_parted_speaks, asked_broke}
 use Rattle.net_txn.specs.laws.WaitLaws.{none_kept}
 use Rattle.net_txn.specs.laws.TalkLaws.{speaks_none, talks_speak, talks_ok, talks_err, talks_waits}
 use Rattle.net_txn.proofs.row_request.request_rows.Goals as goal
@@ -66,15 +69,25 @@ pub returns-in-Err : goal.returns-in-Err
 returns-in-Err g c =
     let came = c.ask.new.kept in
     let old = g.W.World.seen c.args.world.now in
-    let new = g.W.World.seen c.ask.new.world in
-    let more = came_more g.W.World.Tells c.args.dpid c.args.xid c.asked-awaited.result _ old new c.in_ok-came.came came c.ask.result c.asked-awaited.ensures c.in_ok-came.ensures (talks_ok _ _ _ _ _ _ (c.as_slice.result.now ∷ []) c.ask.result c.ask.ensures) (talks_err _ _ _ _ _ _ (c.as_slice.result.now ∷ []) c.ask.result c.ask.ensures) in
-    let waits = asked_waits c.args.dpid c.args.xid c.asked-awaited.result c.as_slice.result.now old new c.in_ok-came.came came c.in_ok-ask.field-0 c.asked-awaited.ensures (c.as_slice.ensures ∙ c.in_ok-request.ensures.bytes) c.in_ok-came.ensures (talks_waits (c.as_slice.result.now ∷ []) c.in_ok-ask.ensures) in
-    let cause = answer_by_replies c.args.dpid c.args.xid old new c.args.kept.now c.sort_out.new.kept came c.in_ok-replies.replies.parts.items c.in_ok-replies.replies.refusals.items c.in_ok-request.request c.asked-awaited.result.barrier (Err c.in-Err.fault)
+    let mid = g.W.World.seen c.ask.new.world in
+    let new = g.W.World.seen c.part_or_fail.new.world in
+    let more = came_more g.W.World.Tells c.args.dpid c.args.xid c.asked-awaited.result _ old mid c.in_ok-came.came came c.ask.result c.asked-awaited.ensures c.in_ok-came.ensures (talks_ok _ _ _ _ _ _ (c.as_slice.result.now ∷ []) c.ask.result c.ask.ensures) (talks_err _ _ _ _ _ _ (c.as_slice.result.now ∷ []) c.ask.result c.ask.ensures) in
+    let waits = asked_waits c.args.dpid c.args.xid c.asked-awaited.result c.as_slice.result.now old mid c.in_ok-came.came came c.in_ok-ask.field-0 c.asked-awaited.ensures (c.as_slice.ensures ∙ c.in_ok-request.ensures.bytes) c.in_ok-came.ensures (talks_waits (c.as_slice.result.now ∷ []) c.in_ok-ask.ensures) in
+    let cause = answer_by_replies c.args.dpid c.args.xid old mid c.args.kept.now c.sort_out.new.kept came c.in_ok-replies.replies.parts.items c.in_ok-replies.replies.refusals.items c.in_ok-request.request c.asked-awaited.result.barrier (Err c.in-Err.fault)
     (record { brought = c.in_ok-ask.field-0; waits = waits; kept_is = c.in_ok-replies.ensures.kept })
     c.in_ok-replies.ensures.parts c.in_ok-replies.ensures.refusals c.in_ok-request.ensures.bytes (ap (λ (x : Awaited). x.barrier) c.asked-awaited.ensures)
     tt tt c.in-Err.ensures.err in
-    record {
+    let kept_more = sorted_more c.args.dpid c.args.xid came c.args.kept.now c.sort_out.new.kept more c.in_ok-replies.ensures.kept in
+    let broke : AsksFrom g.W.World.Tells c.args.dpid c.args.xid old mid c.args.kept.now c.sort_out.new.kept (Err (Fault c.in-Err.fault)) = record {
       speaks = talks_speak c.args.xid 2 _ _ _ c.args.dpid (c.as_slice.result.now ∷ []) c.ask.result (ap (λ (a : Awaited). a.dpid) c.asked-awaited.ensures) c.ask.ensures (request_ascends c.args.dpid c.args.xid c.asked-awaited.result c.as_slice.result.now c.asked-awaited.ensures (c.as_slice.ensures ∙ c.in_ok-request.ensures.bytes));
-      kept_more = sorted_more c.args.dpid c.args.xid came c.args.kept.now c.sort_out.new.kept more c.in_ok-replies.ensures.kept;
-      answer = asked_broke c.args.dpid c.args.xid _ _ old new _ came c.args.kept.now c.sort_out.new.kept _ c.in_ok-request.request (message_bytes c.asked-awaited.result.barrier BarrierReply) c.in_ok-replies.replies.parts.items c.in_ok-replies.replies.refusals.items c.in-Err.fault c.in_ok-ask.ensures cause c.in-Err.ensures.err;
-    }
+      kept_more = kept_more;
+      answer = asked_broke c.args.dpid c.args.xid _ _ old mid _ came c.args.kept.now c.sort_out.new.kept _ c.in_ok-request.request (message_bytes c.asked-awaited.result.barrier BarrierReply) c.in_ok-replies.replies.parts.items c.in_ok-replies.replies.refusals.items c.in-Err.fault c.in_ok-ask.ensures cause c.in-Err.ensures.err;
+    } in
+    elim c.part_or_fail.ensures [
+      | inl fails ↦ rw fails.0 (subst (λ (s : Seen _). AsksFrom g.W.World.Tells c.args.dpid c.args.xid old s c.args.kept.now c.sort_out.new.kept (Err (Fault c.in-Err.fault))) (sym fails.1) broke)
+      | inr parts ↦ rw parts.1 (record {
+        speaks = asked_parted_speaks c.args.dpid c.args.xid c.asked-awaited.result c.as_slice.result.now old mid new _ came _ c.asked-awaited.ensures (c.as_slice.ensures ∙ c.in_ok-request.ensures.bytes) c.in_ok-ask.ensures parts.2;
+        kept_more = kept_more;
+        answer = asked_parted c.args.dpid c.args.xid c.asked-awaited.result c.as_slice.result.now old mid new _ came c.args.kept.now c.sort_out.new.kept _ (omega arith) c.asked-awaited.ensures (c.as_slice.ensures ∙ c.in_ok-request.ensures.bytes) c.in_ok-ask.ensures parts.2;
+      })
+    ]

@@ -3,7 +3,7 @@ use Rattle.std.proofs.lemmas.Result.{err_from_is_err_and}
 use Rattle.of_types.specs.laws.FieldLaws.{IsBytes-take}
 use Rattle.net_txn.specs.Undos.{inverses_in}
 use Rattle.net_txn.specs.Said.{HearsMessage}
-use Rattle.net_txn.specs.laws.ExchangeLaws.{hears_none, hears_refusal, hears_then}
+use Rattle.net_txn.specs.laws.ExchangeLaws.{hears_none, hears_refusal, hears_parts, hears_then}
 use Rattle.net_txn.specs.laws.SizeLaws.{header-read}
 use Rattle.net_txn.proofs.wait.hear.Goals as goal
 
@@ -29,3 +29,12 @@ returns-clause-hears g c =
 
 pub treat-requires-clause-bytes : goal.treat-requires-clause-bytes
 treat-requires-clause-bytes g c = IsBytes-take c.in_ok-len.len c.receive.new.buf c.in_ok-len.ensures.bytes
+
+pub returns-then-can_part-clause-hears : goal.returns-then-can_part-clause-hears
+returns-then-can_part-clause-hears g c =
+    let h : HearsMessage g.W.World.Tells c.args.awaited.now.dpid (g.W.World.seen c.args.world.now) (g.W.World.seen c.receive.new.world) c.receive.new.buf c.in_ok-len.len =
+    record { read = (IsBytes-take c.in_ok-len.len c.receive.new.buf c.in_ok-len.ensures.bytes, c.in_ok-len.ensures.read); calls = c.in_ok-len.ensures.hears } in
+    hears_parts c.args.awaited.now (g.W.World.seen c.part_behind.new.world) c.args.storage (inverses_in c.args.awaited.now.dpid c.args.reverted.now) c.args.kept.now c.part_behind.new.kept c.part_behind.result c.in-Some.key h c.in-Some.ensures _ c.part_behind.ensures
+
+pub part_behind-requires-clause-bytes : goal.part_behind-requires-clause-bytes
+part_behind-requires-clause-bytes g c = IsBytes-take c.in_ok-len.len c.receive.new.buf c.in_ok-len.ensures.bytes

@@ -25,4 +25,4 @@ loop-heard-preserved g c = record {
 }
 
 pub returns-clause-exchanges : goal.returns-clause-exchanges
-returns-clause-exchanges g c = flooded _ c.requires.is_xid (omega arith) c.loop-heard.invariant.heard
+returns-clause-exchanges g c = flooded _ c.give_up.result c.requires.is_xid (omega arith) c.loop-heard.invariant.heard c.give_up.ensures
