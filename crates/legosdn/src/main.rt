@@ -100,6 +100,13 @@ fn call_over<S: Source + Drop, K: Sink + Drop, E: Sink + Drop, L: World + Drop>(
     )
 }
 
+/// Where what is told of the world of real switches goes: its acts, and what it notes beside them.
+#[derive(Drop)]
+struct LiveErrors<E> {
+    acts: E,
+    notes: E,
+}
+
 /// Makes the world of the switches that connect, and the call over it.
 fn run_beside<
     R: Net + Processes<Started = SystemProcess> + Env + AllocGlobal + Drop,
@@ -113,15 +120,19 @@ fn run_beside<
     settings: &Settings,
     console: &mut Console<S, K>,
     sim: &mut Traced<SimWorld, E>,
-    errors: E,
+    errors: LiveErrors<E>,
 ) -> Result<u8, AllocError>
     requires new_world { IsNew sim.old }
     requires empty_world { given_of sim.old ≡ nothing_given }
 {
     let alloc = rt.alloc();
-    let mut live = LiveWorld::new(rt, alloc, clock)?;
+    let LiveErrors { acts, notes } = errors;
+    let mut live = LiveWorld::new(rt, alloc, clock, notes)?;
     live.listen_at(settings.address);
-    Ok(call_over(settings, alloc, console, sim, live, errors))
+    if settings.is_traced {
+        live.note_connections();
+    }
+    Ok(call_over(settings, alloc, console, sim, live, acts))
 }
 
 /// Runs the command of the words over a simulated world and the world of real switches, and answers the status. The acts of
@@ -138,7 +149,7 @@ fn run_in_worlds<
     settings: &Settings,
     console: &mut Console<S, K>,
     errors: E,
-    live_errors: E,
+    live_errors: LiveErrors<E>,
 ) -> Result<u8, AllocError> {
     let alloc = rt.alloc();
     let sim = SimWorld::new(alloc)?;
@@ -156,7 +167,10 @@ fn run(rt: &HostRuntime, settings: &Settings) -> Result<u8, AllocError> {
         sink: StdSink::new(rt, alloc)?,
     };
     let errors = StdSink::new(rt.stderr(), alloc)?;
-    let live_errors = StdSink::new(rt.stderr(), alloc)?;
+    let live_errors = LiveErrors {
+        acts: StdSink::new(rt.stderr(), alloc)?,
+        notes: StdSink::new(rt.stderr(), alloc)?,
+    };
     let clock = SystemClock::new(rt);
     run_in_worlds(rt, clock, settings, &mut console, errors, live_errors)
 }

@@ -1,6 +1,6 @@
 //! What an operator sets in the environment, and the clock.
 
-use live_world::Clock;
+use live_world::{Clock, milliseconds_of};
 use std::env;
 use std::env::{Env, VarError};
 use std::net::Ipv4Addr;
@@ -67,21 +67,24 @@ fn is_traced<R: Env + AllocGlobal>(rt: &R) -> Result<bool, SettingFault> {
 #[derive(Drop)]
 pub struct SystemClock<R> {
     rt: R,
-    seconds: u64,
+    milliseconds: u64,
 }
 
 impl<R: MonotonicClock + Drop> SystemClock<R> {
     /// Returns the clock of this runtime.
     pub fn new(rt: R) -> SystemClock<R> {
-        SystemClock { rt, seconds: 0 }
+        SystemClock {
+            rt,
+            milliseconds: 0,
+        }
     }
 }
 
 impl<R: MonotonicClock + Drop> Clock for SystemClock<R> {
-    fn seconds(&mut self) -> u64 {
+    fn milliseconds(&mut self) -> u64 {
         if let Ok(passed) = self.rt.monotonic() {
-            self.seconds = passed.as_secs();
+            self.milliseconds = milliseconds_of(passed);
         }
-        self.seconds
+        self.milliseconds
     }
 }

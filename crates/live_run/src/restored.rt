@@ -5,6 +5,7 @@ use crate::talk::{APP, Awaited, give, take_until};
 use crate::talk_trouble::TalkTrouble;
 use app_frames::{Event, EventKind, HostFrame};
 use hex::ToHex;
+use lego_io::MemSink;
 use live_stage::{SteadyClock, own_words};
 use live_world::{Clock, LiveWorld};
 use of_types::{ByteList, flows};
@@ -14,6 +15,9 @@ use std::alloc::{AllocError, Global};
 use std::net::Net;
 use std::process::{Processes, SystemProcess};
 use std::rt::{Clock as TimeSource, Env};
+
+/// How many bytes of what the world notes are taken.
+const ROOM: usize = 4_096;
 
 /// One row: at switch 1, 02:00:00:00:00:01 is reached by port 1.
 const CHECKPOINT: [u8; 16] = [0, 0, 0, 0, 0, 0, 0, 1, 2, 0, 0, 0, 0, 1, 0, 1];
@@ -81,7 +85,8 @@ pub(crate) fn show_restored<
     let alloc = rt.alloc();
     let clock = SteadyClock::new(rt.clone()?).map_err(|_| TalkTrouble::NoClock)?;
     let other = SteadyClock::new(rt.clone()?).map_err(|_| TalkTrouble::NoClock)?;
-    let world = LiveWorld::new(rt.clone()?, alloc, other)?;
+    let errors = MemSink::new(alloc, ROOM, &[])?;
+    let world = LiveWorld::new(rt.clone()?, alloc, other, errors)?;
     let taken = learnt_in(alloc, world, clock)?;
     Ok(hex::encode(alloc, &taken)?)
 }

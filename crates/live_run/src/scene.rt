@@ -4,7 +4,7 @@ use crate::steady::steady;
 use crate::trouble::Trouble;
 use crash_policy::{AppRule, DEFAULT_BUDGET, Policy};
 use event_dispatch::{Served, serve};
-use lego_io::MemSink;
+use lego_io::{MemSink, Sink};
 use live_stage::{Bounded, Bounds, Player, SteadyClock, free_port, own_words};
 use live_world::{Clock, LiveWorld};
 use of_types::limits::MOST_ROUNDS;
@@ -83,7 +83,14 @@ fn usual_app(alloc: Global, command: Vec<String>) -> Result<AppRule, AllocError>
 fn outcome_of<
     R: Net + Processes<Started = SystemProcess> + Env + AllocGlobal + Drop,
     C: Clock + Drop,
->(alloc: Global, app: AppRule, mut world: Bounded<R, C>, mut sink: MemSink, port: u16) -> Outcome {
+    K: Sink + Drop,
+>(
+    alloc: Global,
+    app: AppRule,
+    mut world: Bounded<R, C, K>,
+    mut sink: MemSink,
+    port: u16,
+) -> Outcome {
     let served = serve(
         alloc,
         &[app],
@@ -114,7 +121,8 @@ fn run_at<
     let clock = SteadyClock::new(rt.clone()?)?;
     let word = format!(in alloc; "{port}")?;
     let _switch = Player::start(rt, alloc, &[scene.switch, word.as_str()])?;
-    let live = LiveWorld::new(rt.clone()?, alloc, SteadyClock::new(rt.clone()?)?)?;
+    let errors = MemSink::new(alloc, ROOM, &[])?;
+    let live = LiveWorld::new(rt.clone()?, alloc, SteadyClock::new(rt.clone()?)?, errors)?;
     let world = Bounded::new(live, clock, bounds);
     Ok(outcome_of(alloc, app, world, sink, port))
 }

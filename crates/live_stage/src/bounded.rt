@@ -2,6 +2,7 @@
 
 ghost use Rattle.std.specs.Prelude.{◌≡◌, ◌<◌};
 
+use lego_io::Sink;
 use live_world::{Clock, LiveWorld};
 use of_types::{Dpid, kinds};
 use outside::{GiveFault, Item, LinkFault, NextFault, OpenFault, Short, StartFault, Taken, World};
@@ -20,8 +21,8 @@ pub struct Bounds {
 
 /// A live world that is over where nothing waits and a given number of packets came from its switches, or after a given number of seconds.
 #[derive(Drop)]
-pub struct Bounded<R, C> {
-    world: LiveWorld<R, C>,
+pub struct Bounded<R, C, K> {
+    world: LiveWorld<R, C, K>,
     clock: C,
     bounds: Bounds,
     packets: u32,
@@ -31,9 +32,10 @@ pub struct Bounded<R, C> {
 impl<
     R: Net + Processes<Started = SystemProcess> + Env + AllocGlobal + Drop,
     C: Clock + Drop,
-> Bounded<R, C> {
+    K: Sink + Drop,
+> Bounded<R, C, K> {
     /// Bounds the world; the clock tells the seconds.
-    pub fn new(world: LiveWorld<R, C>, clock: C, bounds: Bounds) -> Bounded<R, C> {
+    pub fn new(world: LiveWorld<R, C, K>, clock: C, bounds: Bounds) -> Bounded<R, C, K> {
         Bounded {
             world,
             clock,
@@ -65,15 +67,18 @@ impl<
     }
 }
 
-impl<R: Net + Processes<Started = SystemProcess> + Env + AllocGlobal + Drop, C: Clock + Drop> World
-    for Bounded<R, C> {
+impl<
+    R: Net + Processes<Started = SystemProcess> + Env + AllocGlobal + Drop,
+    C: Clock + Drop,
+    K: Sink + Drop,
+> World for Bounded<R, C, K> {
     ghost Tells = { ⊥ };
 
     ghost Own = { Unit {0} };
 
     ghost CanPart = { Unit {0} };
 
-    ghost seen = { λ s. ⟦<LiveWorld<R, C> as World>⟧.seen s.world };
+    ghost seen = { λ s. ⟦<LiveWorld<R, C, K> as World>⟧.seen s.world };
 
     fn open(&mut self, port: u16) -> Result<(), OpenFault> {
         self.world.open(port)

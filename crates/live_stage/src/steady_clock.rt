@@ -1,10 +1,10 @@
 //! The clock of the system, as live worlds want it.
 
-use live_world::Clock;
+use live_world::{Clock, milliseconds_of};
 use std::io;
 use std::time::Instant;
 
-/// Counts whole seconds since it was made, by the system's clock that never goes back. Where that cannot be read, no time
+/// Counts milliseconds since it was made, by the system's clock that never goes back. Where that cannot be read, no time
 /// passes.
 #[derive(Drop)]
 pub struct SteadyClock<R> {
@@ -26,9 +26,9 @@ impl<R: std::rt::Clock + Drop> SteadyClock<R> {
 }
 
 impl<R: std::rt::Clock + Drop> Clock for SteadyClock<R> {
-    fn seconds(&mut self) -> u64 {
+    fn milliseconds(&mut self) -> u64 {
         if let Ok(passed) = self.start.elapsed(&self.rt) {
-            self.latest = passed.as_secs();
+            self.latest = milliseconds_of(passed);
         }
         self.latest
     }

@@ -1,5 +1,5 @@
 -- What a message on a connection is to a live world. Our own choice but for the messages of OpenFlow 1.0.0.
-use Rattle.std.specs.Prelude.{ℕ, Bool, ◌&&◌, ◌==◌, List, length, Result, Ok, Err, if◌then◌else◌, nat_lt, nat_le}
+use Rattle.std.specs.Prelude.{ℕ, Bool, ◌&&◌, ◌||◌, ◌==◌, List, length, Result, Ok, Err, if◌then◌else◌, nat_lt, nat_le}
 use Rattle.of_types.specs.Fields.{number_at}
 use Rattle.of_wire.specs.declared.message.Envelope.{Envelope}
 use Rattle.of_wire.specs.declared.message.Message.{Message}
@@ -19,9 +19,15 @@ is_later_hello frame = nat_le 8 (length frame) && nat_lt 1 (number_at 1 0 frame)
 abbrev pub is_own_echo : List ℕ → Bool
 is_own_echo frame = (length frame == 8) && (number_at 1 1 frame == 3) && (number_at 4 4 frame == 0)
 
--- a PACKET_IN (type 10, 5.4.1 Packet-In Message)
-abbrev pub is_packet_in : List ℕ → Bool
-is_packet_in frame = nat_le 8 (length frame) && (number_at 1 1 frame == 10)
+-- an ECHO_REQUEST of version 1 (type 2, 5.5.2 Echo Request)
+abbrev pub is_echo_request : List ℕ → Bool
+is_echo_request frame = nat_le 8 (length frame) && (number_at 1 0 frame == 1) && (number_at 1 1 frame == 2)
+
+-- the types of messages that answer a request: ERROR, ECHO_REPLY, FEATURES_REPLY, GET_CONFIG_REPLY, STATS_REPLY, BARRIER_REPLY and
+-- QUEUE_GET_CONFIG_REPLY (5.1 OpenFlow Header); all others a switch says by itself
+abbrev pub answers_request : ℕ → Bool
+answers_request kind =
+    (kind == 1) || (kind == 3) || (kind == 6) || (kind == 8) || (kind == 17) || (kind == 19) || (kind == 21)
 
 abbrev greeting_in : Message → Greeting
 greeting_in (FeaturesReply features) = greetings.Features features.dpid
@@ -35,10 +41,16 @@ greeting_read (Err fault) = greetings.Refused
 abbrev pub greeting_of : List ℕ → Greeting
 greeting_of frame = if is_later_hello frame then greetings.Passed else greeting_read (reading_of frame)
 
+-- what a message is
+abbrev pub sort_of : List ℕ → Hearing
+sort_of frame =
+    if is_own_echo frame || is_echo_request frame then hearings.Passed else
+    if nat_le 8 (length frame) && answers_request (number_at 1 1 frame) then hearings.Reply else hearings.Told
+
 abbrev hearing_read : List ℕ → Result Envelope WireFault → Hearing
-hearing_read frame (Ok envelope) = if is_own_echo frame then hearings.Passed else hearings.Told
+hearing_read frame (Ok envelope) = sort_of frame
 hearing_read frame (Err fault) = hearings.Refused
 
--- after it: all but the answer to a question of the live world's own is told
+-- after it: ECHO_REQUESTs and the answer to a question of the live world's own are passed over
 abbrev pub hearing_of : List ℕ → Hearing
 hearing_of frame = hearing_read frame (reading_of frame)

@@ -1,11 +1,15 @@
 pub mod Connection
+pub mod Deadlines
+pub mod Echoes
 pub mod Faults
 pub mod Greetings
 pub mod Hearing
 pub mod Inbound
+pub mod Intakes
 pub mod Keeping
 pub mod Life
 pub mod Live
 pub mod Moments
-pub mod Patience
-pub mod Turns
+pub mod Starts
+pub mod Telling
+pub mod TurnTimes

@@ -1,23 +1,23 @@
-//! Applications: child programs behind pipes.
+//! Applications: child programs, each behind a socket of its own.
 
-ghost use Rattle.std.specs.Prelude.{◌<◌, length};
-ghost use Rattle.outside.specs.Calls.{IsTakenIn};
+ghost use Rattle.std.specs.Prelude.{◌<◌, ◌≤◌, length, IfSome};
+ghost use Rattle.live_world.specs.Intakes.{IsIntakeIn};
 
-use crate::clock::Clock;
-use crate::patience::Patience;
-use crate::waiter::Waiter;
-use mio::Interest;
-use mio::unix::SourceFd;
-use outside::{StartFault, Taken};
-use std::alloc::Global;
+use crate::deadline::{CALL_MILLISECONDS, Deadline};
+use crate::event_loop::MOST_CONNECTIONS;
+use crate::readiness::Readiness;
+use mio::net::UnixStream;
+use outside::Taken;
+use std::alloc::{AllocError, Global};
 use std::io;
 use std::io::{ErrorKind, Read, Write};
 use std::net::Net;
-use std::os::fd::AsRawFd;
-use std::process::{Child, ChildStdin, ChildStdout, Command, Processes, Stdio, SystemProcess};
+use std::os::fd::OwnedFd;
+use std::os::unix::net;
+use std::process::{Child, Command, Processes, Stdio, SystemProcess};
 
-/// How many bytes a pipe takes at once without a wait, when it takes any.
-const PIPE_BYTES: usize = 4_096;
+/// The lowest token of an application. Below are those of the listener and of connections.
+pub(crate) const FIRST_APP: usize = MOST_CONNECTIONS + 1;
 
 /// A running child. It is killed and waited for where it is dropped.
 struct Running {
@@ -41,114 +41,111 @@ pub(crate) struct Surroundings {
     pub(crate) home: Option<String>,
 }
 
-/// A running application and its pipes.
+/// A running application and its socket.
 #[derive(Drop)]
 pub(crate) struct App {
     pub(crate) index: u32,
-    input: ChildStdin,
-    output: ChildStdout,
-    waiter: Waiter,
+    pub(crate) stream: UnixStream,
+    pub(crate) ready: Readiness,
+    /// Until when it is heard.
+    pub(crate) until: Deadline,
     running: Running,
 }
 
-fn start_fault(error: io::Error) -> StartFault {
-    if error.kind() == ErrorKind::OutOfMemory {
-        StartFault::Short
-    } else {
-        StartFault::NotStarted
+/// What a read from an application came to.
+#[derive(Clone, Copy, Debug, PartialEq, Eq)]
+pub enum Intake {
+    /// This is to be told.
+    Told(Taken),
+    /// Nothing waits now.
+    Nothing,
+}
+
+/// The place of a running application.
+pub(crate) fn app_place(apps: &[App], index: u32) -> Option<usize> {
+    for place in 0..apps.len() {
+        if apps[place].index == index {
+            return Some(place);
+        }
     }
+    None
 }
 
 impl App {
-    /// Starts the program that the first word names, with the other words. It has pipes as its standard input and
-    /// output, an empty standard error, and no variables but these.
+    /// Starts the program that the first word names, with the other words. Its standard input and output are one socket, its
+    /// standard error is this process's own, and it has no variables but these. There is a first word.
     pub(crate) fn start<R: Net + Processes<Started = SystemProcess>>(
         rt: &R,
         alloc: Global,
         index: u32,
         words: &[String],
         surroundings: &Surroundings,
-    ) -> Result<App, StartFault> {
+        now: u64,
+    ) -> io::Result<App> {
         let Some((program, arguments)) = words.split_first() else {
-            return Err(StartFault::NotStarted);
+            return Err(io::Error::from(ErrorKind::NotFound));
         };
-        let waiter = Waiter::new(rt, alloc).map_err(start_fault)?;
-        let mut command = command_of(alloc, program, arguments, surroundings).map_err(
-            |_| StartFault::Short,
-        )?;
-        let mut child = command.spawn(rt).map_err(start_fault)?;
-        let (input, output) = (child.stdin.take(), child.stdout.take());
-        let running = Running { child };
-        match (input, output) {
-            (Some(input), Some(output)) => Ok(App {
-                index,
-                input,
-                output,
-                waiter,
-                running,
-            }),
-            _ => Err(StartFault::NotStarted),
-        }
+        let (own, theirs) = net::UnixStream::pair(rt)?;
+        own.set_nonblocking(true)?;
+        let input = OwnedFd::from(theirs);
+        let output = input.try_clone()?;
+        let mut command = command_of(alloc, program, arguments, surroundings)?;
+        command
+            .stdin(Stdio::from(input))
+            .stdout(Stdio::from(output))
+            .stderr(Stdio::inherit());
+        let child = command.spawn(rt)?;
+        Ok(App {
+            index,
+            stream: UnixStream::from_std(own),
+            ready: Readiness::new(),
+            until: Deadline::after(now, CALL_MILLISECONDS),
+            running: Running { child },
+        })
     }
 
-    /// Gives all bytes to the application, within 5 seconds. Tells whether it took them.
-    pub(crate) fn give<C: Clock>(&mut self, clock: &mut C, bytes: &[u8]) -> bool {
-        let mut patience = Patience::new(clock.seconds());
-        let mut rest = bytes;
-        for _ in 0..u64::MAX {
-            if rest.is_empty() {
-                return true;
-            }
-            let descriptor = self.input.as_raw_fd();
-            let Ok(came) = self
-                .waiter
-                .wait(&mut SourceFd(&descriptor), Interest::WRITABLE)
-            else {
-                return false;
-            };
-            if came {
-                let most = rest.len().min(PIPE_BYTES);
-                match self.input.write(&rest[..most]) {
-                    Ok(0) => return false,
-                    Ok(count) => rest = &rest[count..],
-                    Err(error) if error.kind() == ErrorKind::Interrupted => {}
-                    Err(_) => return false,
-                }
-            }
-            if !patience.goes_on(came, clock.seconds()) {
-                return rest.is_empty();
-            }
-        }
-        false
+    /// The token by which its socket is registered.
+    pub(crate) fn token(&self) -> usize {
+        FIRST_APP.saturating_add(self.index as usize)
     }
 
-    /// Takes what the application gives, within 5 seconds.
-    pub(crate) fn take<C: Clock>(&mut self, clock: &mut C, buf: &mut [u8]) -> Taken
-        requires { 0 < length buf.old }
-        ensures { IsTakenIn result buf.new }
+    /// Gives a front of the bytes to the application, as far as it takes them at once. Tells how many it took, if it takes any at all.
+    pub(crate) fn give(&mut self, bytes: &[u8]) -> Option<usize>
+        ensures { IfSome result (λ count. count ≤ length bytes.now) }
     {
-        let mut patience = Patience::new(clock.seconds());
-        for _ in 0..u64::MAX {
-            let descriptor = self.output.as_raw_fd();
-            let Ok(came) = self
-                .waiter
-                .wait(&mut SourceFd(&descriptor), Interest::READABLE)
-            else {
-                return Taken::Closed;
-            };
-            if came {
-                match self.output.read(buf) {
-                    Ok(0) => return Taken::Closed,
-                    Ok(count) => return Taken::Some(count),
-                    Err(error) if error.kind() == ErrorKind::Interrupted => {}
-                    Err(_) => return Taken::Closed,
-                }
+        match (&self.stream).write(bytes) {
+            Ok(0) => None,
+            Ok(count) => Some(count),
+            Err(error) if error.kind() == ErrorKind::Interrupted => Some(0),
+            Err(error) if error.kind() == ErrorKind::WouldBlock => {
+                self.ready.is_writable = false;
+                Some(0)
             }
-            if !patience.goes_on(came, clock.seconds()) {
-                return Taken::Silent;
-            }
+            Err(_) => None,
         }
-        Taken::Silent
+    }
+
+    /// Takes what the application has given, if it has.
+    pub(crate) fn take(&mut self, buf: &mut [u8]) -> Intake
+        requires { 0 < length buf.old }
+        ensures { IsIntakeIn result buf.new }
+    {
+        let room = buf.len();
+        match (&self.stream).read(buf) {
+            Ok(0) => Intake::Told(Taken::Closed),
+            Ok(count) => {
+                if count < room {
+                    self.ready.came_short();
+                }
+                Intake::Told(Taken::Some(count))
+            }
+            Err(error) if error.kind() == ErrorKind::Interrupted => Intake::Nothing,
+            Err(error) if error.kind() == ErrorKind::WouldBlock => {
+                self.ready.is_readable = false;
+                Intake::Nothing
+            }
+            Err(_) => Intake::Told(Taken::Closed),
+        }
     }
 }
 
@@ -157,7 +154,7 @@ fn command_of(
     program: &String,
     arguments: &[String],
     surroundings: &Surroundings,
-) -> Result<Command, std::alloc::AllocError> {
+) -> Result<Command, AllocError> {
     let mut command = Command::new(alloc, program)?;
     command.args(arguments)?;
     command.env_clear();
@@ -167,9 +164,5 @@ fn command_of(
     if let Some(home) = &surroundings.home {
         command.env("HOME", home)?;
     }
-    command
-        .stdin(Stdio::piped())
-        .stdout(Stdio::piped())
-        .stderr(Stdio::null());
     Ok(command)
 }

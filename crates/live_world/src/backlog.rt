@@ -1,18 +1,16 @@
-//! Frames that came while a switch was waited for, until `next` tells them.
+//! Messages that were put off until `next` tells them.
 
-ghost use Rattle.std.specs.Prelude.{◌≡◌, ◌⊎◌, [], ◌++◌, true, false, None, Ok, IfOk, IfSome, OnErr};
+ghost use Rattle.std.specs.Prelude.{◌≡◌, ◌≤◌, ◌⊎◌, [], ◌++◌, true, false, length, None, Ok, IfOk, IfSome, OnErr};
 ghost use Rattle.of_stream.specs.Frames.{IsFrame, IsPartial, IsBroken};
-ghost use Rattle.live_world.specs.Hearing.{is_packet_in};
 
-use crate::hearing::is_packet_in;
 use of_stream::{CutFault, Cutter};
 use of_types::ByteList;
 use std::alloc::{AllocError, Global};
 
 /// How many bytes of messages are kept of a connection at most.
-const MOST_BYTES: usize = 16_777_216;
+pub(crate) const MOST_BYTES: usize = 16_777_216;
 
-/// The PACKET_INs of a connection that came while the switch's answer to something else was waited for, in their order.
+/// The messages that a switch said by itself while its answer to a request was awaited, in their order.
 #[derive(Drop)]
 pub struct Backlog {
     /// Their bytes.
@@ -29,20 +27,20 @@ impl Backlog {
         })
     }
 
-    /// Tells whether there is none.
-    pub(crate) fn is_empty(&self) -> bool {
-        self.stream.held().is_empty()
+    /// Tells how many bytes they have.
+    pub(crate) fn len(&self) -> usize
+        ensures { result ≡ length self.now.stream }
+    {
+        self.stream.held().len()
     }
 
-    /// Keeps a message behind the others, if it is a PACKET_IN and there is room for it. Tells whether it is kept.
+    /// Keeps a message behind the others, if there is room for it. Tells whether it is kept.
     pub(crate) fn keep(&mut self, message: &[u8]) -> bool
-        ensures only { result ≡ true → is_packet_in message.now ≡ true }
         ensures kept { result ≡ true → self.new.stream ≡ self.old.stream ++ message.now }
+        ensures at_most { result ≡ true → length self.new.stream ≤ 16777216 }
         ensures unchanged { result ≡ false → self.new.stream ≡ self.old.stream }
     {
-        is_packet_in(message)
-            && self.stream.held().len().saturating_add(message.len()) <= MOST_BYTES
-            && self.stream.feed(message).is_ok()
+        self.len().saturating_add(message.len()) <= MOST_BYTES && self.stream.feed(message).is_ok()
     }
 
     /// Takes the oldest one. Where memory runs out it stays.

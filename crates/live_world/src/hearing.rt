@@ -1,7 +1,7 @@
 //! What a message on a connection is to a live world.
 
 ghost use Rattle.std.specs.Prelude.{◌≡◌, IfOk};
-ghost use Rattle.live_world.specs.Hearing.{greeting_of, hearing_of, is_later_hello, is_own_echo, is_packet_in};
+ghost use Rattle.live_world.specs.Hearing.{greeting_of, hearing_of, is_later_hello, is_own_echo, is_echo_request, answers_request};
 ghost use Rattle.live_world.specs.Greetings.{IsGreetingOf};
 
 use of_types::{Dpid, Xid, get_u8, get_u32, kinds};
@@ -25,9 +25,11 @@ pub enum Greeting {
 /// What a joined switch said.
 #[derive(Clone, Copy, Debug, PartialEq, Eq)]
 pub enum Hearing {
-    /// The answer to a question of the live world's own.
+    /// An ECHO_REQUEST, which is answered when it comes, or the answer to a question of the live world's own.
     Passed,
-    /// A message for the controller.
+    /// A message that answers a request of the controller.
+    Reply,
+    /// A message that the switch says by itself.
     Told,
     /// Bytes that are no message.
     Refused,
@@ -48,11 +50,29 @@ fn is_own_echo(frame: &[u8]) -> bool
     frame.len() == 8 && get_u8(frame, 1) == kinds::ECHO_REPLY && get_u32(frame, 4) == OWN_XID
 }
 
-/// Whether it is a PACKET_IN.
-pub(crate) fn is_packet_in(frame: &[u8]) -> bool
-    ensures { result ≡ is_packet_in frame.now }
+/// Whether it is an ECHO_REQUEST.
+pub(crate) fn is_echo_request(frame: &[u8]) -> bool
+    ensures { result ≡ is_echo_request frame.now }
 {
-    frame.len() >= 8 && get_u8(frame, 1) == kinds::PACKET_IN
+    frame.len() >= 8
+        && get_u8(frame, 0) == kinds::VERSION
+        && get_u8(frame, 1) == kinds::ECHO_REQUEST
+}
+
+/// Whether messages of this type answer a request. All others a switch says by itself.
+fn answers_request(kind: u8) -> bool
+    ensures { result ≡ answers_request kind }
+{
+    matches!(
+        kind,
+        kinds::ERROR
+            | kinds::ECHO_REPLY
+            | kinds::FEATURES_REPLY
+            | kinds::GET_CONFIG_REPLY
+            | kinds::STATS_REPLY
+            | kinds::BARRIER_REPLY
+            | kinds::QUEUE_GET_CONFIG_REPLY
+    )
 }
 
 /// Tells what a connection says before it has said who it is. `AllocError` where there is no memory to read it.
@@ -79,8 +99,10 @@ pub fn hear_joined(frame: &[u8]) -> Hearing
 {
     if check(frame).is_err() {
         Hearing::Refused
-    } else if is_own_echo(frame) {
+    } else if is_own_echo(frame) || is_echo_request(frame) {
         Hearing::Passed
+    } else if frame.len() >= 8 && answers_request(get_u8(frame, 1)) {
+        Hearing::Reply
     } else {
         Hearing::Told
     }

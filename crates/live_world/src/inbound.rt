@@ -5,6 +5,8 @@ ghost use Rattle.std.proofs.Props.{props};
 ghost use Rattle.std.specs.Io.KnownBytes.{ReadConsumes};
 ghost use Rattle.of_stream.specs.Frames.{IsFrame, IsPartial, IsBroken};
 
+use crate::echoes::answer_echoes;
+use crate::outbound::Outbound;
 use of_stream::{CutFault, Cutter};
 use of_types::ByteList;
 use std::alloc::{AllocError, Global};
@@ -17,7 +19,9 @@ const PIECE_BYTES: usize = 4_096;
 /// What a read gave.
 #[derive(Clone, Copy, Debug, PartialEq, Eq)]
 pub enum ReadEnd {
-    /// Bytes came.
+    /// Bytes came, and more may wait.
+    More,
+    /// Bytes came, and no more wait now.
     Some,
     /// Nothing waits now.
     Nothing,
@@ -47,6 +51,10 @@ pub struct Inbound {
     /// Room for what is read; its first `filled` bytes came behind the rest.
     pub(crate) piece: Vec<u8>,
     pub(crate) filled: usize,
+    /// How many bytes of the cutter were looked at for ECHO_REQUESTs, and these answered.
+    pub(crate) answered: usize,
+    /// Whether an ECHO_REQUEST stands behind these whose answer has no room yet.
+    pub(crate) is_held: bool,
     ghost has_room: { 0 < vec_len piece },
     ghost filled_is_within: { filled ≤ vec_len piece },
     ghost front_is_frame: { IfSome front IsFrame } by { Prim.hlevel props },
@@ -64,6 +72,8 @@ impl Inbound {
             cutter: Cutter::new(alloc)?,
             piece: vec![in alloc; 0u8; PIECE_BYTES]?,
             filled: 0,
+            answered: 0,
+            is_held: false,
         })
     }
 
@@ -80,6 +90,7 @@ impl Inbound {
         self.feed()?;
         match self.cutter.next() {
             Ok(Some(frame)) => {
+                self.answered = self.answered.saturating_sub(frame.as_slice().len());
                 self.front = Some(frame);
                 Ok(Next::Whole)
             }
@@ -87,6 +98,30 @@ impl Inbound {
             Err(CutFault::BadLength) => Ok(Next::Broken),
             Err(CutFault::NoMemory) => Err(AllocError),
         }
+    }
+
+    /// Tells how many bytes were read and not cut off yet.
+    pub(crate) fn len(&self) -> usize {
+        self.cutter.held().len().saturating_add(self.filled)
+    }
+
+    /// Answers the ECHO_REQUESTs that came, as far as there is room for what is to be sent.
+    pub(crate) fn answer(&mut self, replies: &mut Outbound) -> Result<(), AllocError>
+        ensures unread { unread self.new ≡ unread self.old }
+        ensures front { self.new.front ≡ self.old.front }
+    {
+        self.feed()?;
+        let bytes = self.cutter.held();
+        let from = self.answered.min(bytes.len());
+        let answered = answer_echoes(bytes, from, replies);
+        self.answered = answered.count;
+        self.is_held = answered.is_held;
+        Ok(())
+    }
+
+    /// Tells whether an ECHO_REQUEST is next whose answer has no room yet.
+    pub(crate) fn is_held_back(&self) -> bool {
+        self.is_held && self.answered == 0 && self.front.is_none()
     }
 
     /// Moves what was read into the cutter.
@@ -116,18 +151,19 @@ impl Inbound {
     }
 
     /// Reads what waits, up to 4,096 bytes, behind what was read before. While bytes of an earlier read are not cut, it
-    /// reads nothing and answers `Some`.
+    /// reads nothing and answers `More`.
     pub(crate) fn read_from<S: Read>(&mut self, source: &mut S) -> ReadEnd
         ensures kept { (bytes : List ℕ) × (unread self.new ≡ unread self.old ++ bytes) }
     {
         if self.filled > 0 {
-            return ReadEnd::Some;
+            return ReadEnd::More;
         }
         match self.read_piece(source) {
             Ok(0) => ReadEnd::Over,
-            Ok(_) => ReadEnd::Some,
+            Ok(count) if count < PIECE_BYTES => ReadEnd::Some,
+            Ok(_) => ReadEnd::More,
             Err(error) if error.kind() == ErrorKind::WouldBlock => ReadEnd::Nothing,
-            Err(error) if error.kind() == ErrorKind::Interrupted => ReadEnd::Some,
+            Err(error) if error.kind() == ErrorKind::Interrupted => ReadEnd::More,
             Err(_) => ReadEnd::Over,
         }
     }

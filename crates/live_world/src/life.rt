@@ -5,22 +5,24 @@ ghost use Rattle.live_world.specs.Life.{due_of, heard_at, asked_at};
 
 use of_types::Dpid;
 
-/// How many seconds a connection has to say who it is.
-pub(crate) const GREETING_SECONDS: u64 = 5;
+/// How many milliseconds a connection has to say who it is.
+pub(crate) const GREETING_MILLISECONDS: u64 = 5_000;
 
-/// After how many seconds of silence a switch is asked whether it is there, and how many it has to answer.
-pub(crate) const SILENT_SECONDS: u64 = 15;
+/// After how many milliseconds of silence a switch is asked whether it is there, and how many it has to answer.
+pub(crate) const SILENT_MILLISECONDS: u64 = 15_000;
 
 /// Who is at the other end.
 #[derive(Clone, Copy, Debug, PartialEq, Eq)]
 pub enum Stage {
     /// It has not said so yet.
     Greeting,
+    /// It says that it is this switch, and has not joined yet.
+    Named(Dpid),
     /// This switch, which has joined.
     Joined(Dpid),
 }
 
-/// What is known of a connection's time, in seconds.
+/// What is known of a connection's time, in milliseconds.
 #[derive(Clone, Copy, Debug, PartialEq, Eq)]
 pub struct Life {
     /// Who is at the other end.
@@ -78,16 +80,17 @@ impl Life {
     {
         let silent_since = match (self.stage, self.asked) {
             (Stage::Greeting, _) => {
-                return if now.saturating_sub(self.since) > GREETING_SECONDS {
-                    Due::Close
-                } else {
+                return if now.saturating_sub(self.since) < GREETING_MILLISECONDS {
                     Due::Nothing
+                } else {
+                    Due::Close
                 };
             }
+            (Stage::Named(_), _) => return Due::Nothing,
             (Stage::Joined(_), Some(asked)) => asked,
             (Stage::Joined(_), None) => self.heard,
         };
-        if now.saturating_sub(silent_since) < SILENT_SECONDS {
+        if now.saturating_sub(silent_since) < SILENT_MILLISECONDS {
             Due::Nothing
         } else if self.asked.is_some() {
             Due::Close

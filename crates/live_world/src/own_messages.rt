@@ -1,15 +1,14 @@
 //! The messages that a live world sends of its own.
 
-ghost use Rattle.std.specs.Prelude.{◌≡◌, []};
+ghost use Rattle.std.specs.Prelude.{◌≡◌, [], ◌++◌, OnOk};
 ghost use Rattle.of_wire.specs.declared.message.Message.TheVariants as messages;
 ghost use Rattle.of_wire.specs.Spelling.{message_bytes};
 
 use crate::hearing::OWN_XID;
-use mio::net::TcpStream;
+use crate::outbound::Outbound;
 use of_types::ByteList;
 use of_wire::{Message, encode_into};
-use std::alloc::Global;
-use std::io::Write;
+use std::alloc::{AllocError, Global};
 
 /// The HELLO without a payload (OpenFlow 1.0.0, 5.5.1 Hello).
 #[tactic(auto, unfolding(of_wire::specs::Spelling::message_size))]
@@ -43,19 +42,17 @@ fn echo_request(alloc: Global) -> [u8; 8]
     bytes
 }
 
-/// Sends a message of 8 bytes, if the socket takes it at once. Tells whether it did.
-fn send(stream: &mut TcpStream, message: &[u8; 8]) -> bool {
-    stream
-        .write(message)
-        .is_ok_and(|count| count == message.len())
+/// Has a new connection be sent what each is sent first.
+pub(crate) fn greet(alloc: Global, outbound: &mut Outbound) -> Result<(), AllocError>
+    ensures { OnOk result (outbound.new ≡ outbound.old ++ message_bytes 0 (messages.Hello []) ++ message_bytes 0 messages.FeaturesRequest) }
+{
+    outbound.put(&hello(alloc))?;
+    outbound.put(&features_request())
 }
 
-/// Sends what each connection is sent first. Tells whether the socket took it at once.
-pub(crate) fn greet(alloc: Global, stream: &mut TcpStream) -> bool {
-    send(stream, &hello(alloc)) && send(stream, &features_request())
-}
-
-/// Asks a silent switch whether it is there. Tells whether the socket took that at once.
-pub(crate) fn ask(alloc: Global, stream: &mut TcpStream) -> bool {
-    send(stream, &echo_request(alloc))
+/// Has a silent switch be asked whether it is there.
+pub(crate) fn ask(alloc: Global, outbound: &mut Outbound) -> Result<(), AllocError>
+    ensures { OnOk result (outbound.new ≡ outbound.old ++ message_bytes 0 (messages.EchoRequest [])) }
+{
+    outbound.put(&echo_request(alloc))
 }

@@ -3,41 +3,51 @@
 ghost use Rattle.std.specs.Prelude.{◌≡◌};
 ghost use Rattle.live_world.specs.Live.{live_seen};
 
-use crate::apps::{App, Surroundings};
+use crate::apps::Surroundings;
 use crate::clock::Clock;
 use crate::counts::FaultCounts;
+use crate::event_loop::EventLoop;
 use crate::kept_stimuli::KeptStimuli;
-use crate::links::Links;
+use lego_io::{Sink, write_all};
 use of_types::{Dpid, WorldStim};
 use outside::{
     Decl, GiveFault, Item, LinkFault, NextFault, OpenFault, Short, StartFault, Taken, Told, World,
 };
 use std::alloc::{AllocError, Global};
-use std::env;
 use std::env::{Env, VarError};
+use std::io::ErrorKind;
 use std::net::{Ipv4Addr, Net};
 use std::process::{Processes, SystemProcess};
+use std::{env, io};
 
 /// The switches that connect over TCP, and applications that are child programs. It tells nothing: what comes from
 /// outside is not known to any contract.
 ///
+/// All sources are heard by one loop, whatever a call awaits: what came is read, an ECHO_REQUEST is answered at once, and what is overdue
+/// ends. `recv` gives messages that answer a request; what a switch says by itself is put off, in order, for `next`, which tells it
+/// fairly between switches. What is put off of one switch has at most 16 MiB: of another connection no more is read then, the switch that
+/// is awaited is lost.
+///
 /// `open` listens at 127.0.0.1, or at the address of `listen_at`, and fails a second time. Before it `next` fails.
 ///
 /// Where `send` or `recv` fails for a switch that has joined, it is lost: its connection is closed, `next` does not tell that
-/// it left, and each further call for it fails. It may connect again, and joins then like any other.
+/// it left, and each further call for it fails. It may connect again, and joins then like any other. A switch has 5 seconds from a
+/// request to its answer, whatever else comes.
 ///
-/// `start` takes the words as a program and its arguments; the child has the variables PATH and HOME of this process, no
-/// descriptors but its pipes, and an empty standard error. `end`, and to drop the world, kills children and waits for
-/// them; what children of theirs do is up to them.
+/// `start` takes the words as a program and its arguments; the child has the variables PATH and HOME of this process, one socket as
+/// standard input and output, no other descriptor, and the standard error of this process. `end`, and to drop the world, kills
+/// children and waits for them; what children of theirs do is up to them. A start has 5 seconds, a turn 10 from the frame Event on, and
+/// each next byte 5. Two starts of one application are half a second apart at least.
 #[derive(Drop)]
-pub struct LiveWorld<R, C> {
+pub struct LiveWorld<R, C, K> {
     rt: R,
     alloc: Global,
     clock: C,
+    errors: K,
+    is_noting: bool,
     address: Ipv4Addr,
     surroundings: Surroundings,
-    links: Option<Links>,
-    apps: Vec<App>,
+    sources: Option<EventLoop>,
     counts: FaultCounts,
     kept: KeptStimuli,
 }
@@ -51,23 +61,28 @@ fn variable<R: Env + AllocGlobal>(rt: &R, name: &str) -> Result<Option<String>, 
     }
 }
 
-/// The place of a running application.
-fn app_place(apps: &[App], index: u32) -> Option<usize> {
-    for place in 0..apps.len() {
-        if apps[place].index == index {
-            return Some(place);
-        }
+fn open_fault(error: io::Error) -> OpenFault {
+    if error.kind() == ErrorKind::OutOfMemory {
+        OpenFault::Short
+    } else {
+        OpenFault::Shut
     }
-    None
 }
 
 impl<
     R: Net + Processes<Started = SystemProcess> + Env + AllocGlobal + Drop,
     C: Clock + Drop,
-> LiveWorld<R, C> {
+    K: Sink + Drop,
+> LiveWorld<R, C, K> {
     /// Makes a world that opens nothing yet. It is to listen at 127.0.0.1, and its applications are to have the
-    /// variables PATH and HOME of this process. `AllocError` where there is no memory for these.
-    pub fn new(rt: R, alloc: Global, clock: C) -> Result<LiveWorld<R, C>, AllocError> {
+    /// variables PATH and HOME of this process. Why an application cannot be started is written to `errors`, as a line.
+    /// `AllocError` where there is no memory for these.
+    pub fn new(
+        rt: R,
+        alloc: Global,
+        clock: C,
+        errors: K,
+    ) -> Result<LiveWorld<R, C, K>, AllocError> {
         let surroundings = Surroundings {
             path: variable(&rt, "PATH")?,
             home: variable(&rt, "HOME")?,
@@ -76,10 +91,11 @@ impl<
             rt,
             alloc,
             clock,
+            errors,
+            is_noting: false,
             address: Ipv4Addr::LOCALHOST,
             surroundings,
-            links: None,
-            apps: Vec::new(alloc),
+            sources: None,
             counts: FaultCounts::new(alloc),
             kept: KeptStimuli::new(alloc),
         })
@@ -90,10 +106,16 @@ impl<
         self.address = address;
     }
 
+    /// Notes from now on, as lines to `errors`, at what address it listens, and each connection that is closed before its switch
+    /// joined, with the reason; to be called before `open`.
+    pub fn note_connections(&mut self) {
+        self.is_noting = true;
+    }
+
     /// Keeps from now on what happens, so that the run can be done again; to be called before `open`. Each switch that
     /// joins is declared as it first joined, with room for 4,096 flow entries and the physical ports of its
     /// FEATURES_REPLY. Stimuli are what `next` tells: that a switch joins or leaves, the moments, a PORT_STATUS of a
-    /// physical port, and the bytes of a HELLO, ERROR, ECHO_REQUEST, VENDOR or PACKET_IN. What `recv` gives is none.
+    /// physical port, and the bytes of a HELLO, ERROR, VENDOR or PACKET_IN. What `recv` gives is none.
     ///
     /// A world that was not asked to keeps nothing, since else it would grow by each packet. Where memory is refused it
     /// keeps no more, and `stimulus` and `declared` answer `AllocError` from then on; else it goes on as before.
@@ -101,32 +123,93 @@ impl<
         self.kept.ask();
     }
 
+    /// Writes what was noted.
+    fn write_notes(&mut self)
+        ensures { self.new.counts ≡ self.old.counts }
+    {
+        let Some(sources) = &mut self.sources else {
+            return;
+        };
+        for _ in 0..sources.notes.len() {
+            if let Some(note) = sources.notes.pop_front() {
+                if let Ok(line) = format!(in self.alloc; "{note}\n") {
+                    let _ = write_all(&mut self.errors, line.as_bytes());
+                }
+            }
+        }
+    }
+
+    /// Writes why the application cannot be started.
+    fn write_refusal(&mut self, app: u32, words: &[String], error: &io::Error)
+        ensures { self.new.counts ≡ self.old.counts }
+    {
+        let program = match words.first() {
+            Some(word) => word.as_str(),
+            None => "",
+        };
+        if let Ok(line) = format!(in self.alloc;
+            "app {app} cannot be started: {program}: {error}\n"
+        ) {
+            let _ = write_all(&mut self.errors, line.as_bytes());
+        }
+    }
+
+    /// Makes the loop, where there is none yet.
+    fn make_sources(&mut self) -> io::Result<()>
+        ensures { self.new.counts ≡ self.old.counts }
+    {
+        if self.sources.is_none() {
+            self.sources = Some(EventLoop::new(&self.rt, self.alloc, self.is_noting)?);
+        }
+        Ok(())
+    }
+
     fn try_open(&mut self, port: u16) -> Result<(), OpenFault>
         ensures { self.new.counts ≡ self.old.counts }
     {
-        if self.links.is_some() {
-            return Err(OpenFault::Shut);
-        }
+        self.make_sources().map_err(open_fault)?;
         let now = self.clock.seconds();
-        self.links = Some(Links::open(&self.rt, self.alloc, self.address, port, now)?);
-        Ok(())
+        match &mut self.sources {
+            Some(sources) if !sources.listens() => {
+                sources
+                    .listen(&self.rt, self.address, port, now)
+                    .map_err(open_fault)
+            }
+            _ => Err(OpenFault::Shut),
+        }
     }
 
     fn try_start(&mut self, app: u32, words: &[String]) -> Result<(), StartFault>
         ensures { self.new.counts ≡ self.old.counts }
     {
-        if app_place(&self.apps, app).is_some() {
-            return Err(StartFault::NotStarted);
+        match self.start_child(app, words) {
+            Ok(()) => Ok(()),
+            Err(error) if error.kind() == ErrorKind::OutOfMemory => Err(StartFault::Short),
+            Err(error) => {
+                self.write_refusal(app, words, &error);
+                Err(StartFault::NotStarted)
+            }
         }
-        // Room first, so that no child is started in vain.
-        self.apps.reserve(1).map_err(|_| StartFault::Short)?;
-        let started = App::start(&self.rt, self.alloc, app, words, &self.surroundings)?;
-        self.apps.push(started).map_err(|_| StartFault::Short)
+    }
+
+    fn start_child(&mut self, app: u32, words: &[String]) -> io::Result<()>
+        ensures { self.new.counts ≡ self.old.counts }
+    {
+        self.make_sources()?;
+        match &mut self.sources {
+            Some(sources) => {
+                sources.start(&self.rt, &mut self.clock, app, words, &self.surroundings)
+            }
+            None => Err(io::Error::from(ErrorKind::NotFound)),
+        }
     }
 }
 
-impl<R: Net + Processes<Started = SystemProcess> + Env + AllocGlobal + Drop, C: Clock + Drop> World
-    for LiveWorld<R, C> {
+impl<
+    R: Net + Processes<Started = SystemProcess> + Env + AllocGlobal + Drop,
+    C: Clock + Drop,
+    K: Sink + Drop,
+> World for LiveWorld<R, C, K> {
     ghost Tells = { ⊥ };
 
     ghost Own = { Unit {0} };
@@ -142,14 +225,14 @@ impl<R: Net + Processes<Started = SystemProcess> + Env + AllocGlobal + Drop, C: 
             Err(OpenFault::Shut) => self.counts.raise_shuts(),
             Err(OpenFault::Short) => self.counts.raise_shorts(),
         }
+        self.write_notes();
         opened
     }
 
     fn next(&mut self, buf: &mut [u8]) -> Result<Item, NextFault> {
-        let now = self.clock.seconds();
-        let came = match &mut self.links {
-            Some(links) => links.next(now, buf),
-            None => Err(NextFault::Failed),
+        let came = match &mut self.sources {
+            Some(sources) if sources.listens() => sources.next(&mut self.clock, buf),
+            _ => Err(NextFault::Failed),
         };
         if let Ok(item) = came {
             self.kept.note(item, buf);
@@ -160,6 +243,7 @@ impl<R: Net + Processes<Started = SystemProcess> + Env + AllocGlobal + Drop, C: 
             Err(NextFault::Failed) => self.counts.raise_next_faults(),
             Err(NextFault::Short) => self.counts.raise_shorts(),
         }
+        self.write_notes();
         came
     }
 
@@ -174,11 +258,8 @@ impl<R: Net + Processes<Started = SystemProcess> + Env + AllocGlobal + Drop, C: 
     }
 
     fn give(&mut self, app: u32, bytes: &[u8]) -> Result<(), GiveFault> {
-        let is_given = match app_place(&self.apps, app) {
-            Some(place) => match self.apps.get_mut(place) {
-                Some(running) => running.give(&mut self.clock, bytes),
-                None => false,
-            },
+        let is_given = match &mut self.sources {
+            Some(sources) => sources.give(&mut self.clock, app, bytes),
             None => false,
         };
         if is_given {
@@ -189,11 +270,8 @@ impl<R: Net + Processes<Started = SystemProcess> + Env + AllocGlobal + Drop, C: 
     }
 
     fn take(&mut self, app: u32, buf: &mut [u8]) -> Result<Taken, Short> {
-        let taken = match app_place(&self.apps, app) {
-            Some(place) => match self.apps.get_mut(place) {
-                Some(running) => running.take(&mut self.clock, buf),
-                None => Taken::Closed,
-            },
+        let taken = match &mut self.sources {
+            Some(sources) => sources.take(&mut self.clock, app, buf),
             None => Taken::Closed,
         };
         match taken {
@@ -205,16 +283,14 @@ impl<R: Net + Processes<Started = SystemProcess> + Env + AllocGlobal + Drop, C: 
     }
 
     fn end(&mut self, app: u32) {
-        if let Some(place) = app_place(&self.apps, app) {
-            if place < self.apps.len() {
-                drop(self.apps.remove(place));
-            }
+        if let Some(sources) = &mut self.sources {
+            sources.end_app(app);
         }
     }
 
     fn send(&mut self, dpid: Dpid, frame: &[u8]) -> Result<(), LinkFault> {
-        let sent = match &mut self.links {
-            Some(links) => links.send(&mut self.clock, dpid, frame),
+        let sent = match &mut self.sources {
+            Some(sources) => sources.send(&mut self.clock, dpid, frame),
             None => Err(LinkFault::Failed),
         };
         match sent {
@@ -226,8 +302,8 @@ impl<R: Net + Processes<Started = SystemProcess> + Env + AllocGlobal + Drop, C: 
     }
 
     fn recv(&mut self, dpid: Dpid, buf: &mut [u8]) -> Result<usize, LinkFault> {
-        let received = match &mut self.links {
-            Some(links) => links.recv(&mut self.clock, dpid, buf),
+        let received = match &mut self.sources {
+            Some(sources) => sources.recv(&mut self.clock, dpid, buf),
             None => Err(LinkFault::Failed),
         };
         match received {
@@ -243,15 +319,18 @@ impl<R: Net + Processes<Started = SystemProcess> + Env + AllocGlobal + Drop, C: 
     }
 
     fn part(&mut self, dpid: Dpid) {
-        if let Some(links) = &mut self.links {
-            links.part(dpid);
+        if let Some(sources) = &mut self.sources {
+            sources.part(dpid);
         }
         self.counts.raise_link(dpid);
     }
 }
 
-impl<R: Net + Processes<Started = SystemProcess> + Env + AllocGlobal + Drop, C: Clock + Drop> Told
-    for LiveWorld<R, C> {
+impl<
+    R: Net + Processes<Started = SystemProcess> + Env + AllocGlobal + Drop,
+    C: Clock + Drop,
+    K: Sink + Drop,
+> Told for LiveWorld<R, C, K> {
     fn stimulus(&self, alloc: Global, number: usize) -> Result<Option<WorldStim>, AllocError> {
         self.kept.stimulus(alloc, number)
     }
