@@ -1,5 +1,6 @@
 """Switches of OpenFlow 1.0 that a program plays to a controller over TCP, each with a flow table of its own."""
 
+import dataclasses
 import os
 import socket
 import struct
@@ -12,12 +13,13 @@ from legosdn import messages
 from legosdn.codes import NO_BUFFER, FlowCommand, Port, RemovedReason
 from legosdn.match import Match
 from legosdn.messages import PortDesc
-from legosdn.stats import FlowStats
+from legosdn.stats import FlowQuestion, FlowStats
 
 SECONDS = 30
 MISS, ACTION = 0, 1
 PORTS = (1, 2, 3)
 BAD_ACTION, BAD_OUT_PORT = 2, 4
+FIELDS = [it.name for it in dataclasses.fields(Match)]
 
 
 def connection(port):
@@ -46,29 +48,40 @@ def read(link, size):
     return data
 
 
+def is_within(match, wider):
+    """Whether each packet of this match is one of the wider match, which has no addresses with a prefix."""
+    return all(getattr(wider, it) in (None, getattr(match, it)) for it in FIELDS)
+
+
 class Switch(threading.Thread):
     """A switch with ports 1, 2 and 3. It answers by itself; `said` has what it was sent: (kind, entry) for each FLOW_MOD and (kind,
     frame) for each PACKET_OUT, ("STATS", None) for each request of statistics, in order, and "BARRIER" for each barrier.
 
-    table     priority and match of each entry, with its actions and cookie
+    table     priority and match of each entry, with its actions and cookie; an earlier connection's, where it joins again
     frames    (port, frame) for each frame that packets have sent out by a port, in order
     barriers  how many barriers it has answered: one when it joined, and one for each change and each packet
     cut_at    the link is cut where this many messages of this kind have come, in the place of the next barrier's reply
     cut_by    how it is cut: it is ended, it is reset, or nothing is said any more
     backwards whether it tells its entries in another order than that of the keys
-    others    entries that somebody else deletes, each by the key of the addition at which that happens
+    others    entries that somebody else deletes, each by what the switch is sent when that happens: a member of `said`
+    notices   of the entries that the controller deletes: none are told, or they are put off until `tell_notices`
+    probe     after so many seconds without a word the controller is asked whether it is there, and left after so many more
+    waits     how long it waited for each answer to these questions
     """
 
-    def __init__(self, port, dpid, cut_at=None, cut_by="end", backwards=False, others=None):
+    def __init__(self, port, dpid, cut_at=None, cut_by="end", backwards=False, others=None, table=None, notices=None, probe=None):
         super().__init__(daemon=True)
-        self.backwards, self.others = backwards, others or {}
-        self.dpid, self.table, self.said, self.frames = dpid, {}, [], []
+        self.backwards, self.others, self.notices, self.probe = backwards, others or {}, notices, probe
+        self.dpid, self.table, self.said, self.frames = dpid, dict(table or {}), [], []
         self.cut_at, self.cut_by = cut_at, cut_by
         self.changed = threading.Condition()
         self.barriers = 0
         self.closed = False
+        self.waits, self.asked, self.heard = [], None, time.monotonic()
         self.link = connection(port)
         self.start()
+        if probe:
+            threading.Thread(target=self.probes, daemon=True).start()
 
     # What the check does
 
@@ -85,12 +98,19 @@ class Switch(threading.Thread):
     def delete(self, key):
         """Somebody else deletes this entry: a FLOW_REMOVED, which the controller asks for at each entry."""
         with self.changed:
-            self.drop(key)
+            self.send(self.drop(key))
 
     def drop(self, key):
+        """Removes this entry; gives the notice of it."""
         priority, match = key
         _, cookie = self.table.pop(key)
-        self.send(messages.FlowRemoved(match, cookie, priority, RemovedReason.DELETE, 0, 0, 0, 0, 0))
+        return messages.FlowRemoved(match, cookie, priority, RemovedReason.DELETE)
+
+    def tell_notices(self):
+        """Tells of all that the controller has deleted so far."""
+        with self.changed:
+            self.link.sendall(b"".join(messages.encode(notice) for notice in self.notices))
+            self.notices.clear()
 
     def entries(self):
         with self.changed:
@@ -121,6 +141,20 @@ class Switch(threading.Thread):
             self.closed = True
             self.changed.notify_all()
 
+    def probes(self):
+        """Asks the controller whether it is there where it says nothing, and leaves where it does not answer."""
+        while not self.closed:
+            time.sleep(0.05)
+            with self.changed:
+                silent = time.monotonic() - max(self.heard, self.asked or 0)
+                if silent > self.probe and self.asked:
+                    self.waits.append(silent)
+                    self.leave()
+                    return
+                if silent > self.probe:
+                    self.asked = time.monotonic()
+                    self.send(messages.EchoRequest())
+
     def answer(self):
         head = read(self.link, 8)
         if head is None:
@@ -130,6 +164,7 @@ class Switch(threading.Thread):
             return False
         xid, message = messages.decode(head + rest)
         with self.changed:
+            self.heard = time.monotonic()
             went_on = self.act(xid, message)
             self.changed.notify_all()
         return went_on
@@ -140,25 +175,36 @@ class Switch(threading.Thread):
             self.send(messages.FeaturesReply(self.dpid, 0, 1, 0, 0xFFF, ports), xid)
         elif isinstance(message, messages.EchoRequest):
             self.send(messages.EchoReply(message.data), xid)
+        elif isinstance(message, messages.EchoReply):
+            self.waits.append(self.heard - self.asked)
+            self.asked = None
         elif isinstance(message, messages.FlowMod):
-            self.change(message)
+            self.change(xid, message)
         elif isinstance(message, messages.PacketOut):
             self.put_out(xid, message)
         elif isinstance(message, messages.BarrierRequest):
             if self.cut_at and sum(said[0] == self.cut_at[0] for said in self.said) >= self.cut_at[1]:
                 self.cut()
                 return False
-            self.said.append("BARRIER")
-            self.send(messages.BarrierReply(), xid)
-            self.barriers += 1
+            self.confirm(xid)
         elif isinstance(message, messages.StatsRequest):
             self.said.append(("STATS", None))
-            in_order = sorted(self.table.items(), key=lambda it: (-it[0][0], it[0][1].encode()), reverse=self.backwards)
-            rows = b"".join(
-                FlowStats(match, actions, priority=priority, cookie=cookie).encode() for (priority, match), (actions, cookie) in in_order
-            )
-            self.send(messages.StatsReply(message.kind, rows), xid)
+            self.send(messages.StatsReply(message.kind, self.rows(FlowQuestion.decode(message.data).match)), xid)
         return True
+
+    def confirm(self, xid):
+        """Answers a barrier."""
+        self.said.append("BARRIER")
+        self.send(messages.BarrierReply(), xid)
+        self.barriers += 1
+
+    def rows(self, wider):
+        """The rows of the entries within this match."""
+        found = [it for it in self.table.items() if is_within(it[0][1], wider)]
+        found.sort(key=lambda it: (-it[0][0], it[0][1].encode()), reverse=self.backwards)
+        return b"".join(
+            FlowStats(match, actions, priority=priority, cookie=cookie).encode() for (priority, match), (actions, cookie) in found
+        )
 
     def cut(self):
         if self.cut_by == "reset":
@@ -166,19 +212,25 @@ class Switch(threading.Thread):
         if self.cut_by != "silence":
             self.link.close()
 
-    def change(self, change):
+    def change(self, xid, change):
         key = (change.priority, change.match)
         self.said.append((FlowCommand(change.command).name, key))
         if change.command == FlowCommand.ADD:
             self.table[key] = (change.actions, change.cookie)
-            if key in self.others:
-                self.drop(self.others[key])
         elif change.command == FlowCommand.DELETE_STRICT:
-            self.table.pop(key, None)
+            self.remove([key] if key in self.table else [])
         elif change.command == FlowCommand.DELETE and change.match == Match():
-            self.table.clear()
+            self.remove(list(self.table))
         else:
             raise AssertionError(f"switch {self.dpid}: a FLOW_MOD that no host sends yet: {change}")
+        if self.said[-1] in self.others:
+            self.send(self.drop(self.others[self.said[-1]]))
+
+    def remove(self, keys):
+        """Removes the entries that the controller deletes."""
+        dropped = [self.drop(key) for key in keys]
+        if self.notices is not None:
+            self.notices += dropped
 
     def put_out(self, xid, packet):
         """A packet whose actions are outputs: to ports, FLOOD or CONTROLLER."""

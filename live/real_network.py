@@ -1,0 +1,2 @@
+CASES = {}
+NOT_YET = set()
