@@ -16,6 +16,7 @@ from played import SECONDS, Match, Switch
 
 # A run ends when it was quiet for so many tenths of a second in all.
 ROUNDS = 100
+MOST_OF_A_VALUE = 400
 BROADCAST = (10, Match(dl_dst="ff:ff:ff:ff:ff:ff"))
 
 
@@ -69,8 +70,18 @@ def free_ports(count):
 
 
 def same(got, due, what):
-    if got != due:
-        raise AssertionError(f"{what}: {got!r}, and not {due!r}")
+    if got == due:
+        return
+    if isinstance(got, dict) and isinstance(due, dict):
+        # Of tables what differs is enough, each entry by its match and its cookie.
+        got, due = ({f"{match} cookie={cookie}" for (_, match), (_, cookie) in it.items()} for it in (got, due))
+        got, due = sorted(got - due), sorted(due - got)
+    raise AssertionError(f"{what}: {shortened(got)}, and not {shortened(due)}")
+
+
+def shortened(value):
+    text = repr(value)
+    return text if len(text) <= MOST_OF_A_VALUE else f"{text[:MOST_OF_A_VALUE]}.."
 
 
 def within(got, most, what):

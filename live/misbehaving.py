@@ -3,8 +3,8 @@
 
 It adds an entry to each switch that joins. At a PACKET_IN it adds an entry for the frame's source, floods the frame as a packet, and
 then does what the last byte of that address says (HOW below; with any other byte it ends well). Its state is how many turns it has
-done; an entry has the number of its turn as cookie, and its removal is to be told if it is for a source. It keeps its process number in FILE, so that it can be killed. Where its switch is
-unknown it gives up, but for the frames of one address.
+done; an entry has the number of its turn as cookie, and its removal is to be told if it is for a source. It keeps its process number in
+FILE, so that it can be killed. Where its switch is unknown it gives up, but for the frames of one address.
 """
 
 import os
@@ -12,11 +12,22 @@ import sys
 import time
 
 sys.path.insert(0, os.path.join(os.path.dirname(os.path.abspath(__file__)), "..", "sdk", "python"))
-from legosdn import App, Match, Output, Port, UnknownSwitch
+from legosdn import App, Match, Output, Port, UnknownSwitch, frames, messages
 
-HOW = {0x02: "end", 0x03: "say garbage", 0x04: "say nothing", 0x05: "go on for ever", 0x06: "be killed", 0x07: "raise"}
+HOW = {
+    0x02: "end",
+    0x03: "say garbage",
+    0x04: "say nothing",
+    0x05: "go on for ever",
+    0x06: "be killed",
+    0x07: "raise",
+    0x0C: "say bytes now and then",
+    0x0D: "say frames now and then",
+}
 # These end well, behind one more packet: to a port that no switch has; to the controller, from another address.
 NOWHERE, BACK, OTHER = 0x08, 0x09, 0x0A
+# How often something is said now and then: 4 seconds lie between.
+NOW_AND_THEN = 8
 # This one ends well also where its switch is unknown.
 RESIGNED = 0x0B
 
@@ -65,6 +76,11 @@ class Misbehaving(App):
             time.sleep(60)
         while how == "go on for ever":
             self.barrier(dpid)
+        if how in ("say bytes now and then", "say frames now and then"):
+            said = frames.encode(frames.Message(dpid, messages.encode(messages.BarrierRequest())))
+            for place in range(NOW_AND_THEN):
+                time.sleep(4)
+                os.write(1, said if "frames" in how else said[place : place + 1])
         if how == "raise":
             raise RuntimeError("on purpose")
 

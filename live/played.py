@@ -71,7 +71,7 @@ class Switch(threading.Thread):
 
     def __init__(self, port, dpid, cut_at=None, cut_by="end", backwards=False, others=None, table=None, notices=None, probe=None):
         super().__init__(daemon=True)
-        self.backwards, self.others, self.notices, self.probe = backwards, others or {}, notices, probe
+        self.backwards, self.others, self.notices, self.probe = backwards, dict(others or {}), notices, probe
         self.dpid, self.table, self.said, self.frames = dpid, dict(table or {}), [], []
         self.cut_at, self.cut_by = cut_at, cut_by
         self.changed = threading.Condition()
@@ -175,7 +175,7 @@ class Switch(threading.Thread):
             self.send(messages.FeaturesReply(self.dpid, 0, 1, 0, 0xFFF, ports), xid)
         elif isinstance(message, messages.EchoRequest):
             self.send(messages.EchoReply(message.data), xid)
-        elif isinstance(message, messages.EchoReply):
+        elif isinstance(message, messages.EchoReply) and self.asked:
             self.waits.append(self.heard - self.asked)
             self.asked = None
         elif isinstance(message, messages.FlowMod):
@@ -190,6 +190,8 @@ class Switch(threading.Thread):
         elif isinstance(message, messages.StatsRequest):
             self.said.append(("STATS", None))
             self.send(messages.StatsReply(message.kind, self.rows(FlowQuestion.decode(message.data).match)), xid)
+        if self.said and self.said[-1] in self.others:
+            self.send(self.drop(self.others.pop(self.said[-1])))
         return True
 
     def confirm(self, xid):
@@ -223,8 +225,6 @@ class Switch(threading.Thread):
             self.remove(list(self.table))
         else:
             raise AssertionError(f"switch {self.dpid}: a FLOW_MOD that no host sends yet: {change}")
-        if self.said[-1] in self.others:
-            self.send(self.drop(self.others[self.said[-1]]))
 
     def remove(self, keys):
         """Removes the entries that the controller deletes."""
