@@ -1,8 +1,8 @@
 /* Plays OpenFlow 1.0 switches to a controller at the loopback address, as fast as it answers. bench/live.py builds and runs it.
 
-   live_client rate PORT SWITCHES IN_FLIGHT REASON PACED SECONDS
+   live_client rate PORT SWITCHES IN_FLIGHT REASON PACED SECONDS BEFORE
        Each switch sends PACKET_INs with this reason and a new source address each, so many of them at a time without their FLOW_MOD.
-       Where PACED is 1 none is sent before the barrier behind the last FLOW_MOD is answered.
+       Where PACED is 1 none is sent before the barrier behind the last FLOW_MOD is answered. Each has BEFORE entries when this begins.
        Prints: additions a second over all, in the first and in the last quarter, and the 50th and 99th of 100 latencies in microseconds.
    live_client joins PORT SWITCHES ADDITIONS SECONDS
        The switches join; prints how many of them have had so many FLOW_MODs, and after how many milliseconds.
@@ -238,9 +238,21 @@ static int order(const void *a, const void *b) {
 
 static float of_hundred(int place) { return latency_count ? latencies[latency_count * place / 100] : 0; }
 
-static int rate(int port, int switches, int in_flight, int is_paced, double seconds) {
+/* Has each switch add so many entries, which are not counted. */
+static void fill(uint64_t entries) {
+    for (uint64_t rest = entries * count; rest > 0;) {
+        rest = entries * count - added();
+        for (int i = 0; i < count; i++)
+            while (links[i]->sent < entries && links[i]->sent - links[i]->added < 32) event(links[i]);
+        if (rest > 0) turn(5);
+    }
+    for (int i = 0; i < count; i++) links[i]->sent = links[i]->added = 0;
+}
+
+static int rate(int port, int switches, int in_flight, int is_paced, double seconds, uint64_t before) {
     begin(port, switches);
     settle();
+    fill(before);
     latencies = malloc(MOST_LATENCIES * sizeof *latencies);
     uint64_t quarter[5] = {0}, outs = packet_outs;
     double start = now();
@@ -305,9 +317,9 @@ static int ends(int status) {
 }
 
 int main(int argc, char **argv) {
-    if (argc == 8 && !strcmp(argv[1], "rate")) {
+    if (argc == 9 && !strcmp(argv[1], "rate")) {
         reason = atoi(argv[5]);
-        return ends(rate(atoi(argv[2]), atoi(argv[3]), atoi(argv[4]), atoi(argv[6]), atof(argv[7])));
+        return ends(rate(atoi(argv[2]), atoi(argv[3]), atoi(argv[4]), atoi(argv[6]), atof(argv[7]), atoi(argv[8])));
     }
     if (argc == 6 && !strcmp(argv[1], "joins")) return ends(joins(atoi(argv[2]), atoi(argv[3]), atoi(argv[4]), atof(argv[5])));
     if (argc == 5 && !strcmp(argv[1], "flood")) return ends(flood(atoi(argv[2]), atoi(argv[3]), atof(argv[4])));

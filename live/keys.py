@@ -1,46 +1,53 @@
 #!/usr/bin/env python3
-"""An application that adds entries of the same keys again and again: live/keys.py COUNT
+"""An application that adds entries of the same keys again and again: live/keys.py COUNT [EACH]
 
-At each join it adds an entry for ARP and COUNT others, in this order of their numbers, 0 to COUNT. The source of a PACKET_IN says what it
-does then: 02:00:HOW:MANY:FIRST adds so many entries, from this number on (FIRST has two bytes), and is done, or ends in its turn where
-HOW is 1. A refusal ends it too. Each entry has the event's number as its cookie, and its removal is to be told.
+At each join it adds an entry for ARP and COUNT others, in the order of their numbers, 0 to COUNT. A PACKET_IN's frame says what it does
+then (`frame_of`): it adds so many entries, from this number on, and is done, or ends in its turn. A refusal ends it too. Each entry has
+the event's number as its cookie; its removal is to be told where its number is a multiple of EACH, 1 without that word.
 """
 
 import os
+import struct
 import sys
 
 sys.path.insert(0, os.path.join(os.path.dirname(os.path.abspath(__file__)), "..", "sdk", "python"))
 from legosdn import App, Match, Output, Port
 
 ARP = 0x0806
-ENDS = 1
+STAYS, ENDS = 0, 1
+SAID = struct.Struct("!III")
+HEADER = bytes.fromhex("ffffffffffff02000000000188b5")
 
 
 def match_of(number):
     """The match of the entry with this number."""
-    return Match(dl_dst=f"02:01:00:00:{number >> 8:02x}:{number & 0xFF:02x}") if number else Match(dl_type=ARP)
+    return Match(dl_dst="02:01:00:{:02x}:{:02x}:{:02x}".format(*number.to_bytes(3, "big"))) if number else Match(dl_type=ARP)
 
 
-def source_of(how, many, first):
-    """The source address, as digits, of a frame that says so."""
-    return f"0200{how:02x}{many:02x}{first:04x}"
+def frame_of(how, many, first):
+    """The frame at which so many entries are added, from this number on."""
+    return (HEADER + SAID.pack(how, many, first)).ljust(60, b"\0")
 
 
 class Keys(App):
+    def __init__(self, count, each=1):
+        super().__init__()
+        self.count, self.each = count, each
+
     def on_join(self, event):
-        self.add(event, range(int(sys.argv[1]) + 1))
+        self.add(event, range(self.count + 1))
 
     def on_packet_in(self, event):
-        _, _, how, many, high, low = event.data[6:12]
-        first = high << 8 | low
+        how, many, first = SAID.unpack_from(event.data, len(HEADER))
         self.add(event, range(first, first + many))
         if how == ENDS:
             os._exit(1)
 
     def add(self, event, numbers):
         for number in numbers:
-            self.add_flow(event.dpid, match_of(number), [Output(Port.FLOOD)], priority=20, cookie=event.number, send_flow_removed=True)
+            is_told = number % self.each == 0
+            self.add_flow(event.dpid, match_of(number), [Output(Port.FLOOD)], priority=20, cookie=event.number, send_flow_removed=is_told)
 
 
 if __name__ == "__main__":
-    Keys().run()
+    Keys(*map(int, sys.argv[1:])).run()

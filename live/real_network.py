@@ -11,7 +11,7 @@ import time
 
 sys.path.insert(0, os.path.dirname(os.path.abspath(__file__)))
 from harness import SECONDS, Case, Match, Switch, application, entry, frame, misbehaving, python, same, until, within
-from keys import ENDS, match_of, source_of
+from keys import ENDS, STAYS, frame_of, match_of
 from legosdn import messages
 from legosdn.codes import NO_BUFFER, FlowCommand
 
@@ -23,11 +23,6 @@ MEBIBYTES_PUT_OFF = 16
 MEBIBYTES_OF_BUFFERS = 1
 FLOW_MOD_FAILED, EPERM = 3, 2
 JOINED_KEYS = 100
-
-
-def keys_frame(how, many, first):
-    """A frame by which keys.py adds entries."""
-    return bytes.fromhex("ff" * 6 + source_of(how, many, first) + "88b5")
 
 
 def keys_join(run, count, times, kind=Switch, **how):
@@ -47,10 +42,10 @@ def added_again(run, switch, many, first):
     before = switch.entries()
     same({match_of(it) for it in range(first, first + many)} - {match for _, match in before}, set(), "entries that do not stand")
     failed = run.lines().count("turn app failed closed")
-    switch.miss(2, keys_frame(ENDS, many, first))
+    switch.miss(2, frame_of(ENDS, many, first))
     run.awaits("turn app failed closed", failed + 1)
     same(switch.entries(), before, "the table after the failed turn")
-    switch.miss(2, keys_frame(0, 1, 0xFFFF))
+    switch.miss(2, frame_of(STAYS, 1, 0xFFFF))
     switch.wait(lambda s: len(s.table) == len(before) + 1, "an entry of the next turn")
     no_false_event(run)
     run.end()
@@ -102,10 +97,10 @@ def late_behind_the_emptying(run):
 def late_of_an_undo(run):
     """A turn that adds five entries fails. Three of them are added in the next one, and then the notices of the undo come."""
     switch = keys_join(run, 0, 1, notices=[])
-    switch.miss(2, keys_frame(ENDS, 5, 1))
+    switch.miss(2, frame_of(ENDS, 5, 1))
     run.awaits("turn app failed closed")
     same(len(switch.notices), 5, "the notices of the undo")
-    switch.miss(2, keys_frame(0, 3, 1))
+    switch.miss(2, frame_of(STAYS, 3, 1))
     run.awaits("turn app done", 2)
     switch.tell_notices()
     added_again(run, switch, 3, 1)
