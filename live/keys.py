@@ -1,9 +1,9 @@
 #!/usr/bin/env python3
-"""An application that adds entries of the same keys again and again: live/keys.py COUNT [EACH]
+"""An application that adds entries of the same keys again and again: live/keys.py COUNT
 
 At each join it adds an entry for ARP and COUNT others, in the order of their numbers, 0 to COUNT. A PACKET_IN's frame says what it does
 then (`frame_of`): it adds so many entries, from this number on, and is done, or ends in its turn. A refusal ends it too. Each entry has
-the event's number as its cookie; its removal is to be told where its number is a multiple of EACH, 1 without that word.
+the event's number as its cookie, and its removal is to be told.
 """
 
 import os
@@ -30,9 +30,9 @@ def frame_of(how, many, first):
 
 
 class Keys(App):
-    def __init__(self, count, each=1):
+    def __init__(self, count):
         super().__init__()
-        self.count, self.each = count, each
+        self.count = count
 
     def on_join(self, event):
         self.add(event, range(self.count + 1))
@@ -45,9 +45,8 @@ class Keys(App):
 
     def add(self, event, numbers):
         for number in numbers:
-            is_told = number % self.each == 0
-            self.add_flow(event.dpid, match_of(number), [Output(Port.FLOOD)], priority=20, cookie=event.number, send_flow_removed=is_told)
+            self.add_flow(event.dpid, match_of(number), [Output(Port.FLOOD)], priority=20, cookie=event.number, send_flow_removed=True)
 
 
 if __name__ == "__main__":
-    Keys(*map(int, sys.argv[1:])).run()
+    Keys(int(sys.argv[1])).run()

@@ -25,6 +25,7 @@ from .events import (
 from .match import Match
 from .stats import AggregateStats, DescStats, FlowQuestion, FlowStats, PortStats, TableStats
 
+_NAMES = {int(it): it.name.lower() for it in EventKind}
 _Handler = TypeVar("_Handler", bound=Callable[..., None])
 
 
@@ -314,7 +315,7 @@ class App:
         event = read_event(frame)
         if event is None:
             return frames.Done()
-        kind = EventKind(frame.kind).name.lower()
+        kind = _NAMES[frame.kind]
         handler = self._handlers.get(kind) or getattr(self, f"on_{kind}")
         handler(event)
         return frames.Done(self._stop, self.get_state())

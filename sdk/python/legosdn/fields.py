@@ -34,7 +34,7 @@ def mac_bytes(text: str) -> bytes:
 
 def mac_text(data: bytes) -> str:
     """The 6 bytes of an Ethernet address as text, with lower-case digits."""
-    return ":".join(f"{byte:02x}" for byte in data)
+    return data.hex(":")
 
 
 def ipv4_number(text: str) -> int:

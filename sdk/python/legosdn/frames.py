@@ -141,6 +141,8 @@ class Answer:
         return bytes([self.code])
 
 
+_DONE = Answer(Answer.DONE)
+
 AppFrame = Union[Message, Save, Keep, Undo, Done, Ready]
 """Any frame of an application."""
 
@@ -202,6 +204,8 @@ def _host_frame(kind: int, body: bytes) -> HostFrame:
         return Restore(body)
     if kind == Event.KIND and len(body) >= _EVENT.size:
         return Event(*_EVENT.unpack_from(body), body[_EVENT.size :])
+    if kind == Answer.KIND and body == b"\0":
+        return _DONE
     if kind == Answer.KIND and body:
         code = body[0]
         if code in (Answer.DONE, Answer.UNKNOWN_SWITCH) and len(body) == 1:

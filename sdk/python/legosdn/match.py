@@ -80,16 +80,16 @@ class Match:
     tp_dst: Optional[int] = None
 
     def __post_init__(self) -> None:
+        values = vars(self)
         for name, most in _MOST.items():
-            value = getattr(self, name)
-            if value is not None:
-                check_range(name, value, most)
+            if values[name] is not None:
+                check_range(name, values[name], most)
         for name in ("dl_src", "dl_dst"):
-            text = getattr(self, name)
+            text = values[name]
             if text is not None:
                 object.__setattr__(self, name, mac_text(mac_bytes(text)))
         for name in _COUNTS:
-            text = getattr(self, name)
+            text = values[name]
             if text is not None:
                 object.__setattr__(self, name, _prefix_text(*_prefix(name, text)))
 
@@ -98,28 +98,32 @@ class Match:
 
         A switch ignores such a field: it would install another entry than the one that was asked for.
         """
-        has = {it.name for it in fields(self) if getattr(self, it.name) is not None}
-        for name in sorted(has & {"nw_src", "nw_dst", "nw_proto"}):
-            if self.dl_type not in (_IP, _ARP):
+        for name in ("nw_dst", "nw_proto", "nw_src"):
+            if getattr(self, name) is not None and self.dl_type not in (_IP, _ARP):
                 raise MatchError(f"{name} needs dl_type=0x0800 (IPv4) or dl_type=0x0806 (ARP)")
-        if "nw_tos" in has and self.dl_type != _IP:
+        if self.nw_tos is not None and self.dl_type != _IP:
             raise MatchError("nw_tos needs dl_type=0x0800 (IPv4)")
         if self.nw_tos is not None and self.nw_tos & 3:
             raise MatchError(f"nw_tos is {self.nw_tos}, and a switch clears its low two bits: write {self.nw_tos & 0xFC}")
-        for name in sorted(has & {"tp_src", "tp_dst"}):
+        for name in ("tp_dst", "tp_src"):
+            value = getattr(self, name)
+            if value is None:
+                continue
             if self.dl_type != _IP or self.nw_proto not in (_ICMP, _TCP, _UDP):
                 raise MatchError(f"{name} needs dl_type=0x0800 (IPv4) and nw_proto 6 (TCP), 17 (UDP) or 1 (ICMP)")
-            if self.nw_proto == _ICMP and getattr(self, name) > 0xFF:
+            if self.nw_proto == _ICMP and value > 0xFF:
                 raise MatchError(f"{name} of ICMP (nw_proto=1) is a type or code, from 0 to 255")
-        if "dl_vlan_pcp" in has and self.dl_vlan == NO_VLAN:
+        if self.dl_vlan_pcp is not None and self.dl_vlan == NO_VLAN:
             raise MatchError("dl_vlan_pcp needs a tag, and dl_vlan=65535 says that there is none")
 
     def encode(self) -> bytes:
         """The 40 bytes, in their one normal form: whatever is ignored is 0, an ignored address has the count 32."""
-        wildcards = sum(1 << bit for name, bit in _BITS.items() if getattr(self, name) is None)
-        numbers = {}
+        values, wildcards, numbers = vars(self), 0, {}
+        for name, bit in _BITS.items():
+            if values[name] is None:
+                wildcards |= 1 << bit
         for name, shift in _COUNTS.items():
-            text = getattr(self, name)
+            text = values[name]
             numbers[name], length = (0, 0) if text is None else _prefix(name, text)
             wildcards |= (_ANY_ADDRESS - length) << shift
         return _LAYOUT.pack(

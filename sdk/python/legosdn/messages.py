@@ -371,8 +371,9 @@ class FlowMod:
     flags: int = 0
 
     def __post_init__(self) -> None:
+        values = vars(self)
         for name in ("command", "priority", "idle_timeout", "hard_timeout", "out_port", "flags"):
-            check_range(name, getattr(self, name), 0xFFFF)
+            check_range(name, values[name], 0xFFFF)
         check_range("cookie", self.cookie, 0xFFFF_FFFF_FFFF_FFFF)
         check_range("buffer_id", self.buffer_id, 0xFFFF_FFFF)
 

@@ -31,17 +31,17 @@ class Packet:
     def __init__(self, data: bytes) -> None:
         self.data = data
 
-    @cached_property
+    @property
     def dl_dst(self) -> Optional[str]:
         """The Ethernet destination, such as "02:00:00:00:00:01"."""
         return mac_text(self.data[:6]) if self._is_ethernet else None
 
-    @cached_property
+    @property
     def dl_src(self) -> Optional[str]:
         """The Ethernet source."""
         return mac_text(self.data[6:12]) if self._is_ethernet else None
 
-    @cached_property
+    @property
     def is_multicast(self) -> bool:
         """Whether the destination is a group of stations, such as all of them."""
         return self._is_ethernet and bool(self.data[0] & 1)
@@ -144,7 +144,7 @@ class Packet:
     def __repr__(self) -> str:
         return f"Packet({self.match()}, {len(self.data)} bytes)"
 
-    @cached_property
+    @property
     def _is_ethernet(self) -> bool:
         return len(self.data) >= _ETHERNET
 
