@@ -111,6 +111,7 @@ class Run:
             file.write(case.policy.replace("PID_FILE", self.path("pid")).replace("ROOM", room))
         with open(policy, "rb") as source, open(self.path("report"), "wb") as report, open(self.path("errors"), "wb") as errors:
             words, variables = [program, "run", str(port), str(case.rounds)], {**os.environ, **case.variables}
+            self.began = time.monotonic()
             self.process = subprocess.Popen(words, stdin=source, stdout=report, stderr=errors, env=variables)
 
     def path(self, name):
