@@ -1,0 +1,9 @@
+pub mod Links
+pub mod Bits
+pub mod Walks
+pub mod Taking
+pub mod Leading
+pub mod Loops
+pub mod Values
+pub mod Found
+pub mod laws

@@ -1,0 +1,25 @@
+//! The judge against forwarding loops: it lets the tables of a network stand only where no packet comes back to a place
+//! where it was.
+//!
+//! `Guard::first_found` answers what stands first against the tables: a row that changes packets on their way to a link,
+//! or the least value of the guarded field, and the least place, for which a place leads to itself. `Guard::allows` is
+//! true exactly where nothing does (`value`, `free`). Neither takes memory.
+#![tactic(auto)]
+
+mod bits;
+mod closing;
+mod edits;
+mod found;
+mod guard;
+mod hop;
+mod leading;
+mod looping;
+mod scope;
+mod taking;
+mod values;
+
+pub use found::Found;
+pub use guard::Guard;
+pub use guard_rule::{GuardField, GuardRule, Link};
+pub use hop::Hop;
+pub use scope::Scope;
