@@ -5,3 +5,5 @@ pub mod Numbers
 pub mod Hops
 pub mod EditSteps
 pub mod Searching
+pub mod Addresses
+pub mod Carried

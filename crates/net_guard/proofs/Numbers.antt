@@ -138,7 +138,7 @@ below-flat_map : {A : Type 0} (bound : ℕ) (f : A → List ℕ) → ((x : A) �
 below-flat_map bound f each [] = below-none bound
 below-flat_map bound f each (x ∷ xs) = below-append bound (f x) (flat_map f xs) (each x) (below-flat_map bound f each xs)
 
-number_below : (bytes : List ℕ) → ((i : ℕ) → slice_index bytes i < 256) → number bytes < 256 ^ length bytes
+pub number_below : (bytes : List ℕ) → ((i : ℕ) → slice_index bytes i < 256) → number bytes < 256 ^ length bytes
 unfolding number
 number_below [] h = omega arith
 number_below (b ∷ bytes) h =

@@ -25,7 +25,7 @@ use Rattle.net_guard.proofs.Numbers.{Contains-behind, Contains-here, Contains-ca
 
 -- ---- all rows
 
-any_wider : {A : Type 0} (f g : A → Bool) → ((x : A) → f x ≡ true → g x ≡ true) → (xs : List A) → list_any f xs ≡ true → list_any g xs ≡ true
+pub any_wider : {A : Type 0} (f g : A → Bool) → ((x : A) → f x ≡ true → g x ≡ true) → (xs : List A) → list_any f xs ≡ true → list_any g xs ≡ true
 any_wider f g wider [] is = is
 any_wider f g wider (x ∷ xs) is =
     elim (or_cases (f x) (list_any f xs) is) [
@@ -109,7 +109,7 @@ value-number DlDst tables v c = elim (Contains-append_cases (map (λ n. Some n) 
 ]
 value-number NwDst tables v c = inl (map-Contains v (numbers_in NwDst tables) c)
 
-any_value : (tables : List TableView) → Contains (values_in DlDst tables) None
+pub any_value : (tables : List TableView) → Contains (values_in DlDst tables) None
 unfolding values_in
 any_value tables = Contains-append_right (map (λ n. Some n) (numbers_in DlDst tables)) (None ∷ []) None (Contains-here None [])
 
@@ -212,7 +212,7 @@ passing_member test (y ∷ ys) is = elim (or_cases (test y) (list_any test ys) i
   | inr behind ↦ let rest = passing_member test ys behind in (rest.0, (Contains-behind rest.0 y ys rest.1.0, rest.1.1))
 ]
 
-has_none : {A : Type 0} (o : Option A) → is_none o ≡ true → o ≡ None
+pub has_none : {A : Type 0} (o : Option A) → is_none o ≡ true → o ≡ None
 has_none None is = refl
 has_none (Some x) is = absurd cc
 

@@ -6,4 +6,5 @@ pub mod Leading
 pub mod Loops
 pub mod Values
 pub mod Found
+pub mod Carrying
 pub mod laws

@@ -5,6 +5,7 @@ ghost use Rattle.flow_table.specs.View.{plains};
 ghost use Rattle.net_guard.specs.Bits.{Marks};
 ghost use Rattle.net_guard.specs.Links.{guarded_by};
 ghost use Rattle.net_guard.specs.Leading.{is_viewed};
+ghost use Rattle.net_guard.specs.Carrying.{ComesBackNowhere};
 ghost use Rattle.net_guard.specs.Found.{IsFoundFor, IsLoopFound, IsFirstFound, IsFree, is_free};
 
 use crate::edits::first_edit;
@@ -118,6 +119,7 @@ impl Judge for Guard {
     fn allows(&self, tables: &[TableView]) -> bool
         ensures value { result ≡ is_free self.now (plains tables.now) }
         ensures free { IsTrue result ↔ IsFree self.now (plains tables.now) }
+        ensures comes_back { IsTrue result → ComesBackNowhere self.now (plains tables.now) }
     {
         self.first_found(tables).is_none()
     }

@@ -3,7 +3,8 @@
 //!
 //! `Guard::first_found` answers what stands first against the tables: a row that changes packets on their way to a link,
 //! or the least value of the guarded field, and the least place, for which a place leads to itself. `Guard::allows` is
-//! true exactly where nothing does (`value`, `free`). Neither takes memory.
+//! true exactly where nothing does (`value`, `free`), and then no packet that each switch forwards by the row that it takes
+//! comes back to a place where it was (`comes_back`). Neither takes memory.
 #![tactic(auto)]
 
 mod bits;
