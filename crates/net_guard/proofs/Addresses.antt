@@ -11,13 +11,13 @@ use Rattle.net_guard.proofs.Numbers.{number_below, Contains-here, Contains-behin
 digit_not_less : (x y m n base : ℕ) → n < base → x < y → x * base + m ≡ y * base + n → m < base → ⊥
 digit_not_less x y m n base small less same low = omega (arith, mul-le-mul_right {m = suc x} {n = y} base less)
 
-same_digits : (x y m n base : ℕ) → m < base → n < base → x * base + m ≡ y * base + n → (x ≡ y) × (m ≡ n)
+same_digits : (x y m n base : ℕ) → m < base → n < base → x * base + m ≡ y * base + n → (m ≡ n) × (x ≡ y)
 same_digits x y m n base low small same =
     elim (cases_lt x y) [
       | inl less ↦ absurd (digit_not_less x y m n base small less same low)
       | inr le ↦ elim (cases_lt y x) [
         | inl less ↦ absurd (digit_not_less y x n m base low less (sym same) small)
-        | inr ge ↦ let e : x ≡ y = omega arith in (e, omega (arith, ap (λ k. k * base) e))
+        | inr ge ↦ let e : x ≡ y = omega arith in (omega (arith, ap (λ k. k * base) e), e)
       ]
     ]
 
@@ -31,8 +31,8 @@ number_one (x ∷ xs) (y ∷ ys) same a b e =
     let low = number_below xs (λ i. a (suc i)) in
     let small = subst (λ n. number ys < 256 ^ n) (sym len) (number_below ys (λ i. b (suc i))) in
     let both = same_digits x y (number xs) (number ys) (256 ^ length xs) low small (e ∙ ap (λ n. y * 256 ^ n + number ys) (sym len)) in
-    let rest = number_one xs ys len (λ i. a (suc i)) (λ i. b (suc i)) both.1 in
-    ap₂ (λ z zs. z ∷ zs) both.0 rest
+    let rest = number_one xs ys len (λ i. a (suc i)) (λ i. b (suc i)) both.0 in
+    ap₂ (λ z zs. z ∷ zs) both.1 rest
 
 -- addresses with one number are one
 pub address_one : (a b : List ℕ) → IsAddress a → IsAddress b → number a ≡ number b → a ≡ b
