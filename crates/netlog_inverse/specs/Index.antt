@@ -55,3 +55,11 @@ IsHere d k i index false = (s : Spot) → i < length index → is_spot_of d k (s
 abbrev pub key_in_put : PutBack → Option Key
 key_in_put (Row k row lost) = Some k
 key_in_put other = None
+
+-- the least rank of a switch's spots, and one below all ranks of the keys behind a key
+unfoldable pub dpid_rank : ℕ → ℕ
+dpid_rank d = d * 256 ^ 42 * 2 ^ 64
+
+abbrev pub start_rank : ℕ → Option Key → ℕ
+start_rank d None = dpid_rank d
+start_rank d (Some k) = rank_of d k 18446744073709551615

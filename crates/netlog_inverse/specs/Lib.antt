@@ -7,4 +7,7 @@ pub mod Meaning
 pub mod Restoring
 pub mod Marks
 pub mod Sending
+pub mod Actions
+pub mod Next
+pub mod Mending
 pub mod laws

@@ -9,3 +9,9 @@ pub mod MendLaws
 pub mod MarkLaws
 pub mod IndexLaws
 pub mod PlannedLaws
+pub mod SpotLaws
+pub mod NextLaws
+pub mod MendKeyLaws
+pub mod ActionsLaws
+pub mod WantedLaws
+pub mod MadeLaws

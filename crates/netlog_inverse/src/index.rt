@@ -1,11 +1,13 @@
 //! The index of a log: where the images of keys stand in it.
 
-ghost use Rattle.std.specs.Prelude.{◌≡◌, ◌<◌, ◌≤◌, true, length, vec_capacity};
+ghost use Rattle.std.specs.Prelude.{◌≡◌, ◌<◌, ◌≤◌, ◌^◌, true, false, List, length, vec_capacity};
 ghost use Rattle.std.specs.List.{insert};
 ghost use Rattle.std.specs.Option.{is_some};
 ghost use Rattle.std.specs.Ordering.{nat_cmp};
 ghost use Rattle.flow_table.specs.Sorted.{Ascends, at_place, without_place};
-ghost use Rattle.netlog_inverse.specs.Index.{rank_of, rank, IsBound, IsHere};
+ghost use Rattle.netlog_inverse.specs.declared.image.Logged.{Logged};
+ghost use Rattle.netlog_inverse.specs.Index.{rank_of, rank, IsIndex, IsBound, IsHere, dpid_rank, start_rank};
+ghost use Rattle.netlog_inverse.specs.Next.{IsFirstFrom};
 
 use crate::rows::is_same;
 use keyed_rows::compare_keys;
@@ -48,6 +50,57 @@ pub(crate) fn bound(index: &[Spot], dpid: Dpid, key: &Key, at: usize) -> usize
         }
     }
     low
+}
+
+/// Tells whether a spot is of a switch below one.
+fn is_below(spot: &Spot, dpid: Dpid) -> bool
+    ensures below { result ≡ true → rank spot.now < dpid_rank dpid }
+    ensures above { result ≡ false → dpid_rank dpid ≤ rank spot.now }
+{
+    let _at = spot.at;
+    spot.dpid < dpid
+}
+
+/// Tells by halves where the first spot of a switch stands, or of one above it.
+fn first_of(index: &[Spot], dpid: Dpid) -> usize
+    requires { Ascends rank 0 index.now }
+    ensures { IsBound (dpid_rank dpid) index.now result }
+{
+    let mut low = 0;
+    let mut high = index.len();
+    while low < high {
+        let middle = low + (high - low) / 2;
+        if is_below(&index[middle], dpid) {
+            low = middle + 1;
+        } else {
+            high = middle;
+        }
+    }
+    low
+}
+
+/// Tells where the spots of a switch's keys behind a key begin, or those of all its keys.
+pub(crate) fn start(index: &[Spot], dpid: Dpid, after: Option<Key>) -> usize
+    requires { Ascends rank 0 index.now }
+    ensures { IsBound (start_rank dpid after) index.now result }
+{
+    match after {
+        None => first_of(index, dpid),
+        Some(key) => bound(index, dpid, &key, usize::MAX),
+    }
+}
+
+/// Tells at which position the first image of a key stands, from a position on.
+pub(crate) fn first_from(index: &[Spot], dpid: Dpid, key: &Key, from: usize) -> Option<usize>
+    requires { Ascends rank 0 index.now }
+    ensures { (log : List Logged) → IsIndex log index.now → length log < 2 ^ 64 → IsFirstFrom dpid key.now from log result }
+{
+    let place = bound(index, dpid, key, from);
+    if is_here(index, place, dpid, key) {
+        Some(index[place].at)
+    } else {
+        None
+    }
 }
 
 /// Tells whether the spot at a position is of a key of a switch.

@@ -4,7 +4,8 @@
 //! first row without an entry (`Plans`). `Log` keeps the first image of each key since a mark; it is a list, of which
 //! `since`, `pop`, `cut` and `mend` say the parts. Laws: `plans_undo`, `planned_changes_keep_marks`, `first_images_undo`,
 //! `first_images_stay`, `marks_stand`, `mended_images_say`, `mends_reach_marks`, `inner_undo_leaves_marks`, `messages_put_back`,
-//! `messages_in_order`, `full_tables_want_removals_first`. See docs/GUARANTEES.md.
+//! `messages_in_order`, `full_tables_want_removals_first`, `next_ones_are_wanted`, `images_stay_made`, `keys_are_set_right`. See
+//! docs/GUARANTEES.md.
 #![tactic(auto)]
 
 mod copying;
@@ -13,9 +14,12 @@ mod image;
 mod index;
 mod laws;
 mod log;
+mod mending;
 mod messages;
 mod planning;
 mod rows;
+mod sending;
+mod sending_laws;
 
 pub use fault::PlanFault;
 pub use image::{Image, Inverse, Logged, PutBack};
@@ -26,3 +30,5 @@ pub use laws::{
 };
 pub use log::{Log, Mark};
 pub use planning::plan;
+pub use sending::{InverseKind, Wanted};
+pub use sending_laws::{images_stay_made, keys_are_set_right, next_ones_are_wanted};

@@ -1,14 +1,24 @@
 //! The log of images.
 
-ghost use Rattle.std.specs.Prelude.{◌≡◌, ◌↔◌, ◌+◌, ◌≤◌, ◌<◌, [], ◌∷◌, ◌++◌, None, Some, length, take, drop, vec_capacity, vec_len, option_to_list, IfOk, OnOk, IsNone};
+ghost use Rattle.std.specs.Prelude.{◌≡◌, ◌↔◌, ℕ, ◌+◌, ◌≤◌, ◌<◌, [], ◌∷◌, ◌++◌, None, Some, length, take, drop, vec_capacity, vec_len, option_to_list, map, slice_get, IfOk, OnOk, IsNone};
 ghost use Rattle.std.specs.List.{list_any};
+ghost use Rattle.of_match.specs.Key.{key_number};
+ghost use Rattle.flow_table.specs.declared.entry.Entry.{Entry};
+ghost use Rattle.flow_table.specs.Table.{place_of};
+ghost use Rattle.undo_laws.specs.Log.{old_entry};
 ghost use Rattle.netlog_inverse.specs.Index.{IsIndex, key_in_put};
 ghost use Rattle.netlog_inverse.specs.Log.{is_one_place, is_of, with_image, pushed, mended, changed_at, with_hard, with_lost_row, HasEntryAt};
+ghost use Rattle.netlog_inverse.specs.Marks.{AreSetRightFor};
+ghost use Rattle.netlog_inverse.specs.Mending.{set_right, IsLostOf};
+ghost use Rattle.netlog_inverse.specs.Next.{message_of, IsNext};
 
 use crate::image::{Image, Inverse, Logged, PutBack};
 use crate::index::{Spot, bound, insert_spot, is_here, remove_spot};
+use crate::mending::mend_images;
 use crate::rows::is_same;
-use flow_table::Lost;
+use crate::sending::{InverseKind, Wanted, message_of, next_in};
+use flow_table::{Lost, ViewRow};
+use keyed_rows::Lookup;
 use of_match::Key;
 use of_types::{ByteList, Dpid, put_u16};
 use std::alloc::{AllocError, Global};
@@ -81,7 +91,7 @@ fn behind(logged: &[Logged], mark: usize) -> &[Logged]
 }
 
 /// Returns the key of an image, if it is of one.
-fn key_of_put(put: &PutBack) -> Option<Key>
+pub(crate) fn key_of_put(put: &PutBack) -> Option<Key>
     ensures { result ≡ key_in_put put.now }
 {
     match put {
@@ -263,7 +273,13 @@ fn set_lost(put: &mut PutBack, lost: Option<Lost>)
 }
 
 #[tactic(auto, unfolding(crate::specs::Log::mended))]
-fn mend_one(alloc: Global, logged: &mut Logged, lost: Option<Lost>, hard: u16, stands: bool)
+pub(crate) fn mend_one(
+    alloc: Global,
+    logged: &mut Logged,
+    lost: Option<Lost>,
+    hard: u16,
+    stands: bool,
+)
     ensures { logged.new ≡ mended lost hard stands logged.old }
 {
     set_lost(&mut logged.image.put, lost);
@@ -392,5 +408,42 @@ impl Log {
         ensures room { self.new.spare ≡ self.old.spare }
     {
         mend_in(self.alloc, &mut self.logged, at, lost, hard, stands);
+    }
+
+    /// Sets all images of a key right for which its entry stood, when this entry goes: their cache row, what is left of the
+    /// hard timeout in their ADD, and that no entry stands for them. Changes nothing else and takes no memory; the images
+    /// are found by halves. Since each mark they say then what they said and that the entry went.
+    pub fn mend_key(&mut self, dpid: Dpid, key: &Key, lost: Lost)
+        ensures logged { self.new.logged ≡ map (set_right dpid key.now lost) self.old.logged }
+        ensures room { self.new.spare ≡ self.old.spare }
+        ensures marks { (now mark : ℕ) (e : Entry) → place_of e ≡ key_number key.now → IsLostOf now dpid key.now lost e (drop mark self.old.logged)
+            → AreSetRightFor now dpid (drop mark self.old.logged) (old_entry e ∷ []) (drop mark self.new.logged) }
+    {
+        mend_images(self.alloc, &mut self.logged, &self.index, dpid, key, lost);
+    }
+
+    /// Finds the first key behind another one, in key order, of which a message of a kind is wanted: by its first image since
+    /// a mark, and by the row that stands there now. `None` where there is no more. Takes no memory; it looks at the images
+    /// of the switch from that key on, each by halves.
+    pub fn next_wanted(
+        &self,
+        mark: Mark,
+        dpid: Dpid,
+        rows: &Lookup<'_, ViewRow>,
+        kind: InverseKind,
+        after: Option<Key>,
+    ) -> Option<Wanted>
+        requires { mark.at ≤ length self.now.logged }
+        ensures { IsNext (record { kind = kind; dpid = dpid; mark = mark.at; log = self.now.logged; rows = rows.now }) after result }
+    {
+        next_in(&self.logged, &self.index, mark.at, dpid, rows, kind, after)
+    }
+
+    /// Lends the message of a kind of the image at a position; takes no memory.
+    pub fn message(&self, at: usize, kind: InverseKind) -> &[u8]
+        requires { at < length self.now.logged }
+        ensures { (l : Logged) → slice_get self.now.logged at ≡ Some l → result.now ≡ message_of kind l.image }
+    {
+        message_of(&self.logged[at].image, kind)
     }
 }

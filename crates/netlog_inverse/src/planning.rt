@@ -45,7 +45,7 @@ fn lost_of(cached: Option<Lost>, hard: u16, counts: &FlowRow) -> Lost
 }
 
 /// What is left of a hard timeout at an age; one second where the age is not below it.
-fn hard_left(hard: u16, age: u64) -> u16
+pub(crate) fn hard_left(hard: u16, age: u64) -> u16
     ensures { result ≡ hard_left hard age }
 {
     if hard == 0 {

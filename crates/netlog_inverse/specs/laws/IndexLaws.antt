@@ -35,17 +35,17 @@ digits-unique p q m n base hm hn same =
 two_digits : (a b base : ℕ) → a ≤ 65535 → b < base → a * base + b < 65536 * base
 two_digits a b base ha hb = omega (arith, mul-le-mul_right {m = a} {n = 65535} base ha)
 
-key_number-lt : (k : Key) → key_number k < 256 ^ 42
+pub key_number-lt : (k : Key) → key_number k < 256 ^ 42
 unfolding key_number
 key_number-lt k =
     let power : 65536 * 256 ^ 40 ≡ 256 ^ 42 = refl in
     subst (λ n. (65535 - k.priority) * 256 ^ 40 + number k.matching.bytes < n) power (two_digits (65535 - k.priority) (number k.matching.bytes) (256 ^ 40) (omega arith) (match-number-lt k.matching))
 
-key_place-same : (d e : ℕ) (k l : Key) → key_place d k ≡ key_place e l → (d ≡ e) × (key_number k ≡ key_number l)
+pub key_place-same : (d e : ℕ) (k l : Key) → key_place d k ≡ key_place e l → (d ≡ e) × (key_number k ≡ key_number l)
 unfolding key_place
 key_place-same d e k l same = digits-unique d e (key_number k) (key_number l) (256 ^ 42) (key_number-lt k) (key_number-lt l) same
 
-key_place-from : (d e : ℕ) (k l : Key) → d ≡ e → key_number k ≡ key_number l → key_place d k ≡ key_place e l
+pub key_place-from : (d e : ℕ) (k l : Key) → d ≡ e → key_number k ≡ key_number l → key_place d k ≡ key_place e l
 unfolding key_place
 key_place-from d e k l a b = rw (a, b) refl
 
@@ -73,12 +73,12 @@ append-none place n (z ∷ zs) ys none =
       | inr there ↦ at_place-other place n z (zs ++ ys) there ∙ append-none place n zs ys (sym (at_place-other place n z zs there) ∙ none)
     ]
 
-option_cases : {X : Type 0} (o : Option X) → ((x : X) × (o ≡ Some x)) ⊎ (o ≡ None)
+pub option_cases : {X : Type 0} (o : Option X) → ((x : X) × (o ≡ Some x)) ⊎ (o ≡ None)
 option_cases None = inr refl
 option_cases (Some x) = inl (x, refl)
 
 -- what is found stands somewhere
-stands : {X : Type 0} (place : X → ℕ) (n : ℕ) (xs : List X) (d : X) → is_some (at_place place n xs) ≡ true → (j : ℕ) × (j < length xs) × (place (get_or xs j d) ≡ n)
+pub stands : {X : Type 0} (place : X → ℕ) (n : ℕ) (xs : List X) (d : X) → is_some (at_place place n xs) ≡ true → (j : ℕ) × (j < length xs) × (place (get_or xs j d) ≡ n)
 stands place n [] d some = absurd cc
 stands place n (x ∷ xs) d some =
     elim (cases_eq (place x) n) [
@@ -89,24 +89,24 @@ stands place n (x ∷ xs) d some =
     ]
 
 -- what stands at a position is found at its place
-found_there : (index : List Spot) (i : ℕ) (s : Spot) → Ascends rank 0 index → i < length index → at_place rank (rank (get_or index i s)) index ≡ Some (get_or index i s)
+pub found_there : (index : List Spot) (i : ℕ) (s : Spot) → Ascends rank 0 index → i < length index → at_place rank (rank (get_or index i s)) index ≡ Some (get_or index i s)
 found_there index i s h within =
     at_place-found rank index (rank (get_or index i s)) 0 i s h (within, λ x. ap rank (get_or_default index i x s within))
 
 -- ---- The spots of a log
 
-cases_put : (put : PutBack) → ((k : Key) × (row : Option ViewRow) × (lost : Option Lost) × (put ≡ Row k row lost)) ⊎ (((i d : ℕ) → spot_at i d put ≡ []) × ((k : Key) (row : Option ViewRow) (lost : Option Lost) → is_one_place put (Row k row lost) ≡ false))
+pub cases_put : (put : PutBack) → ((k : Key) × (row : Option ViewRow) × (lost : Option Lost) × (put ≡ Row k row lost)) ⊎ (((i d : ℕ) → spot_at i d put ≡ []) × ((k : Key) (row : Option ViewRow) (lost : Option Lost) → is_one_place put (Row k row lost) ≡ false))
 cases_put (Row k row lost) = inl (k, row, lost, refl)
 cases_put (Config port config) = inr (λ i d. refl, λ k row lost. refl)
 cases_put (Settings flags len) = inr (λ i d. refl, λ k row lost. refl)
 
-abbrev spot : ℕ → ℕ → Key → Spot
+abbrev pub spot : ℕ → ℕ → Key → Spot
 spot i d k = record { dpid = d; key = k; at = i }
 
-spots-row : (i : ℕ) (l : Logged) (log : List Logged) (k : Key) (row : Option ViewRow) (lost : Option Lost) → l.image.put ≡ Row k row lost → spots i (l ∷ log) ≡ record { dpid = l.dpid; key = k; at = i } ∷ spots (i + 1) log
+pub spots-row : (i : ℕ) (l : Logged) (log : List Logged) (k : Key) (row : Option ViewRow) (lost : Option Lost) → l.image.put ≡ Row k row lost → spots i (l ∷ log) ≡ record { dpid = l.dpid; key = k; at = i } ∷ spots (i + 1) log
 spots-row i l log k row lost is = ap (λ (put : PutBack). spot_at i l.dpid put ++ spots (i + 1) log) is
 
-spots-none : (i : ℕ) (l : Logged) (log : List Logged) → ((j d : ℕ) → spot_at j d l.image.put ≡ []) → spots i (l ∷ log) ≡ spots (i + 1) log
+pub spots-none : (i : ℕ) (l : Logged) (log : List Logged) → ((j d : ℕ) → spot_at j d l.image.put ≡ []) → spots i (l ∷ log) ≡ spots (i + 1) log
 spots-none i l log none = ap (λ (x : List Spot). x ++ spots (i + 1) log) (none i l.dpid)
 
 pub spots-snoc : (i : ℕ) (log : List Logged) (l : Logged) → spots i (log ++ l ∷ []) ≡ spots i log ++ spot_at (i + length log) l.dpid l.image.put
@@ -126,7 +126,7 @@ length-spot_at i d (Row k row lost) = omega arith
 length-spot_at i d (Config port config) = omega arith
 length-spot_at i d (Settings flags len) = omega arith
 
-length-spots : (i : ℕ) (log : List Logged) → length (spots i log) ≤ length log
+pub length-spots : (i : ℕ) (log : List Logged) → length (spots i log) ≤ length log
 length-spots i [] = omega arith
 length-spots i (l ∷ log) = omega (arith, length-append (spot_at i l.dpid l.image.put) (spots (i + 1) log), length-spot_at i l.dpid l.image.put, length-spots (i + 1) log)
 
@@ -161,7 +161,7 @@ spots-within n i (l ∷ log) s found =
     ]
 
 -- the position of a spot is told by its rank
-rank-at : (p q i j : ℕ) → i < 2 ^ 64 → j < 2 ^ 64 → p * 2 ^ 64 + i ≡ q * 2 ^ 64 + j → (p ≡ q) × (i ≡ j)
+pub rank-at : (p q i j : ℕ) → i < 2 ^ 64 → j < 2 ^ 64 → p * 2 ^ 64 + i ≡ q * 2 ^ 64 + j → (p ≡ q) × (i ≡ j)
 rank-at p q i j hi hj same = (omega arith, omega arith)
 
 -- nothing of the log stands at a later position
@@ -206,7 +206,7 @@ other_row d l k row lost other = no_second (l.dpid == d) (is_one_place l.image.p
     no_second false b other = refl
 
 -- one image more in front
-later : (i : ℕ) (l : Logged) (log : List Logged) (d : ℕ) (k : Key) (q : ℕ) → i + suc q < 2 ^ 64 → is_some (at_place rank (rank_of d k (i + 1 + q)) (spots (i + 1) log)) ≡ true → is_some (at_place rank (rank_of d k (i + suc q)) (spots i (l ∷ log))) ≡ true
+pub later : (i : ℕ) (l : Logged) (log : List Logged) (d : ℕ) (k : Key) (q : ℕ) → i + suc q < 2 ^ 64 → is_some (at_place rank (rank_of d k (i + 1 + q)) (spots (i + 1) log)) ≡ true → is_some (at_place rank (rank_of d k (i + suc q)) (spots i (l ∷ log))) ≡ true
 later i l log d k q small some =
     let next : i + suc q ≡ i + 1 + q = omega arith in
     rw next (elim (cases_put l.image.put) [
@@ -241,7 +241,7 @@ any-spot i (suc m) (l ∷ log) d k row lost small any =
     let (q, from, below, some) = any-spot (i + 1) m log d k row lost (omega arith) any in
     (suc q, omega arith, omega arith, later i l log d k q (omega arith) some)
 
-some_is : (s t : Spot) → Some s ≡ Some t → s ≡ t
+pub some_is : (s t : Spot) → Some s ≡ Some t → s ≡ t
 some_is s t is = cc
 
 -- a spot is of what is logged at its position
@@ -288,7 +288,7 @@ index-within log index i s h within =
     omega (arith, (spots-within (rank t) 0 log t found).1)
 
 -- the ranks do not fall
-rank-le : (index : List Spot) (i j : ℕ) (s : Spot) → Ascends rank 0 index → i ≤ j → j < length index → rank (get_or index i s) ≤ rank (get_or index j s)
+pub rank-le : (index : List Spot) (i j : ℕ) (s : Spot) → Ascends rank 0 index → i ≤ j → j < length index → rank (get_or index i s) ≤ rank (get_or index j s)
 rank-le index i j s h le within =
     elim (cases_lt i j) [
       | inl lt ↦ omega (arith, places-rise rank index 0 i j s h lt within)

@@ -35,7 +35,7 @@ use Rattle.netlog_inverse.specs.laws.RestoringLaws.{settled-merge}
 
 -- ---- Images that are set right
 
-right-same : (now : ℕ) (a : Option Image) (newer : Said) → ((i : Image) → a ≡ Some i → merge (said now (Some i)) newer ≡ said now (Some i)) → IsSetRight now a newer a
+pub right-same : (now : ℕ) (a : Option Image) (newer : Said) → ((i : Image) → a ≡ Some i → merge (said now (Some i)) newer ≡ said now (Some i)) → IsSetRight now a newer a
 right-same now None newer same = refl
 right-same now (Some i) newer same = ap (settled now) (sym (same i refl))
 
@@ -65,11 +65,11 @@ pub right-more : (now d : ℕ) (since set after : List Logged) (older newer : Li
 right-more now d since set after older newer first rest k =
     rw (image_of-append k older newer) (right-after now (first_at d k since) (first_at d k set) (first_at d k after) (image_of k older) (image_of k newer) (first k) (rest k))
 
-old-here : (e : Entry) (l : Key) → place_of e ≡ key_number l → image_at l (old_entry e) ≡ Gone (seen e)
+pub old-here : (e : Entry) (l : Key) → place_of e ≡ key_number l → image_at l (old_entry e) ≡ Gone (seen e)
 unfolding image_at
 old-here e l same = rw (eq-eqb (place_of e) (key_number l) same) refl
 
-old-there : (e : Entry) (l : Key) → place_of e ≢ key_number l → image_at l (old_entry e) ≡ Untouched
+pub old-there : (e : Entry) (l : Key) → place_of e ≢ key_number l → image_at l (old_entry e) ≡ Untouched
 unfolding image_at
 old-there e l other = rw (ne_eqb (place_of e) (key_number l) other) refl
 
@@ -134,7 +134,7 @@ first-beside d k l lost hard (suc at) (x ∷ log) h other =
       | inr there ↦ first_at-skips d l x (changed_at at (mended lost hard false) log) there ∙ first-beside d k l lost hard at log h other ∙ sym (first_at-skips d l x log there)
     ]
 
-image-number : (d : ℕ) (k l : Key) (x : Logged) → key_number k ≡ key_number l → is_image_of d l x ≡ is_image_of d k x
+pub image-number : (d : ℕ) (k l : Key) (x : Logged) → key_number k ≡ key_number l → is_image_of d l x ≡ is_image_of d k x
 image-number d k l x same = ap (λ (is : Bool). x.dpid == d && is) (at_one x.image.put)
   where
     at_one : (put : Put) → is_at l put ≡ is_at k put
