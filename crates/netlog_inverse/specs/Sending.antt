@@ -1,6 +1,6 @@
 -- The messages to one switch, in order: the DELETE_STRICTs, then the MODIFY_STRICTs, then the ADDs, each kind in key order, and for each
 -- key what the table of images wants. This is our own.
-use Rattle.std.specs.Prelude.{◌≡◌, ◌==◌, ℕ, ◌+◌, ◌≤◌, Bool, true, false, List, [], ◌∷◌, length, filter, Option, Some, None, if◌then◌else◌}
+use Rattle.std.specs.Prelude.{◌≡◌, ◌==◌, ℕ, ◌+◌, ◌≤◌, Bool, true, false, List, [], ◌∷◌, length, filter, reverse, Option, Some, None, if◌then◌else◌}
 use Rattle.of_match.specs.declared.key.Key.{Key}
 use Rattle.of_match.specs.Key.{key_number}
 use Rattle.of_action.specs.declared.action.Action.{Action}
@@ -8,7 +8,7 @@ use Rattle.flow_table.specs.declared.entry.Entry.{Entry}
 use Rattle.flow_table.specs.Table.{TableState, IsTable, place_of, entry_at}
 use Rattle.undo_laws.specs.Removal.{is_key_among}
 use Rattle.undo_laws.specs.Log.{Inverse, Remove, PutBack, GiveActions, Image as Said, Absent, Gone, Acted}
-use Rattle.undo_laws.specs.Table.{sent_for}
+use Rattle.undo_laws.specs.Table.{sent_for, in_order}
 use Rattle.netlog_inverse.specs.declared.image.Logged.{Logged}
 use Rattle.netlog_inverse.specs.Meaning.{said, first_at}
 use Rattle.flow_table.specs.RowKeys.{RowsAscend}
@@ -50,6 +50,10 @@ pub record AreWanted (want : Key → Said) (removed : List Key) (acted : List (K
 -- what the table wants of each key of a switch, by the first images since a mark and the entries that stand
 abbrev pub wanted : ℕ → ℕ → (List Action → List Action → Bool) → List Logged → TableState → Key → Said
 wanted now d same since t k = sent_for same (said now (first_at d k since)) (entry_at k t.entries)
+
+-- A log that is sent backwards has the last of a kind first: so it is sent in key order, each kind from the lowest place on.
+abbrev pub in_key_order : List Key → List (Key × List Action) → List Entry → List Inverse
+in_key_order removed acted added = in_order (reverse removed) (reverse acted) (reverse added)
 
 -- ---- How many messages a key has
 

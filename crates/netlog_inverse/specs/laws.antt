@@ -15,3 +15,4 @@ pub mod MendKeyLaws
 pub mod ActionsLaws
 pub mod WantedLaws
 pub mod MadeLaws
+pub mod KeyOrderLaws

@@ -4,7 +4,7 @@
 //! first row without an entry (`Plans`). `Log` keeps the first image of each key since a mark; it is a list, of which
 //! `since`, `pop`, `cut` and `mend` say the parts. Laws: `plans_undo`, `planned_changes_keep_marks`, `first_images_undo`,
 //! `first_images_stay`, `marks_stand`, `mended_images_say`, `mends_reach_marks`, `inner_undo_leaves_marks`, `messages_put_back`,
-//! `messages_in_order`, `full_tables_want_removals_first`, `next_ones_are_wanted`, `images_stay_made`, `keys_are_set_right`. See
+//! `messages_in_order`, `full_tables_want_removals_first`, `next_ones_are_wanted`, `images_stay_made`, `key_order_restores`, `keys_are_set_right`. See
 //! docs/GUARANTEES.md.
 #![tactic(auto)]
 
@@ -31,4 +31,6 @@ pub use laws::{
 pub use log::{Log, Mark};
 pub use planning::plan;
 pub use sending::{InverseKind, Wanted};
-pub use sending_laws::{images_stay_made, keys_are_set_right, next_ones_are_wanted};
+pub use sending_laws::{
+    images_stay_made, key_order_restores, keys_are_set_right, next_ones_are_wanted,
+};

@@ -1,6 +1,6 @@
 //! Laws of what is sent for images, each the contract of a function that does nothing.
 
-ghost use Rattle.std.specs.Prelude.{◌≡◌, ◌≢◌, ℕ, List, [], ◌∷◌, ◌++◌, map, take, drop, Option, Some, None};
+ghost use Rattle.std.specs.Prelude.{◌≡◌, ◌≢◌, ℕ, ◌≤◌, Bool, List, length, [], ◌∷◌, ◌++◌, map, take, drop, Option, Some, None};
 ghost use Rattle.of_match.specs.declared.key.Key.{Key};
 ghost use Rattle.of_stats.specs.declared.flow_row.FlowRow.{FlowRow};
 ghost use Rattle.of_wire.specs.declared.bodies.FlowMod.{FlowMod};
@@ -9,7 +9,11 @@ ghost use Rattle.flow_table.specs.declared.lost.Lost.{Lost};
 ghost use Rattle.flow_table.specs.declared.view.ViewRow.{ViewRow};
 ghost use Rattle.flow_table.specs.Table.{TableState, place_of};
 ghost use Rattle.of_match.specs.Key.{key_number};
-ghost use Rattle.undo_laws.specs.Log.{Untouched, old_entry};
+ghost use Rattle.of_action.specs.declared.action.Action.{Action};
+ghost use Rattle.flow_table.specs.Undone.{undone};
+ghost use Rattle.undo_laws.specs.Log.{Image as Said, Untouched, old_entry, undo, image_of};
+ghost use Rattle.undo_laws.specs.Reverting.{CanRevert};
+ghost use Rattle.undo_laws.specs.Same.{SameButSerials};
 ghost use Rattle.undo_laws.specs.Table.{IsTest};
 ghost use Rattle.netlog_inverse.specs.declared.image.Image.{Image};
 ghost use Rattle.netlog_inverse.specs.declared.image.Logged.{Logged};
@@ -17,12 +21,12 @@ ghost use Rattle.netlog_inverse.specs.declared.sending.InverseKind.TheVariants.{
 ghost use Rattle.netlog_inverse.specs.declared.sending.Wanted.{Wanted};
 ghost use Rattle.netlog_inverse.specs.Actions.{same_actions};
 ghost use Rattle.netlog_inverse.specs.Log.{logged_at, pushed};
-ghost use Rattle.netlog_inverse.specs.Marks.{AreSetRightFor};
+ghost use Rattle.netlog_inverse.specs.Marks.{ImagesStand, AreSetRightFor};
 ghost use Rattle.netlog_inverse.specs.Meaning.{said, first_at, row_of};
 ghost use Rattle.netlog_inverse.specs.Mending.{set_right, IsLostOf};
 ghost use Rattle.netlog_inverse.specs.Next.{Sought, place_after, IsNext, ArePassed, AreAll, keys_for, actions_for, entries_for, AreMade};
 ghost use Rattle.netlog_inverse.specs.Plans.{planned};
-ghost use Rattle.netlog_inverse.specs.Sending.{AreWanted, wanted};
+ghost use Rattle.netlog_inverse.specs.Sending.{AreWanted, wanted, in_key_order};
 
 /// Calls of `Log::next_wanted`, one behind the other, give all keys of which a message of a kind is wanted: none at first, one
 /// more with each answer, and all where there is no more. Those of the three kinds, where the rows are those of the table as
@@ -62,4 +66,19 @@ pub fn keys_are_set_right()
     ensures { (now d mark : ℕ) (k : Key) (lost : Lost) (e : Entry) (log : List Logged) → place_of e ≡ key_number k
         → IsLostOf now d k lost e (drop mark log)
         → AreSetRightFor now d (drop mark log) (old_entry e ∷ []) (drop mark (map (set_right d k lost) log)) }
+{}
+
+/// What is sent in key order, each kind from the lowest place on, says of each key what is wanted. It gives back the table of
+/// the mark, and in a table that holds the present entries and held those of the mark none of it is refused.
+pub fn key_order_restores()
+    ensures wanted { (want : Key → Said) (removed : List Key) (acted : List (Key × List Action)) (added : List Entry)
+        → AreWanted want removed acted added → (k : Key) → image_of k (in_key_order removed acted added) ≡ want k }
+    ensures restores { (now d : ℕ) (same : List Action → List Action → Bool) (since : List Logged) (earlier : TableState)
+        (removed : List Key) (acted : List (Key × List Action)) (added : List Entry) (t : TableState) → IsTest same
+        → AreWanted (wanted now d same since t) removed acted added → ImagesStand now d earlier since t
+        → SameButSerials (undo now (in_key_order removed acted added) t).entries (undone earlier t now).entries }
+    ensures room { (cap now d : ℕ) (same : List Action → List Action → Bool) (since : List Logged) (earlier : TableState)
+        (removed : List Key) (acted : List (Key × List Action)) (added : List Entry) (t : TableState) → IsTest same
+        → AreWanted (wanted now d same since t) removed acted added → ImagesStand now d earlier since t
+        → length t.entries ≤ cap → length earlier.entries ≤ cap → CanRevert cap now (in_key_order removed acted added) t }
 {}

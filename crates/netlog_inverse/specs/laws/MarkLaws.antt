@@ -73,7 +73,7 @@ stand-says now d since earlier log t says h = record {
   keys = λ k. Standing-same now earlier.next (entry_at k earlier.entries) (image_of k log) (said now (first_at d k since)) (entry_at k t.entries) (says k) (h.keys k);
 }
 
-sent-stand : (now d : ℕ) (same : List Action → List Action → Bool) (since : List Logged) (earlier : TableState) (sent : List Inverse) (t : TableState) → IsTest same → IsSentFor now d same since sent t → ImagesStand now d earlier since t → Stands now earlier sent t
+pub sent-stand : (now d : ℕ) (same : List Action → List Action → Bool) (since : List Logged) (earlier : TableState) (sent : List Inverse) (t : TableState) → IsTest same → IsSentFor now d same since sent t → ImagesStand now d earlier since t → Stands now earlier sent t
 sent-stand now d same since earlier sent t test is h = record {
   was = h.was;
   serialed = h.serialed;

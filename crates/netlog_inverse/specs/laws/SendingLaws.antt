@@ -27,19 +27,19 @@ use Rattle.flow_table.specs.RowKeys.{RowsAscend}
 
 -- ---- What the messages say of a key
 
-abbrev gone_if : Option Entry → Said
+abbrev pub gone_if : Option Entry → Said
 gone_if None = Untouched
 gone_if (Some e) = Gone e
 
-abbrev acted_if : Option (List Action) → Said
+abbrev pub acted_if : Option (List Action) → Said
 acted_if None = Untouched
 acted_if (Some actions) = Acted actions
 
-abbrev absent_if : Bool → Said
+abbrev pub absent_if : Bool → Said
 absent_if false = Untouched
 absent_if true = Absent
 
-image-added : (k : Key) (es : List Entry) → image_of k (map PutBack es) ≡ gone_if (entry_at k es)
+pub image-added : (k : Key) (es : List Entry) → image_of k (map PutBack es) ≡ gone_if (entry_at k es)
 unfolding image_of image_at
 image-added k [] = refl
 image-added k (e ∷ es) =
@@ -57,7 +57,7 @@ gives-keeps k actions (a ∷ acted) =
       | inr there ↦ rw there (gives-keeps k actions acted)
     ]
 
-image-acted : (k : Key) (acted : List (Key × List Action)) → image_of k (map gives acted) ≡ acted_if (actions_at k acted)
+pub image-acted : (k : Key) (acted : List (Key × List Action)) → image_of k (map gives acted) ≡ acted_if (actions_at k acted)
 unfolding image_of image_at
 image-acted k [] = refl
 image-acted k (a ∷ acted) =
@@ -66,7 +66,7 @@ image-acted k (a ∷ acted) =
       | inr there ↦ rw there (image-acted k acted)
     ]
 
-image-removed : (k : Key) (ks : List Key) → image_of k (remove_all ks) ≡ absent_if (is_key_among ks k)
+pub image-removed : (k : Key) (ks : List Key) → image_of k (remove_all ks) ≡ absent_if (is_key_among ks k)
 unfolding image_of image_at
 image-removed k [] = refl
 image-removed k (l ∷ ks) =
@@ -75,7 +75,7 @@ image-removed k (l ∷ ks) =
       | inr there ↦ rw there (image-removed k ks)
     ]
 
-in_one : (want : Said) → merge (gone_if (wanted_entry want)) (merge (acted_if (wanted_actions want)) (absent_if (wants_removal want))) ≡ want
+pub in_one : (want : Said) → merge (gone_if (wanted_entry want)) (merge (acted_if (wanted_actions want)) (absent_if (wants_removal want))) ≡ want
 in_one Untouched = refl
 in_one Absent = refl
 in_one (Gone e) = refl
@@ -164,7 +164,7 @@ one-message want removed acted added are k =
 -- ---- None is refused, and they give the earlier table back
 
 -- an entry that is to get other actions stands, and is not removed
-found-actions : (acted : List (Key × List Action)) (a : Key × List Action) → Contains acted a → is_some (actions_at a.0 acted) ≡ true
+pub found-actions : (acted : List (Key × List Action)) (a : Key × List Action) → Contains acted a → is_some (actions_at a.0 acted) ≡ true
 found-actions acted a (i, within, at) = at_position acted i a within at
   where
     at_position : (acted : List (Key × List Action)) (i : ℕ) (a : Key × List Action) → i < length acted → get_or acted i a ≡ a → is_some (actions_at a.0 acted) ≡ true
@@ -176,7 +176,7 @@ found-actions acted a (i, within, at) = at_position acted i a within at
           | inr there ↦ rw there (at_position acted i a (omega arith) at)
         ]
 
-stays : (same : List Action → List Action → Bool) (i : Said) (o : Option Entry) → is_some (wanted_actions (sent_for same i o)) ≡ true → (is_some o ≡ true) × (wants_removal (sent_for same i o) ≡ false)
+pub stays : (same : List Action → List Action → Bool) (i : Said) (o : Option Entry) → is_some (wanted_actions (sent_for same i o)) ≡ true → (is_some o ≡ true) × (wants_removal (sent_for same i o) ≡ false)
 stays same Untouched o some = absurd cc
 stays same Absent None some = absurd cc
 stays same Absent (Some e) some = absurd cc

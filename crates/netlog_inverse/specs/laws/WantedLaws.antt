@@ -154,7 +154,7 @@ actions-up now s from (w ∷ ws) kind all =
     let (actions, says, is) = one-given now s from w ws kind all.0 in
     rw is (all.0.behind, actions-up now s (key_number w.key + 1) ws kind all.1)
 
-none-given : (k : Key) (least : ℕ) (acted : List (Key × List Action)) → RowsAscend least acted → key_number k < least → actions_at k acted ≡ None
+pub none-given : (k : Key) (least : ℕ) (acted : List (Key × List Action)) → RowsAscend least acted → key_number k < least → actions_at k acted ≡ None
 none-given k least [] up lt = refl
 none-given k least (a ∷ acted) up lt = rw (ne_eqb (key_number a.0) (key_number k) (omega arith)) (none-given k (key_number a.0 + 1) acted up.1 (omega arith))
 
@@ -203,7 +203,7 @@ entries-up now s from (w ∷ ws) kind made all =
     let (e, says, place, is) = one-added now s from w ws kind made all.0 in
     rw (is, place) (all.0.behind, entries-up now s (key_number w.key + 1) ws kind made all.1)
 
-none-added : (k : Key) (least : ℕ) (es : List Entry) → AscendsFrom least es → key_number k < least → entry_at k es ≡ None
+pub none-added : (k : Key) (least : ℕ) (es : List Entry) → AscendsFrom least es → key_number k < least → entry_at k es ≡ None
 none-added k least [] up lt = refl
 none-added k least (e ∷ es) up lt = rw (ne_eqb (place_of e) (key_number k) (omega arith)) (none-added k (place_of e + 1) es up.1 (omega arith))
 
