@@ -1,0 +1,3 @@
+pub mod SentLaws
+pub mod ToldLaws
+pub mod AbreastLaws
