@@ -1,0 +1,6 @@
+pub mod SideLaws
+pub mod WovenLaws
+pub mod CountLaws
+pub mod LinkCallLaws
+pub mod AppCallLaws
+pub mod WordLaws

@@ -1,0 +1,157 @@
+//! A world whose switches are those of another world.
+
+ghost use Rattle.std.specs.Prelude.{◌≡◌, ◌≤◌, ◌&&◌, [], ◌∷◌, ◌++◌, ℕ, List, true, false, not, length, Ok, Err, IsOk, IsErrOf};
+ghost use Rattle.of_wire.specs.Reading.{reading_of};
+ghost use Rattle.outside.specs.InOrder.{InOrder, BringMessages};
+ghost use Rattle.outside.specs.Conforming.{Conforming};
+ghost use Rattle.outside.specs.Calls.{most_message, Opens, Nexts, Starts, Gives, Takes, Ends, Sends, Receives};
+ghost use Rattle.linked_world.specs.Linked.{seen_of, runs, running_after, running_without, took_of, IsTakeable, in_place};
+
+use crate::counts::CallCounts;
+use crate::parts::Parts;
+use http_server::Log;
+use of_types::{Dpid, TookWhat};
+use outside::{GiveFault, Item, LinkFault, NextFault, OpenFault, Short, StartFault, Taken, World};
+use std::alloc::Global;
+use std::marker::Model;
+
+/// A world whose switches are those of another world, and whose applications are the caller's own. Contracts see it as
+/// data (`Linkage`), and what is seen of it by `seen_of`.
+#[derive(Drop)]
+pub struct Linked<W: World> {
+    parts: Parts<W>,
+}
+
+impl<W: World> Model for Linked<W> {
+    ghost use Rattle.linked_world.specs.Linked.{Linkage, IsLinkage};
+
+    ghost Value = { Linkage W };
+
+    ghost view = { λ l. l.parts };
+
+    ghost invariant = { λ l. IsLinkage W.Tells W.seen l.parts };
+}
+
+impl<W: World> Linked<W> {
+    /// Takes the switches of this world; no application was started. Takes no memory.
+    pub fn new(alloc: Global, links: W) -> Linked<W>
+        ensures links { result.links ≡ links }
+        ensures notes { result.notes ≡ [] }
+        ensures running { result.running ≡ [] }
+    {
+        Linked {
+            parts: Parts {
+                alloc,
+                links,
+                notes: Log::new(),
+                running: Vec::new(alloc),
+                counts: CallCounts::new(),
+            },
+        }
+    }
+
+    /// Lends the other world.
+    pub fn links(&self) -> &W
+        ensures { result.now ≡ self.now.links }
+    {
+        &self.parts.links
+    }
+
+    /// Finds that the world keeps its word as the other one does: with switches that tell in order it tells in order, and
+    /// where all that they sent is messages, it keeps its word.
+    pub fn keeps_word(&self)
+        ensures order { W.Tells → InOrder (W.seen self.now.links) → InOrder (seen_of W.seen self.now) }
+        ensures word { W.Tells → InOrder (W.seen self.now.links) → BringMessages (W.seen self.now.links).history → Conforming (seen_of W.seen self.now) }
+    {
+        let _parts = &self.parts;
+    }
+
+    /// Opens the other world.
+    pub fn open(&mut self, port: u16) -> Result<(), OpenFault>
+        ensures seen { Opens W.Tells (seen_of W.seen self.old) (seen_of W.seen self.new) result }
+        ensures running { self.new.running ≡ self.old.running }
+    {
+        self.parts.open(port)
+    }
+
+    /// Tells what comes next in the other world.
+    pub fn next(&mut self, buf: &mut [u8]) -> Result<Item, NextFault>
+        requires { most_message ≤ length buf.old }
+        ensures seen { Nexts W.Tells (seen_of W.seen self.old) (seen_of W.seen self.new) result buf.new }
+        ensures running { self.new.running ≡ self.old.running }
+    {
+        self.parts.next(buf)
+    }
+
+    /// Sends one message to a switch of the other world.
+    pub fn send(&mut self, dpid: Dpid, frame: &[u8]) -> Result<(), LinkFault>
+        requires { IsOk (reading_of frame.now) }
+        ensures seen { Sends W.Tells dpid frame.now (seen_of W.seen self.old) (seen_of W.seen self.new) result }
+        ensures running { self.new.running ≡ self.old.running }
+    {
+        self.parts.send(dpid, frame)
+    }
+
+    /// Takes one message from a switch of the other world.
+    pub fn recv(&mut self, dpid: Dpid, buf: &mut [u8]) -> Result<usize, LinkFault>
+        requires { most_message ≤ length buf.old }
+        ensures seen { Receives W.Tells dpid (seen_of W.seen self.old) (seen_of W.seen self.new) result buf.new }
+        ensures running { self.new.running ≡ self.old.running }
+    {
+        self.parts.recv(dpid, buf)
+    }
+
+    /// Tells whether the application was started and not ended.
+    pub fn runs(&self, app: u32) -> bool
+        ensures { result ≡ runs app self.now.running }
+    {
+        self.parts.runs(app)
+    }
+
+    /// Starts an application, if it is ready and does not run.
+    pub fn start(&mut self, app: u32, ready: bool) -> Result<(), StartFault>
+        ensures seen { Starts W.Tells app (seen_of W.seen self.old) (seen_of W.seen self.new) result }
+        ensures running { self.new.running ≡ running_after app result self.old.running }
+        ensures ok { IsOk result → (ready && not (runs app self.old.running)) ≡ true }
+        ensures refused { IsErrOf result StartFault.NotStarted → (ready && not (runs app self.old.running)) ≡ false }
+    {
+        self.parts.start(app, ready)
+    }
+
+    /// Notes that an application is given bytes, if it runs and takes them.
+    pub fn give(&mut self, app: u32, bytes: &[u8], takes: bool) -> Result<(), GiveFault>
+        ensures seen { Gives W.Tells app bytes.now (seen_of W.seen self.old) (seen_of W.seen self.new) result }
+        ensures running { self.new.running ≡ self.old.running }
+        ensures ok { IsOk result → (takes && runs app self.old.running) ≡ true }
+        ensures gone { IsErrOf result GiveFault.Gone → (takes && runs app self.old.running) ≡ false }
+    {
+        self.parts.give(app, bytes, takes)
+    }
+
+    /// Notes that this was taken from an application, and puts the bytes into the front of the buffer. An application that
+    /// does not run has closed its end.
+    pub fn take(&mut self, app: u32, what: TookWhat, buf: &mut [u8]) -> Taken
+        requires { IsTakeable what (length buf.old) }
+        ensures seen { Takes W.Tells app (seen_of W.seen self.old) (seen_of W.seen self.new) (Ok result) buf.new }
+        ensures running { self.new.running ≡ self.old.running }
+        ensures what { took_of result buf.new ≡ in_place (runs app self.old.running) what }
+    {
+        self.parts.take(app, what, buf)
+    }
+
+    /// Counts that a take wants memory.
+    pub fn take_short(&mut self, app: u32) -> Short
+        ensures seen { (buf : List ℕ) → Takes W.Tells app (seen_of W.seen self.old) (seen_of W.seen self.new) (Err result) buf }
+        ensures running { self.new.running ≡ self.old.running }
+    {
+        self.parts.take_short(app)
+    }
+
+    /// Ends an application, if it runs.
+    pub fn end(&mut self, app: u32)
+        ensures seen { Ends W.Tells app (seen_of W.seen self.old) (seen_of W.seen self.new) }
+        ensures running { self.new.running ≡ running_without app self.old.running }
+    {
+        self.parts.end(app);
+    }
+}
