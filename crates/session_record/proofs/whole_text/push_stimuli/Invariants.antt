@@ -1,0 +1,6 @@
+use Rattle.std.proofs.Common.{string_bytes}
+use Rattle.session_record.specs.Texts.{FirstTold}
+use Rattle.session_record.proofs.whole_text.push_stimuli.Given as goal
+
+abbrev pub invariant-loop-number : goal.invariant-loop-number
+invariant-loop-number g l = FirstTold g.W.World.Tells (g.W.World.seen l.world) l.number (string_bytes l.fn.out) (string_bytes l.out)

@@ -1,0 +1,10 @@
+pub mod Deeds
+pub mod Ends
+pub mod Lines
+pub mod Recording
+pub mod Spelled
+pub mod Links
+pub mod Calls
+pub mod Texts
+pub mod Readings
+pub mod laws

@@ -1,0 +1,6 @@
+pub mod DeedLaws
+pub mod NoteLaws
+pub mod SpelledLaws
+pub mod PushLaws
+pub mod NumberLaws
+pub mod ReadLaws
