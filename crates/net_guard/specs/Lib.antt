@@ -7,4 +7,5 @@ pub mod Loops
 pub mod Values
 pub mod Found
 pub mod Carrying
+pub mod Judging
 pub mod laws

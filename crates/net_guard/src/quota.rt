@@ -1,0 +1,61 @@
+//! The judge that counts entries, and the one judge of the program.
+
+ghost use Rattle.std.specs.Prelude.{◌≡◌, ◌↔◌, ◌≤◌, IsTrue, All, length, nat_le};
+ghost use Rattle.std.specs.List.{list_all};
+ghost use Rattle.flow_table.specs.View.{plains};
+ghost use Rattle.net_guard.specs.Judging.{is_within, is_within_quota, is_allowed};
+
+use crate::guard::Guard;
+use flow_table::{Judge, TableView};
+
+/// The judge that lets tables stand each of which has at most so many entries.
+#[derive(Clone, Copy, Debug, PartialEq, Eq)]
+pub struct Quota {
+    /// The most entries of a table.
+    pub most: u32,
+}
+
+fn has_room(tables: &[TableView], most: u32) -> bool
+    ensures { result ≡ list_all (λ t. nat_le (length t.rows.rows) most) tables.now }
+{
+    tables.iter().all(|table| table.rows.len() <= most as usize)
+}
+
+impl Judge for Quota {
+    ghost use Rattle.net_guard.specs.Judging.{is_within_quota};
+
+    ghost accepts = { λ quota tables. is_within_quota quota.most tables };
+
+    fn allows(&self, tables: &[TableView]) -> bool
+        ensures { result ≡ is_within_quota self.now.most (plains tables.now) }
+    {
+        has_room(tables, self.most)
+    }
+}
+
+/// The judge that an operator chose, in one type, so that what asks a judge is compiled once.
+#[derive(Drop, Debug)]
+pub enum ChosenJudge {
+    /// All tables may stand.
+    All,
+    /// Tables may stand each of which has at most so many entries.
+    Quota(Quota),
+    /// Tables may stand in which no packet comes back to a place where it was.
+    Guard(Guard),
+}
+
+impl Judge for ChosenJudge {
+    ghost use Rattle.net_guard.specs.Judging.{is_allowed};
+
+    ghost accepts = { is_allowed };
+
+    fn allows(&self, tables: &[TableView]) -> bool
+        ensures { result ≡ is_allowed self.now (plains tables.now) }
+    {
+        match self {
+            ChosenJudge::All => true,
+            ChosenJudge::Quota(quota) => quota.allows(tables),
+            ChosenJudge::Guard(guard) => guard.allows(tables),
+        }
+    }
+}
