@@ -1,9 +1,9 @@
 //! The judge that counts entries, and the one judge of the program.
 
-ghost use Rattle.std.specs.Prelude.{◌≡◌, ◌↔◌, ◌≤◌, IsTrue, All, length, nat_le};
+ghost use Rattle.std.specs.Prelude.{◌≡◌, length, nat_le};
 ghost use Rattle.std.specs.List.{list_all};
 ghost use Rattle.flow_table.specs.View.{plains};
-ghost use Rattle.net_guard.specs.Judging.{is_within, is_within_quota, is_allowed};
+ghost use Rattle.net_guard.specs.Judging.{is_allowed, is_within_quota};
 
 use crate::guard::Guard;
 use flow_table::{Judge, TableView};
