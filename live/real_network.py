@@ -497,31 +497,5 @@ CASES = {
     "one switch too many in the trace": Case(one_too_many_is_traced, rounds=MOST_ROUNDS, variables=TRACED),
 }
 
-# What the program does not pass yet. The entry that somebody else deletes in a change that is undone comes in the place of
-# `deleted_in_a_failed_turn` in live/check.
-NOT_YET = {
-    "notices of a join that come behind its turn",
-    "notices of a join that come in its turn",
-    "notices of an undo that come late",
-    "an entry that somebody else deletes in a change",
-    "an entry that somebody else deletes in a change that is undone",
-    "an entry that somebody else deletes in an undo",
-    "an application that hangs",
-    "an application that says bytes now and then",
-    "an application that says frames now and then",
-    "a switch that says something now and then in place of a barrier's reply",
-    "a switch that says something now and then in its join",
-    "a flood of frames in place of a barrier's reply",
-    "a flood of errors in place of a barrier's reply",
-    "a flood of other replies in place of a barrier's reply",
-    "a flood of bytes in place of a barrier's reply",
-    "a switch that refuses an undo",
-    "a switch that tells odd rows at the end",
-    "an application that starts late",
-    "an application that is not there",
-    "an application that may not run",
-    "an application that fails again and again",
-    "what an application writes to its standard error",
-    "strangers in the trace",
-    "one switch too many in the trace",
-}
+# What the program does not pass yet.
+NOT_YET: set = set()

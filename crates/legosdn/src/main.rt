@@ -129,6 +129,9 @@ fn run_beside<
     let LiveErrors { acts, notes } = errors;
     let mut live = LiveWorld::new(rt, alloc, clock, notes)?;
     live.listen_at(settings.address);
+    if let Some(port) = settings.stop_port {
+        live.stop_at(port);
+    }
     if settings.is_traced {
         live.note_connections();
     }

@@ -13,12 +13,18 @@ const LISTEN: &str = "LEGOSDN_LISTEN";
 /// The variable that asks for a trace.
 const TRACE: &str = "LEGOSDN_TRACE";
 
+/// The variable with the port at which a connection ends a run.
+const STOP: &str = "LEGOSDN_STOP";
+
 /// Why a setting is none. It shows as the line that the program writes.
 #[derive(Clone, Copy, Debug, PartialEq, Eq, Error)]
 pub enum SettingFault {
     /// What is set as the address is no IPv4 address.
     #[error("bad address")]
     Address,
+    /// What is set as the port at which a run is ended is none: 1 to 65,535.
+    #[error("bad setting")]
+    Stop,
     /// Memory ran out.
     #[error("no memory")]
     NoMemory,
@@ -31,6 +37,8 @@ pub struct Settings {
     pub address: Ipv4Addr,
     /// Whether acts are told on standard error: where `LEGOSDN_TRACE` is `1`.
     pub is_traced: bool,
+    /// The port of 127.0.0.1 at which a connection ends a run: that of `LEGOSDN_STOP`, if it is set.
+    pub stop_port: Option<u16>,
 }
 
 impl Settings {
@@ -39,6 +47,7 @@ impl Settings {
         Ok(Settings {
             address: address_of(rt)?,
             is_traced: is_traced(rt)?,
+            stop_port: stop_port_of(rt)?,
         })
     }
 }
@@ -52,6 +61,18 @@ fn address_of<R: Env + AllocGlobal>(rt: &R) -> Result<Ipv4Addr, SettingFault> {
         Err(VarError::NotPresent) => Ok(Ipv4Addr::LOCALHOST),
         Err(VarError::OutOfMemory) => Err(SettingFault::NoMemory),
         Err(_) => Err(SettingFault::Address),
+    }
+}
+
+fn stop_port_of<R: Env + AllocGlobal>(rt: &R) -> Result<Option<u16>, SettingFault> {
+    match env::var(rt, STOP) {
+        Ok(text) => match text.as_str().parse::<u16>() {
+            Ok(port) if port > 0 => Ok(Some(port)),
+            _ => Err(SettingFault::Stop),
+        },
+        Err(VarError::NotPresent) => Ok(None),
+        Err(VarError::OutOfMemory) => Err(SettingFault::NoMemory),
+        Err(_) => Err(SettingFault::Stop),
     }
 }
 

@@ -17,7 +17,7 @@ use std::os::unix::net;
 use std::process::{Child, Command, Processes, Stdio, SystemProcess};
 
 /// The lowest token of an application. Below are those of the listener and of connections.
-pub(crate) const FIRST_APP: usize = MOST_CONNECTIONS + 1;
+pub(crate) const FIRST_APP: usize = MOST_CONNECTIONS + 2;
 
 /// A running child. It is killed and waited for where it is dropped.
 struct Running {

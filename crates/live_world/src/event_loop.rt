@@ -29,6 +29,9 @@ pub(crate) const MOST_CONNECTIONS: usize = 128;
 /// The listener's token.
 const LISTENER: usize = MOST_CONNECTIONS;
 
+/// The token of the listener at which a connection asks for the end.
+const STOPPER: usize = MOST_CONNECTIONS + 1;
+
 /// How many events one look at the sources gives at most.
 const EVENTS: usize = 256;
 
@@ -70,6 +73,9 @@ pub(crate) struct EventLoop {
     poll: Poll,
     events: Events,
     listener: Option<TcpListener>,
+    stopper: Option<TcpListener>,
+    /// Whether the end was asked for.
+    pub(crate) is_stopped: bool,
     /// Whether connections may wait at the listener.
     is_called: bool,
     /// A place for each connection.
@@ -98,6 +104,8 @@ impl EventLoop {
             poll: Poll::new(rt)?,
             events: Events::with_capacity(alloc, EVENTS)?,
             listener: None,
+            stopper: None,
+            is_stopped: false,
             is_called: false,
             connections: vacant_places(alloc, MOST_CONNECTIONS)?,
             apps: Vec::new(alloc),
@@ -134,6 +142,17 @@ impl EventLoop {
         self.listener = Some(listener);
         self.is_called = true;
         self.moments = Moments::new(seconds);
+        Ok(())
+    }
+
+    /// Has a connection to this port of 127.0.0.1 ask for the end from now on.
+    pub(crate) fn listen_for_stop<R: Net>(&mut self, rt: &R, port: u16) -> io::Result<()> {
+        let at = SocketAddr::from((Ipv4Addr::LOCALHOST, port));
+        let mut stopper = TcpListener::bind(rt, at)?;
+        self.poll
+            .registry()
+            .register(&mut stopper, Token(STOPPER), Interest::READABLE)?;
+        self.stopper = Some(stopper);
         Ok(())
     }
 
@@ -224,6 +243,8 @@ impl EventLoop {
             let token = event.token().0;
             if token == LISTENER {
                 self.is_called = true;
+            } else if token == STOPPER {
+                self.is_stopped = true;
             } else if let Some(ready) = ready_of(&mut self.connections, &mut self.apps, token) {
                 ready.note(event);
             }

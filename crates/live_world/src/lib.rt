@@ -20,6 +20,7 @@ mod exchanges;
 mod hearing;
 mod inbound;
 mod kept_stimuli;
+mod late_notices;
 mod life;
 mod moments;
 mod notes;

@@ -13,7 +13,7 @@ use crate::life::Stage;
 use crate::notes::Closing;
 use crate::places::{count_of, has_ended, has_news, place_of};
 use of_types::Dpid;
-use outside::{Item, NextFault};
+use outside::{Item, LinkFault, NextFault};
 
 /// The most items and messages passed over until `Idle` is told.
 const MOST_A_BATCH: u32 = 256;
@@ -78,7 +78,11 @@ impl EventLoop {
                 break;
             }
             match self.step(buf)? {
-                TellingStep::Tell(item) => return Ok(item),
+                TellingStep::Tell(item) => match self.is_late(clock, item, buf) {
+                    Ok(true) => self.batch = self.batch.saturating_add(1),
+                    Ok(false) => return Ok(item),
+                    Err(dpid) => return Ok(Item::Left(dpid)),
+                },
                 TellingStep::Passed => self.batch = self.batch.saturating_add(1),
                 TellingStep::More => {}
                 TellingStep::Nothing => {
@@ -91,6 +95,22 @@ impl EventLoop {
             }
         }
         Ok(Item::Idle)
+    }
+
+    /// Tells whether an item is a notice that an entry was deleted which stands: it is passed over. `Err` where the switch does not answer
+    /// the question for that: it has left then. Where memory is wanting, the notice is told.
+    fn is_late<C: Clock>(&mut self, clock: &mut C, item: Item, buf: &[u8]) -> Result<bool, Dpid> {
+        let Item::From(dpid, size) = item else {
+            return Ok(false);
+        };
+        let Some(frame) = buf.get(..size) else {
+            return Ok(false);
+        };
+        match self.is_late_notice(clock, dpid, frame) {
+            Ok(is_late) => Ok(is_late),
+            Err(LinkFault::Short) => Ok(false),
+            Err(LinkFault::Failed) => Err(dpid),
+        }
     }
 
     /// Looks what comes within so many milliseconds, and serves all. Tells whether something came.

@@ -46,6 +46,9 @@ pub struct LiveWorld<R, C, K> {
     errors: K,
     is_noting: bool,
     address: Ipv4Addr,
+    stop_port: Option<u16>,
+    /// Whether the last item was `Idle`.
+    rests: bool,
     surroundings: Surroundings,
     sources: Option<EventLoop>,
     counts: FaultCounts,
@@ -94,6 +97,8 @@ impl<
             errors,
             is_noting: false,
             address: Ipv4Addr::LOCALHOST,
+            stop_port: None,
+            rests: false,
             surroundings,
             sources: None,
             counts: FaultCounts::new(alloc),
@@ -104,6 +109,12 @@ impl<
     /// Has `open` listen at this address from now on.
     pub fn listen_at(&mut self, address: Ipv4Addr) {
         self.address = address;
+    }
+
+    /// Has a connection to this port of 127.0.0.1 end the run behind the batch at hand: `next` answers `End` then. To be called before
+    /// `open`, which fails where the port is taken.
+    pub fn stop_at(&mut self, port: u16) {
+        self.stop_port = Some(port);
     }
 
     /// Notes from now on, as lines to `errors`, at what address it listens, and each connection that is closed before its switch
@@ -171,6 +182,11 @@ impl<
         let now = self.clock.seconds();
         match &mut self.sources {
             Some(sources) if !sources.listens() => {
+                if let Some(stop_port) = self.stop_port {
+                    sources
+                        .listen_for_stop(&self.rt, stop_port)
+                        .map_err(open_fault)?;
+                }
                 sources
                     .listen(&self.rt, self.address, port, now)
                     .map_err(open_fault)
@@ -231,9 +247,11 @@ impl<
 
     fn next(&mut self, buf: &mut [u8]) -> Result<Item, NextFault> {
         let came = match &mut self.sources {
+            Some(sources) if sources.is_stopped && self.rests => Ok(Item::End),
             Some(sources) if sources.listens() => sources.next(&mut self.clock, buf),
             _ => Err(NextFault::Failed),
         };
+        self.rests = came == Ok(Item::Idle);
         if let Ok(item) = came {
             self.kept.note(item, buf);
         }
