@@ -6,6 +6,7 @@ was harmed. Takes about a minute and a half. PROGRAM is the built controller, by
 is live/pairs.py. Prints what each switch met and the report of the run. Ends with status 1 where something was not as it is to be.
 """
 
+import argparse
 import os
 import re
 import socket
@@ -16,7 +17,7 @@ import threading
 import time
 
 TOP = os.path.dirname(os.path.dirname(os.path.abspath(__file__)))
-PROGRAM = sys.argv[1] if len(sys.argv) > 1 else os.path.join(TOP, "crates", "legosdn", "out", "legosdn")
+PROGRAM = os.path.join(TOP, "crates", "legosdn", "out", "legosdn")
 POLICY = f'[[app]]\nname = "app"\ncommand = ["/usr/bin/python3", "{TOP}/live/pairs.py"]\n'
 HELLO, ERROR, ECHO_REQUEST, ECHO_REPLY, FEATURES_REQUEST, FEATURES_REPLY = 0, 1, 2, 3, 5, 6
 PACKET_IN, FLOW_MOD, BARRIER_REQUEST, BARRIER_REPLY = 10, 14, 18, 19
@@ -41,8 +42,8 @@ def features(dpid):
     return message(FEATURES_REPLY, struct.pack(">QIB3xII", dpid, 0, 1, 0, 0xFFF) + port)
 
 
-class Switch:
-    """A connection, and the sources of the frames that it has sent."""
+class Peer:
+    """A connection that says what it is told to, in order or not; the switch of live/played.py answers by itself."""
 
     def __init__(self, port):
         self.link = socket.create_connection(("127.0.0.1", port), 10)
@@ -121,11 +122,11 @@ class Switch:
 class Run:
     """A run of the controller, and its report so far."""
 
-    def __init__(self):
+    def __init__(self, program):
         with socket.create_server(("127.0.0.1", 0)) as link:
             self.port = link.getsockname()[1]
         self.lines = []
-        words = [PROGRAM, "run", str(self.port), "1000000000"]
+        words = [program, "run", str(self.port), "1000000000"]
         self.process = subprocess.Popen(words, stdin=subprocess.PIPE, stdout=subprocess.PIPE, text=True)
         self.process.stdin.write(POLICY)
         self.process.stdin.close()
@@ -134,7 +135,7 @@ class Run:
         self.has("start app ready")
 
     def connects(self):
-        return Switch(self.port)
+        return Peer(self.port)
 
     def has(self, line, times=1):
         """Waits until so many lines of the report end so."""
@@ -296,13 +297,23 @@ def cut_off(run):
     tell("    each time a turn failed", ends == [["turn app failed closed", "lost 1", "start app ready"]] * CUTS)
 
 
-for part in (rules, cut_off):
-    run = Run()
-    try:
-        part(run)
-    except (EOFError, OSError, AssertionError) as fault:
-        tell(f"{part.__name__}: {fault!r}", False)
-    finally:
-        run.process.kill()
-print(f"{failed} not as they are to be")
-sys.exit(1 if failed else 0)
+def main():
+    parser = argparse.ArgumentParser(description=__doc__, formatter_class=argparse.RawDescriptionHelpFormatter)
+    parser.add_argument("program", nargs="?", default=PROGRAM, metavar="PROGRAM", help="the built controller")
+    program = parser.parse_args().program
+    if not os.access(program, os.X_OK):
+        parser.error(f"there is no program {program}")
+    for part in (rules, cut_off):
+        run = Run(program)
+        try:
+            part(run)
+        except (EOFError, OSError, AssertionError) as fault:
+            tell(f"{part.__name__}: {fault!r}", False)
+        finally:
+            run.process.kill()
+    print(f"{failed} not as they are to be")
+    return 1 if failed else 0
+
+
+if __name__ == "__main__":
+    sys.exit(main())
