@@ -1,5 +1,5 @@
 -- Why a run stops.
-use Rattle.std.proofs.Common.{◌≡◌, ◌⊎◌, ℕ, List, [], Option, Some, None, Result, Ok, Err, OnOk, OnErr, IfErr, IfSome, refl, sym, ap, subst, ◌∙◌, arith, inl, inr}
+use Rattle.std.proofs.Common.{◌≡◌, ◌⊎◌, ℕ, List, [], Option, Some, None, Result, Ok, Err, OnOk, OnErr, IfErr, IfSome, refl, sym, ap, ◌∙◌, arith, inl, inr}
 use Rattle.std.specs.Result.{IsErrAnd}
 use Rattle.lego_io.specs.Count.{NeverFell}
 use Rattle.lego_io.specs.laws.CountLaws.{Rose-after, Rose-before}
@@ -11,13 +11,13 @@ use Rattle.lego_model.specs.declared.fault.TxnFault.{TxnFault}
 use Rattle.lego_model.specs.declared.fault.TxnFault.TheVariants as faults
 use Rattle.lego_model.specs.SwitchFaults.{IsWhyTxn}
 use Rattle.event_dispatch.specs.laws.WhyLaws.{IsWhyTxn-behind}
-use Rattle.legosdn.specs.declared.stop.Refusal.{Refusal}
+use Rattle.legosdn.specs.declared.stop.InputRefusal.{InputRefusal}
 use Rattle.legosdn.specs.declared.stop.Stop.{Stop}
 use Rattle.legosdn.specs.declared.stop.Stop.TheVariants.{Usage, Refused, ReadFault, WriteFault, Shut, NextFault, SwitchBroke, Diverged, EventsLeft, NoMemory}
 use Rattle.legosdn.specs.Input.{session_of}
-use Rattle.legosdn.specs.Stops.{stop_status, stop_line, refusal_line, stop_of_switch}
-use Rattle.legosdn.specs.Headline.{Faults, faults_of, IsNoSession, IsReadCause, IsRunCause, IsCause, IsEarly, IsLoaded, LoadedAt, RunsNoOther, NeverRuns, Wrote}
-use Rattle.legosdn.proofs.Statuses.{is_refused, not_late}
+use Rattle.legosdn.specs.Stops.{stop_status, stop_of_switch}
+use Rattle.legosdn.specs.Headline.{faults_of, IsNoSession, IsReadCause, IsRunCause, IsCause, IsLoaded, LoadedAt, RunsNoOther, NeverRuns}
+use Rattle.legosdn.proofs.Statuses.{not_late}
 use Rattle.legosdn.proofs.Loads.{late_loaded, no_other}
 
 pub switch_cause : {Own : Type 0} (Tells : Type 0) (k l : ℕ) (old new : Seen Own) (fault : TxnFault) → IsWhyTxn Tells old new fault → IsRunCause Tells k l old new (stop_of_switch fault)
@@ -69,7 +69,7 @@ run_cause told i j k l a b c (EventsLeft left) first second why = why
 run_cause told i j k l a b c NoMemory first second why = tt
 
 -- with nothing before it
-ran_cause : {Own : Type 0} (Tells : Type 0) (IsRefused : Refusal → List ℕ → Type 0) (told : Option (List ℕ)) (i j k l : ℕ) (a c : Seen Own) (stop : Stop) → IsRunCause Tells k l a c stop → IsCause Tells IsRefused told (faults_of i k a) (faults_of j l c) stop
+ran_cause : {Own : Type 0} (Tells : Type 0) (IsRefused : InputRefusal → List ℕ → Type 0) (told : Option (List ℕ)) (i j k l : ℕ) (a c : Seen Own) (stop : Stop) → IsRunCause Tells k l a c stop → IsCause Tells IsRefused told (faults_of i k a) (faults_of j l c) stop
 ran_cause Tells IsRefused told i j k l a c Usage why = absurd why
 ran_cause Tells IsRefused told i j k l a c (Refused refusal) why = absurd why
 ran_cause Tells IsRefused told i j k l a c ReadFault why = absurd why
@@ -81,13 +81,13 @@ ran_cause Tells IsRefused told i j k l a c (Diverged d) why = why
 ran_cause Tells IsRefused told i j k l a c (EventsLeft left) why = why
 ran_cause Tells IsRefused told i j k l a c NoMemory why = tt
 
-pub ran_causes : {Own T : Type 0} (Tells : Type 0) (IsRefused : Refusal → List ℕ → Type 0) (told : Option (List ℕ)) (i j k l : ℕ) (a c : Seen Own) (result : Result T Stop) → IfErr result (IsRunCause Tells k l a c)
+pub ran_causes : {Own T : Type 0} (Tells : Type 0) (IsRefused : InputRefusal → List ℕ → Type 0) (told : Option (List ℕ)) (i j k l : ℕ) (a c : Seen Own) (result : Result T Stop) → IfErr result (IsRunCause Tells k l a c)
     → IfErr result (IsCause Tells IsRefused told (faults_of i k a) (faults_of j l c))
 ran_causes Tells IsRefused told i j k l a c (Ok x) why = tt
 ran_causes Tells IsRefused told i j k l a c (Err stop) why = ran_cause Tells IsRefused told i j k l a c stop why
 
 -- or with no run at all
-unread_cause : {Own : Type 0} (Tells : Type 0) (IsRefused : Refusal → List ℕ → Type 0) (told : Option (List ℕ)) (i j k l : ℕ) (a c : Seen Own) (stop : Stop) → IsReadCause IsRefused told i j stop → IsCause Tells IsRefused told (faults_of i k a) (faults_of j l c) stop
+unread_cause : {Own : Type 0} (Tells : Type 0) (IsRefused : InputRefusal → List ℕ → Type 0) (told : Option (List ℕ)) (i j k l : ℕ) (a c : Seen Own) (stop : Stop) → IsReadCause IsRefused told i j stop → IsCause Tells IsRefused told (faults_of i k a) (faults_of j l c) stop
 unread_cause Tells IsRefused told i j k l a c Usage why = absurd why
 unread_cause Tells IsRefused told i j k l a c (Refused refusal) why = why
 unread_cause Tells IsRefused told i j k l a c ReadFault why = why
@@ -99,13 +99,13 @@ unread_cause Tells IsRefused told i j k l a c (Diverged d) why = absurd why
 unread_cause Tells IsRefused told i j k l a c (EventsLeft left) why = absurd why
 unread_cause Tells IsRefused told i j k l a c NoMemory why = tt
 
-pub unread_causes : {Own T : Type 0} (Tells : Type 0) (IsRefused : Refusal → List ℕ → Type 0) (told : Option (List ℕ)) (i j k l : ℕ) (a c : Seen Own) (stop : Stop) (result : Result T Stop) → IsErrAnd result (λ s. s ≡ stop) → IsReadCause IsRefused told i j stop
+pub unread_causes : {Own T : Type 0} (Tells : Type 0) (IsRefused : InputRefusal → List ℕ → Type 0) (told : Option (List ℕ)) (i j k l : ℕ) (a c : Seen Own) (stop : Stop) (result : Result T Stop) → IsErrAnd result (λ s. s ≡ stop) → IsReadCause IsRefused told i j stop
     → IfErr result (IsCause Tells IsRefused told (faults_of i k a) (faults_of j l c))
 unread_causes Tells IsRefused told i j k l a c stop (Ok x) is why = tt
 unread_causes Tells IsRefused told i j k l a c stop (Err s) is why = rw is (unread_cause Tells IsRefused told i j k l a c stop why)
 
 -- a write of the last line, behind the run
-pub cause_then : {Own : Type 0} (Tells : Type 0) (IsRefused : Refusal → List ℕ → Type 0) (told : Option (List ℕ)) (i j k l m : ℕ) (a c : Seen Own) (stop : Stop) → NeverFell k l → NeverFell l m → IsCause Tells IsRefused told (faults_of i k a) (faults_of j l c) stop
+pub cause_then : {Own : Type 0} (Tells : Type 0) (IsRefused : InputRefusal → List ℕ → Type 0) (told : Option (List ℕ)) (i j k l m : ℕ) (a c : Seen Own) (stop : Stop) → NeverFell k l → NeverFell l m → IsCause Tells IsRefused told (faults_of i k a) (faults_of j l c) stop
     → IsCause Tells IsRefused told (faults_of i k a) (faults_of j m c) stop
 cause_then Tells IsRefused told i j k l m a c Usage up on why = why
 cause_then Tells IsRefused told i j k l m a c (Refused refusal) up on why = why
@@ -134,23 +134,6 @@ pub run_causes : {T : Type 0} (told : Option (List ℕ)) (i j k l : ℕ) (a b c 
     → IfErr result (IsCause (Unit {0}) IsNoSession told (faults_of i k a) (faults_of j l c))
 run_causes told i j k l a b c (Ok x) first second why = tt
 run_causes told i j k l a b c (Err stop) first second why = run_cause told i j k l a b c stop first second why
-
-refused_line : {Own X : Type 0} (Tells : Type 0) (IsRefused : Refusal → List ℕ → Type 0) (contents : X → Option (List ℕ)) (faults : X → ℕ) (old mid new : X) (told : Option (List ℕ)) (before after : Faults Own) (stop : Stop) (refusal : Refusal)
-    → stop ≡ Refused refusal → IsCause Tells IsRefused told before after stop → (IsEarly stop → mid ≡ old) → Wrote (contents mid) (contents new) (faults mid) (faults new) (stop_line stop)
-    → IfSome told (IsRefused refusal) × Wrote (contents old) (contents new) (faults old) (faults new) (refusal_line refusal)
-unfolding stop_line
-refused_line Tells IsRefused contents faults old mid new told before after stop refusal is =
-    subst (λ s. IsCause Tells IsRefused told before after s → (IsEarly s → mid ≡ old) → Wrote (contents mid) (contents new) (faults mid) (faults new) (stop_line s)
-    → IfSome told (IsRefused refusal) × Wrote (contents old) (contents new) (faults old) (faults new) (refusal_line refusal)) (sym is)
-    (λ why early line. (why, subst (λ x. Wrote (contents x) (contents new) (faults x) (faults new) (refusal_line refusal)) (early tt) line))
-
-pub refused_at_three : {Own X : Type 0} (Tells : Type 0) (IsRefused : Refusal → List ℕ → Type 0) (contents : X → Option (List ℕ)) (faults : X → ℕ) (old mid new : X) (told : Option (List ℕ)) (before after : Faults Own) (stop : Stop)
-    → IsCause Tells IsRefused told before after stop → (IsEarly stop → mid ≡ old) → Wrote (contents mid) (contents new) (faults mid) (faults new) (stop_line stop) → stop_status stop ≡ 3
-    → (refusal : Refusal) × IfSome told (IsRefused refusal) × Wrote (contents old) (contents new) (faults old) (faults new) (refusal_line refusal)
-refused_at_three Tells IsRefused contents faults old mid new told before after stop why early line e =
-    let r = is_refused stop e in
-    let both = refused_line Tells IsRefused contents faults old mid new told before after stop r.0 r.1 why early line in
-    (r.0, both.0, both.1)
 
 -- ---- A refused input
 

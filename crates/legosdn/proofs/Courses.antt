@@ -13,7 +13,7 @@ use Rattle.event_dispatch.specs.Serves.{GoesItsCourse}
 use Rattle.run_course.specs.Parts.{Standing, TakesCourse}
 use Rattle.run_laws.specs.laws.HoldingLaws.{none_got}
 use Rattle.run_laws.specs.laws.PartHoldingLaws.{writes_part, takes_course}
-use Rattle.legosdn.specs.declared.stop.Refusal.{Refusal}
+use Rattle.legosdn.specs.declared.stop.InputRefusal.{InputRefusal}
 use Rattle.legosdn.specs.declared.stop.Stop.{Stop}
 use Rattle.legosdn.specs.declared.stop.Stop.TheVariants.{Usage, Refused, ReadFault, WriteFault, Shut, NextFault, SwitchBroke, Diverged, EventsLeft, NoMemory}
 use Rattle.legosdn.specs.Stops.{stop_of_switch}
@@ -38,7 +38,7 @@ still_course T seen contents result stands = record {
   stands = stands;
 }
 
-unread_stands : {Own : Type 0} (T : Type 0) (IsRefused : Refusal → List ℕ → Type 0) (told : Option (List ℕ)) (i j : ℕ) (seen : Seen Own) (contents : Option (List ℕ)) (stop : Stop) → IsReadCause IsRefused told i j stop → StandsAt {T = T} (Err stop) contents (at_first seen contents)
+unread_stands : {Own : Type 0} (T : Type 0) (IsRefused : InputRefusal → List ℕ → Type 0) (told : Option (List ℕ)) (i j : ℕ) (seen : Seen Own) (contents : Option (List ℕ)) (stop : Stop) → IsReadCause IsRefused told i j stop → StandsAt {T = T} (Err stop) contents (at_first seen contents)
 unread_stands T IsRefused told i j seen contents (Refused refusal) cause = refl
 unread_stands T IsRefused told i j seen contents ReadFault cause = refl
 unread_stands T IsRefused told i j seen contents NoMemory cause = refl
@@ -50,7 +50,7 @@ unread_stands T IsRefused told i j seen contents (SwitchBroke d) cause = absurd 
 unread_stands T IsRefused told i j seen contents (Diverged d) cause = absurd cause
 unread_stands T IsRefused told i j seen contents (EventsLeft left) cause = absurd cause
 
-pub unread_course : {Own T : Type 0} (IsRefused : Refusal → List ℕ → Type 0) (told : Option (List ℕ)) (i j : ℕ) (seen : Seen Own) (contents : Option (List ℕ)) (stop : Stop) (result : Result T Stop) → IsErrAnd result (λ s. s ≡ stop) → IsReadCause IsRefused told i j stop → TakesCourse seen seen contents (StandsAt result contents)
+pub unread_course : {Own T : Type 0} (IsRefused : InputRefusal → List ℕ → Type 0) (told : Option (List ℕ)) (i j : ℕ) (seen : Seen Own) (contents : Option (List ℕ)) (stop : Stop) (result : Result T Stop) → IsErrAnd result (λ s. s ≡ stop) → IsReadCause IsRefused told i j stop → TakesCourse seen seen contents (StandsAt result contents)
 unread_course IsRefused told i j seen contents stop (Ok x) is cause = absurd is
 unread_course {T = T} IsRefused told i j seen contents stop (Err s) is cause =
     still_course T seen contents (Err s) (subst (λ (x : Stop). StandsAt {T = T} (Err x) contents (at_first seen contents)) (sym is) (unread_stands T IsRefused told i j seen contents stop cause))

@@ -7,9 +7,10 @@ mod Loads
 mod Losses
 mod Causes
 mod Places
-mod Served
+mod WorldRuns
 mod Said
 mod CutRuns
 mod Runs
 mod Courses
-mod Serving
+mod CommandEnds
+mod Promises

@@ -14,14 +14,14 @@ use Rattle.lego_model.specs.SessionText.{session_text}
 use Rattle.session_text.specs.declared.text_fault.SessionError.{SessionError}
 use Rattle.session_text.specs.declared.text_fault.SessionError.TheVariants as text
 use Rattle.session_text.specs.Loading.{given_by, LoadFails}
-use Rattle.legosdn.specs.declared.stop.Refusal.{Refusal}
-use Rattle.legosdn.specs.declared.stop.Refusal.TheVariants.{Session}
+use Rattle.legosdn.specs.declared.stop.InputRefusal.{InputRefusal}
+use Rattle.legosdn.specs.declared.stop.InputRefusal.TheVariants.{Session}
 use Rattle.legosdn.specs.declared.stop.Stop.{Stop}
 use Rattle.legosdn.specs.declared.stop.Stop.TheVariants.{Usage, Refused, ReadFault, WriteFault, Shut, NextFault, SwitchBroke, Diverged, EventsLeft, NoMemory}
 use Rattle.lego_model.specs.Application.{names as app_names}
 use Rattle.legosdn.specs.Input.{Read, with_read, apps_in, or_refused, session_lines, session_behind, session_of}
 use Rattle.legosdn.specs.Stops.{stop_of_session}
-use Rattle.legosdn.specs.Headline.{IsNoSession, IsReadCause, IsRunCause, IsLate, Loaded, IsLoaded, LoadedAt, LoadedAs, RunsNoOther}
+use Rattle.legosdn.specs.Headline.{IsNoSession, IsReadCause, IsRunCause, IsEarly, IsLate, Loaded, IsLoaded, LoadedAt, LoadedAs, RunsNoOther}
 
 session_text-lines : (apps : List AppValue) (names : List (List ℕ)) (n : ℕ) (bytes : List ℕ) → names ≡ app_names apps → session_text names n bytes ≡ session_lines apps n (lines_of bytes)
 unfolding session_text session_lines
@@ -58,7 +58,7 @@ loads told left seen apps input n bytes names behind end read = record {
 
 -- ---- Why it is none
 
-told_refused : (told : Option (List ℕ)) (input : List ℕ) (refusal : Refusal) → IfSome told (λ left. input ≡ left) → IsNoSession refusal input → IfSome told (IsNoSession refusal)
+told_refused : (told : Option (List ℕ)) (input : List ℕ) (refusal : InputRefusal) → IfSome told (λ left. input ≡ left) → IsNoSession refusal input → IfSome told (IsNoSession refusal)
 told_refused None input refusal whole e = tt
 told_refused (Some left) input refusal whole e = subst (IsNoSession refusal) whole e
 
@@ -139,3 +139,16 @@ no_other told left seen (SwitchBroke d) loaded = inr loaded
 no_other told left seen (Diverged d) loaded = inr loaded
 no_other told left seen (EventsLeft n) loaded = inr loaded
 no_other told left seen NoMemory loaded = loaded
+
+-- nothing was done at a stop that comes before anything runs
+pub none_done_early : (told left : Option (List ℕ)) (seen : Seen Scripts) (stop : Stop) → IsEarly stop → LoadedAt stop told left seen → seen.history ≡ []
+none_done_early told left seen Usage early loaded = loaded
+none_done_early told left seen (Refused refusal) early loaded = loaded
+none_done_early told left seen ReadFault early loaded = loaded
+none_done_early told left seen WriteFault early loaded = absurd early
+none_done_early told left seen Shut early loaded = absurd early
+none_done_early told left seen NextFault early loaded = absurd early
+none_done_early told left seen (SwitchBroke d) early loaded = absurd early
+none_done_early told left seen (Diverged d) early loaded = absurd early
+none_done_early told left seen (EventsLeft n) early loaded = absurd early
+none_done_early told left seen NoMemory early loaded = absurd early

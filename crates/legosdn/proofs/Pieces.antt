@@ -9,8 +9,8 @@ use Rattle.crash_policy.specs.declared.policy_fault.PolicyFault.{PolicyFault}
 use Rattle.crash_policy.specs.declared.policy_fault.PolicyFault.TheVariants.{Text, UnknownKey, Missing, Range, Double, NoMemory}
 use Rattle.lego_model.specs.declared.session.SessionFault.{SessionFault}
 use Rattle.lego_model.specs.RunReport.{line_of}
-use Rattle.legosdn.specs.declared.stop.Refusal.{Refusal}
-use Rattle.legosdn.specs.declared.stop.Refusal.TheVariants.{Session}
+use Rattle.legosdn.specs.declared.stop.InputRefusal.{InputRefusal}
+use Rattle.legosdn.specs.declared.stop.InputRefusal.TheVariants.{Session}
 use Rattle.legosdn.specs.Stops.{refusal_line, kind_word, fault_words, policy_words, policy_line}
 use Rattle.lego_io.specs.Sink.{TookPart}
 use Rattle.lego_io.specs.laws.ToldLaws.{append_known-append}
@@ -42,7 +42,7 @@ whole_of_three old mid late new a b c first second third =
     ∙ ap (λ (told : Option (List ℕ)). append_known told c) (sym (append_known-append old a b)) ∙ sym (append_known-append old (a ++ b) c)
 
 -- the line of a session's fault, in its pieces
-pub session_line : (refusal : Refusal) (fault : SessionFault) (end : List ℕ) → refusal ≡ Session fault → end ≡ line_of (codes " " ++ kind_word fault.kind)
+pub session_line : (refusal : InputRefusal) (fault : SessionFault) (end : List ℕ) → refusal ≡ Session fault → end ≡ line_of (codes " " ++ kind_word fault.kind)
     → refusal_line refusal ≡ codes "bad session " ++ decimal fault.line ++ end
 unfolding refusal_line
 session_line refusal fault end is said = rw (is, said) refl

@@ -19,7 +19,7 @@ use Rattle.sim_world.specs.Places.{IsActExpected, IsExpected, AreExpected}
 use Rattle.sim_world.specs.World.{WorldData, given_of, seen_of}
 use Rattle.legosdn.specs.Live.{NoneStray}
 
--- ---- Calls for so many applications
+-- ---- Calls for a number of applications
 
 act_among : (number : ℕ) (act : Act) → IsOrderlyAct number act → IsActAmong number act
 act_among number (Stim x) so = tt
@@ -59,7 +59,7 @@ behind_among {last} {seen} number ordered own = subst (AllByRecursion (IsCallAmo
 
 -- ---- Each step
 
--- the calls for each of so many applications keep their order, from a state on
+-- the calls for each of them keep their order, from a state on
 abbrev pub AreInPlace : ℕ → List WorldStep → State → Type 0
 AreInPlace number steps s = (i : ℕ) → i < number → AreInPlaceOf i steps s
 

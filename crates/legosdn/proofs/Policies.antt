@@ -13,7 +13,7 @@ use Rattle.crash_policy.specs.Policies.{AppValue, app_value, policy_value}
 use Rattle.crash_policy.specs.laws.BoundLaws.{IsSized}
 use Rattle.crash_policy.specs.Faults.{Refuses}
 use Rattle.crash_policy.specs.Order.{policy_of}
-use Rattle.legosdn.specs.declared.stop.Refusal.{Refusal}
+use Rattle.legosdn.specs.declared.stop.InputRefusal.{InputRefusal}
 use Rattle.legosdn.specs.declared.stop.Stop.{Stop}
 use Rattle.legosdn.specs.declared.stop.Stop.TheVariants as stops
 use Rattle.legosdn.specs.Input.{Read, with_read, most_input, is_taken, has_words, apps_in, with_words, run_policy}
@@ -72,7 +72,7 @@ pub record ReadAs (told : Option (List ℕ)) (input text : List ℕ) : Type 0 wh
 policy_is : (told : Option (List ℕ)) (input text : List ℕ) → ReadAs told input text → run_policy input ≡ with_read (apps_in (policy_of text)) with_words
 policy_is told input text r = run_is input r.within ∙ ap (λ (t : List ℕ). with_read (apps_in (policy_of t)) with_words) (sym r.text_is)
 
-told_refused : (told : Option (List ℕ)) (input : List ℕ) (refusal : Refusal) → IfSome told (λ left. input ≡ left) → IsNoPolicy refusal input → IfSome told (IsNoPolicy refusal)
+told_refused : (told : Option (List ℕ)) (input : List ℕ) (refusal : InputRefusal) → IfSome told (λ left. input ≡ left) → IsNoPolicy refusal input → IfSome told (IsNoPolicy refusal)
 told_refused None input refusal whole e = tt
 told_refused (Some left) input refusal whole e = subst (IsNoPolicy refusal) whole e
 
@@ -97,7 +97,7 @@ commands_are : (told : Option (List ℕ)) (input text : List ℕ) (apps : List A
 commands_are told input text apps read r spelled is = policy_is told input text r ∙ ap (λ (x : Read (List AppValue)). with_read x with_words) spelled ∙ is
 
 -- one has no command
-pub command_causes : {T : Type 0} (told : Option (List ℕ)) (old new : ℕ) (input text : List ℕ) (apps : List AppValue) (refusal : Refusal) (result : Result T Stop) → IsErrAnd result (λ stop. stop ≡ stops.Refused refusal) → ReadAs told input text
+pub command_causes : {T : Type 0} (told : Option (List ℕ)) (old new : ℕ) (input text : List ℕ) (apps : List AppValue) (refusal : InputRefusal) (result : Result T Stop) → IsErrAnd result (λ stop. stop ≡ stops.Refused refusal) → ReadAs told input text
     → apps_in (policy_of text) ≡ Ok apps → with_words apps ≡ Err (refusal_line refusal) → IfErr result (IsReadCause IsNoPolicy told old new)
 command_causes told old new input text apps refusal (Ok x) is r spelled refused = tt
 command_causes told old new input text apps refusal (Err stop) is r spelled refused = rw is (told_refused told input refusal r.whole (commands_are told input text apps (Err (refusal_line refusal)) r spelled refused))

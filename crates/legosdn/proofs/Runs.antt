@@ -24,7 +24,7 @@ use Rattle.sim_world.specs.World.{WorldData, given_of, seen_of}
 use Rattle.sim_world.specs.Tally.{counts_of}
 use Rattle.sim_world.specs.Building.{IsNew, Begins}
 use Rattle.session_text.specs.Loading.{given_by}
-use Rattle.legosdn.specs.declared.stop.Refusal.{Refusal}
+use Rattle.legosdn.specs.declared.stop.InputRefusal.{InputRefusal}
 use Rattle.legosdn.specs.declared.stop.Stop.{Stop}
 use Rattle.legosdn.specs.declared.stop.Stop.TheVariants.{Usage, Refused, ReadFault, WriteFault, Shut, NextFault, SwitchBroke, Diverged, EventsLeft, NoMemory}
 use Rattle.legosdn.specs.Input.{session_of}
@@ -37,7 +37,7 @@ use Rattle.legosdn.proofs.CutRuns.{lines_said, writing_said, memory_said}
 use Rattle.legosdn.proofs.Said.{kept_to_lines, ends_as_said, leaves_as_said}
 use Rattle.legosdn.proofs.Statuses.{is_left, is_broken, is_diverged, is_memory, not_before}
 
--- a session that was read has so many stimuli at most
+-- a session that was read has a million stimuli at most
 pub loads_few : (names : List (List ℕ)) (n : ℕ) (bytes : List ℕ) (seen : Seen Scripts) → (s : SessionValue) × (session_text names n bytes ≡ Ok s) × Begins (given_by s) seen → length seen.given.stimuli ≤ 1000000
 unfolding given_by
 loads_few names n bytes seen read =
@@ -225,7 +225,7 @@ left_of_input rest sim stop contents before now_contents faults_old faults fault
     (left_as ran.0 sim last.0 stop contents before now_contents faults_old faults faults_new told old new last.1 up ran.2 cause written)
 
 -- where an input is not read, nothing was done
-pub read_before : (IsRefused : Refusal → List ℕ → Type 0) (told : Option (List ℕ)) (k l : ℕ) (stop : Stop) → IsReadCause IsRefused told k l stop → IsEarly stop ⊎ (stop ≡ NoMemory)
+pub read_before : (IsRefused : InputRefusal → List ℕ → Type 0) (told : Option (List ℕ)) (k l : ℕ) (stop : Stop) → IsReadCause IsRefused told k l stop → IsEarly stop ⊎ (stop ≡ NoMemory)
 read_before IsRefused told k l Usage cause = absurd cause
 read_before IsRefused told k l (Refused refusal) cause = inl tt
 read_before IsRefused told k l ReadFault cause = inl tt
@@ -237,7 +237,7 @@ read_before IsRefused told k l (Diverged d) cause = absurd cause
 read_before IsRefused told k l (EventsLeft left) cause = absurd cause
 read_before IsRefused told k l NoMemory cause = inr refl
 
-pub stops_by_read : {Own T : Type 0} (IsRefused : Refusal → List ℕ → Type 0) (told : Option (List ℕ)) (k l : ℕ) (seen : Seen Own) (contents : Option (List ℕ)) (stop : Stop) (result : Result T Stop) → IsErrAnd result (λ s. s ≡ stop) → seen.history ≡ []
+pub stops_by_read : {Own T : Type 0} (IsRefused : InputRefusal → List ℕ → Type 0) (told : Option (List ℕ)) (k l : ℕ) (seen : Seen Own) (contents : Option (List ℕ)) (stop : Stop) (result : Result T Stop) → IsErrAnd result (λ s. s ≡ stop) → seen.history ≡ []
     → IsReadCause IsRefused told k l stop → StopsBefore result seen contents contents
 stops_by_read IsRefused told k l seen contents stop (Ok x) is none cause = absurd is
 stops_by_read IsRefused told k l seen contents stop (Err s) is none cause =
@@ -248,7 +248,7 @@ pub runs_by_read : {T : Type 0} (told left : Option (List ℕ)) (k l : ℕ) (sim
 runs_by_read told left k l sim contents stop result is none cause = inr (stops_by_read IsNoSession told k l (seen_of sim) contents stop result is none cause)
 
 -- and comes before anything runs
-read_not_late : (P : Type 0) (IsRefused : Refusal → List ℕ → Type 0) (told : Option (List ℕ)) (k l : ℕ) (stop : Stop) → IsReadCause IsRefused told k l stop → IsLate stop → P
+read_not_late : (P : Type 0) (IsRefused : InputRefusal → List ℕ → Type 0) (told : Option (List ℕ)) (k l : ℕ) (stop : Stop) → IsReadCause IsRefused told k l stop → IsLate stop → P
 read_not_late P IsRefused told k l Usage cause late = absurd cause
 read_not_late P IsRefused told k l (Refused refusal) cause late = absurd late
 read_not_late P IsRefused told k l ReadFault cause late = absurd late
@@ -260,7 +260,7 @@ read_not_late P IsRefused told k l (Diverged d) cause late = absurd cause
 read_not_late P IsRefused told k l (EventsLeft left) cause late = absurd cause
 read_not_late P IsRefused told k l NoMemory cause late = absurd late
 
-pub by_read : {T : Type 0} (P : Type 0) (IsRefused : Refusal → List ℕ → Type 0) (told : Option (List ℕ)) (k l : ℕ) (stop : Stop) (result : Result T Stop) → IsErrAnd result (λ s. s ≡ stop) → IsReadCause IsRefused told k l stop → IfErr result (λ s. IsLate s → P)
+pub by_read : {T : Type 0} (P : Type 0) (IsRefused : InputRefusal → List ℕ → Type 0) (told : Option (List ℕ)) (k l : ℕ) (stop : Stop) (result : Result T Stop) → IsErrAnd result (λ s. s ≡ stop) → IsReadCause IsRefused told k l stop → IfErr result (λ s. IsLate s → P)
 by_read P IsRefused told k l stop (Ok x) is cause = tt
 by_read P IsRefused told k l stop (Err s) is cause = λ late. read_not_late P IsRefused told k l stop cause (subst IsLate is late)
 
@@ -282,7 +282,7 @@ diverged_as told left sim stop a b runs nine =
 
 -- ---- A good input is answered
 
-pub completes : {Own : Type 0} (Tells : Type 0) (IsRefused : Refusal → List ℕ → Type 0) (told : Option (List ℕ)) (old new : Faults Own) (stop : Stop) → IsCause Tells IsRefused told old new stop → ((refusal : Refusal) → IfSome told (IsRefused refusal) → ⊥)
+pub completes : {Own : Type 0} (Tells : Type 0) (IsRefused : InputRefusal → List ℕ → Type 0) (told : Option (List ℕ)) (old new : Faults Own) (stop : Stop) → IsCause Tells IsRefused told old new stop → ((refusal : InputRefusal) → IfSome told (IsRefused refusal) → ⊥)
     → (stop_status stop ≡ 8 → ⊥) → (stop_status stop ≡ 9 → ⊥) → NoneFailed old new → Contains (0 ∷ 10 ∷ 12 ∷ []) (stop_status stop)
 completes Tells IsRefused told old new Usage cause good broke diverged none = absurd cause
 completes Tells IsRefused told old new (Refused refusal) cause good broke diverged none = absurd (good refusal cause)
@@ -296,7 +296,7 @@ completes Tells IsRefused told old new (EventsLeft left) cause good broke diverg
 completes Tells IsRefused told old new NoMemory cause good broke diverged none = (2, omega arith, refl)
 
 -- an input that spells a session is not refused
-pub good_session : (told : Option (List ℕ)) (input : List ℕ) (apps : List AppValue) (session : SessionValue) → told ≡ Some input → session_of input ≡ Ok (apps, session) → (refusal : Refusal) → IfSome told (IsNoSession refusal) → ⊥
+pub good_session : (told : Option (List ℕ)) (input : List ℕ) (apps : List AppValue) (session : SessionValue) → told ≡ Some input → session_of input ≡ Ok (apps, session) → (refusal : InputRefusal) → IfSome told (IsNoSession refusal) → ⊥
 good_session told input apps session whole spelled refusal cause = no_both (apps, session) (refusal_line refusal) (sym spelled ∙ subst (λ (t : Option (List ℕ)). IfSome t (IsNoSession refusal)) whole cause)
 
 -- nothing was counted in a new world

@@ -55,7 +55,7 @@ have_room : (number : ℕ) (steps : List WorldStep) → AllByRecursion (IsOrderl
 have_room number [] so = tt
 have_room number (step ∷ steps) so = (step_has_room number step so.0, have_room number steps so.1)
 
--- the world kept to the lines that it was given, and no call for one of so many applications was told to fail
+-- the world kept to the lines that it was given, and no call for one of its applications was told to fail
 pub record KeptToLines (number : ℕ) (seen : Seen Scripts) : Type 0 where
   pub keeps : KeepsScripts seen.given.own [] seen.history
   pub orderly : AllByRecursion (IsOrderly number) seen.history
@@ -66,7 +66,7 @@ pub record KeptToLines (number : ℕ) (seen : Seen Scripts) : Type 0 where
 told_of_one : ℕ → Seen Scripts → ℕ
 told_of_one i seen = length (starts_in (own_acts i seen)) + length (replies_in (own_acts i seen))
 
--- of the first so many applications together
+-- of the first applications together
 pub told_in : ℕ → Seen Scripts → ℕ
 told_in zero seen = 0
 told_in (suc n) seen = told_of_one n seen + told_in n seen

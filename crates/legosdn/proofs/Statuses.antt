@@ -1,6 +1,6 @@
 -- Which stop a status is that of.
 use Rattle.std.proofs.Common.{◌≡◌, ◌⊎◌, ℕ, [], ◌∷◌, Contains, refl, subst, arith, inl, inr}
-use Rattle.legosdn.specs.declared.stop.Refusal.{Refusal}
+use Rattle.legosdn.specs.declared.stop.InputRefusal.{InputRefusal}
 use Rattle.legosdn.specs.declared.stop.Stop.{Stop}
 use Rattle.legosdn.specs.declared.stop.Stop.TheVariants.{Usage, Refused, ReadFault, WriteFault, Shut, NextFault, SwitchBroke, Diverged, EventsLeft, NoMemory}
 use Rattle.legosdn.specs.Stops.{stop_status}
@@ -42,7 +42,7 @@ is_write_fault (Diverged d) e = absurd (omega arith)
 is_write_fault (EventsLeft left) e = absurd (omega arith)
 is_write_fault NoMemory e = absurd (omega arith)
 
-pub is_refused : (stop : Stop) → stop_status stop ≡ 3 → (refusal : Refusal) × (stop ≡ Refused refusal)
+pub is_refused : (stop : Stop) → stop_status stop ≡ 3 → (refusal : InputRefusal) × (stop ≡ Refused refusal)
 is_refused Usage e = absurd (omega arith)
 is_refused (Refused refusal) e = (refusal, refl)
 is_refused ReadFault e = absurd (omega arith)

@@ -1,4 +1,4 @@
--- What a command promises: how it ends, why, and what it wrote last.
+-- How a command ends, why, and what it wrote last: the words of both promises. All of this is our own choice.
 use Rattle.std.specs.Prelude.{◌≡◌, ◌⊎◌, ◌<◌, ◌≤◌, ℕ, false, List, [], ◌∷◌, length, Option, Some, IfSome, Result, Ok, Err, IfErr, OnOk, Contains}
 use Rattle.std.specs.Io.KnownBytes.{append_known}
 use Rattle.lego_io.specs.Count.{Rose, NeverFell}
@@ -24,7 +24,7 @@ use Rattle.session_text.specs.Loading.{given_by}
 use Rattle.crash_policy.specs.Order.{policy_of}
 use Rattle.command_words.specs.Commands.{command_in}
 use Rattle.command_words.specs.declared.command.Command.TheVariants.{Replay, Run}
-use Rattle.legosdn.specs.declared.stop.Refusal.{Refusal}
+use Rattle.legosdn.specs.declared.stop.InputRefusal.{InputRefusal}
 use Rattle.legosdn.specs.Input.{apps_in, session_of, run_policy}
 use Rattle.legosdn.specs.Said.{all_allowed, reference_over, WithEnough, LinesRun, MemoryRun, WritingRun}
 use Rattle.legosdn.specs.declared.stop.Stop.{Stop}
@@ -35,16 +35,16 @@ use Rattle.legosdn.specs.Stops.{stop_status, stop_line, refusal_line, stop_of_sw
 abbrev pub IsReplay : List (List ℕ) → Type 0
 IsReplay words = command_in words ≡ Some Replay
 
--- or `run`, with a port and so many rounds
+-- or `run`, with a port and a number of rounds
 abbrev pub IsRun : List (List ℕ) → ℕ → ℕ → Type 0
 IsRun words port rounds = command_in words ≡ Some (Run port rounds)
 
 -- why an input is refused: to `replay` it spells no session,
-abbrev pub IsNoSession : Refusal → List ℕ → Type 0
+abbrev pub IsNoSession : InputRefusal → List ℕ → Type 0
 IsNoSession refusal input = session_of input ≡ Err (refusal_line refusal)
 
 -- and to `run` no policy that it takes
-abbrev pub IsNoPolicy : Refusal → List ℕ → Type 0
+abbrev pub IsNoPolicy : InputRefusal → List ℕ → Type 0
 IsNoPolicy refusal input = run_policy input ≡ Err (refusal_line refusal)
 
 -- How often the source and the sink failed, and what is seen of the world, which counts how often it failed.
@@ -56,12 +56,25 @@ pub record Faults (Own : Type 0) : Type 0 where
 abbrev pub faults_of : {Own : Type 0} → ℕ → ℕ → Seen Own → Faults Own
 faults_of source sink world = record { source = source; sink = sink; world = world }
 
+-- What is seen of a source and a sink: what the source has still to tell, what the sink holds, and how often each failed.
+pub record Streams : Type 0 where
+  pub remaining : Option (List ℕ)
+  pub contents : Option (List ℕ)
+  pub source_faults : ℕ
+  pub sink_faults : ℕ
+
+abbrev pub streams : Option (List ℕ) → Option (List ℕ) → ℕ → ℕ → Streams
+streams remaining contents source_faults sink_faults = record { remaining = remaining; contents = contents; source_faults = source_faults; sink_faults = sink_faults }
+
+abbrev pub faults_at : {Own : Type 0} → Streams → Seen Own → Faults Own
+faults_at at seen = faults_of at.source_faults at.sink_faults seen
+
 -- a switch failed, which stops the run so; the history of the world has the cause, where it tells
 abbrev pub IsSwitchCause : {Own : Type 0} → Type 0 → Seen Own → Seen Own → Stop → Type 0
 IsSwitchCause Tells old new stop = (fault : TxnFault) × (stop ≡ stop_of_switch fault) × IsWhyTxn Tells old new fault
 
 -- why an input is not read, or refused
-abbrev pub IsReadCause : (Refusal → List ℕ → Type 0) → Option (List ℕ) → ℕ → ℕ → Stop → Type 0
+abbrev pub IsReadCause : (InputRefusal → List ℕ → Type 0) → Option (List ℕ) → ℕ → ℕ → Stop → Type 0
 IsReadCause IsRefused told old new (Refused refusal) = IfSome told (IsRefused refusal)
 IsReadCause IsRefused told old new ReadFault = Rose old new
 IsReadCause IsRefused told old new NoMemory = Unit {0}
@@ -85,7 +98,7 @@ IsRunCause Tells sink_old sink_new old new NoMemory = Unit {0}
 IsRunCause Tells sink_old sink_new old new other = ⊥
 
 -- Why a command stops: all that the source told is refused; what failed is counted; or events are left. Want of memory may come at any time.
-abbrev pub IsCause : {Own : Type 0} → Type 0 → (Refusal → List ℕ → Type 0) → Option (List ℕ) → Faults Own → Faults Own → Stop → Type 0
+abbrev pub IsCause : {Own : Type 0} → Type 0 → (InputRefusal → List ℕ → Type 0) → Option (List ℕ) → Faults Own → Faults Own → Stop → Type 0
 IsCause Tells IsRefused told old new (Refused refusal) = IfSome told (IsRefused refusal)
 IsCause Tells IsRefused told old new ReadFault = Rose old.source new.source
 IsCause Tells IsRefused told old new stop = IsRunCause Tells old.sink new.sink old.world new.world stop
@@ -178,7 +191,7 @@ pub record RunsWhole (rules : List AppValue) (seen : Seen Scripts) (contents now
   -- it is that over what the lines of the session say of the applications too
   pub as_said : without_links seen.given.fails ≡ [] → WithEnough (λ more. EndsAs rules seen contents now_contents events (reference_over rules more alike.losses seen.given))
 
--- The same with so many events left, and with the lines of those that were dispatched.
+-- The same with this many events left, and with the lines of those that were dispatched.
 pub record RunsPart (rules : List AppValue) (seen : Seen Scripts) (contents now_contents : Option (List ℕ)) (left : ℕ) : Type 0 where
   pub alike : LeavesAlike rules all_allowed false seen contents now_contents left
   pub stimuli : stimuli_in seen ≡ seen.given.stimuli
@@ -286,10 +299,10 @@ StopsBefore (Err stop) seen contents now_contents = (IsEarly stop ⊎ (stop ≡ 
 abbrev pub RunsLoaded : {T : Type 0} → Result T Stop → Option (List ℕ) → Option (List ℕ) → WorldData → Option (List ℕ) → Option (List ℕ) → Type 0
 RunsLoaded result told left sim contents now_contents = ((apps : List AppValue) × Loaded apps told left (seen_of sim) × RunsAs apps result sim contents now_contents) ⊎ StopsBefore result (seen_of sim) contents now_contents
 
-pub record Replays {T : Type 0} (result : Result T Stop) (told left : Option (List ℕ)) (old new : Faults Scripts) (sim : WorldData) (contents now_contents : Option (List ℕ)) (Stays : Type 0) : Type 0 where
-  pub loaded : LoadedAs result told left (seen_of sim)
-  pub runs : RunsLoaded result told left sim contents now_contents
-  pub lines : OnOk result (KeepsLines sim)
-  pub late_lines : IfErr result (λ stop. IsLate stop → KeepsLines sim)
-  pub why : IfErr result (IsCause (Unit {0}) IsNoSession told old new)
+pub record Replays {T : Type 0} (result : Result T Stop) (old new : Streams) (was now : WorldData) (Stays : Type 0) : Type 0 where
+  pub loaded : LoadedAs result old.remaining new.remaining (seen_of now)
+  pub runs : RunsLoaded result old.remaining new.remaining now old.contents new.contents
+  pub lines : OnOk result (KeepsLines now)
+  pub late_lines : IfErr result (λ stop. IsLate stop → KeepsLines now)
+  pub why : IfErr result (IsCause (Unit {0}) IsNoSession old.remaining (faults_at old (seen_of was)) (faults_at new (seen_of now)))
   pub early : IfErr result (λ stop. IsEarly stop → Stays)

@@ -12,10 +12,10 @@ use Rattle.lego_model.specs.Words.{is_word}
 use Rattle.lego_model.specs.SessionLines.{SessionValue}
 use Rattle.lego_model.specs.SessionText.{at_first, lines_from, ◌>>=◌}
 use Rattle.lego_model.specs.Application.{names}
-use Rattle.legosdn.specs.declared.stop.Refusal.TheVariants.{Size, Separator, PolicyLater, NoCommand, Session}
+use Rattle.legosdn.specs.declared.stop.InputRefusal.TheVariants.{Size, Separator, PolicyLater, NoCommand, Session}
 use Rattle.legosdn.specs.Stops.{fault_words, policy_line, refusal_line}
 
--- an input holds at most so many bytes
+-- how many bytes an input holds at most
 abbrev pub most_input : ℕ
 most_input = 67108864
 

@@ -3,3 +3,4 @@ pub mod Input
 pub mod Said
 pub mod Headline
 pub mod Live
+pub mod Promise

@@ -18,7 +18,7 @@ use Rattle.legosdn.specs.declared.stop.Stop.TheVariants.{WriteFault, Shut, NextF
 use Rattle.legosdn.specs.Input.{run_policy}
 use Rattle.legosdn.specs.Stops.{stop_status, stop_line}
 use Rattle.legosdn.specs.Said.{all_allowed}
-use Rattle.legosdn.specs.Headline.{NoneFloods, Faults, IsNoPolicy, IsCause, IsEarly, IsLate, UpToPoint, Wrote, StopsBefore}
+use Rattle.legosdn.specs.Headline.{NoneFloods, Streams, faults_at, IsNoPolicy, IsCause, IsEarly, IsLate, UpToPoint, Wrote, StopsBefore}
 
 -- ---- The policy
 
@@ -57,7 +57,7 @@ pub record ServesWhole {Own : Type 0} (rules : List AppValue) (rounds : ℕ) (se
   pub alike : EndsAlike rules all_allowed (is_spent rounds seen) seen contents now_contents events
   pub stimuli : TookFirst rounds seen
 
--- The same with so many events left, and with the lines of those that were dispatched.
+-- The same with this many events left, and with the lines of those that were dispatched.
 pub record ServesPart {Own : Type 0} (rules : List AppValue) (rounds : ℕ) (seen : Seen Own) (contents now_contents : Option (List ℕ)) (left : ℕ) : Type 0 where
   pub alike : LeavesAlike rules all_allowed (is_spent rounds seen) seen contents now_contents left
   pub stimuli : TookFirst rounds seen
@@ -127,11 +127,10 @@ TakenAs (Err stop) told left = IsLate stop → IsTaken told left
 abbrev pub ServesTaken : {Own T : Type 0} → (rounds : ℕ) → Result T Stop → Option (List ℕ) → Option (List ℕ) → Seen Own → Option (List ℕ) → Option (List ℕ) → Type 0
 ServesTaken rounds result told left seen contents now_contents = ((apps : List AppValue) × Taken apps told left × ServesAs apps rounds result seen contents now_contents) ⊎ StopsBefore result seen contents now_contents
 
-pub record Serves {Own T : Type 0} (Tells : Type 0) (rounds : ℕ) (result : Result T Stop) (told left : Option (List ℕ)) (old new : Faults Own) (contents now_contents : Option (List ℕ)) (Stays : Type 0) : Type 0 where
-  pub taken : TakenAs result told left
-  pub no_other : IsTaken told left ⊎ Stays
-  pub runs : TellsInOrder Tells old.world new.world → ServesTaken rounds result told left new.world contents now_contents
-  pub strays : TellsInOrder Tells old.world new.world → NoneStray new.world
-  pub course : Tells → TakesCourse old.world new.world contents (StandsAt result now_contents)
-  pub why : IfErr result (IsCause Tells IsNoPolicy told old new)
+pub record Serves {Own T : Type 0} (Tells : Type 0) (rounds : ℕ) (result : Result T Stop) (old new : Streams) (was now : Seen Own) (Stays : Type 0) : Type 0 where
+  pub taken : TakenAs result old.remaining new.remaining
+  pub no_other : IsTaken old.remaining new.remaining ⊎ Stays
+  pub runs : TellsInOrder Tells was now → ServesTaken rounds result old.remaining new.remaining now old.contents new.contents
+  pub course : Tells → TakesCourse was now old.contents (StandsAt result new.contents)
+  pub why : IfErr result (IsCause Tells IsNoPolicy old.remaining (faults_at old was) (faults_at new now))
   pub early : IfErr result (λ stop. IsEarly stop → Stays)

@@ -19,8 +19,8 @@ use Rattle.lego_model.specs.CutRun.{start_said, Progress, WroteSoFar, WasWriting
 abbrev pub all_allowed : List Place → Bool
 all_allowed places = true
 
--- what the lines say of each application, by its index; behind the last line come so many starts that are ready, and so many turns that are
--- done at once
+-- what the lines say of each application, by its index; behind the last line come as many starts that are ready as `more` says,
+-- and as many turns that are done at once
 abbrev pub said_by : ℕ → Scripts → ℕ → Said
 said_by more own i = record { starts = starts_said more (starts_of i own); replies = replies_said more (replies_of i own) }
 

@@ -14,8 +14,8 @@ use Rattle.lego_model.specs.declared.fault.TxnFault.{TxnFault}
 use Rattle.lego_model.specs.declared.fault.TxnFault.TheVariants as faults
 use Rattle.session_text.specs.declared.text_fault.SessionError.{SessionError}
 use Rattle.session_text.specs.declared.text_fault.SessionError.TheVariants as text
-use Rattle.legosdn.specs.declared.stop.Refusal.{Refusal}
-use Rattle.legosdn.specs.declared.stop.Refusal.TheVariants as refusals
+use Rattle.legosdn.specs.declared.stop.InputRefusal.{InputRefusal}
+use Rattle.legosdn.specs.declared.stop.InputRefusal.TheVariants as refusals
 use Rattle.legosdn.specs.declared.stop.Stop.{Stop}
 use Rattle.legosdn.specs.declared.stop.Stop.TheVariants as stops
 
@@ -66,7 +66,7 @@ policy_words policy.NoMemory = codes "no memory"
 abbrev pub policy_line : List ℕ → List ℕ
 policy_line words = line_of (codes "bad policy " ++ words)
 
-unfoldable pub refusal_line : Refusal → List ℕ
+unfoldable pub refusal_line : InputRefusal → List ℕ
 refusal_line refusals.Size = line_of (codes "bad size")
 refusal_line refusals.Separator = line_of (codes "bad separator")
 refusal_line refusals.PolicyLater = line_of (codes "bad policy later")

@@ -4,11 +4,11 @@ ghost use Rattle.std.specs.Prelude.{◌≡◌, ◌==◌, ◌⊎◌, ◌++◌, �
 ghost use Rattle.lego_io.specs.Count.{NeverFell};
 ghost use Rattle.lego_io.specs.Source.{ended};
 ghost use Rattle.lego_io.specs.Lines.{cut_at_lf, lines_of};
-ghost use Rattle.legosdn.specs.declared.stop.Refusal.TheVariants.{Separator};
+ghost use Rattle.legosdn.specs.declared.stop.InputRefusal.TheVariants.{Separator};
 ghost use Rattle.legosdn.specs.Input.{most_input, is_separator as is_separator_in, policy_text, behind_separator, session_behind, session_of};
 ghost use Rattle.legosdn.specs.Headline.{IsReadCause, IsNoSession, IsNoPolicy};
 
-use crate::stop::{Refusal, Stop};
+use crate::stop::{InputRefusal, Stop};
 use lego_io::{Lines, Source, read_all};
 use std::alloc::Global;
 
@@ -78,7 +78,7 @@ fn behind_line(text: &[u8]) -> &[u8]
 }
 
 /// Cuts an input into its parts.
-pub fn cut(input: &[u8]) -> Result<Parts<'_>, Refusal>
+pub fn cut(input: &[u8]) -> Result<Parts<'_>, InputRefusal>
     requires { length input.now ≤ most_input }
     ensures found { IfOk result (λ parts. behind_separator 1 (lines_of input.now) ≡ Some (parts.first_line, lines_of parts.session.now)) }
     ensures policy { IfOk result (λ parts. parts.policy.now ≡ policy_text input.now) }
@@ -100,5 +100,5 @@ pub fn cut(input: &[u8]) -> Result<Parts<'_>, Refusal>
         rest = behind;
         number += 1;
     }
-    Err(Refusal::Separator)
+    Err(InputRefusal::Separator)
 }

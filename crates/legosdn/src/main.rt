@@ -1,13 +1,9 @@
 //! The program: it reads an input, runs a world, and writes the report. `replay` runs the session of the input in a simulated
 //! world. `run` runs the applications of a policy over the switches that connect.
 //!
-//! The call is `top::legosdn`, over any source, sink and worlds. Whole runs: `whole_run`, `whole_report`, `events_left`,
-//! `live_whole_run`. Runs that a fault ends: `run_until_fault`, `live_run_until_stop`. Causes: `status_has_cause`,
-//! `live_status_has_cause`, `usage`, `input_refused`, `policy_refused`, `source_failed`, `sink_failed`,
-//! `breaks_only_on_bad_bytes`, `diverges_only_on_bad_bytes`, `no_stray_call`, `live_no_stray_call`,
-//! `own_ids_ascend`, `live_own_ids_ascend`, `none_lost_without_fault`. Good inputs:
-//! `complete_without_fault`, `live_complete_without_fault`, `input_loaded`, `policy_taken`, `refused_input_never_runs`,
-//! `refused_policy_never_runs`, `application_keeps_script`. Before anything runs: `no_command`, `world_untouched`.
+//! The call is `top::legosdn`, over any source, sink and worlds. Its clauses `replay` and `run` are the promises of the two
+//! commands, records of specs/Promise.antt: a field for each sentence of the README, and one for statuses. The others say
+//! what is so at every status, and before anything runs.
 //! docs/GUARANTEES.md says each in plain words, docs/SESSION.md describes input, report and statuses.
 #![tactic(auto)]
 
@@ -52,7 +48,7 @@ fn words_of(rt: &HostRuntime) -> Result<Vec<String>, AllocError> {
 }
 
 /// Returns this world, whose acts are told to the sink where the environment asks for it.
-fn traced<W: World + Drop, K: Sink + Drop>(
+fn with_trace<W: World + Drop, K: Sink + Drop>(
     settings: &Settings,
     alloc: Global,
     world: W,
@@ -89,7 +85,7 @@ fn call_over<S: Source + Drop, K: Sink + Drop, E: Sink + Drop, L: World + Drop>(
     requires new_world { IsNew sim.old }
     requires empty_world { given_of sim.old ≡ nothing_given }
 {
-    let mut live = traced(settings, alloc, live, errors);
+    let mut live = with_trace(settings, alloc, live, errors);
     legosdn(
         alloc,
         &console.words,
@@ -156,7 +152,7 @@ fn run_in_worlds<
 ) -> Result<u8, AllocError> {
     let alloc = rt.alloc();
     let sim = SimWorld::new(alloc)?;
-    let mut sim = traced(settings, alloc, sim, errors);
+    let mut sim = with_trace(settings, alloc, sim, errors);
     run_beside(rt, clock, settings, console, &mut sim, live_errors)
 }
 

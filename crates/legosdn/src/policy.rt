@@ -11,7 +11,7 @@ ghost use Rattle.legosdn.specs.Headline.{IsReadCause, IsNoPolicy, IsPolicyCause}
 ghost use Rattle.legosdn.specs.Live.{Taken};
 
 use crate::input::read_input;
-use crate::stop::{Refusal, Stop};
+use crate::stop::{InputRefusal, Stop};
 use crash_policy::{AppRule, Policy, PolicyFile, read_policy};
 use lego_io::Source;
 use std::alloc::Global;
@@ -50,7 +50,7 @@ fn are_taken(apps: &[AppRule]) -> bool
 
 /// Gives the applications of a policy, where the engine can run all of them so far.
 #[tactic(auto, using(crate::proofs::Policies::all_taken))]
-fn taken_apps(policy: PolicyFile) -> Result<Vec<AppRule>, Refusal>
+fn taken_apps(policy: PolicyFile) -> Result<Vec<AppRule>, InputRefusal>
     ensures taken { IfOk result (λ apps. apps_in (Ok (policy_value policy)) ≡ Ok (map app_value apps.items)) }
     ensures same { IfOk result (λ apps. apps ≡ policy.apps) }
     ensures refused { IfErr result (λ refusal. apps_in (Ok (policy_value policy)) ≡ Err (refusal_line refusal)) }
@@ -59,7 +59,7 @@ fn taken_apps(policy: PolicyFile) -> Result<Vec<AppRule>, Refusal>
     if quota.is_none() && are_taken(&apps) {
         return Ok(apps);
     }
-    Err(Refusal::PolicyLater)
+    Err(InputRefusal::PolicyLater)
 }
 
 /// Reads the applications of a policy text, in their order.
@@ -89,12 +89,12 @@ fn are_startable(apps: &[AppRule]) -> bool
 
 /// Gives the applications, where each has a command.
 #[tactic(auto, using(crate::proofs::Policies::all_have_words))]
-fn with_commands(apps: Vec<AppRule>) -> Result<Vec<AppRule>, Refusal>
+fn with_commands(apps: Vec<AppRule>) -> Result<Vec<AppRule>, InputRefusal>
     ensures taken { IfOk result (λ same. (same ≡ apps) × (with_words (map app_value apps.items) ≡ Ok (map app_value apps.items))) }
     ensures refused { IfErr result (λ refusal. with_words (map app_value apps.items) ≡ Err (refusal_line refusal)) }
 {
     if !are_startable(&apps) {
-        return Err(Refusal::NoCommand);
+        return Err(InputRefusal::NoCommand);
     }
     Ok(apps)
 }

@@ -22,7 +22,7 @@ use thiserror::Error;
 
 /// Why an input is refused.
 #[derive(Drop, Debug, PartialEq, Eq, Error)]
-pub enum Refusal {
+pub enum InputRefusal {
     /// It has more bytes than an input may have.
     #[error("the input has more bytes than an input may have")]
     Size,
@@ -51,7 +51,7 @@ pub enum Stop {
     Usage,
     /// The input is refused.
     #[error("{0}")]
-    Refused(Refusal),
+    Refused(InputRefusal),
     /// The input could not be read to its end.
     #[error("the input could not be read to its end")]
     ReadFault,
@@ -70,7 +70,7 @@ pub enum Stop {
     /// This switch refused what the controller asked of its own.
     #[error("switch {0} refused a message of the controller")]
     Diverged(Dpid),
-    /// After the last batch so many events were left.
+    /// After the last batch this many events were left.
     #[error("{0} events were left")]
     EventsLeft(usize),
     /// Memory ran out.
@@ -119,7 +119,7 @@ impl Stop {
     }
 }
 
-impl Refusal {
+impl InputRefusal {
     /// Writes the line, which takes no memory.
     #[tactic(auto, unfolding(crate::specs::Stops::refusal_line, lego_model::specs::RunReport::line_of))]
     fn write_line<K: Sink>(&self, sink: &mut K) -> Result<(), WriteFault>
@@ -129,12 +129,12 @@ impl Refusal {
         ensures never_fell { NeverFell (K.faults sink.old) (K.faults sink.new) }
     {
         match self {
-            Refusal::Size => write_all(sink, b"bad size\n"),
-            Refusal::Separator => write_all(sink, b"bad separator\n"),
-            Refusal::PolicyLater => write_all(sink, b"bad policy later\n"),
-            Refusal::NoCommand => write_all(sink, b"bad policy missing command\n"),
-            Refusal::Policy(fault) => write_policy(sink, fault),
-            Refusal::Session(fault) => {
+            InputRefusal::Size => write_all(sink, b"bad size\n"),
+            InputRefusal::Separator => write_all(sink, b"bad separator\n"),
+            InputRefusal::PolicyLater => write_all(sink, b"bad policy later\n"),
+            InputRefusal::NoCommand => write_all(sink, b"bad policy missing command\n"),
+            InputRefusal::Policy(fault) => write_policy(sink, fault),
+            InputRefusal::Session(fault) => {
                 let kind = kind_end(fault.kind);
                 write_numbered(sink, b"bad session ", fault.line, kind.as_bytes())
             }
@@ -245,10 +245,10 @@ impl From<AllocError> for Stop {
     }
 }
 
-impl From<Refusal> for Stop {
+impl From<InputRefusal> for Stop {
     ghost from_gives = { λ refusal stop. stop ≡ stops.Refused refusal };
 
-    fn from(refusal: Refusal) -> Stop {
+    fn from(refusal: InputRefusal) -> Stop {
         Stop::Refused(refusal)
     }
 }
@@ -259,7 +259,7 @@ impl From<ReadAllFault> for Stop {
     fn from(fault: ReadAllFault) -> Stop {
         match fault {
             ReadAllFault::Read => Stop::ReadFault,
-            ReadAllFault::TooLong => Stop::Refused(Refusal::Size),
+            ReadAllFault::TooLong => Stop::Refused(InputRefusal::Size),
             ReadAllFault::NoMemory => Stop::NoMemory,
         }
     }
@@ -271,7 +271,7 @@ impl From<PolicyFault> for Stop {
     fn from(fault: PolicyFault) -> Stop {
         match fault {
             PolicyFault::NoMemory => Stop::NoMemory,
-            fault => Stop::Refused(Refusal::Policy(fault)),
+            fault => Stop::Refused(InputRefusal::Policy(fault)),
         }
     }
 }
@@ -281,7 +281,7 @@ impl From<SessionError> for Stop {
 
     fn from(error: SessionError) -> Stop {
         match error {
-            SessionError::Bad(fault) => Stop::Refused(Refusal::Session(fault)),
+            SessionError::Bad(fault) => Stop::Refused(InputRefusal::Session(fault)),
             SessionError::NoMemory => Stop::NoMemory,
         }
     }

@@ -18,7 +18,7 @@ use lego_io::Sink;
 use outside::{AllowAll, World};
 use std::alloc::Global;
 
-/// Runs the applications of a policy in a world to its end, at most so many rounds, and writes the report. The world is opened
+/// Runs the applications of a policy in a world to its end, for this many rounds at most, and writes the report. The world is opened
 /// at the port.
 #[tactic(auto, using(crate::proofs::Causes::switch_cause))]
 pub fn run_world<K: Sink, W: World>(

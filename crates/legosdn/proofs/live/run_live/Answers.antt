@@ -1,8 +1,9 @@
 use Rattle.crash_policy.specs.Policies.{app_value}
 use Rattle.std.proofs.Common.{map, refl, sym, subst}
+use Rattle.legosdn.specs.Headline.{streams}
 use Rattle.legosdn.specs.Live.{Taken}
-use Rattle.legosdn.proofs.Serving.{serves_unread, serves_taken}
-use Rattle.legosdn.proofs.Runs.{none_runs_yet, no_ids_yet}
+use Rattle.legosdn.proofs.CommandEnds.{serves_unread, serves_taken}
+use Rattle.legosdn.proofs.Promises.{idle_always}
 use Rattle.legosdn.proofs.live.run_live.Goals as goal
 
 pub returns-in_err-apps-clause-serves : goal.returns-in_err-apps-clause-serves
@@ -12,12 +13,17 @@ returns-in_err-apps-clause-serves g c =
 
 pub returns-clause-serves : goal.returns-clause-serves
 returns-clause-serves g c =
-    serves_taken g.W.World.Tells c.args.rounds (g.S.Source.remaining c.args.source.now) (g.S.Source.remaining c.read_program.new.source) (g.S.Source.faults c.args.source.now) (g.S.Source.faults c.read_program.new.source)
-    (g.K.Sink.faults c.args.sink.now) (g.K.Sink.faults c.run_world.new.sink) (g.W.World.seen c.args.live.now) (g.W.World.seen c.run_world.new.world) (g.K.Sink.contents c.args.sink.now) (g.K.Sink.contents c.run_world.new.sink) _ c.run_world.result (map app_value c.deref.result.now)
-    (subst (λ apps. Taken (map app_value apps) (g.S.Source.remaining c.args.source.now) (g.S.Source.remaining c.read_program.new.source)) (sym c.deref.ensures.value) c.in_ok-apps.ensures.taken) c.run_world.ensures.runs c.run_world.ensures.strays c.run_world.ensures.course c.run_world.ensures.why
+    serves_taken g.W.World.Tells c.args.rounds (streams (g.S.Source.remaining c.args.source.now) (g.K.Sink.contents c.args.sink.now) (g.S.Source.faults c.args.source.now) (g.K.Sink.faults c.args.sink.now))
+    (streams (g.S.Source.remaining c.read_program.new.source) (g.K.Sink.contents c.run_world.new.sink) (g.S.Source.faults c.read_program.new.source) (g.K.Sink.faults c.run_world.new.sink)) (g.W.World.seen c.args.live.now) (g.W.World.seen c.run_world.new.world) _ c.run_world.result
+    (map app_value c.deref.result.now)
+    (subst (λ apps. Taken (map app_value apps) (g.S.Source.remaining c.args.source.now) (g.S.Source.remaining c.read_program.new.source)) (sym c.deref.ensures.value) c.in_ok-apps.ensures.taken) c.run_world.ensures.runs c.run_world.ensures.course c.run_world.ensures.why
 
-pub returns-in_err-apps-clause-ended : goal.returns-in_err-apps-clause-ended
-returns-in_err-apps-clause-ended g c = λ told none. none_runs_yet (g.W.World.seen c.args.live.now) none
+pub returns-in_err-apps-clause-always : goal.returns-in_err-apps-clause-always
+returns-in_err-apps-clause-always g c = idle_always g.W.World.Tells (g.W.World.seen c.args.live.now)
 
-pub returns-in_err-apps-clause-ids : goal.returns-in_err-apps-clause-ids
-returns-in_err-apps-clause-ids g c = λ told none order short. no_ids_yet (g.W.World.seen c.args.live.now) none
+pub returns-clause-always : goal.returns-clause-always
+returns-clause-always g c = record {
+  every_application_ended = c.run_world.ensures.ended;
+  no_stray_call = c.run_world.ensures.strays;
+  own_ids_ascend = λ tells. c.run_world.ensures.ids tells.told tells.untouched tells.order;
+}

@@ -1,7 +1,7 @@
 use Rattle.std.proofs.Common.{map}
 use Rattle.crash_policy.specs.Policies.{app_value}
 use Rattle.event_dispatch.specs.declared.served.Served.TheVariants as served
-use Rattle.legosdn.proofs.Served.{serves_whole, serves_part, cut_as, writing_place, lines_place, memory_place, switch_serves, none_stray}
+use Rattle.legosdn.proofs.WorldRuns.{serves_whole, serves_part, cut_as, writing_place, lines_place, memory_place, switch_serves, none_stray}
 use Rattle.legosdn.proofs.Courses.{done_course, left_course, write_course, shut_course, next_course, memory_course, switch_course}
 use Rattle.legosdn.proofs.world.run_world.Goals as goal
 

@@ -1,4 +1,4 @@
--- How `run` ends, and what stands where neither command runs anything.
+-- How each command ends, which reads its input and then runs, before it has its status.
 use Rattle.std.proofs.Common.{◌≡◌, ◌⊎◌, ℕ, List, [], ◌∷◌, Option, Some, None, Result, Ok, Err, IfErr, OnOk, IfSome, Contains, refl, sym, subst, ◌∙◌, ap, inl, inr}
 use Rattle.std.specs.Result.{IsErrAnd}
 use Rattle.command_words.specs.declared.command.Command.{Command}
@@ -9,18 +9,18 @@ use Rattle.crash_policy.specs.Policies.{AppValue}
 use Rattle.outside.specs.Seen.{Seen}
 use Rattle.outside.specs.InOrder.{BringMessages}
 use Rattle.sim_world.specs.World.{WorldData, seen_of}
-use Rattle.legosdn.specs.declared.stop.Refusal.{Refusal}
+use Rattle.legosdn.specs.declared.stop.InputRefusal.{InputRefusal}
 use Rattle.legosdn.specs.declared.stop.Stop.{Stop}
 use Rattle.legosdn.specs.declared.stop.Stop.TheVariants.{Usage, Refused, ReadFault, WriteFault, Shut, NextFault, SwitchBroke, Diverged, EventsLeft, NoMemory}
 use Rattle.legosdn.specs.Input.{run_policy}
 use Rattle.legosdn.specs.Stops.{stop_status, stop_line, refusal_line}
-use Rattle.legosdn.specs.Headline.{NoneFloods, faults_of, IsReplay, IsRun, IsNoSession, IsNoPolicy, IsReadCause, IsRunCause, IsEarly, IsLate, SpellsPolicy, OfInput, KeepsLines, Wrote, NotBegun, Replays}
-use Rattle.legosdn.specs.Live.{Taken, IsTaken, TellsInOrder, NoneStray, ServesWhole, ServesUntil, ServesAs, ServesCut, StandsAt, TakenAs, ServesTaken, Serves}
-use Rattle.legosdn.proofs.Causes.{ran_causes, unread_causes, no_both}
-use Rattle.legosdn.proofs.Loads.{unread_as}
+use Rattle.legosdn.specs.Headline.{NoneFloods, Streams, streams, IsReplay, IsRun, IsNoSession, IsNoPolicy, IsReadCause, IsRunCause, IsEarly, IsLate, SpellsPolicy, OfInput, Loaded, KeepsLines, RunsAs, Wrote, NotBegun, Replays}
+use Rattle.legosdn.specs.Live.{Taken, IsTaken, TellsInOrder, ServesWhole, ServesUntil, ServesAs, ServesCut, StandsAt, TakenAs, ServesTaken, Serves}
+use Rattle.legosdn.proofs.Causes.{are_new, run_causes, ran_causes, unread_causes, no_both}
+use Rattle.legosdn.proofs.Loads.{loaded_as, unread_as}
+use Rattle.sim_world.specs.Building.{IsNew}
 use Rattle.run_course.specs.Parts.{TakesCourse}
 use Rattle.legosdn.proofs.Courses.{unread_course}
-use Rattle.legosdn.proofs.Places.{idle_in_place}
 use Rattle.legosdn.proofs.Runs.{by_read, stops_by_read, runs_by_read, lines_by_read, not_begun}
 use Rattle.legosdn.proofs.Statuses.{is_broken, is_diverged, is_memory, not_late, not_before}
 
@@ -44,38 +44,37 @@ some_err : {T : Type 0} (stop : Stop) (result : Result T Stop) → IsErrAnd resu
 some_err stop (Ok x) is = absurd is
 some_err stop (Err s) is = tt
 
-stays_early : {T : Type 0} (Stays : Type 0) (result : Result T Stop) → Stays → IfErr result (λ stop. IsEarly stop → Stays)
-stays_early Stays (Ok x) stays = tt
-stays_early Stays (Err stop) stays = λ early. stays
+stays_early : {T : Type 0} (Stays : Type 0) (stop : Stop) (result : Result T Stop) → IsErrAnd result (λ s. s ≡ stop) → (IsEarly stop → Stays) → IfErr result (λ s. IsEarly s → Stays)
+stays_early Stays stop (Ok x) is stays = tt
+stays_early Stays stop (Err s) is stays = λ early. stays (subst IsEarly is early)
 
 ok_none : {T : Type 0} (P : Type 0) (stop : Stop) (result : Result T Stop) → IsErrAnd result (λ s. s ≡ stop) → OnOk result P
 ok_none P stop (Ok x) is = absurd is
 ok_none P stop (Err s) is = tt
 
 pub serves_unread : {Own T : Type 0} (Tells : Type 0) (rounds : ℕ) (told left : Option (List ℕ)) (i j k : ℕ) (seen : Seen Own) (contents : Option (List ℕ)) (Stays : Type 0) (stop : Stop) (result : Result T Stop) → IsErrAnd result (λ s. s ≡ stop)
-    → IsReadCause IsNoPolicy told i j stop → Stays → Serves Tells rounds result told left (faults_of i k seen) (faults_of j k seen) contents contents Stays
+    → IsReadCause IsNoPolicy told i j stop → Stays → Serves Tells rounds result (streams told contents i k) (streams left contents j k) seen seen Stays
 serves_unread Tells rounds told left i j k seen contents Stays stop result is cause stays = record {
   taken = taken_by_read told left result (some_err stop result is) (by_read (IsTaken told left) IsNoPolicy told i j stop result is cause);
   no_other = inr stays;
   runs = λ tells. inr (stops_by_read IsNoPolicy told i j seen contents stop result is tells.untouched cause);
-  strays = λ tells. idle_in_place seen tells.untouched;
   course = λ tells. unread_course IsNoPolicy told i j seen contents stop result is cause;
   why = unread_causes Tells IsNoPolicy told i j k k seen seen stop result is cause;
-  early = stays_early Stays result stays;
+  early = stays_early Stays stop result is (λ early. stays);
 }
 
-pub replays_unread : {T : Type 0} (told left : Option (List ℕ)) (i j k : ℕ) (sim : WorldData) (contents : Option (List ℕ)) (Stays : Type 0) (stop : Stop) (result : Result T Stop) → IsErrAnd result (λ s. s ≡ stop) → (seen_of sim).history ≡ []
-    → IsReadCause IsNoSession told i j stop → Stays → Replays result told left (faults_of i k (seen_of sim)) (faults_of j k (seen_of sim)) sim contents contents Stays
-replays_unread told left i j k sim contents Stays stop result is none cause stays = record {
-  loaded = unread_as told left (seen_of sim) i j stop result is none cause;
-  runs = runs_by_read told left i j sim contents stop result is none cause;
-  lines = ok_none (KeepsLines sim) stop result is;
-  late_lines = lines_by_read (KeepsLines sim) told i j stop result is cause;
-  why = unread_causes (Unit {0}) IsNoSession told i j k k (seen_of sim) (seen_of sim) stop result is cause;
-  early = stays_early Stays result stays;
+pub replays_unread : {T : Type 0} (told left : Option (List ℕ)) (i j k : ℕ) (was now : WorldData) (contents : Option (List ℕ)) (Stays : Type 0) (stop : Stop) (result : Result T Stop) → IsErrAnd result (λ s. s ≡ stop) → (seen_of now).history ≡ []
+    → IsReadCause IsNoSession told i j stop → (IsEarly stop → Stays) → Replays result (streams told contents i k) (streams left contents j k) was now Stays
+replays_unread told left i j k was now contents Stays stop result is none cause stays = record {
+  loaded = unread_as told left (seen_of now) i j stop result is none cause;
+  runs = runs_by_read told left i j now contents stop result is none cause;
+  lines = ok_none (KeepsLines now) stop result is;
+  late_lines = lines_by_read (KeepsLines now) told i j stop result is cause;
+  why = unread_causes (Unit {0}) IsNoSession told i j k k (seen_of was) (seen_of now) stop result is cause;
+  early = stays_early Stays stop result is stays;
 }
 
--- ---- The policy was taken, and the world ran
+-- ---- The input was taken, and the world ran
 
 taken_as : {T : Type 0} (told left : Option (List ℕ)) (result : Result T Stop) → IsTaken told left → TakenAs result told left
 taken_as told left (Ok x) taken = taken
@@ -97,17 +96,37 @@ none_early : {Own T : Type 0} (Stays Tells : Type 0) (k l : ℕ) (old new : Seen
 none_early Stays Tells k l old new (Ok x) cause = tt
 none_early Stays Tells k l old new (Err stop) cause = not_early Stays Tells k l old new stop cause
 
-pub serves_taken : {Own T : Type 0} (Tells : Type 0) (rounds : ℕ) (told left : Option (List ℕ)) (i j k l : ℕ) (old new : Seen Own) (a b : Option (List ℕ)) (Stays : Type 0) (result : Result T Stop) (apps : List AppValue) → Taken apps told left
-    → (TellsInOrder Tells old new → ServesAs apps rounds result new a b) → (TellsInOrder Tells old new → NoneStray new) → (Tells → TakesCourse old new a (StandsAt result b)) → IfErr result (IsRunCause Tells k l old new)
-    → Serves Tells rounds result told left (faults_of i k old) (faults_of j l new) a b Stays
-serves_taken Tells rounds told left i j k l old new a b Stays result apps taken runs strays course why = record {
-  taken = taken_as told left result (apps, taken);
+pub serves_taken : {Own T : Type 0} (Tells : Type 0) (rounds : ℕ) (old new : Streams) (was now : Seen Own) (Stays : Type 0) (result : Result T Stop) (apps : List AppValue) → Taken apps old.remaining new.remaining
+    → (TellsInOrder Tells was now → ServesAs apps rounds result now old.contents new.contents) → (Tells → TakesCourse was now old.contents (StandsAt result new.contents)) → IfErr result (IsRunCause Tells old.sink_faults new.sink_faults was now)
+    → Serves Tells rounds result old new was now Stays
+serves_taken Tells rounds old new was now Stays result apps taken runs course why = record {
+  taken = taken_as old.remaining new.remaining result (apps, taken);
   no_other = inl (apps, taken);
   runs = λ tells. inl (apps, taken, runs tells);
-  strays = strays;
   course = course;
-  why = ran_causes Tells IsNoPolicy told i j k l old new result why;
-  early = none_early Stays Tells k l old new result why;
+  why = ran_causes Tells IsNoPolicy old.remaining old.source_faults new.source_faults old.sink_faults new.sink_faults was now result why;
+  early = none_early Stays Tells old.sink_faults new.sink_faults was now result why;
+}
+
+on_ok : {T : Type 0} (P : Type 0) (result : Result T Stop) → P → OnOk result P
+on_ok P (Ok x) holds = holds
+on_ok P (Err stop) holds = tt
+
+when_late : {T : Type 0} (P : Type 0) (result : Result T Stop) → P → IfErr result (λ stop. IsLate stop → P)
+when_late P (Ok x) holds = tt
+when_late P (Err stop) holds = λ late. holds
+
+-- a session was loaded into a new world, and run
+pub replays_loaded : {T : Type 0} (old new : Streams) (was begun now : WorldData) (Stays : Type 0) (result : Result T Stop) (apps : List AppValue) → Loaded apps old.remaining new.remaining (seen_of now)
+    → RunsAs apps result now old.contents new.contents → KeepsLines now → IsNew was → IsNew begun → IfErr result (IsRunCause (Unit {0}) old.sink_faults new.sink_faults (seen_of begun) (seen_of now))
+    → Replays result old new was now Stays
+replays_loaded old new was begun now Stays result apps loaded runs lines first second why = record {
+  loaded = loaded_as old.remaining new.remaining (seen_of now) (seen_of begun) old.sink_faults new.sink_faults result why (apps, loaded);
+  runs = inl (apps, loaded, runs);
+  lines = on_ok (KeepsLines now) result lines;
+  late_lines = when_late (KeepsLines now) result lines;
+  why = run_causes old.remaining old.source_faults new.source_faults old.sink_faults new.sink_faults (seen_of was) (seen_of begun) (seen_of now) result (are_new was first) (are_new begun second) why;
+  early = none_early Stays (Unit {0}) old.sink_faults new.sink_faults (seen_of begun) (seen_of now) result why;
 }
 
 -- ---- The run of the applications that were taken
@@ -117,10 +136,10 @@ told_spelled None apps input whole spelled = tt
 told_spelled (Some bytes) apps input whole spelled = subst (λ (b : List ℕ). run_policy b ≡ Ok apps) whole spelled
 
 -- it is that which the input spells
-of_policy : (P : List AppValue → Type 0) (told left : Option (List ℕ)) (apps : List AppValue) → Taken apps told left → P apps → OfInput SpellsPolicy told P
+pub of_policy : (P : List AppValue → Type 0) (told left : Option (List ℕ)) (apps : List AppValue) → Taken apps told left → P apps → OfInput SpellsPolicy told P
 of_policy P told left apps taken holds = record { apps = apps; spelled = told_spelled told apps taken.input taken.whole taken.spelled; holds = holds }
 
-served_whole : {Own : Type 0} {rounds : ℕ} (told left : Option (List ℕ)) (seen : Seen Own) (a b : Option (List ℕ)) → ServesTaken {T = Unit {0}} rounds (Ok tt) told left seen a b → (apps : List AppValue) × Taken apps told left × ServesWhole apps rounds seen a b
+pub served_whole : {Own : Type 0} {rounds : ℕ} (told left : Option (List ℕ)) (seen : Seen Own) (a b : Option (List ℕ)) → ServesTaken {T = Unit {0}} rounds (Ok tt) told left seen a b → (apps : List AppValue) × Taken apps told left × ServesWhole apps rounds seen a b
 served_whole told left seen a b (inl served) = served
 served_whole told left seen a b (inr before) = absurd before
 
@@ -163,7 +182,7 @@ diverged_live rounds told left seen a b stop serves messages nine =
     (subst (λ (s : Stop). ServesUntil served.0 rounds s seen a b) is.1 served.2).0 messages
 
 -- a policy that is taken is not refused
-pub good_policy : (told : Option (List ℕ)) (input : List ℕ) (apps : List AppValue) → told ≡ Some input → run_policy input ≡ Ok apps → (refusal : Refusal) → IfSome told (IsNoPolicy refusal) → ⊥
+pub good_policy : (told : Option (List ℕ)) (input : List ℕ) (apps : List AppValue) → told ≡ Some input → run_policy input ≡ Ok apps → (refusal : InputRefusal) → IfSome told (IsNoPolicy refusal) → ⊥
 good_policy told input apps whole spelled refusal cause = no_both apps (refusal_line refusal) (sym spelled ∙ subst (λ (t : Option (List ℕ)). IfSome t (IsNoPolicy refusal)) whole cause)
 
 refused_or_taken : (bytes : List ℕ) (left : Option (List ℕ)) (line : List ℕ) → IsTaken (Some bytes) left → run_policy bytes ≡ Err line → ⊥

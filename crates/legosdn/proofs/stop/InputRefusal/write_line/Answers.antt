@@ -1,6 +1,6 @@
 use Rattle.std.proofs.Common.{◌∙◌}
 use Rattle.legosdn.proofs.Pieces.{session_line}
-use Rattle.legosdn.proofs.stop.Refusal.write_line.Goals as goal
+use Rattle.legosdn.proofs.stop.InputRefusal.write_line.Goals as goal
 
 pub returns-in-Session-clause-all : goal.returns-in-Session-clause-all
 returns-in-Session-clause-all g c =
