@@ -1,10 +1,7 @@
 //! The parts of applications.
 
-use crate::cleaning::deletion;
-use crate::learn::Learn;
-use crate::messages::flow_frame;
-use crate::saying::say;
-use app_frames::{AppFrame, Event, EventKind, HostFrame};
+use app_frames::{AppFrame, Event, EventKind, HostFrame, encode_app};
+use machine_apps::{Learn, deletion, flow_frame};
 use of_types::{ByteList, Dpid};
 use std::alloc::{AllocError, Global};
 
@@ -13,6 +10,9 @@ const GARBAGE: [u8; 5] = [0, 0, 0, 1, 9];
 
 /// The address to which the torn turn makes a flow.
 const ADDRESS: [u8; 6] = [2, 0, 0, 0, 0, 9];
+
+/// After how many seconds without a packet a flow goes.
+const IDLE_SECONDS: u16 = 60;
 
 /// An application.
 #[derive(Drop)]
@@ -38,6 +38,14 @@ pub enum Step {
     Ends,
 }
 
+/// Writes the frame at the end of `out`, if it can be written.
+fn say(alloc: Global, frame: &AppFrame, out: &mut Vec<u8>) -> Result<(), AllocError> {
+    if frame.fits() {
+        out.extend_from_slice(encode_app(alloc, frame)?.as_slice())?;
+    }
+    Ok(())
+}
+
 /// Says Done, with this checkpoint or none.
 fn say_done(
     alloc: Global,
@@ -53,7 +61,11 @@ fn say_done(
 
 /// Adds a flow to the switch.
 fn say_flow(alloc: Global, dpid: Dpid, out: &mut Vec<u8>) -> Result<(), AllocError> {
-    say(alloc, &flow_frame(alloc, dpid, ADDRESS, 1)?, out)
+    say(
+        alloc,
+        &flow_frame(alloc, IDLE_SECONDS, dpid, ADDRESS, 1)?,
+        out,
+    )
 }
 
 /// Does nothing at the first event. Tells whether it was the first.
@@ -70,7 +82,7 @@ impl Part {
     /// The part of this word, in its first state: `learn`, `clean`, `close` or `garble`.
     pub fn named(alloc: Global, word: &str) -> Option<Part> {
         match word {
-            "learn" => Some(Part::Learn(Learn::new(alloc))),
+            "learn" => Some(Part::Learn(Learn::new(alloc, IDLE_SECONDS))),
             "clean" => Some(Part::Clean),
             "close" => Some(Part::Close { has_begun: false }),
             "garble" => Some(Part::Garble { has_begun: false }),
@@ -88,7 +100,7 @@ impl Part {
         match frame {
             HostFrame::Restore(checkpoint) => {
                 if let Part::Learn(learn) = self {
-                    *learn = Learn::restored(alloc, checkpoint.as_slice())?;
+                    *learn = Learn::restored(alloc, IDLE_SECONDS, checkpoint.as_slice())?;
                 }
                 say(alloc, &AppFrame::Ready, out)?;
                 Ok(Step::GoesOn)
@@ -110,7 +122,7 @@ impl Part {
     ) -> Result<Step, AllocError> {
         match self {
             Part::Learn(learn) => {
-                for frame in learn.react(event)?.iter() {
+                for frame in learn.turn(event)?.iter() {
                     say(alloc, frame, out)?;
                 }
             }
