@@ -15,13 +15,6 @@ use Rattle.app_objects.specs.Machine.{Gives, Would, Reacts, Restored, SameWould}
 unfoldable pub is_restore : List ℕ → Bool
 is_restore frame = nat_le 5 (length frame) && (number_at 1 4 frame == 1)
 
-abbrev pub checkpoint_in : List ℕ → List ℕ
-checkpoint_in frame = drop 5 frame
-
--- the frame Ready
-unfoldable pub ready_bytes : List ℕ
-ready_bytes = 0 ∷ 0 ∷ 0 ∷ 1 ∷ 6 ∷ []
-
 -- ---- A start
 
 -- The last of the spares is the application then, and nothing that was given before waits.
@@ -33,10 +26,10 @@ pub record Begins {O : Type 0} (before after : List O) (object : Option O) (held
 
 -- ---- A frame of the host
 
--- An object that lives on behind a frame: restored by a Restore, and answering Ready; else as it reacts.
+-- An object that lives on behind a frame: restored by a Restore, and answering Ready, kind 6 with no body; else as it reacts.
 pub record Goes {O : Type 0} (gives : O → Gives) (would : O → Would) (frame : List ℕ) (old new : O) (before after : List ℕ) : Type 0 where
   pub same : SameWould (would old) (would new)
-  pub restored : is_restore frame ≡ true → Restored (checkpoint_in frame) (would old) (gives new) × (after ≡ before ++ ready_bytes)
+  pub restored : is_restore frame ≡ true → Restored (drop 5 frame) (would old) (gives new) × (after ≡ before ++ 0 ∷ 0 ∷ 0 ∷ 1 ∷ 6 ∷ [])
   pub reacted : is_restore frame ≡ false → Reacts frame Alive (gives old) (gives new) before after
 
 -- One that dies at it gives nothing for it; one that is dead stays dead.

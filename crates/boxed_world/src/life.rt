@@ -3,7 +3,7 @@
 ghost use Rattle.std.specs.Prelude.{◌≡◌, ◌≢◌, ◌<◌, ◌∷◌, ◌++◌, [], Option, None, Some, IfOk, is_some, drop, length, true, false};
 ghost use Rattle.lego_io.specs.Count.{raised};
 ghost use Rattle.linked_world.specs.Linked.{IsTakeable};
-ghost use Rattle.boxed_world.specs.Lives.{is_restore, checkpoint_in, Begins, Goes, Fed, next_given, next_taken, held_after, object_after, is_death, dies_at};
+ghost use Rattle.boxed_world.specs.Lives.{is_restore, Begins, Goes, Fed, next_given, next_taken, held_after, object_after, is_death, dies_at};
 ghost use Rattle.app_objects.specs.Machine.{Reacts, Restored, SameWould};
 
 use app_objects::{AppObject, Step};
@@ -69,7 +69,7 @@ fn restore(object: &mut Box<dyn AppObject>, checkpoint: &[u8]) -> bool
 #[tactic(auto, unfolding(crate::specs::Lives::is_restore))]
 fn checkpoint_in(frame: &[u8]) -> &[u8]
     requires { is_restore frame.now ≡ true }
-    ensures { result.now ≡ checkpoint_in frame.now }
+    ensures { result.now ≡ drop 5 frame.now }
 {
     &frame[HEAD_BYTES..]
 }

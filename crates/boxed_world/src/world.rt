@@ -1,12 +1,14 @@
 //! A world whose applications are objects.
 
-ghost use Rattle.std.specs.Prelude.{◌≡◌, ◌≢◌, ◌<◌, ◌≤◌, ℕ, [], length, true, false, is_some, IsOk, IsErrOf, IfOk, OnOk, OnErr, IfSome, slice_get, Option, None};
+ghost use Rattle.std.specs.Prelude.{◌≡◌, ◌≢◌, ◌<◌, ◌≤◌, ℕ, [], ◌∷◌, length, true, false, is_some, Ok, IsOk, IsErrOf, IfOk, OnOk, OnErr, IfSome, slice_get, Option, None};
 ghost use Rattle.lego_io.specs.Count.{raised};
+ghost use Rattle.of_types.specs.Membership.{is_among};
 ghost use Rattle.of_wire.specs.Reading.{reading_of};
+ghost use Rattle.outside.specs.declared.step.WorldStep.TheVariants.{TookInto};
 ghost use Rattle.outside.specs.InOrder.{InOrder, BringMessages};
 ghost use Rattle.outside.specs.Conforming.{Conforming};
-ghost use Rattle.outside.specs.Calls.{most_message, Opens, Nexts, Starts, Gives, Takes, Ends, Sends, Receives};
-ghost use Rattle.linked_world.specs.Linked.{seen_of, runs, took_of};
+ghost use Rattle.outside.specs.Calls.{most_message, Opens, Nexts, Starts, Gives, Takes, Ends, Sends, Receives, take_steps};
+ghost use Rattle.linked_world.specs.Linked.{seen_of};
 ghost use Rattle.boxed_world.specs.Lives.{Begins, Fed, LifeTaken, next_taken, dies_at};
 
 use crate::life::{Death, Life};
@@ -75,6 +77,10 @@ impl<W: World> World for BoxedWorld<W> {
 
     ghost Own = { W.Own };
 
+    // Its switches cannot be parted with, also where those of the other world can: that one promises nothing of a parting
+    // where it cannot, and what is seen here is woven of its history.
+    ghost CanPart = { ⊥ };
+
     ghost seen = { λ b. seen_of W.seen b.linked };
 
     fn open(&mut self, port: u16) -> Result<(), OpenFault> {
@@ -89,7 +95,7 @@ impl<W: World> World for BoxedWorld<W> {
         ensures seen { Starts W.Tells app (seen_of W.seen self.old.linked) (seen_of W.seen self.new.linked) result }
         ensures life { OnOk result (IfSome (slice_get self.old.lives.items app) (λ l. IfSome (slice_get self.new.lives.items app) (λ m.
             Begins l.spares.items m.spares.items m.object m.held.items))) }
-        ensures not_started { IsErrOf result StartFault.NotStarted → runs app self.old.linked.running ≡ false
+        ensures not_started { IsErrOf result StartFault.NotStarted → is_among app self.old.linked.running ≡ false
             → IfSome (slice_get self.old.lives.items app) (λ l. l.spares.items ≡ []) }
         ensures others { (i : ℕ) → i ≢ app → slice_get self.new.lives.items i ≡ slice_get self.old.lives.items i }
         ensures err { OnErr result (self.new.lives ≡ self.old.lives) }
@@ -105,7 +111,7 @@ impl<W: World> World for BoxedWorld<W> {
         ensures fed { OnOk result (IfSome (slice_get self.old.lives.items app) (λ l. IfSome (slice_get self.new.lives.items app) (λ m.
             Fed (λ o. gives o) (λ o. would o) bytes.now l.object m.object l.held.items m.held.items))) }
         ensures alive { OnOk result (IfSome (slice_get self.old.lives.items app) (λ l. is_some l.object ≡ true)) }
-        ensures gone { IsErrOf result GiveFault.Gone → runs app self.old.linked.running ≡ true
+        ensures gone { IsErrOf result GiveFault.Gone → is_among app self.old.linked.running ≡ true
             → IfSome (slice_get self.old.lives.items app) (λ l. is_some l.object ≡ false) }
         ensures others { (i : ℕ) → i ≢ app → slice_get self.new.lives.items i ≡ slice_get self.old.lives.items i }
         ensures err { OnErr result (self.new.lives ≡ self.old.lives) }
@@ -119,8 +125,8 @@ impl<W: World> World for BoxedWorld<W> {
     fn take(&mut self, app: u32, buf: &mut [u8]) -> Result<Taken, Short>
         requires { 0 < length buf.old }
         ensures seen { Takes W.Tells app (seen_of W.seen self.old.linked) (seen_of W.seen self.new.linked) result buf.new }
-        ensures what { IfOk result (λ taken. runs app self.old.linked.running ≡ true → IfSome (slice_get self.old.lives.items app) (λ l.
-            took_of taken buf.new ≡ next_taken (dies_at app (raised l.takes) self.old.deaths.items) (is_some l.object) (length buf.old) l.held.items)) }
+        ensures what { IfOk result (λ taken. is_among app self.old.linked.running ≡ true → IfSome (slice_get self.old.lives.items app) (λ l.
+            take_steps app (Ok taken) buf.new ≡ TookInto app (next_taken (dies_at app (raised l.takes) self.old.deaths.items) (is_some l.object) (length buf.old) l.held.items) (length buf.new) ∷ [])) }
         ensures took { OnOk result (IfSome (slice_get self.old.lives.items app) (λ l. IfSome (slice_get self.new.lives.items app) (λ m.
             LifeTaken (dies_at app (raised l.takes) self.old.deaths.items) (length buf.old) l.object m.object l.held.items m.held.items))) }
         ensures others { (i : ℕ) → i ≢ app → slice_get self.new.lives.items i ≡ slice_get self.old.lives.items i }
@@ -150,4 +156,10 @@ impl<W: World> World for BoxedWorld<W> {
     fn recv(&mut self, dpid: Dpid, buf: &mut [u8]) -> Result<usize, LinkFault> {
         self.linked.recv(dpid, buf)
     }
+
+    fn can_part(&self) -> bool {
+        false
+    }
+
+    fn part(&mut self, _dpid: Dpid) {}
 }

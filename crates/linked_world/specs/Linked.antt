@@ -1,7 +1,6 @@
 -- A world whose switches are those of another world, and whose applications are its own: what is seen of it is woven of the history of
 -- the other world and of notes, each the step of an application and the other world as it stood then. All of this is our own choice.
-use Rattle.std.specs.Prelude.{◌≡◌, ◌==◌, ℕ, ◌+◌, ◌-◌, ◌^◌, ◌≤◌, Bool, true, false, not, List, [], ◌∷◌, ◌++◌, map, filter, take, drop, length, min, Result, Ok, Err, IsTrue, if◌then◌else◌}
-use Rattle.std.specs.List.{list_any}
+use Rattle.std.specs.Prelude.{◌≡◌, ◌==◌, ℕ, ◌+◌, ◌-◌, ◌^◌, ◌≤◌, Bool, true, false, not, List, [], ◌∷◌, ◌++◌, map, filter, drop, length, min, Result, Ok, Err, IsTrue, if◌then◌else◌}
 use Rattle.lego_io.specs.Count.{raised}
 use Rattle.of_types.specs.declared.journal.Act.{Act}
 use Rattle.of_types.specs.declared.journal.Act.TheVariants.{Started, Gave, Gone, Took, Ended}
@@ -77,7 +76,7 @@ pub record AppCounts : Type 0 where
 
 -- two counts of the same, which stay at the last value of 64 bits
 abbrev pub total : ℕ → ℕ → ℕ
-total a b = min (a + b) (2 ^ 64 - 1)
+total a b = min (2 ^ 64 - 1) (a + b)
 
 abbrev pub with_apps : AppCounts → Counts → Counts
 with_apps apps c = record {
@@ -130,10 +129,6 @@ IsLinkage Tells see d = Stands Tells (noted see d.notes) d.running d.counts (see
 
 -- ---- Calls of applications
 
--- the application was started and not ended
-abbrev pub runs : ℕ → List ℕ → Bool
-runs app running = list_any (λ a. a == app) running
-
 abbrev pub running_after : {T : Type 0} → ℕ → Result T StartFault → List ℕ → List ℕ
 running_after app (Ok x) running = running ++ app ∷ []
 running_after app (Err fault) running = running
@@ -169,12 +164,6 @@ pub record Notes {Own W : Type 0} (see : W → Seen Own) (steps : List WorldStep
   pub notes : noted see new.notes ≡ noted see old.notes ++ map (λ step. ((see old.links).history, step)) steps
   pub running : new.running ≡ running_then
   pub counts : new.counts ≡ counts_then
-
--- what was taken, as a step has it
-abbrev pub took_of : Taken → List ℕ → TookWhat
-took_of (gave.Some n) buf = took.Bytes (take n buf)
-took_of gave.Closed buf = took.Closed
-took_of gave.Silent buf = took.Silent
 
 -- so much room takes it
 abbrev pub IsTakeable : TookWhat → ℕ → Type 0

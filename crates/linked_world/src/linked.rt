@@ -1,11 +1,13 @@
 //! A world whose switches are those of another world.
 
 ghost use Rattle.std.specs.Prelude.{◌≡◌, ◌≤◌, ◌&&◌, [], ◌∷◌, ◌++◌, ℕ, List, true, false, not, length, Ok, Err, IsOk, IsErrOf};
+ghost use Rattle.of_types.specs.Membership.{is_among};
 ghost use Rattle.of_wire.specs.Reading.{reading_of};
+ghost use Rattle.outside.specs.declared.step.WorldStep.TheVariants.{TookInto};
 ghost use Rattle.outside.specs.InOrder.{InOrder, BringMessages};
 ghost use Rattle.outside.specs.Conforming.{Conforming};
-ghost use Rattle.outside.specs.Calls.{most_message, Opens, Nexts, Starts, Gives, Takes, Ends, Sends, Receives};
-ghost use Rattle.linked_world.specs.Linked.{seen_of, runs, running_after, running_without, took_of, IsTakeable, in_place};
+ghost use Rattle.outside.specs.Calls.{most_message, Opens, Nexts, Starts, Gives, Takes, Ends, Sends, Receives, take_steps};
+ghost use Rattle.linked_world.specs.Linked.{seen_of, running_after, running_without, IsTakeable, in_place};
 
 use crate::counts::CallCounts;
 use crate::parts::Parts;
@@ -103,7 +105,7 @@ impl<W: World> Linked<W> {
 
     /// Tells whether the application was started and not ended.
     pub fn runs(&self, app: u32) -> bool
-        ensures { result ≡ runs app self.now.running }
+        ensures { result ≡ is_among app self.now.running }
     {
         self.parts.runs(app)
     }
@@ -112,8 +114,8 @@ impl<W: World> Linked<W> {
     pub fn start(&mut self, app: u32, ready: bool) -> Result<(), StartFault>
         ensures seen { Starts W.Tells app (seen_of W.seen self.old) (seen_of W.seen self.new) result }
         ensures running { self.new.running ≡ running_after app result self.old.running }
-        ensures ok { IsOk result → (ready && not (runs app self.old.running)) ≡ true }
-        ensures refused { IsErrOf result StartFault.NotStarted → (ready && not (runs app self.old.running)) ≡ false }
+        ensures ok { IsOk result → (ready && not (is_among app self.old.running)) ≡ true }
+        ensures refused { IsErrOf result StartFault.NotStarted → (ready && not (is_among app self.old.running)) ≡ false }
     {
         self.parts.start(app, ready)
     }
@@ -122,8 +124,8 @@ impl<W: World> Linked<W> {
     pub fn give(&mut self, app: u32, bytes: &[u8], takes: bool) -> Result<(), GiveFault>
         ensures seen { Gives W.Tells app bytes.now (seen_of W.seen self.old) (seen_of W.seen self.new) result }
         ensures running { self.new.running ≡ self.old.running }
-        ensures ok { IsOk result → (takes && runs app self.old.running) ≡ true }
-        ensures gone { IsErrOf result GiveFault.Gone → (takes && runs app self.old.running) ≡ false }
+        ensures ok { IsOk result → (takes && is_among app self.old.running) ≡ true }
+        ensures gone { IsErrOf result GiveFault.Gone → (takes && is_among app self.old.running) ≡ false }
     {
         self.parts.give(app, bytes, takes)
     }
@@ -134,7 +136,7 @@ impl<W: World> Linked<W> {
         requires { IsTakeable what (length buf.old) }
         ensures seen { Takes W.Tells app (seen_of W.seen self.old) (seen_of W.seen self.new) (Ok result) buf.new }
         ensures running { self.new.running ≡ self.old.running }
-        ensures what { took_of result buf.new ≡ in_place (runs app self.old.running) what }
+        ensures what { take_steps app (Ok result) buf.new ≡ TookInto app (in_place (is_among app self.old.running) what) (length buf.new) ∷ [] }
     {
         self.parts.take(app, what, buf)
     }

@@ -4,9 +4,10 @@ ghost use Rattle.std.specs.Prelude.{◌≡◌, ◌==◌, ◌≤◌, ◌&&◌, fi
 ghost use Rattle.lego_io.specs.Count.{raised};
 ghost use Rattle.of_types.specs.declared.journal.Act.TheVariants.{Started, Gave, Gone, Ended};
 ghost use Rattle.outside.specs.declared.step.WorldStep.TheVariants.{Acted, TookInto};
+ghost use Rattle.of_types.specs.Membership.{is_among};
 ghost use Rattle.of_wire.specs.Reading.{reading_of};
 ghost use Rattle.outside.specs.Calls.{most_message, Opens, Nexts, Sends, Receives, start_steps, give_steps, take_steps, end_steps, IsTakenIn};
-ghost use Rattle.linked_world.specs.Linked.{runs, running_after, running_without, take_count, stray_count, short_count, Notes, took_of, IsTakeable, in_place};
+ghost use Rattle.linked_world.specs.Linked.{running_after, running_without, take_count, stray_count, short_count, Notes, IsTakeable, in_place};
 ghost use Rattle.linked_world.specs.laws.LinkCallLaws.{LinksMoved};
 ghost use Rattle.linked_world.specs.laws.AppCallLaws.{started_counts, gave_counts, taken_counts};
 
@@ -47,7 +48,7 @@ fn remove(running: &mut Vec<u32>, app: u32)
 
 /// Whether an application is among those that run.
 fn runs(running: &[u32], app: u32) -> bool
-    ensures { result ≡ runs app running.now }
+    ensures { result ≡ is_among app running.now }
 {
     running.iter().any(|running| *running == app)
 }
@@ -55,7 +56,7 @@ fn runs(running: &[u32], app: u32) -> bool
 impl<W: World> Parts<W> {
     /// Tells whether the application was started and not ended.
     pub(crate) fn runs(&self, app: u32) -> bool
-        ensures { result ≡ runs app self.now.running }
+        ensures { result ≡ is_among app self.now.running }
     {
         runs(&self.running, app)
     }
@@ -139,9 +140,9 @@ impl<W: World> Parts<W> {
     #[tactic(auto, using(crate::specs::laws::AppCallLaws::noted_one, crate::specs::laws::AppCallLaws::noted_none), unfolding(outside::specs::Calls::start_steps, crate::specs::Linked::start_count))]
     pub(crate) fn start(&mut self, app: u32, ready: bool) -> Result<(), StartFault>
         ensures notes { Notes W.seen (start_steps app result) (running_after app result self.old.running) (started_counts app result self.old.running self.old.counts) self.old self.new }
-        ensures out { IsTrue (runs app self.old.running) → IsErr result }
-        ensures ok { IsOk result → (ready && not (runs app self.old.running)) ≡ true }
-        ensures refused { IsErrOf result StartFault.NotStarted → (ready && not (runs app self.old.running)) ≡ false }
+        ensures out { IsTrue (is_among app self.old.running) → IsErr result }
+        ensures ok { IsOk result → (ready && not (is_among app self.old.running)) ≡ true }
+        ensures refused { IsErrOf result StartFault.NotStarted → (ready && not (is_among app self.old.running)) ≡ false }
     {
         let stray = self.runs(app);
         if stray || !ready {
@@ -180,9 +181,9 @@ impl<W: World> Parts<W> {
     #[tactic(auto, using(crate::specs::laws::AppCallLaws::noted_one, crate::specs::laws::AppCallLaws::noted_none), unfolding(outside::specs::Calls::give_steps, crate::specs::Linked::give_count))]
     pub(crate) fn give(&mut self, app: u32, bytes: &[u8], takes: bool) -> Result<(), GiveFault>
         ensures notes { Notes W.seen (give_steps app bytes.now result) self.old.running (gave_counts app result self.old.running self.old.counts) self.old self.new }
-        ensures out { runs app self.old.running ≡ false → IsErr result }
-        ensures ok { IsOk result → (takes && runs app self.old.running) ≡ true }
-        ensures gone { IsErrOf result GiveFault.Gone → (takes && runs app self.old.running) ≡ false }
+        ensures out { is_among app self.old.running ≡ false → IsErr result }
+        ensures ok { IsOk result → (takes && is_among app self.old.running) ≡ true }
+        ensures gone { IsErrOf result GiveFault.Gone → (takes && is_among app self.old.running) ≡ false }
     {
         let stray = !self.runs(app);
         let Ok(bytes) = ByteList::from_slice(self.alloc, bytes) else {
@@ -213,13 +214,13 @@ impl<W: World> Parts<W> {
 
     /// Notes that this was taken from an application, and puts the bytes into the front of the buffer; of one that does
     /// not run, that it has closed its end.
-    #[tactic(auto, using(crate::specs::laws::AppCallLaws::noted_one, crate::specs::laws::AppCallLaws::take_step), unfolding(outside::specs::Calls::take_steps))]
+    #[tactic(auto, using(crate::specs::laws::AppCallLaws::noted_one))]
     pub(crate) fn take(&mut self, app: u32, what: TookWhat, buf: &mut [u8]) -> Taken
         requires { IsTakeable what (length buf.old) }
         ensures notes { Notes W.seen (take_steps app (Ok result) buf.new) self.old.running (taken_counts app (Ok result) self.old.running self.old.counts) self.old self.new }
-        ensures what { took_of result buf.new ≡ in_place (runs app self.old.running) what }
+        ensures what { take_steps app (Ok result) buf.new ≡ TookInto app (in_place (is_among app self.old.running) what) (length buf.new) ∷ [] }
         ensures taken { IsTakenIn result buf.new }
-        ensures out { runs app self.old.running ≡ false → result ≡ Taken.Closed }
+        ensures out { is_among app self.old.running ≡ false → result ≡ Taken.Closed }
     {
         let runs = self.runs(app);
         let what = in_place(runs, what);
@@ -243,7 +244,7 @@ impl<W: World> Parts<W> {
     /// Notes that an application was ended, if it runs.
     #[tactic(auto, using(crate::specs::laws::AppCallLaws::noted_one, crate::specs::laws::AppCallLaws::noted_none, crate::specs::laws::AppCallLaws::without_absent), unfolding(outside::specs::Calls::end_steps))]
     pub(crate) fn end(&mut self, app: u32)
-        ensures { Notes W.seen (end_steps app (runs app self.old.running)) (running_without app self.old.running) self.old.counts self.old self.new }
+        ensures { Notes W.seen (end_steps app (is_among app self.old.running)) (running_without app self.old.running) self.old.counts self.old self.new }
     {
         if self.runs(app) {
             remove(&mut self.running, app);
@@ -260,9 +261,11 @@ fn in_place(runs: bool, what: TookWhat) -> TookWhat
 }
 
 /// Puts what was taken into the front of the buffer.
+#[tactic(auto, unfolding(outside::specs::Calls::take_steps))]
 fn put(what: &TookWhat, buf: &mut [u8]) -> Taken
     requires { IsTakeable what.now (length buf.old) }
-    ensures what { took_of result buf.new ≡ what.now }
+    ensures what { (app : ℕ) → take_steps app (Ok result) buf.new ≡ TookInto app what.now (length buf.new) ∷ [] }
+    ensures closed { what.now ≡ TookWhat.Closed → result ≡ Taken.Closed }
     ensures taken { IsTakenIn result buf.new }
     ensures room { length buf.new ≡ length buf.old }
 {

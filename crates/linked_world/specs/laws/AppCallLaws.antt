@@ -4,7 +4,7 @@ use Rattle.std.proofs.Common.{sym, ap, ◌∙◌, subst, arith, append_assoc, in
 use Rattle.std.proofs.lemmas.Bool.{cases_Bool, false≢true}
 use Rattle.std.proofs.lemmas.List.{append-nil, map-append}
 use Rattle.of_types.specs.declared.journal.Act.TheVariants.{Started, Gave, Gone, Ended}
-use Rattle.of_types.specs.declared.journal.TookWhat.{TookWhat}
+use Rattle.of_types.specs.Membership.{is_among}
 use Rattle.lego_io.specs.Count.{raised, Rose, NeverFell}
 use Rattle.lego_io.specs.laws.CountLaws.{Rose-raised}
 use Rattle.flow_table.specs.Switch.{Declared}
@@ -16,12 +16,12 @@ use Rattle.outside.specs.declared.faults.GiveFault.TheVariants as giving
 use Rattle.outside.specs.declared.item.Taken.{Taken}
 use Rattle.outside.specs.declared.item.Taken.TheVariants as gave
 use Rattle.outside.specs.declared.step.WorldStep.{WorldStep}
-use Rattle.outside.specs.declared.step.WorldStep.TheVariants.{Acted, TookInto}
+use Rattle.outside.specs.declared.step.WorldStep.TheVariants.{Acted}
 use Rattle.outside.specs.Seen.{Counts, Seen, AreCounts, with_stray, with_short}
 use Rattle.outside.specs.State.{State, at_first, after_act, after_step, after_steps, state, is_running}
 use Rattle.outside.specs.laws.StateLaws.{after_steps-append}
 use Rattle.outside.specs.Calls.{Starts, start_steps, start_counts, Gives, give_steps, give_counts, Takes, take_steps, take_counts, IsTakenIn, Ends, end_steps}
-use Rattle.linked_world.specs.Linked.{is_app_step, Note, noted, woven, Grows, AppCounts, AreAppCounts, total, with_apps, seen_with, seen_of, Linkage, Stands, IsLinkage, runs, running_after, running_without, stray_count, short_count, start_count, give_count, take_count, Notes, took_of}
+use Rattle.linked_world.specs.Linked.{is_app_step, Note, noted, woven, Grows, AppCounts, AreAppCounts, total, with_apps, seen_with, seen_of, Linkage, Stands, IsLinkage, running_after, running_without, stray_count, short_count, start_count, give_count, take_count, Notes}
 use Rattle.linked_world.specs.laws.WovenLaws.{woven-noted, Grows-noted}
 use Rattle.linked_world.specs.laws.SideLaws.{runs-link_steps}
 use Rattle.linked_world.specs.laws.CountLaws.{NoAppFell, NoneFell-own, total-raised_own, total-Rose_own, AreCounts-same}
@@ -69,9 +69,9 @@ unfolding seen_of seen_with
 counts_by see steps running counts old new by =
     ap (λ (w : _). with_apps new.counts (see w).counts) by.links ∙ ap (λ (c : AppCounts). with_apps c (see old.links).counts) by.counts
 
-runs_by : {Own W : Type 0} {Tells : Type 0} (see : W → Seen Own) (app : ℕ) (d : Linkage W) → IsLinkage Tells see d → Tells → is_running app (state (seen_of see d)) ≡ runs app d.running
+runs_by : {Own W : Type 0} {Tells : Type 0} (see : W → Seen Own) (app : ℕ) (d : Linkage W) → IsLinkage Tells see d → Tells → is_running app (state (seen_of see d)) ≡ is_among app d.running
 unfolding seen_of
-runs_by see app d is told = ap (runs app) (is.run told)
+runs_by see app d is told = ap (is_among app) (is.run told)
 
 running_by : {Own W : Type 0} (see : W → Seen Own) (steps : List WorldStep) (running : List ℕ) (counts : AppCounts) (old new : Linkage W) → Notes see steps running counts old new
     → ((s : State) → s.running ≡ old.running → (after_steps steps s).running ≡ running) → (state (seen_of see old)).running ≡ old.running → (state (seen_of see new)).running ≡ running
@@ -174,14 +174,14 @@ start_runs app (Err starting.Short) running s same = same
 
 -- what a start counts
 abbrev pub started_counts : {T : Type 0} → ℕ → Result T StartFault → List ℕ → AppCounts → AppCounts
-started_counts app result running c = stray_count (runs app running) (start_count result c)
+started_counts app result running c = stray_count (is_among app running) (start_count result c)
 
 pub starts_by : {Own W T : Type 0} {Tells : Type 0} (see : W → Seen Own) (app : ℕ) (old new : Linkage W) (result : Result T StartFault) → IsLinkage Tells see old
     → Notes see (start_steps app result) (running_after app result old.running) (started_counts app result old.running old.counts) old new
-    → (IsTrue (runs app old.running) → IsErr result) → Starts Tells app (seen_of see old) (seen_of see new) result
+    → (IsTrue (is_among app old.running) → IsErr result) → Starts Tells app (seen_of see old) (seen_of see new) result
 unfolding seen_of seen_with
 starts_by see app old new result is by out =
-    let stray = runs app old.running in
+    let stray = is_among app old.running in
     let counts = counts_by see _ _ _ old new by in
     let inner = (see old.links).counts in
     let fit = start_fit result old.counts is.fit in
@@ -201,7 +201,7 @@ starts_by see app old new result is by out =
 pub starts_stands : {Own W T : Type 0} {Tells : Type 0} (see : W → Seen Own) (app : ℕ) (old new : Linkage W) (result : Result T StartFault) → IsLinkage Tells see old
     → Notes see (start_steps app result) (running_after app result old.running) (started_counts app result old.running old.counts) old new → IsLinkage Tells see new
 starts_stands see app old new result is by =
-    stands_by see _ _ _ old new by (start_apps app result) (stray_fit (runs app old.running) _ (start_fit result old.counts is.fit)) (start_runs app result old.running) is
+    stands_by see _ _ _ old new by (start_apps app result) (stray_fit (is_among app old.running) _ (start_fit result old.counts is.fit)) (start_runs app result old.running) is
 
 -- ---- give
 
@@ -244,14 +244,14 @@ give_runs app bytes (Err giving.Gone) running s same = same
 give_runs app bytes (Err giving.Short) running s same = same
 
 abbrev pub gave_counts : {T : Type 0} → ℕ → Result T GiveFault → List ℕ → AppCounts → AppCounts
-gave_counts app result running c = stray_count (not (runs app running)) (give_count result c)
+gave_counts app result running c = stray_count (not (is_among app running)) (give_count result c)
 
 pub gives_by : {Own W T : Type 0} {Tells : Type 0} (see : W → Seen Own) (app : ℕ) (bytes : List ℕ) (old new : Linkage W) (result : Result T GiveFault) → IsLinkage Tells see old
     → Notes see (give_steps app bytes result) old.running (gave_counts app result old.running old.counts) old new
-    → (runs app old.running ≡ false → IsErr result) → Gives Tells app bytes (seen_of see old) (seen_of see new) result
+    → (is_among app old.running ≡ false → IsErr result) → Gives Tells app bytes (seen_of see old) (seen_of see new) result
 unfolding seen_of seen_with
 gives_by see app bytes old new result is by out =
-    let stray = not (runs app old.running) in
+    let stray = not (is_among app old.running) in
     let counts = counts_by see _ _ _ old new by in
     let inner = (see old.links).counts in
     let fit = give_fit result old.counts is.fit in
@@ -271,7 +271,7 @@ gives_by see app bytes old new result is by out =
 pub gives_stands : {Own W T : Type 0} {Tells : Type 0} (see : W → Seen Own) (app : ℕ) (bytes : List ℕ) (old new : Linkage W) (result : Result T GiveFault) → IsLinkage Tells see old
     → Notes see (give_steps app bytes result) old.running (gave_counts app result old.running old.counts) old new → IsLinkage Tells see new
 gives_stands see app bytes old new result is by =
-    stands_by see _ _ _ old new by (give_apps app bytes result) (stray_fit (not (runs app old.running)) _ (give_fit result old.counts is.fit)) (give_runs app bytes result old.running) is
+    stands_by see _ _ _ old new by (give_apps app bytes result) (stray_fit (not (is_among app old.running)) _ (give_fit result old.counts is.fit)) (give_runs app bytes result old.running) is
 
 -- ---- take
 
@@ -324,14 +324,14 @@ take_runs app (Ok gave.Silent) buf running s same = same
 take_runs app (Err short) buf running s same = same
 
 abbrev pub taken_counts : ℕ → Result Taken Short → List ℕ → AppCounts → AppCounts
-taken_counts app result running c = stray_count (not (runs app running)) (take_count result c)
+taken_counts app result running c = stray_count (not (is_among app running)) (take_count result c)
 
 pub takes_by : {Own W : Type 0} {Tells : Type 0} (see : W → Seen Own) (app : ℕ) (old new : Linkage W) (result : Result Taken Short) (buf : List ℕ) → IsLinkage Tells see old
     → Notes see (take_steps app result buf) old.running (taken_counts app result old.running old.counts) old new → IfOk result (λ what. IsTakenIn what buf)
-    → (runs app old.running ≡ false → IfOk result (λ what. what ≡ gave.Closed)) → Takes Tells app (seen_of see old) (seen_of see new) result buf
+    → (is_among app old.running ≡ false → IfOk result (λ what. what ≡ gave.Closed)) → Takes Tells app (seen_of see old) (seen_of see new) result buf
 unfolding seen_of seen_with
 takes_by see app old new result buf is by taken out =
-    let stray = not (runs app old.running) in
+    let stray = not (is_among app old.running) in
     let counts = counts_by see _ _ _ old new by in
     let inner = (see old.links).counts in
     let fit = take_fit result old.counts is.fit in
@@ -353,7 +353,7 @@ takes_by see app old new result buf is by taken out =
 pub takes_stands : {Own W : Type 0} {Tells : Type 0} (see : W → Seen Own) (app : ℕ) (old new : Linkage W) (result : Result Taken Short) (buf : List ℕ) → IsLinkage Tells see old
     → Notes see (take_steps app result buf) old.running (taken_counts app result old.running old.counts) old new → IsLinkage Tells see new
 takes_stands see app old new result buf is by =
-    stands_by see _ _ _ old new by (take_apps app result buf) (stray_fit (not (runs app old.running)) _ (take_fit result old.counts is.fit)) (take_runs app result buf old.running) is
+    stands_by see _ _ _ old new by (take_apps app result buf) (stray_fit (not (is_among app old.running)) _ (take_fit result old.counts is.fit)) (take_runs app result buf old.running) is
 
 -- ---- end
 
@@ -362,7 +362,7 @@ unfolding AreApps end_steps
 end_apps app true = (refl, tt)
 end_apps app false = tt
 
-pub without_absent : (app : ℕ) (running : List ℕ) → runs app running ≡ false → running_without app running ≡ running
+pub without_absent : (app : ℕ) (running : List ℕ) → is_among app running ≡ false → running_without app running ≡ running
 without_absent app [] is = refl
 without_absent app (a ∷ others) is =
     elim (cases_Bool (a == app)) [
@@ -370,16 +370,16 @@ without_absent app (a ∷ others) is =
       | inr other ↦ rw other (ap (λ (xs : List ℕ). a ∷ xs) (without_absent app others (rw other at is)))
     ]
 
-end_runs : (app : ℕ) (running : List ℕ) (s : State) → s.running ≡ running → (after_steps (end_steps app (runs app running)) s).running ≡ running_without app running
+end_runs : (app : ℕ) (running : List ℕ) (s : State) → s.running ≡ running → (after_steps (end_steps app (is_among app running)) s).running ≡ running_without app running
 unfolding end_steps after_step after_act
 end_runs app running s same =
-    elim (cases_Bool (runs app running)) [
+    elim (cases_Bool (is_among app running)) [
       | inl here ↦ rw here (ap (λ (xs : List ℕ). filter (λ a. not (a == app)) xs) same)
       | inr gone ↦ rw gone (same ∙ sym (without_absent app running gone))
     ]
 
 pub ends_by : {Own W : Type 0} {Tells : Type 0} (see : W → Seen Own) (app : ℕ) (old new : Linkage W) → IsLinkage Tells see old
-    → Notes see (end_steps app (runs app old.running)) (running_without app old.running) old.counts old new → Ends Tells app (seen_of see old) (seen_of see new)
+    → Notes see (end_steps app (is_among app old.running)) (running_without app old.running) old.counts old new → Ends Tells app (seen_of see old) (seen_of see new)
 unfolding seen_of seen_with
 ends_by see app old new is by =
     let counts = counts_by see _ _ _ old new by in
@@ -394,9 +394,9 @@ ends_by see app old new is by =
     }
 
 pub ends_stands : {Own W : Type 0} {Tells : Type 0} (see : W → Seen Own) (app : ℕ) (old new : Linkage W) → IsLinkage Tells see old
-    → Notes see (end_steps app (runs app old.running)) (running_without app old.running) old.counts old new → IsLinkage Tells see new
+    → Notes see (end_steps app (is_among app old.running)) (running_without app old.running) old.counts old new → IsLinkage Tells see new
 ends_stands see app old new is by =
-    stands_by see _ _ _ old new by (end_apps app (runs app old.running)) is.fit (end_runs app old.running) is
+    stands_by see _ _ _ old new by (end_apps app (is_among app old.running)) is.fit (end_runs app old.running) is
 
 -- ---- One note, or none
 
@@ -419,16 +419,9 @@ noted_none see running counts old new is = record {
 }
 
 -- an end that is none
-pub end_none : {Own W : Type 0} (see : W → Seen Own) (app : ℕ) (d : Linkage W) → runs app d.running ≡ false → Notes see (end_steps app (runs app d.running)) (running_without app d.running) d.counts d d
+pub end_none : {Own W : Type 0} (see : W → Seen Own) (app : ℕ) (d : Linkage W) → is_among app d.running ≡ false → Notes see (end_steps app (is_among app d.running)) (running_without app d.running) d.counts d d
 unfolding end_steps
 end_none see app d is = rw is (noted_none see (running_without app d.running) d.counts d d (ap (λ (xs : List ℕ). record d { running = xs }) (sym (without_absent app d.running is))))
-
--- the step of a take
-pub take_step : (app : ℕ) (taken : Taken) (buf : List ℕ) → take_steps app (Ok taken) buf ≡ TookInto app (took_of taken buf) (length buf) ∷ []
-unfolding take_steps
-take_step app (gave.Some n) buf = refl
-take_step app gave.Closed buf = refl
-take_step app gave.Silent buf = refl
 
 -- ---- At first, and want of memory in a take
 

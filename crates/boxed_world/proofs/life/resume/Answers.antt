@@ -1,10 +1,8 @@
 use Rattle.std.proofs.Common.{rules, sym, ◌∙◌}
 use Rattle.std.proofs.lemmas.Bool.{false≢true}
-use Rattle.boxed_world.specs.Lives.{ready_bytes}
 use Rattle.boxed_world.proofs.life.resume.Goals as goal
 
 pub returns-then-restore : goal.returns-then-restore
-unfolding ready_bytes
 returns-then-restore g c =
     λ ok. record {
       same = c.restore.ensures.same;
