@@ -1,4 +1,4 @@
-//! The world of real switches and real applications: connections of switches over TCP, and child programs behind pipes.
+//! The world of real switches and real applications: connections of switches over TCP, and child programs, one socket each.
 //!
 //! `LiveWorld` meets each clause of the trait `World` as a world that tells nothing: each fault comes only with its own
 //! count, `From` and `recv` give one whole message, `Joined` the FEATURES_REPLY of that switch. What a message is to it is
