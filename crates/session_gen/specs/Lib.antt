@@ -1,0 +1,5 @@
+pub mod Draws
+pub mod Turns
+pub mod Rounds
+pub mod Sessions
+pub mod laws
