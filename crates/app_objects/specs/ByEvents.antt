@@ -1,6 +1,6 @@
 -- Objects that give all frames of a turn at its event, and nothing at answers: what one gives is a fold over the frames of the host. All of
 -- this is our own choice.
-use Rattle.std.specs.Prelude.{ℕ, ◌&&◌, Bool, true, List, [], ◌∷◌, length, nat_le, Option, Some, None, Result, Ok, Err, if◌then◌else◌}
+use Rattle.std.specs.Prelude.{ℕ, ◌&&◌, Bool, true, List, [], ◌∷◌, length, nat_le, Option, Some, None, Ok, Err, if◌then◌else◌}
 use Rattle.std.specs.List.{flat_map, list_all}
 use Rattle.app_frames.specs.declared.frame.AppFrame.{AppFrame}
 use Rattle.app_frames.specs.declared.frame.AppFrame.TheVariants.{Message, Done}

@@ -1,2 +1,4 @@
 pub mod Machine
 pub mod ByEvents
+pub mod Resuming
+pub mod laws
