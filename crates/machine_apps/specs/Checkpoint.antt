@@ -10,6 +10,8 @@ use Rattle.of_types.specs.Fields.{number_at, number_bytes}
 use Rattle.app_frames.specs.declared.frame.AppFrame.{AppFrame}
 use Rattle.app_frames.specs.declared.frame.AppFrame.TheVariants.{Done}
 use Rattle.app_frames.specs.declared.frame.Event.{Event}
+use Rattle.app_objects.specs.Machine.{Reaction}
+use Rattle.app_objects.specs.ByEvents.{gives_from}
 use Rattle.machine_apps.specs.Learn.{Rows, rows_after, frames_for}
 
 abbrev pub row_bytes : List ℕ × ℕ → List ℕ
@@ -48,3 +50,10 @@ restored bytes = if is_checkpoint bytes then with_rows [] (rows_in (length bytes
 -- all frames for an event: Done is the last, with what was learned by then
 abbrev pub answers_to : ℕ → Event → Rows → List AppFrame
 answers_to idle event rows = frames_for idle event rows ++ Done false (Some (checkpoint_of (rows_after event rows))) ∷ []
+
+-- what it gives at frames of the host to come, and what it would give behind a Restore with a checkpoint
+abbrev pub learn_gives : ℕ → Rows → List (List ℕ) → List Reaction
+learn_gives idle rows frames = gives_from (answers_to idle) rows_after rows frames
+
+abbrev pub learn_would : ℕ → List ℕ → List (List ℕ) → List Reaction
+learn_would idle checkpoint frames = learn_gives idle (restored checkpoint) frames

@@ -99,16 +99,16 @@ frames_for_packet idle d p rows = if is_taken p then sent_on idle d p (port_at (
 
 -- ---- Events
 
-abbrev packet_in : Message → Option PacketIn
+abbrev pub packet_in : Message → Option PacketIn
 packet_in (messages.PacketIn p) = Some p
 packet_in other = None
 
-abbrev packet_read : Result Envelope WireFault → Option PacketIn
+abbrev pub packet_read : Result Envelope WireFault → Option PacketIn
 packet_read (Ok envelope) = packet_in envelope.message
 packet_read (Err fault) = None
 
 -- the packet of an event, where it has one
-abbrev packet_if : EventKind → List ℕ → Option PacketIn
+abbrev pub packet_if : EventKind → List ℕ → Option PacketIn
 packet_if kinds.PacketIn body = packet_read (reading_of body)
 packet_if other body = None
 

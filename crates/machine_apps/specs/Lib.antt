@@ -1,4 +1,6 @@
 pub mod Down
 pub mod Learn
 pub mod Checkpoint
+pub mod Clean
+pub mod Block
 pub mod laws

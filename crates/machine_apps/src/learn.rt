@@ -178,13 +178,11 @@ impl Learn {
 }
 
 impl AppObject for Learn {
-    ghost use Rattle.app_objects.specs.ByEvents.{gives_from};
-    ghost use Rattle.machine_apps.specs.Learn.{rows_after};
-    ghost use Rattle.machine_apps.specs.Checkpoint.{restored, answers_to};
+    ghost use Rattle.machine_apps.specs.Checkpoint.{learn_gives, learn_would};
 
-    ghost gives = { λ s frames. gives_from (answers_to s.idle) rows_after s.rows frames };
+    ghost gives = { λ s frames. learn_gives s.idle s.rows frames };
 
-    ghost would = { λ s checkpoint frames. gives_from (answers_to s.idle) rows_after (restored checkpoint) frames };
+    ghost would = { λ s checkpoint frames. learn_would s.idle checkpoint frames };
 
     fn restore(&mut self, checkpoint: &[u8]) -> Result<(), AllocError> {
         self.rows = restore(self.alloc, checkpoint)?;

@@ -1,6 +1,6 @@
 //! What applications say, as frames and as bytes.
 
-ghost use Rattle.std.specs.Prelude.{◌≡◌, ◌≤◌, ◌++◌, true, IsTrue, IfOk, OnOk};
+ghost use Rattle.std.specs.Prelude.{◌≡◌, ◌≤◌, ◌++◌, [], Some, true, false, IsTrue, IfOk, OnOk};
 ghost use Rattle.std.specs.List.{list_all};
 ghost use Rattle.app_objects.specs.ByEvents.{app_fits, says, frame_in};
 ghost use Rattle.app_frames.specs.Frames.{AppFits};
@@ -12,7 +12,7 @@ use app_frames::{
     AppFrame, AppFrameError, HostFrame, MOST_CHECKPOINT_BYTES, decode_host, encode_app,
 };
 use app_objects::Step;
-use of_types::{Dpid, Xid};
+use of_types::{ByteList, Dpid, Xid};
 use of_wire::{Message, encode};
 use std::alloc::{AllocError, Global};
 
@@ -54,7 +54,7 @@ fn all_fit(frames: &[AppFrame]) -> bool
 }
 
 /// Writes the frame at the end of `out`.
-#[tactic(auto, using(crate::proofs::Fits::fits_by))]
+#[tactic(auto, using(app_objects::specs::laws::ResumingLaws::fits_by))]
 fn say(alloc: Global, frame: &AppFrame, out: &mut Vec<u8>) -> Result<(), AllocError>
     requires { app_fits frame.now ≡ true }
     ensures { OnOk result (out.new.items ≡ out.old.items ++ app_bytes frame.now) }
@@ -87,4 +87,14 @@ pub(crate) fn told(alloc: Global, dpid: Dpid, message: &Message) -> Result<AppFr
     ensures { IfOk result (λ frame. frame ≡ told dpid message.now) }
 {
     Ok(AppFrame::Message(dpid, encode(alloc, XID, message)?))
+}
+
+/// Done with an empty checkpoint, and the event goes on to the next application.
+pub(crate) fn done_keeping_nothing(alloc: Global) -> AppFrame
+    ensures { result ≡ AppFrame.Done false (Some []) }
+{
+    AppFrame::Done {
+        stop: false,
+        checkpoint: Some(ByteList::new(alloc)),
+    }
 }

@@ -27,7 +27,7 @@ pub record AreRows (rows : Rows) : Type 0 where
   pub ascending : IsStrictlySortedBy (slice_cmp nat_cmp) (keys_of rows)
   pub fields : AreFields rows
 
-abbrev IsBelow : List ℕ → List ℕ → Type 0
+abbrev pub IsBelow : List ℕ → List ℕ → Type 0
 IsBelow a s = slice_cmp nat_cmp a s ≡ Less
 
 -- ---- They ascend
