@@ -1,8 +1,8 @@
 //! The parts of applications.
 
-use app_frames::{AppFrame, Event, EventKind, HostFrame, encode_app};
-use machine_apps::{Learn, deletion, flow_frame};
-use of_types::{ByteList, Dpid};
+use app_frames::{AppFrame, Event, HostFrame, encode_app};
+use machine_apps::{Clean, Learn, flow_frame};
+use of_types::Dpid;
 use std::alloc::{AllocError, Global};
 
 /// The frame of a length of 1 and the kind 9, which does not exist.
@@ -20,7 +20,7 @@ pub enum Part {
     /// A learning switch.
     Learn(Learn),
     /// It deletes the flows to a port that went down.
-    Clean,
+    Clean(Clean),
     /// It does nothing, and ends at its second event.
     Close { has_begun: bool },
     /// It does nothing, and gives bytes that are no frame at its second event.
@@ -46,15 +46,19 @@ fn say(alloc: Global, frame: &AppFrame, out: &mut Vec<u8>) -> Result<(), AllocEr
     Ok(())
 }
 
-/// Says Done, with this checkpoint or none.
-fn say_done(
-    alloc: Global,
-    checkpoint: Option<ByteList>,
-    out: &mut Vec<u8>,
-) -> Result<(), AllocError> {
+/// Writes all frames.
+fn say_all(alloc: Global, frames: &[AppFrame], out: &mut Vec<u8>) -> Result<(), AllocError> {
+    for frame in frames {
+        say(alloc, frame, out)?;
+    }
+    Ok(())
+}
+
+/// Says Done without a checkpoint.
+fn say_done(alloc: Global, out: &mut Vec<u8>) -> Result<(), AllocError> {
     let frame = AppFrame::Done {
         stop: false,
-        checkpoint,
+        checkpoint: None,
     };
     say(alloc, &frame, out)
 }
@@ -74,7 +78,7 @@ fn pass_first(alloc: Global, has_begun: &mut bool, out: &mut Vec<u8>) -> Result<
         return Ok(false);
     }
     *has_begun = true;
-    say_done(alloc, None, out)?;
+    say_done(alloc, out)?;
     Ok(true)
 }
 
@@ -83,7 +87,7 @@ impl Part {
     pub fn named(alloc: Global, word: &str) -> Option<Part> {
         match word {
             "learn" => Some(Part::Learn(Learn::new(alloc, IDLE_SECONDS))),
-            "clean" => Some(Part::Clean),
+            "clean" => Some(Part::Clean(Clean::new(alloc))),
             "close" => Some(Part::Close { has_begun: false }),
             "garble" => Some(Part::Garble { has_begun: false }),
             _ => None,
@@ -121,19 +125,8 @@ impl Part {
         out: &mut Vec<u8>,
     ) -> Result<Step, AllocError> {
         match self {
-            Part::Learn(learn) => {
-                for frame in learn.turn(event)?.iter() {
-                    say(alloc, frame, out)?;
-                }
-            }
-            Part::Clean => {
-                if event.kind == EventKind::PortStatus
-                    && let Some(frame) = deletion(alloc, event)?
-                {
-                    say(alloc, &frame, out)?;
-                }
-                say_done(alloc, Some(ByteList::new(alloc)), out)?;
-            }
+            Part::Learn(learn) => say_all(alloc, &learn.turn(event)?, out)?,
+            Part::Clean(clean) => say_all(alloc, &clean.turn(event)?, out)?,
             Part::Close { has_begun } => {
                 if !pass_first(alloc, has_begun, out)? {
                     return Ok(Step::Ends);
