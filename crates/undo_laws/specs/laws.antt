@@ -12,4 +12,5 @@ pub mod InFlightLaws
 pub mod CorrectedLaws
 pub mod CorrectedSwitchLaws
 pub mod ShownEntryLaws
+pub mod ShownStatisticsLaws
 pub mod TableLaws

@@ -5,7 +5,8 @@ ghost use Rattle.of_types.specs.declared.journal.Stimulus.{Stimulus};
 ghost use Rattle.of_types.specs.declared.journal.Stimulus.TheVariants.{Advance};
 ghost use Rattle.of_match.specs.declared.key.Key.{Key};
 ghost use Rattle.of_wire.specs.declared.bodies.PacketOut.{PacketOut as Packet};
-ghost use Rattle.of_wire.specs.declared.message.Message.TheVariants.{PacketOut};
+ghost use Rattle.of_wire.specs.declared.bodies.Stats.{Stats as StatsBody};
+ghost use Rattle.of_wire.specs.declared.message.Message.TheVariants.{PacketOut, StatsRequest};
 ghost use Rattle.flow_table.specs.declared.entry.Entry.{Entry};
 ghost use Rattle.flow_table.specs.declared.lost.Lost.{Lost};
 ghost use Rattle.flow_table.specs.declared.view.ViewRow.{ViewRow};
@@ -35,11 +36,14 @@ pub fn switches_are_shown()
 
 /// The engine shows an entry with what it has lost and with its owner's flags. What happens to an entry happens to it as it is
 /// shown; both go together where it has what is left of its hard timeout, and so where it has lost nothing. Where a switch has
-/// SEND_FLOW_REM in each entry and none has lost anything, a notice that is shown says what the switch's own says.
+/// SEND_FLOW_REM in each entry and none has lost anything, a notice that is shown says what the switch's own says. Where none has
+/// lost anything, a switch answers a request of statistics as it is shown: they tell no flags.
 pub fn owners_see()
     ensures along { (rows : List ViewRow) (lost : List (Key × Lost)) → GoesAlong (shown_entry rows lost) }
     ensures together { (rows : List ViewRow) (lost : List (Key × Lost)) (es : List Entry) → HaveRest lost es → GoTogether (shown_entry rows lost) es }
     ensures nothing_lost { (rows : List ViewRow) (es : List Entry) → HaveRest [] es }
     ensures notices { (rows : List ViewRow) (now : ℕ) (es : List Entry) → AskAll es
         → map flow_removed (expiry_notices now (map (shown_entry rows []) es)) ≡ map flow_removed (filter (is_asked_for (owner_flags rows)) (expiry_notices now es)) }
+    ensures statistics { (rows : List ViewRow) (xid : ℕ) (m : StatsBody) (s : SwitchState)
+        → sent_by_message xid (StatsRequest m) (corrected_switch (shown_entry rows []) s) ≡ sent_by_message xid (StatsRequest m) s }
 {}
