@@ -37,15 +37,15 @@ use Rattle.net_guard.proofs.Searching.{any_wider, any_value, number-value, has_n
 
 -- ---- what a packet's own value says of fields
 
-abbrev key_takes : GuardField → PacketKey → Fields → Bool
+abbrev pub key_takes : GuardField → PacketKey → Fields → Bool
 key_takes DlDst k f = address_agrees f.dl_dst k.dl_dst
 key_takes NwDst k f = agrees_on_prefix f.nw_dst k.nw_dst && agrees f.dl_type k.dl_type
 
 -- the row that is taken is considered: it may be taken, and none before it surely is
-record Tells (field : GuardField) (v : Option ℕ) (k : PacketKey) (f : Fields) : Type 0 where
-  value : takes_value field v f ≡ key_takes field k f
+pub record Tells (field : GuardField) (v : Option ℕ) (k : PacketKey) (f : Fields) : Type 0 where
+  pub value : takes_value field v f ≡ key_takes field k f
 
-covers_may : (field : GuardField) (v : Option ℕ) (k : PacketKey) (f : Fields) → Tells field v k f → fields_agree f k ≡ true → may_take field (Value v) k.in_port f ≡ true
+pub covers_may : (field : GuardField) (v : Option ℕ) (k : PacketKey) (f : Fields) → Tells field v k f → fields_agree f k ≡ true → may_take field (Value v) k.in_port f ≡ true
 unfolding fields_agree may_take
 covers_may DlDst v k f tells is =
     let parts = and_parts (link_agrees f k && frame_agrees f k) (network_agrees f k) is in
@@ -108,7 +108,7 @@ all_agree : (f : Fields) (k : PacketKey) → OthersAny f → agrees f.in_port k.
 unfolding fields_agree
 all_agree f k any port dst kind net = rw (any.dl_src, any.dl_vlan, any.dl_vlan_pcp, any.nw_tos, any.nw_proto, any.nw_src, any.tp_src, any.tp_dst, port, dst, kind, net) refl
 
-sure_covers : (field : GuardField) (v : Option ℕ) (k : PacketKey) (f : Fields) → Tells field v k f → surely_takes field (Value v) k.in_port f ≡ true → fields_agree f k ≡ true
+pub sure_covers : (field : GuardField) (v : Option ℕ) (k : PacketKey) (f : Fields) → Tells field v k f → surely_takes field (Value v) k.in_port f ≡ true → fields_agree f k ≡ true
 unfolding surely_takes may_take
 sure_covers DlDst v k f tells is =
     let parts = and_parts (agrees f.in_port k.in_port && takes_value DlDst v f) (has_no_other DlDst f) is in
@@ -125,13 +125,13 @@ sure_covers NwDst v k f tells is =
 
 -- ---- the row that is taken is among those that are considered
 
-abbrev may : GuardField → Option ℕ → ℕ → ViewRow → Bool
+abbrev pub may : GuardField → Option ℕ → ℕ → ViewRow → Bool
 may field v port r = may_take field (Value v) port (fields_of_row r)
 
-abbrev sure : GuardField → Option ℕ → ℕ → ViewRow → Bool
+abbrev pub sure : GuardField → Option ℕ → ℕ → ViewRow → Bool
 sure field v port r = surely_takes field (Value v) port (fields_of_row r)
 
-abbrev AllTell : GuardField → Option ℕ → PacketKey → List ViewRow → Type 0
+abbrev pub AllTell : GuardField → Option ℕ → PacketKey → List ViewRow → Type 0
 AllTell field v k rows = (r : ViewRow) → Contains rows r → Tells field v k (fields_of_row r)
 
 found_kept : (test : ViewRow → Bool) (field : GuardField) (v : Option ℕ) (k : PacketKey) (rows : List ViewRow) (r : ViewRow) → AllTell field v k rows → find (λ x. is_covering x.key.matching k) rows ≡ Some r → test r ≡ true
@@ -164,7 +164,7 @@ filtered test (x ∷ xs) r c =
       | inr not_is ↦ Contains-behind r x xs (filtered test xs r (rw not_is at c))
     ]
 
-ranked : (rows : List ViewRow) (r : ViewRow) → Contains (by_rank rows) r → Contains rows r
+pub ranked : (rows : List ViewRow) (r : ViewRow) → Contains (by_rank rows) r → Contains rows r
 ranked rows r c = elim (Contains-append_cases (filter is_whole rows) (filter (λ x. not (is_whole x)) rows) r c) [
   | inl whole ↦ filtered is_whole rows r whole
   | inr other ↦ filtered (λ x. not (is_whole x)) rows r other
@@ -179,10 +179,10 @@ taken_by field v k p h rows (Some r) port tell is over = found_kept (row_over p 
 -- ---- walks
 
 -- each row of each table tells
-abbrev TablesTell : GuardField → Option ℕ → PacketKey → List TableView → Type 0
+abbrev pub TablesTell : GuardField → Option ℕ → PacketKey → List TableView → Type 0
 TablesTell field v k tables = (t : TableView) → Contains tables t → AllTell field v k t.rows
 
-any_wider_in : {A : Type 0} (f g : A → Bool) (xs : List A) → ((x : A) → Contains xs x → f x ≡ true → g x ≡ true) → list_any f xs ≡ true → list_any g xs ≡ true
+pub any_wider_in : {A : Type 0} (f g : A → Bool) (xs : List A) → ((x : A) → Contains xs x → f x ≡ true → g x ≡ true) → list_any f xs ≡ true → list_any g xs ≡ true
 any_wider_in f g [] wider is = is
 any_wider_in f g (x ∷ xs) wider is =
     elim (or_cases (f x) (list_any f xs) is) [
@@ -191,7 +191,7 @@ any_wider_in f g (x ∷ xs) wider is =
     ]
 
 -- the port counts for nothing in what the guarded field says
-tells_at : (field : GuardField) (v : Option ℕ) (k : PacketKey) (port : ℕ) (f : Fields) → Tells field v k f → Tells field v (at_port port k) f
+pub tells_at : (field : GuardField) (v : Option ℕ) (k : PacketKey) (port : ℕ) (f : Fields) → Tells field v k f → Tells field v (at_port port k) f
 tells_at DlDst v k port f tells = record { value = tells.value }
 tells_at NwDst v k port f tells = record { value = tells.value }
 
@@ -221,10 +221,10 @@ carried_walk g v tables k p (m ∷ between) q tell walk = (carried_leads g v tab
 
 -- ---- the value that stands for a packet
 
-is_in : ℕ → List ℕ → Bool
+pub is_in : ℕ → List ℕ → Bool
 is_in a xs = list_any (λ x. x == a) xs
 
-in_member : (a : ℕ) (xs : List ℕ) → is_in a xs ≡ true → Contains xs a
+pub in_member : (a : ℕ) (xs : List ℕ) → is_in a xs ≡ true → Contains xs a
 unfolding is_in
 in_member a [] is = absurd cc
 in_member a (x ∷ xs) is = elim (or_cases (x == a) (list_any (λ y. y == a) xs) is) [
@@ -232,7 +232,7 @@ in_member a (x ∷ xs) is = elim (or_cases (x == a) (list_any (λ y. y == a) xs)
   | inr behind ↦ Contains-behind a x xs (in_member a xs behind)
 ]
 
-member_in : (a : ℕ) (xs : List ℕ) → Contains xs a → is_in a xs ≡ true
+pub member_in : (a : ℕ) (xs : List ℕ) → Contains xs a → is_in a xs ≡ true
 unfolding is_in
 member_in a [] c = absurd (no_fewer a c)
 member_in a (x ∷ xs) c = elim (Contains-cases a x xs c) [
@@ -268,7 +268,7 @@ named_address : (f : Fields) (a : ℕ) → Contains (address_named f.dl_dst) a �
 unfolding named_by
 named_address f a c = c
 
-dl_tells : (tables : List TableView) (k : PacketKey) → IsPacketKey k → (b : Bool) → is_in (number k.dl_dst) (named_in DlDst tables) ≡ b → TablesTell DlDst (cond b (Some (number k.dl_dst)) None) k tables
+pub dl_tells : (tables : List TableView) (k : PacketKey) → IsPacketKey k → (b : Bool) → is_in (number k.dl_dst) (named_in DlDst tables) ≡ b → TablesTell DlDst (cond b (Some (number k.dl_dst)) None) k tables
 unfolding takes_value
 dl_tells tables k is true among t ct r cr = record { value = tells_named (fields_of_row r).dl_dst k.dl_dst (fields_in-within r.key.matching).dl_dst is.dl_dst }
 dl_tells tables k is false among t ct r cr = record {

@@ -7,3 +7,4 @@ pub mod EditSteps
 pub mod Searching
 pub mod Addresses
 pub mod Carried
+pub mod Walked

@@ -153,18 +153,22 @@ below-address : (o : Option (List ℕ)) → IfSome o IsAddress → AreBelow (2 ^
 below-address None is = below-none (2 ^ 48)
 below-address (Some a) is = below-cons (2 ^ 48) (number a) [] (address-below a is) (below-none (2 ^ 48))
 
-below-after : (end : ℕ) (b : Bool) → nat_lt end (2 ^ 32) ≡ b → AreBelow (2 ^ 48) (cond b (end ∷ []) [])
-below-after end true is = let lt : end < 2 ^ 32 = ltb-true end (2 ^ 32) is in below-cons (2 ^ 48) end [] (omega arith) (below-none (2 ^ 48))
-below-after end false is = below-none (2 ^ 48)
+below-after : (end : ℕ) (b : Bool) → nat_lt end (2 ^ 32) ≡ b → AreBelow (2 ^ 32) (cond b (end ∷ []) [])
+below-after end true is = let lt : end < 2 ^ 32 = ltb-true end (2 ^ 32) is in below-cons (2 ^ 32) end [] lt (below-none (2 ^ 32))
+below-after end false is = below-none (2 ^ 32)
 
-below-prefix : (o : Option (ℕ × ℕ)) → IfSome o IsPrefix → AreBelow (2 ^ 48) (prefix_named o)
-below-prefix None is = below-none (2 ^ 48)
-below-prefix (Some p) is = below-cons (2 ^ 48) p.0 (after_prefix (p.0 + 2 ^ (32 - p.1))) (omega (arith, is.fits)) (below-after (p.0 + 2 ^ (32 - p.1)) (nat_lt (p.0 + 2 ^ (32 - p.1)) (2 ^ 32)) refl)
+below-prefix : (o : Option (ℕ × ℕ)) → IfSome o IsPrefix → AreBelow (2 ^ 32) (prefix_named o)
+below-prefix None is = below-none (2 ^ 32)
+below-prefix (Some p) is = below-cons (2 ^ 32) p.0 (after_prefix (p.0 + 2 ^ (32 - p.1))) is.fits (below-after (p.0 + 2 ^ (32 - p.1)) (nat_lt (p.0 + 2 ^ (32 - p.1)) (2 ^ 32)) refl)
+
+below-network : (f : Fields) → IsFields f → AreBelow (2 ^ 32) (named_by NwDst f)
+unfolding named_by
+below-network f is = below-prefix f.nw_dst is.nw_dst
 
 below-named : (field : GuardField) (f : Fields) → IsFields f → AreBelow (2 ^ 48) (named_by field f)
 unfolding named_by
 below-named DlDst f is = below-address f.dl_dst is.dl_dst
-below-named NwDst f is = below-prefix f.nw_dst is.nw_dst
+below-named NwDst f is = λ a c. let below = below-network f is a c in omega (arith, below)
 
 below-tables : (field : GuardField) (tables : List TableView) → AreBelow (2 ^ 48) (named_in field tables)
 below-tables field tables =
@@ -174,3 +178,10 @@ below-tables field tables =
 pub numbers-below : (field : GuardField) (tables : List TableView) → AreBelow (2 ^ 48) (numbers_in field tables)
 numbers-below DlDst tables = below-tables DlDst tables
 numbers-below NwDst tables = below-cons (2 ^ 48) 0 (named_in NwDst tables) (omega arith) (below-tables NwDst tables)
+
+-- those of an IPv4 destination are addresses
+pub networks-below : (tables : List TableView) → AreBelow (2 ^ 32) (numbers_in NwDst tables)
+networks-below tables =
+    below-cons (2 ^ 32) 0 (named_in NwDst tables) (omega arith)
+    (below-flat_map (2 ^ 32) (λ (t : TableView). named_in_rows NwDst t.rows)
+    (λ t. below-flat_map (2 ^ 32) (λ (r : ViewRow). named_by NwDst (fields_of_row r)) (λ r. below-network (fields_of_row r) (fields_in-within r.key.matching)) t.rows) tables)

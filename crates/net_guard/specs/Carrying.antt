@@ -1,6 +1,6 @@
 -- Where a packet goes that each switch forwards by its best row (OpenFlow 1.0.0, 3.3 Actions and 3.4 Matching).
-use Rattle.std.specs.Prelude.{◌≡◌, ◌==◌, ℕ, Bool, false, ◌&&◌, List, find, Option, Some, None}
-use Rattle.std.specs.List.{list_any}
+use Rattle.std.specs.Prelude.{◌≡◌, ◌==◌, ℕ, Bool, true, false, ◌&&◌, List, find, Contains, Option, Some, None}
+use Rattle.std.specs.List.{list_any, flat_map}
 use Rattle.guard_rule.specs.declared.GuardField.{GuardField}
 use Rattle.guard_rule.specs.declared.GuardField.TheVariants.{DlDst, NwDst}
 use Rattle.of_match.specs.Covers.{is_covering}
@@ -10,7 +10,7 @@ use Rattle.flow_table.specs.declared.view.ViewRow.{ViewRow}
 use Rattle.flow_table.specs.View.{TableView}
 use Rattle.net_guard.specs.declared.hop.Hop.{Hop}
 use Rattle.net_guard.specs.Links.{Place, Guarded, is_same}
-use Rattle.net_guard.specs.Taking.{by_rank}
+use Rattle.net_guard.specs.Taking.{by_rank, fields_of_row, has_no_other}
 use Rattle.net_guard.specs.Leading.{row_over, is_viewed}
 use Rattle.net_guard.specs.Walks.{IsWalk}
 
@@ -45,3 +45,17 @@ IsGuarded NwDst k = IsPacketKey k × (k.dl_type ≡ 2048)
 -- No such packet comes back to a place where it was.
 abbrev pub ComesBackNowhere : Guarded → List TableView → Type 0
 ComesBackNowhere g tables = (k : PacketKey) → IsGuarded g.field k → (p : Place) (between : List Place) → IsWalk (carries g.hops tables k) p between p → ⊥
+
+-- ---- The other way round
+
+-- all rows, of all switches
+abbrev pub rows_of_all : List TableView → List ViewRow
+rows_of_all tables = flat_map (λ t. t.rows) tables
+
+-- No row has a field beside the port, the guarded one and, for an IPv4 destination, the frame's type.
+abbrev pub NameNoOther : GuardField → List TableView → Type 0
+NameNoOther field tables = (r : ViewRow) → Contains (rows_of_all tables) r → has_no_other field (fields_of_row r) ≡ true
+
+-- Some packet that the guard is about comes back to a place.
+abbrev pub ComesBackTo : Guarded → List TableView → Place → Type 0
+ComesBackTo g tables p = (k : PacketKey) × IsGuarded g.field k × ((between : List Place) × IsWalk (carries g.hops tables k) p between p)
