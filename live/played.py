@@ -10,15 +10,17 @@ import time
 
 sys.path.insert(0, os.path.join(os.path.dirname(os.path.abspath(__file__)), "..", "sdk", "python"))
 from legosdn import messages
-from legosdn.codes import NO_BUFFER, FlowCommand, Port, RemovedReason
+from legosdn.codes import ALL_TABLES, NO_BUFFER, FlowCommand, Port, RemovedReason, StatsKind
 from legosdn.match import Match
 from legosdn.messages import PortDesc
-from legosdn.stats import FlowQuestion, FlowStats
+from legosdn.stats import AggregateStats, DescStats, FlowQuestion, FlowStats, PortStats, TableStats
 
 SECONDS = 30
 MISS, ACTION = 0, 1
 PORTS = (1, 2, 3)
+BAD_REQUEST, BAD_STAT = 1, 2
 BAD_ACTION, BAD_OUT_PORT = 2, 4
+MORE = 1
 FIELDS = [it.name for it in dataclasses.fields(Match)]
 
 
@@ -65,13 +67,19 @@ class Switch(threading.Thread):
     backwards whether it tells its entries in another order than that of the keys
     others    entries that somebody else deletes, each by what the switch is sent when that happens: a member of `said`
     notices   of the entries that the controller deletes: none are told, or they are put off until `tell_notices`
+    counts    (packets, bytes) of entries; of the others nothing is counted
+    in_part   how many rows a part of a reply of statistics has at most; without a number all are in one part
+    refused   the kinds of statistics that are refused
+    silent    those that are passed over
     probe     after so many seconds without a word the controller is asked whether it is there, and left after so many more
     waits     how long it waited for each answer to these questions
     """
 
-    def __init__(self, port, dpid, cut_at=None, cut_by="end", backwards=False, others=None, table=None, notices=None, probe=None):
+    def __init__(self, port, dpid, cut_at=None, cut_by="end", backwards=False, others=None, table=None, notices=None, probe=None,
+                 counts=None, in_part=None, refused=(), silent=()):
         super().__init__(daemon=True)
         self.backwards, self.others, self.notices, self.probe = backwards, dict(others or {}), notices, probe
+        self.counts, self.in_part, self.refused, self.silent = dict(counts or {}), in_part, refused, silent
         self.dpid, self.table, self.said, self.frames = dpid, dict(table or {}), [], []
         self.cut_at, self.cut_by = cut_at, cut_by
         self.changed = threading.Condition()
@@ -189,7 +197,7 @@ class Switch(threading.Thread):
             self.confirm(xid)
         elif isinstance(message, messages.StatsRequest):
             self.said.append(("STATS", None))
-            self.send(messages.StatsReply(message.kind, self.rows(FlowQuestion.decode(message.data).match)), xid)
+            self.tell_statistics(xid, message)
         if self.said and self.said[-1] in self.others:
             self.send(self.drop(self.others.pop(self.said[-1])))
         return True
@@ -200,13 +208,42 @@ class Switch(threading.Thread):
         self.send(messages.BarrierReply(), xid)
         self.barriers += 1
 
-    def rows(self, wider):
-        """The rows of the entries within this match."""
-        found = [it for it in self.table.items() if is_within(it[0][1], wider)]
+    def tell_statistics(self, xid, asked):
+        """Answers a request of statistics, in parts, or refuses it, or passes it over."""
+        if asked.kind in self.silent:
+            return
+        if asked.kind in self.refused:
+            self.send(messages.Error(BAD_REQUEST, BAD_STAT, messages.encode(asked, xid)[:64]), xid)
+            return
+        rows = self.statistics(StatsKind(asked.kind), asked.data)
+        each = self.in_part or len(rows) or 1
+        parts = [b"".join(rows[at : at + each]) for at in range(0, len(rows), each)] or [b""]
+        for part in parts[:-1]:
+            self.send(messages.StatsReply(asked.kind, part, MORE), xid)
+        self.send(messages.StatsReply(asked.kind, parts[-1]), xid)
+
+    def statistics(self, kind, data):
+        """The rows of a reply."""
+        if kind == StatsKind.DESC:
+            return [DescStats("lego", "played", "1", "0", f"switch {self.dpid}").encode()]
+        if kind == StatsKind.TABLE:
+            return [TableStats(0, "table0", 0x3FFFFF, 4096, len(self.table), 0, 0).encode()]
+        if kind == StatsKind.PORT:
+            wanted = int.from_bytes(data[:2], "big")
+            return [PortStats(port, rx_packets=10 * port).encode() for port in PORTS if wanted in (port, Port.NONE)]
+        found = self.rows(FlowQuestion.decode(data))
+        if kind == StatsKind.FLOW:
+            return [row.encode() for row in found]
+        return [AggregateStats(sum(row.packet_count for row in found), sum(row.byte_count for row in found), len(found)).encode()]
+
+    def rows(self, asked):
+        """The rows of the entries that are asked for; there is one table, with the number 0."""
+        found = [it for it in self.table.items() if asked.table_id in (0, ALL_TABLES) and is_within(it[0][1], asked.match)]
         found.sort(key=lambda it: (-it[0][0], it[0][1].encode()), reverse=self.backwards)
-        return b"".join(
-            FlowStats(match, actions, priority=priority, cookie=cookie).encode() for (priority, match), (actions, cookie) in found
-        )
+        return [
+            FlowStats(match, actions, 0, 0, 0, priority, 0, 0, cookie, *self.counts.get((priority, match), (0, 0)))
+            for (priority, match), (actions, cookie) in found
+        ]
 
     def cut(self):
         if self.cut_by == "reset":
