@@ -8,3 +8,4 @@ pub mod Searching
 pub mod Addresses
 pub mod Carried
 pub mod Walked
+pub mod Taken

@@ -4,7 +4,7 @@
 //! `Guard::first_found` answers what stands first against the tables: a row that changes packets on their way to a link,
 //! or the least value of the guarded field, and the least place, for which a place leads to itself. `Guard::allows` is
 //! true exactly where nothing does (`value`, `free`), and then no packet that each switch forwards by the row that it takes
-//! comes back to a place where it was (`comes_back`). Where rows name no other field, each loop is the way of some packet
+//! (`rows_taken_are_hit`) comes back to a place where it was (`comes_back`). Where rows name no other field, each loop is the way of some packet
 //! (`loops_are_walked`). Neither takes memory. `ChosenJudge` is the one judge of a program: all tables, a quota
 //! for each table, or a guard.
 #![tactic(auto)]
@@ -27,6 +27,6 @@ pub use found::Found;
 pub use guard::Guard;
 pub use guard_rule::{GuardField, GuardRule, Link};
 pub use hop::Hop;
-pub use laws::loops_are_walked;
+pub use laws::{loops_are_walked, rows_taken_are_hit};
 pub use quota::{ChosenJudge, Quota};
 pub use scope::Scope;
