@@ -1,6 +1,6 @@
 //! A world whose applications are objects.
 
-ghost use Rattle.std.specs.Prelude.{◌≡◌, ◌≢◌, ◌<◌, ◌≤◌, ℕ, [], ◌∷◌, length, true, false, is_some, Ok, IsOk, IsErrOf, IfOk, OnOk, OnErr, IfSome, slice_get, Option, None};
+ghost use Rattle.std.specs.Prelude.{◌≡◌, ◌≢◌, ◌<◌, ◌≤◌, ℕ, [], ◌∷◌, ◌++◌, length, true, false, is_some, Ok, IsOk, IsErrOf, IfOk, OnOk, OnErr, IfSome, slice_get, Option, None};
 ghost use Rattle.lego_io.specs.Count.{raised};
 ghost use Rattle.of_types.specs.Membership.{is_among};
 ghost use Rattle.of_wire.specs.Reading.{reading_of};
@@ -48,6 +48,7 @@ impl<W: World> BoxedWorld<W> {
     pub fn add_death(&mut self, app: u32, number: u64) -> Result<(), AllocError>
         ensures linked { self.new.linked ≡ self.old.linked }
         ensures lives { self.new.lives ≡ self.old.lives }
+        ensures ok { OnOk result (self.new.deaths.items ≡ self.old.deaths.items ++ (record { app = app; number = number }) ∷ []) }
         ensures err { OnErr result (self.new.deaths.items ≡ self.old.deaths.items) }
     {
         self.deaths.push(Death { app, number })?;
