@@ -26,6 +26,7 @@ use Rattle.lego_model.specs.BarrierWaits.{flood}
 use Rattle.lego_model.specs.History.{own_acts}
 use Rattle.lego_model.specs.Journal.{is_event, reply_of, released, losses}
 use Rattle.lego_model.specs.Packets.{Held}
+use Rattle.lego_model.specs.Scripted.{is_heard}
 use Rattle.lego_model.specs.SwitchFaults.{Happened, SentThenGot, IsFlood}
 use Rattle.lego_model.specs.UndoFaults.{inverse_bytes, WasSent, HasCause, IsStepOf, GoesWithoutStrays}
 use Rattle.lego_model.specs.Turns.{Outcome, Completed, Failed, Table, turn_of}
@@ -111,8 +112,8 @@ abbrev pub IsCompleted : Outcome → Type 0
 IsCompleted (Completed stop checkpoint unread) = Unit {0}
 IsCompleted (Failed cause) = ⊥
 
--- An application had a whole turn: an event, and then acts by which it completed, with its messages answered somehow, behind what it had
--- given before and that was unread. It may take so many frames for a turn.
+-- An application had a whole turn: an event, and then acts that tell its end, by which it completed, with its messages answered somehow, behind
+-- what it had given before and that was unread. It may take so many frames for a turn.
 pub record TurnDone {Own : Type 0} (app budget : ℕ) (old new : Seen Own) : Type 0 where
   pub event : List ℕ
   pub event_is : is_event event ≡ true
@@ -121,6 +122,8 @@ pub record TurnDone {Own : Type 0} (app budget : ℕ) (old new : Seen Own) : Typ
   pub before : AtOnce app (journal old.history)
   pub rest : List ℕ
   pub passes : Passes before.last.unread rest
+  -- it did not end for the reason alone that no more was told
+  pub heard : is_heard budget rest (reply_of (record { given = true; acts = acts })) ≡ true
   pub judged : Bool
   pub answers : List Answer
   pub completed : IsCompleted (turn_of (answering judged) budget rest (reply_of (record { given = true; acts = acts })) answers).outcome

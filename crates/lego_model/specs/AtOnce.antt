@@ -71,21 +71,24 @@ pub record LooksFor (s : Before) : Type 0 where
 
 -- ---- Frames that ask for nothing
 
--- one that wants an answer
-abbrev pub is_message : AppFrame → Bool
-is_message (frames.Message dpid bytes) = true
-is_message other = false
+-- one by which a start or a turn ends well
+abbrev pub ends_well : AppFrame → Bool
+ends_well frames.Ready = true
+ends_well (frames.Done stop checkpoint) = true
+ends_well other = false
 
--- These frames stand at the front of the bytes, one behind the other, and then the rest; none of them is a message.
-abbrev pub StandBefore : List AppFrame → List ℕ → List ℕ → Type 0
-StandBefore [] bytes rest = rest ≡ bytes
-StandBefore (frame ∷ frames) bytes rest =
-    (is_message frame ≡ false) × ((size : ℕ) × ((app_reading bytes ≡ Ok (Some (frame, size))) × StandBefore frames (drop size bytes) rest))
-
--- frames that are no messages are passed over
+-- The frame at the front of the bytes, by which a start or a turn ended well, is passed over, and no other.
 pub record Passes (bytes rest : List ℕ) : Type 0 where
-  pub frames : List AppFrame
-  pub are : StandBefore frames bytes rest
+  pub frame : AppFrame
+  pub ended : ends_well frame ≡ true
+  pub size : ℕ
+  pub read : app_reading bytes ≡ Ok (Some (frame, size))
+  pub rest_is : rest ≡ drop size bytes
+
+-- so it is before an Event; before another frame, which is no Answer either, nothing is
+abbrev pub PassesBefore : Bool → List ℕ → List ℕ → Type 0
+PassesBefore true bytes rest = Passes bytes rest
+PassesBefore false bytes rest = rest ≡ bytes
 
 -- ---- A message and its answer
 
@@ -153,11 +156,12 @@ pub record Answers (frame : List ℕ) (s t : Before) : Type 0 where
   pub at_once : AnsweredAtOnce dpid bytes answer s.since
   pub then_is : t ≡ before (drop size s.unread) []
 
--- Any other frame asks for what comes next, and what it does not answer is passed over. Behind the end of its bytes only an Event is given.
+-- Any other frame asks for what comes next. An Event comes behind the frame by which the start or the turn before it ended well. Behind the
+-- end of its bytes only an Event is given.
 pub record AsksNext (frame : List ℕ) (s t : Before) : Type 0 where
   pub not_ended : is_event frame ≡ false → s.ended ≡ false
   pub running_is : t.running ≡ true
-  pub passes : Passes s.unread t.unread
+  pub passes : PassesBefore (is_event frame) s.unread t.unread
   pub since_is : t.since ≡ []
   pub ended_is : t.ended ≡ false
 

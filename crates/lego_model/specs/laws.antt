@@ -5,3 +5,4 @@ pub mod SessionTextLaws
 pub mod SwitchFaultLaws
 pub mod OwnIdLaws
 pub mod KeptMessageLaws
+pub mod CutTurnLaws

@@ -1,6 +1,6 @@
 //! Laws of turns, each the contract of a function that does nothing.
 
-ghost use Rattle.std.specs.Prelude.{◌≡◌, ◌⊎◌, ℕ, Bool, List, length, Result, Err};
+ghost use Rattle.std.specs.Prelude.{◌≡◌, ◌⊎◌, ℕ, suc, Bool, List, length, Result, Err};
 ghost use Rattle.flow_table.specs.View.{TableView};
 ghost use Rattle.app_frames.specs.declared.frame.Event.{Event};
 ghost use Rattle.lego_model.specs.Places.{Place};
@@ -20,7 +20,8 @@ ghost use Rattle.app_visor.specs.Turns.{reply_by, Turns};
 ghost use Rattle.switch_laws.specs.Shown.{shown_by, shown_places};
 ghost use Rattle.switch_laws.specs.Released.{StopsFor};
 ghost use Rattle.switch_laws.specs.Since.{Ready};
-ghost use Rattle.lego_model.specs.AfterFault.{UndoneButFailed, TurnDone, TurnKept, TurnReleasing};
+ghost use Rattle.lego_model.specs.AfterFault.{NoEventSince, UndoneButFailed, TurnDone, TurnKept, TurnReleasing, TablesLeft};
+ghost use Rattle.lego_model.specs.laws.CutTurnLaws.{CutAtMessage};
 ghost use Rattle.turn_laws.specs.Chain.{PlayedAlike};
 
 use outside::World;
@@ -66,4 +67,11 @@ pub fn releases_leave<W: World>()
         (queue now_queue : List Event) (fault : TxnFault) → W.Tells → Conforming old → InOrder new → Ready old net → Turns W.Tells accepts app budget rest frame old mid net mid_net end unread
         → TurnDone app budget old mid → Commits W.Tells (length net.log) mid new mid_net now_net queue now_queue (Err fault)
         → UndoneButFailed W.Tells old new ⊎ ((fault ≡ NoMemory) × TurnKept app budget old new) ⊎ TurnReleasing app budget old new }
+{}
+
+/// A turn that was cut off in its middle is not whole: where an application gave one message behind its event, and nothing else
+/// came of it, what a fault may leave is that the turn was undone, also where memory was wanting.
+pub fn cut_turns_are_undone<W: World>()
+    ensures { (app budget : ℕ) (old new : Seen W.Own) → CutAtMessage app old new → TablesLeft app (suc budget) (Unit {0}) old new
+        → NoEventSince old new ⊎ UndoneButFailed (Unit {0}) old new }
 {}

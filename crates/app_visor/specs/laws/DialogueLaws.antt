@@ -29,8 +29,9 @@ use Rattle.net_txn.specs.ChangeSteps.{ReachedSince}
 use Rattle.net_txn.specs.Answering.{known_rows, answer_of_host, ByHost}
 use Rattle.net_txn.specs.Changes.{ChangesJoined}
 use Rattle.lego_model.specs.Answers.{as_sent, host_answer}
-use Rattle.lego_model.specs.AtOnce.{Before, before, nothing_said, besides, is_message, Passes, SendsNone, is_loss_of, AnsweredAtOnce, GivesFrame, Says, Dialogue}
-use Rattle.journal_laws.specs.laws.AtOnceLaws.{answer_is_one, restore_is_no_answer, event_is_no_answer, passes_none, Dialogue-append, others_say, host_since, switch_since, loss_since}
+use Rattle.lego_model.specs.AtOnce.{Before, before, nothing_said, besides, ends_well, Passes, PassesBefore, SendsNone, is_loss_of, AnsweredAtOnce, GivesFrame, Says, Dialogue}
+use Rattle.journal_laws.specs.laws.AtOnceLaws.{answer_is_one, restore_is_no_answer, event_is_no_answer, Dialogue-append, others_say, host_since, switch_since, loss_since}
+use Rattle.journal_laws.specs.laws.FrameLaws.{restore_is_none}
 use Rattle.app_visor.specs.Talks.{step_of, Told}
 use Rattle.app_visor.specs.Reads.{takes, TakesAll, IsNext}
 use Rattle.app_visor.specs.Beats.{Exchange, IsExchange, exchange_of, Exchanges, acts_of}
@@ -39,9 +40,9 @@ use Rattle.app_visor.specs.laws.AnswerLaws.{decided, is_unknown}
 use Rattle.app_visor.specs.laws.JournalLaws.{journal_told, links_none}
 use Rattle.app_visor.specs.Dialogues.{Converses}
 
--- a frame that is no message is passed over
-pub passes_next : (frame : AppFrame) (rest left : List ℕ) → is_message frame ≡ false → IsNext frame rest left → Passes rest left
-passes_next frame rest left is next = record { frames = frame ∷ []; are = (is, (next.size, (next.read, next.left_is))) }
+-- a frame by which a start or a turn ended well is passed over
+pub passes_next : (frame : AppFrame) (rest left : List ℕ) → ends_well frame ≡ true → IsNext frame rest left → Passes rest left
+passes_next frame rest left is next = record { frame = frame; ended = is; size = next.size; read = next.read; rest_is = next.left_is }
 
 -- ---- One part behind another
 
@@ -87,13 +88,13 @@ pub converses_event : {Own : Type 0} (Tells : Type 0) (app : ℕ) (frame rest : 
     → Converses app s (before rest []) old new
 converses_event Tells app frame rest s old new told tells event runs passes =
     converses_told Tells app (Gave app frame) s (before rest []) old new told tells (same app)
-    (runs, subst (λ (b : Bool). GivesFrame b frame s (before rest [])) (sym (event_is_no_answer frame event)) (record { not_ended = λ other. absurd (true≢false (sym event ∙ other)); running_is = refl; passes = passes; since_is = refl; ended_is = refl }))
+    (runs, subst (λ (b : Bool). GivesFrame b frame s (before rest [])) (sym (event_is_no_answer frame event)) (record { not_ended = λ other. absurd (true≢false (sym event ∙ other)); running_is = refl; passes = subst (λ (b : Bool). PassesBefore b s.unread rest) (sym event) passes; since_is = refl; ended_is = refl }))
 
 -- it is given its checkpoint
 pub converses_restored : {Own : Type 0} (Tells : Type 0) (app : ℕ) (kept : List ℕ) (old new : Seen Own) → Told Tells (Gave app (restore_frame kept)) old new → Tells → Converses app nothing_said nothing_said old new
 converses_restored Tells app kept old new told tells =
     converses_told Tells app (Gave app (restore_frame kept)) nothing_said nothing_said old new told tells (same app)
-    (refl, subst (λ (b : Bool). GivesFrame b (restore_frame kept) nothing_said nothing_said) (sym (restore_is_no_answer kept)) (record { not_ended = λ other. refl; running_is = refl; passes = passes_none []; since_is = refl; ended_is = refl }))
+    (refl, subst (λ (b : Bool). GivesFrame b (restore_frame kept) nothing_said nothing_said) (sym (restore_is_no_answer kept)) (record { not_ended = λ other. refl; running_is = refl; passes = subst (λ (b : Bool). PassesBefore b [] []) (sym (restore_is_none kept)) refl; since_is = refl; ended_is = refl }))
 
 -- it is ended, where it runs
 converses_ended_by : {Own : Type 0} (app : ℕ) (running : Bool) (s : Before) (old new : Seen Own) → s.running ≡ running → new.history ≡ old.history ++ end_steps app running → (t : Before) × (Converses app s t old new × (t.running ≡ false))

@@ -20,7 +20,7 @@ use Rattle.outside.specs.Seen.{Seen}
 use Rattle.journal_laws.specs.Readings.{is_within, Within}
 use Rattle.journal_laws.specs.laws.ReadingLaws.{Within-append}
 use Rattle.journal_laws.specs.laws.FrameLaws.{answer_is_none}
-use Rattle.lego_model.specs.AtOnce.{before, is_message, took_end, Passes}
+use Rattle.lego_model.specs.AtOnce.{before, took_end, Passes}
 use Rattle.journal_laws.specs.laws.AtOnceLaws.{sends_none_both}
 use Rattle.net_txn.specs.Net.{NetState}
 use Rattle.app_visor.specs.declared.came.Came.{Came}
@@ -214,6 +214,11 @@ leads_exchanged {app = app} {dpid = dpid} {bytes = bytes} {old = old} {new = new
 }
 
 -- ---- A frame that ends the turn
+
+-- one that wants an answer
+abbrev is_message : AppFrame → Bool
+is_message (frames.Message dpid bytes) = true
+is_message other = false
 
 others_settle : (left : ℕ) (frame : AppFrame) (here : List ℕ) → is_message frame ≡ false → settles (suc left) 0 None (Framed frame here []) ≡ true
 unfolding settles

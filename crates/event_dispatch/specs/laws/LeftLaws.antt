@@ -13,6 +13,7 @@ use Rattle.lego_model.specs.Controller.{event_frame}
 use Rattle.lego_model.specs.History.{own_acts}
 use Rattle.lego_model.specs.Journal.{is_event, reply_of, released_in, released, give_act}
 use Rattle.lego_model.specs.Packets.{Held}
+use Rattle.lego_model.specs.Scripted.{is_heard}
 use Rattle.lego_model.specs.Turns.{Outcome, Completed, Failed, Played, turn_of}
 use Rattle.outside.specs.declared.step.WorldStep.{WorldStep}
 use Rattle.flow_table.specs.Switch.{SwitchState}
@@ -145,9 +146,9 @@ unfolding turn_of reply_of
 never_given budget rest acts judged answers is = is
 
 done_by : {Own : Type 0} (app budget : ℕ) (given : Bool) (rest event : List ℕ) (acts : List Act) (judged : Bool) (answers : List Answer) (old new : Seen Own) → is_event event ≡ true
-    → own_acts app new ≡ own_acts app old ++ give_act given app event ∷ acts → IsCompleted (turn_of (answering judged) budget rest (reply_of (record { given = given; acts = acts })) answers).outcome
+    → own_acts app new ≡ own_acts app old ++ give_act given app event ∷ acts → is_heard budget rest (reply_of (record { given = given; acts = acts })) ≡ true → IsCompleted (turn_of (answering judged) budget rest (reply_of (record { given = given; acts = acts })) answers).outcome
     → (a : AtOnce app (journal old.history)) → Passes a.last.unread rest → TurnDone app budget old new
-done_by app budget true rest event acts judged answers old new is more completed a passes = record {
+done_by app budget true rest event acts judged answers old new is more heard completed a passes = record {
   event = event;
   event_is = is;
   acts = acts;
@@ -155,11 +156,12 @@ done_by app budget true rest event acts judged answers old new is more completed
   before = a;
   rest = rest;
   passes = passes;
+  heard = heard;
   judged = judged;
   answers = answers;
   completed = completed;
 }
-done_by app budget false rest event acts judged answers old new is more completed a passes = absurd (never_given budget rest acts judged answers completed)
+done_by app budget false rest event acts judged answers old new is more heard completed a passes = absurd (never_given budget rest acts judged answers completed)
 
 turn_done : {Own : Type 0} {Tells : Type 0} {accepts : List TableView → Bool} {app budget : ℕ} {rest event unread : List ℕ} {old new : Seen Own} {net now_net : NetState} {stop : Bool} → Tells → is_event event ≡ true → Turns Tells accepts app budget rest event old new net now_net (ends.Done stop) unread
     → (a : AtOnce app (journal old.history)) → Passes a.last.unread rest → TurnDone app budget old new
@@ -168,7 +170,7 @@ turn_done {accepts = accepts} {app = app} {budget = budget} {rest = rest} {event
     let exchanges = exchanges_in t.trace in
     let alike = turn_alike (answering judged) (answers_of exchanges) [] t (answers_agree judged exchanges) (judged_is judged) in
     done_by app budget t.given rest event (acts_in t.trace) judged (answers_of exchanges) old new is
-    (turn_acts t told)
+    (turn_acts t told) t.heard
     (subst IsCompleted (sym (ap (λ (p : Played (List Answer)). p.outcome) alike)) (completes stop unread t.outcome t.ends)) a passes
 
 -- ---- The dispatch of an event

@@ -20,7 +20,7 @@ use Rattle.app_frames.specs.declared.frame.Answer.{Answer}
 use Rattle.app_frames.specs.Spelling.{framed, host_bytes}
 use Rattle.lego_model.specs.Journal.{is_of, is_event, sends_change, ReachedAtOnce}
 use Rattle.lego_model.specs.Controller.{restore_frame, answer_frame}
-use Rattle.lego_model.specs.AtOnce.{Before, besides, Passes, SendsNone, AnsweredByHost, first_error, AnsweredBySwitch, is_loss_of, AnsweredForLoss, is_answer, Says, Dialogue, AnsweredAtOnce}
+use Rattle.lego_model.specs.AtOnce.{Before, besides, SendsNone, AnsweredByHost, first_error, AnsweredBySwitch, is_loss_of, AnsweredForLoss, is_answer, Says, Dialogue, AnsweredAtOnce}
 
 -- ---- Frames
 
@@ -43,9 +43,6 @@ restore_is_no_answer checkpoint = framed_restore _
 -- an Event is no Answer
 pub event_is_no_answer : (frame : List ℕ) → is_event frame ≡ true → is_answer frame ≡ false
 event_is_no_answer frame is = grind (arith, is)
-
-pub passes_none : (bytes : List ℕ) → Passes bytes bytes
-passes_none bytes = record { frames = []; are = refl }
 
 -- ---- One dialogue behind another
 
