@@ -4,9 +4,9 @@ use Rattle.std.specs.Prelude.{◌≡◌, ℕ, ◌≤◌, ◌⊎◌, false, List,
 use Rattle.std.specs.List.{AllByRecursion}
 use Rattle.of_types.specs.Fields.{number_at}
 use Rattle.of_types.specs.declared.journal.Act.TheVariants.{Sent, Got}
+use Rattle.of_match.specs.declared.key.Key.{Key}
 use Rattle.of_wire.specs.Reading.{reading_of}
 use Rattle.of_wire.specs.Spelling.{message_bytes}
-use Rattle.of_wire.specs.declared.message.Message.{Message}
 use Rattle.of_wire.specs.declared.bodies.PacketOut.{PacketOut as Packet}
 use Rattle.of_wire.specs.declared.message.Message.TheVariants.{PacketOut, BarrierReply}
 use Rattle.flow_table.specs.Switch.{SwitchState}
@@ -19,6 +19,7 @@ use Rattle.lego_model.specs.declared.fault.TxnFault.{TxnFault}
 use Rattle.lego_model.specs.declared.fault.TxnFault.TheVariants.{SwitchBroke, Diverged, Flooded, NoMemory}
 use Rattle.lego_model.specs.declared.wait.Awaited.{Awaited}
 use Rattle.lego_model.specs.BarrierWaits.{flood, next_xid, heard, is_reply, kept_of, wait_steps, barrier_sent, reply_got}
+use Rattle.lego_model.specs.UndoFaults.{inverse_bytes}
 use Rattle.lego_model.specs.FlowQueries.{flows_request, request_sent, asked_from, parts_in, refusals_in, IsBroken}
 
 -- ---- What a history tells of a switch
@@ -67,11 +68,14 @@ pub record IsUnanswered {Own : Type 0} (Tells : Type 0) (d : ℕ) (sent reply : 
 
 -- ---- What else a switch is at fault for
 
--- an ERROR (1, in 5.4.4) with the transaction id of the message that was sent
+-- what the controller asks of its own, with this transaction id: an inverse, or a request of rows
+abbrev pub IsOwn : ℕ → List ℕ → Type 0
+IsOwn xid sent = ((key : Key) × (sent ≡ inverse_bytes xid key)) ⊎ (sent ≡ flows_request xid)
+
+-- an ERROR (1, in 5.4.4) with the transaction id of what was asked
 pub record IsErrorFor (sent got : List ℕ) : Type 0 where
   pub kind : number_at 1 1 got ≡ 1
-  pub message : Message
-  pub sent_is : sent ≡ message_bytes (number_at 4 4 got) message
+  pub sent_is : IsOwn (number_at 4 4 got) sent
 
 -- So many messages were got behind a barrier that was sent to the switch, and none of them is its reply (5.3.7 Barrier Message).
 pub record IsFlood {Own : Type 0} (Tells : Type 0) (d n : ℕ) (old new : Seen Own) : Type 0 where
@@ -98,8 +102,8 @@ pub record FloodedByPacket {Own : Type 0} (d : ℕ) (old new : Seen Own) : Type 
 
 -- ---- The cause of a fault
 
--- Of a switch: bytes came from it that are no message, or a bad part of a reply to a request of rows; what was sent
--- to it was answered by an ERROR, or a request of rows by nothing; or too many messages came from it, behind a barrier.
+-- Of a switch: bytes came from it that are no message, or a bad part of a reply to a request of rows; an inverse or a request of rows was
+-- answered by an ERROR, or a request of rows by nothing; or too many messages came from it, behind a barrier.
 abbrev pub IsWhyTxn : {Own : Type 0} → Type 0 → Seen Own → Seen Own → TxnFault → Type 0
 IsWhyTxn Tells old new (Flooded d n) = (n ≡ flood) × IsFlood Tells d n old new
 IsWhyTxn Tells old new NoMemory = ⊥

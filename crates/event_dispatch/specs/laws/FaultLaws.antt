@@ -10,7 +10,7 @@ use Rattle.of_match.specs.declared.key.Key.{Key}
 use Rattle.of_wire.specs.declared.bodies.PacketOut.{PacketOut as Packet}
 use Rattle.of_wire.specs.Reading.{reading_of}
 use Rattle.of_wire.specs.Spelling.{message_bytes}
-use Rattle.of_wire.specs.declared.message.Message.TheVariants.{FlowMod, PacketOut, StatsRequest, BarrierReply}
+use Rattle.of_wire.specs.declared.message.Message.TheVariants.{PacketOut, BarrierReply}
 use Rattle.app_frames.specs.declared.frame.Answer.{Answer}
 use Rattle.app_frames.specs.declared.frame.Answer.TheVariants.{Unknown}
 use Rattle.app_frames.specs.declared.frame.Event.{Event}
@@ -28,7 +28,6 @@ use Rattle.lego_model.specs.Packets.{Held}
 use Rattle.net_txn.specs.Releases.{packet_steps, BreaksAt, committed, StopsRelease, UndoneForMemory, Commits}
 use Rattle.switch_laws.specs.laws.ReleaseLaws.{releases-continue}
 use Rattle.lego_model.specs.AfterFault.{IsWhyUndo}
-use Rattle.lego_model.specs.UndoFaults.{delete_strict, inverse_bytes}
 use Rattle.net_txn.specs.laws.RestoreLaws.{runs_here, runs_older}
 use Rattle.net_txn.specs.laws.UndoFailureLaws.{stuck_in_undo}
 use Rattle.lego_model.specs.BarrierWaits.{next_xid, flood, heard, kept_by, kept_of, steps_by, heard_steps, wait_steps, barrier_sent, reply_got}
@@ -39,7 +38,7 @@ use Rattle.net_txn.specs.Waits.{Floods, IfFlooded}
 use Rattle.net_txn.specs.Answering.{known_rows}
 use Rattle.net_txn.specs.Changes.{answer_of_host, change_sent, ChangesJoined, Changes}
 use Rattle.net_txn.specs.Asks.{IsRefusal, IsRepliesFault, IsAskCause, Asks}
-use Rattle.lego_model.specs.FlowQueries.{is_about, all_flows, flows_request, request_sent, asked_from, parts_in, refusals_in}
+use Rattle.lego_model.specs.FlowQueries.{is_about, flows_request, request_sent, asked_from, parts_in, refusals_in}
 use Rattle.net_txn.specs.laws.LostPartLaws.{faulty}
 use Rattle.net_txn.specs.Undos.{Part, part_steps, steps_of, parts_of, fault_in, first_fault_of, first_fault, IsRun, ended_by as undo_ended, Undoes}
 use Rattle.app_visor.specs.Beats.{Halts, Stops}
@@ -231,8 +230,7 @@ module _ {Own Tells : Type 0} (d xid : ℕ) (got : List (List ℕ)) (old new : S
   error_why : (bytes : List ℕ) → slice_get (refusals_in xid (came_for d xid got)) 0 ≡ Some bytes → IsWhyTxn Tells old new (Diverged d (flows_request xid) bytes)
   error_why bytes at =
       let is = got_in (asked_from d xid) xid 1 got bytes (0, at) in
-      let request = StatsRequest (record { kind = 1; flags = 0; body = all_flows }) in
-      (sent_among 1 bytes is, inl (record { kind = about_kind xid 1 bytes is.about; message = request; sent_is = ap (λ (n : ℕ). message_bytes n request) (sym (about_xid xid 1 bytes is.about)) }))
+      (sent_among 1 bytes is, inl (record { kind = about_kind xid 1 bytes is.about; sent_is = inr (ap (λ (n : ℕ). flows_request n) (sym (about_xid xid 1 bytes is.about))) }))
 
   unanswered_why : refusals_in xid (came_for d xid got) ≡ [] → parts_in xid (came_for d xid got) ≡ [] → IsWhyTxn Tells old new (Diverged d (flows_request xid) (message_bytes (next_xid xid) BarrierReply))
   unanswered_why none_refused no_part =
@@ -273,16 +271,12 @@ asks_why {d = d} {old = old} {new = new} {net = net} {now_net = now_net} fault a
 
 -- ---- An undo
 
-inverse_message : (bytes inverse : List ℕ) (key : Key) → number_at 1 1 bytes ≡ 1 → inverse ≡ inverse_bytes (number_at 4 4 bytes) key → IsErrorFor inverse bytes
-unfolding inverse_bytes
-inverse_message bytes inverse key kind is = record { kind = kind; message = FlowMod (delete_strict key); sent_is = is }
-
 undone_why : {Own : Type 0} (Tells : Type 0) (old new : Seen Own) (d : ℕ) (fault : TxnFault) → IsWhyUndo Tells d old new fault → IsWhy Tells old new 0 0 (ended_by fault)
 undone_why Tells old new d (SwitchBroke e bytes) why =
     subst (λ (n : ℕ). (Tells → CameFrom n bytes old.history new.history) × (IsErr (reading_of bytes) ⊎ IsBadPart Tells n bytes old new)) (sym why.0) ((λ tells. inr (why.2 tells)), inl why.1)
 undone_why Tells old new d (Diverged e inverse bytes) why =
     subst (λ (n : ℕ). (Tells → SentThenGot n inverse bytes old.history new.history) × (IsErrorFor inverse bytes ⊎ IsUnanswered Tells n inverse bytes old new)) (sym why.0)
-    (why.2, inl (inverse_message bytes inverse why.1.key why.1.kind why.1.inverse_is))
+    (why.2, inl (record { kind = why.1.kind; sent_is = inl (why.1.key, why.1.inverse_is) }))
 undone_why Tells old new d (Flooded e n) why = subst (λ (x : ℕ). (n ≡ flood) × IsFlood Tells x n old new) (sym why.0) (why.1, why.2)
 undone_why Tells old new d NoMemory why = tt
 
