@@ -9,6 +9,7 @@ mod Causes
 mod Places
 mod WorldRuns
 mod Said
+mod FaultLines
 mod CutRuns
 mod Runs
 mod Courses

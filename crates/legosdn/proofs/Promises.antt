@@ -17,11 +17,13 @@ use Rattle.legosdn.specs.declared.stop.Stop.TheVariants.{Usage, Refused, ReadFau
 use Rattle.legosdn.specs.Input.{session_of, run_policy}
 use Rattle.legosdn.specs.Stops.{stop_status, stop_line, refusal_line}
 use Rattle.legosdn.specs.Headline.{IsNoSession, IsNoPolicy, Streams, faults_at, IsCause, NoneFailed, IsEarly, SpellsSession, SpellsPolicy, IsLoaded, LosesByFaults, UpToPoint, NeverRuns, StopsAs, RunsLoaded, Wrote, Replays}
+use Rattle.legosdn.specs.LinkFaults.{LosesAsTold}
 use Rattle.legosdn.specs.Live.{ServesUntil, ServesTaken, Serves}
 use Rattle.legosdn.specs.Promise.{IsAnswered, HasCause, HasRun, RefusedBy, AreDialogues, AnswersMeanDone, ReplayPromise, ReportsTold, RunPromise, AtEveryStatus, LiveAtEveryStatus}
 use Rattle.legosdn.proofs.Statuses.{is_refused, is_late, not_zero, fault_or_left}
 use Rattle.legosdn.proofs.Causes.{cause_then, none_refused, refuses}
 use Rattle.legosdn.proofs.Loads.{late_loaded, none_done_early}
+use Rattle.legosdn.proofs.FaultLines.{lost_by_lines, lost_nowhere}
 use Rattle.legosdn.proofs.Losses.{nothing_lost, none_lost_by}
 use Rattle.legosdn.proofs.Places.{idle_in_place}
 use Rattle.legosdn.proofs.Said.{reports}
@@ -245,16 +247,18 @@ run_err {Own = Own} Tells rounds old mid contents faults was now World Sink stop
 pub new_always : (told left : Option (List ℕ)) (sim : WorldData) → IsNew sim → AtEveryStatus told left (seen_of sim)
 new_always told left sim new = record {
   no_stray_call = new_strays sim new;
+  lost_at_fault_lines = λ apps session is. lost_nowhere session.faults (seen_of sim) (untouched sim new);
   none_lost_without_fault = λ apps session is faults. nothing_lost (seen_of sim) (untouched sim new);
   no_other_session = inl (untouched sim new);
   every_application_ended = none_runs sim new;
   own_ids_ascend = λ short. no_ids sim new;
 }
 
-pub loaded_always : (told left : Option (List ℕ)) (seen : Seen Scripts) → IsLoaded told left seen → seen.counts.strays ≤ seen.counts.shorts → LosesByFaults seen → (state seen).running ≡ [] → (IsShortRun seen → OwnIdsAscend seen) → AtEveryStatus told left seen
+pub loaded_always : (told left : Option (List ℕ)) (seen : Seen Scripts) → IsLoaded told left seen → seen.counts.strays ≤ seen.counts.shorts → LosesByFaults seen × LosesAsTold seen → (state seen).running ≡ [] → (IsShortRun seen → OwnIdsAscend seen) → AtEveryStatus told left seen
 loaded_always told left seen loaded strays lost ended ids = record {
   no_stray_call = strays;
-  none_lost_without_fault = λ apps session is faults. none_lost_by apps told left seen is.input session (inr loaded) lost is.whole is.spelled faults;
+  lost_at_fault_lines = λ apps session is. lost_by_lines apps told left seen is.input session loaded lost.1 is.whole is.spelled;
+  none_lost_without_fault = λ apps session is faults. none_lost_by apps told left seen is.input session (inr loaded) lost.0 is.whole is.spelled faults;
   no_other_session = inr loaded;
   every_application_ended = ended;
   own_ids_ascend = ids;

@@ -21,6 +21,7 @@ use Rattle.legosdn.specs.Input.{session_of, run_policy}
 use Rattle.legosdn.specs.Said.{all_allowed, reference_of_session, WithEnough}
 use Rattle.legosdn.specs.Stops.{stop_line, refusal_line}
 use Rattle.legosdn.specs.Headline.{IsNoSession, IsNoPolicy, Streams, faults_at, IsCause, NoneFailed, SpellsSession, SpellsPolicy, OfInput, IsLoaded, RunsNoOther, NeverRuns, RunsWhole, NoneFloods, SomeRefused, KeepsLines, Wrote, WroteLast, LeftAs, CutShort, NotBegun, Stopped}
+use Rattle.legosdn.specs.LinkFaults.{LostAtFaults}
 use Rattle.legosdn.specs.Live.{IsTaken, TellsInOrder, NoneStray, ServesWhole, ServesCut, CourseTo}
 
 -- ---- The input
@@ -171,11 +172,12 @@ pub record RunPromise {Own : Type 0} (Tells : Type 0) (rounds status : ℕ) (old
 -- ---- At every status, whatever the command
 
 -- Of the simulated world: no more calls were stray ones than wanted memory, and none where none did. What was done was done with the session that
--- the input spells, if anything was, and where it says of no call of a link that it fails, no switch is lost. Each application that was started is
--- ended. The transaction ids of the controller's own messages ascend from 1 on, so that none is used twice, in a run of less than a thousand million
+-- the input spells, if anything was, and a switch is lost only at a call of its link of which a `fault` line says that it fails; where there is no
+-- such line, no switch is lost. Each application that was started is ended. The transaction ids of the controller's own messages ascend from 1 on, so that none is used twice, in a run of less than a thousand million
 -- steps and declared switches.
 pub record AtEveryStatus (told left : Option (List ℕ)) (seen : Seen Scripts) : Type 0 where
   pub no_stray_call : seen.counts.strays ≤ seen.counts.shorts
+  pub lost_at_fault_lines : (apps : List AppValue) (session : SessionValue) → IsSession told apps session → LostAtFaults session.faults seen.history
   pub none_lost_without_fault : (apps : List AppValue) (session : SessionValue) → IsSession told apps session → session.faults ≡ [] → lost_of seen ≡ []
   pub no_other_session : RunsNoOther told left seen
   pub every_application_ended : (state seen).running ≡ []

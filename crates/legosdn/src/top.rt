@@ -16,6 +16,7 @@ ghost use Rattle.lego_model.specs.Application.{names};
 ghost use Rattle.legosdn.specs.Stops.{stop_status, stop_line};
 ghost use Rattle.legosdn.specs.Headline.{IsReplay, IsRun, IsNoSession, streams, IsReadCause, IsRunCause, IsEarly, Loaded, LosesByFaults, RunsAs, KeepsLines, Wrote, Replays};
 ghost use Rattle.legosdn.specs.Live.{Serves};
+ghost use Rattle.legosdn.specs.LinkFaults.{LosesAsTold, TellsAsTold};
 ghost use Rattle.legosdn.specs.Promise.{ReplayPromise, RunPromise, AtEveryStatus, LiveAtEveryStatus};
 
 use crate::input::{cut, read_input};
@@ -65,8 +66,10 @@ fn load<S: Source>(alloc: Global, source: &mut S, sim: &mut SimWorld) -> Result<
 }
 
 /// Finds that the simulated world keeps its word.
+#[tactic(auto, using(crate::proofs::FaultLines::tells_as_told))]
 fn keeps_word<E: Sink + Drop>(sim: &Traced<SimWorld, E>)
     ensures word { InOrder (seen_of sim.now) }
+    ensures told { TellsAsTold (seen_of sim.now) }
     ensures scripts { KeepsLines sim.now }
     ensures strays { AreExpected sim.now.history (at_first (given_of sim.now)) → (seen_of sim.now).counts.strays ≤ (seen_of sim.now).counts.shorts }
 {
@@ -85,7 +88,7 @@ fn simulate<K: Sink, E: Sink + Drop>(
         → RunsAs (map app_value apps.now) result sim.new (K.contents sink.old) (K.contents sink.new) }
     ensures lines { KeepsLines sim.new }
     ensures strays { (seen_of sim.old).history ≡ [] → (seen_of sim.new).counts.strays ≤ (seen_of sim.new).counts.shorts }
-    ensures lost { (seen_of sim.old).history ≡ [] → LosesByFaults (seen_of sim.new) }
+    ensures lost { (seen_of sim.old).history ≡ [] → LosesByFaults (seen_of sim.new) × LosesAsTold (seen_of sim.new) }
     ensures why { IfErr result (IsRunCause (Unit {0}) (K.faults sink.old) (K.faults sink.new) (seen_of sim.old) (seen_of sim.new)) }
     ensures continues { Continues (Unit {0}) (seen_of sim.old) (seen_of sim.new) }
     ensures ended { (seen_of sim.old).history ≡ [] → (state (seen_of sim.new)).running ≡ [] }
@@ -187,6 +190,7 @@ pub fn legosdn<S: Source, K: Sink, E: Sink + Drop, W: World>(
     ensures run_leaves_sim { (port rounds : ℕ) → IsRun (map string_bytes words.now) port rounds → sim.new ≡ sim.old }
     // At every status, of each world.
     ensures at_every_status { AtEveryStatus (S.remaining source.old) (S.remaining source.new) (seen_of sim.new) }
+    ensures simulated_world_tells_as_told { TellsAsTold (seen_of sim.new) }
     ensures live_at_every_status { LiveAtEveryStatus W.Tells (W.seen live.old) (W.seen live.new) }
 
     // Status 2 comes only where the words are no command. Then it is 2, or memory is wanting for them; one line is written, and nothing runs.
@@ -200,7 +204,9 @@ pub fn legosdn<S: Source, K: Sink, E: Sink + Drop, W: World>(
     ensures world_untouched { Contains (2 ∷ 3 ∷ 4 ∷ []) result → (sim.new ≡ sim.old) × (live.new ≡ live.old) × ((stop : Stop) × (result ≡ stop_status stop)
         × Wrote (K.contents sink.old) (K.contents sink.new) (K.faults sink.old) (K.faults sink.new) (stop_line stop)) }
 {
-    match run(alloc, words, source, sink, sim, live) {
+    let ended = run(alloc, words, source, sink, sim, live);
+    keeps_word(sim);
+    match ended {
         Ok(()) => 0,
         Err(stop) => halt(sink, stop),
     }

@@ -1,6 +1,7 @@
 use Rattle.std.proofs.Common.{map}
 use Rattle.crash_policy.specs.Policies.{app_value}
 use Rattle.sim_world.specs.World.{seen_of}
+use Rattle.legosdn.proofs.FaultLines.{loses_as_told}
 use Rattle.legosdn.proofs.Losses.{none_is_lost}
 use Rattle.legosdn.proofs.Places.{counted_few}
 use Rattle.legosdn.proofs.Runs.{tells, still_few, runs_said}
@@ -22,8 +23,8 @@ returns-clause-ended g c = λ none. c.run_world-ended.ensures.ended tt none
 
 pub returns-clause-lost : goal.returns-clause-lost
 returns-clause-lost g c = λ none.
-    none_is_lost (seen_of c.run_world-ended.new.world) c.keeps_word.ensures.word
-    (c.run_world-ended.ensures.strays (tells (seen_of c.args.sim.now) (seen_of c.run_world-ended.new.world) none c.keeps_word.ensures.word))
+    let stray = c.run_world-ended.ensures.strays (tells (seen_of c.args.sim.now) (seen_of c.run_world-ended.new.world) none c.keeps_word.ensures.word) in
+    (none_is_lost (seen_of c.run_world-ended.new.world) c.keeps_word.ensures.word stray, loses_as_told (seen_of c.run_world-ended.new.world) c.keeps_word.ensures.word stray)
 
 pub returns-clause-ids : goal.returns-clause-ids
 returns-clause-ids g c = λ none. c.run_world-ended.ensures.ids tt none c.keeps_word.ensures.word
