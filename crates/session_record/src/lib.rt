@@ -2,7 +2,7 @@
 //!
 //! `Recorder` is a world that passes each call on to another one, and keeps what became of the calls for applications and of those
 //! on links. `Recorder::text` spells that as a session: the switches and stimuli of the inner world, how each start ended, what was
-//! given in each turn, and the calls at which switches were lost. Its clauses: `spelled` here, and `noted` on each
+//! given in each turn, and the calls at which switches were lost; `Recorder::remarks` counts what no line says. Its clauses: `spelled` here, and `noted` on each
 //! call. Law: `lines_are_read`.
 #![tactic(auto)]
 
@@ -15,6 +15,7 @@ mod links;
 mod log;
 mod pieces;
 mod recorder;
+mod remarks;
 mod stimulus_lines;
 mod whole_text;
 

@@ -12,6 +12,7 @@ use crate::deed::DeedKind;
 use crate::links::LinkCalls;
 use crate::log::Log;
 use crate::pieces::front;
+use crate::remarks::{Messages, remarks_of};
 use crate::whole_text::whole_text;
 use of_types::{ByteList, Dpid, WorldStim};
 use outside::{
@@ -27,6 +28,7 @@ pub struct Recorder<W> {
     alloc: Global,
     log: Log,
     links: LinkCalls,
+    messages: Messages,
 }
 
 /// Tells whether a frame to an application is an Event.
@@ -119,6 +121,7 @@ impl<W: World + Drop> Recorder<W> {
             alloc,
             log: Log::new(alloc),
             links: LinkCalls::new(alloc),
+            messages: Messages::new(true),
         })
     }
 
@@ -132,6 +135,7 @@ impl<W: World + Drop> Recorder<W> {
             alloc,
             log: Log::silent(alloc),
             links: LinkCalls::silent(alloc),
+            messages: Messages::new(false),
         }
     }
 
@@ -153,6 +157,12 @@ impl<W: Told + Drop> Recorder<W> {
         let losses = self.links.losses()?;
         text_of(self.alloc, &self.world, names, &self.log, losses)
     }
+
+    /// Comments on a text of this run, line by line: on each kind of thing that no line of a session can say, such as a FLOW_REMOVED of
+    /// a real switch, and on each limit of a session that is broken; with the count of these.
+    pub fn remarks(&self, text: &[u8]) -> Result<String, AllocError> {
+        remarks_of(self.alloc, &self.world, self.messages, text)
+    }
 }
 
 impl<W: World + Drop> World for Recorder<W> {
@@ -169,7 +179,9 @@ impl<W: World + Drop> World for Recorder<W> {
     }
 
     fn next(&mut self, buf: &mut [u8]) -> Result<Item, NextFault> {
-        self.world.next(buf)
+        let answer = self.world.next(buf);
+        self.messages.note(answer, buf);
+        answer
     }
 
     fn start(&mut self, app: u32, words: &[String]) -> Result<(), StartFault>
