@@ -232,6 +232,17 @@ class Texts(unittest.TestCase):
                     if not told.startswith("#") and re.search(r":[0-9a-f]{8}|\b[0-9a-f]{16}", plain[0]):
                         self.assertEqual(len(plain), 2, told[:200])
 
+    def test_a_recording(self):
+        """The policy and the comments stay; of the bytes of each step stands behind them what they say."""
+        policy = '# recording: of a run\n# FLOW_REMOVED of switches, which no line says: 2\n[[app]]\nname = "app"\n---\n'
+        text = policy + "session 1\nswitch 1 4096 1,2\nstart app ready\nreply app x:0000001101000000000000000101120008000000000000000405000131 closed\n"
+        words = policy + (
+            "session 1\nswitch 1 ports 1,2 room 4096\nstart app ready\nreply app: x:0000001101000000000000000101120008000000000000000405000131; closed"
+            "  # step 1: for switch 1: barrier, then done with a checkpoint of 1 byte\n"
+        )
+        self.assertEqual(session.explain(text), words)
+        self.assertEqual(session.write(words), text)
+
     def test_the_program(self):
         def run(data, *words):
             script = os.path.join(PYTHON, "session.py")
