@@ -1,22 +1,22 @@
--- Steps of loops that look for a view, and for the place of a row; and what a change of one view shows.
-use Rattle.std.proofs.Common.{◌≡◌, ◌==◌, ℕ, zero, suc, ◌+◌, ◌<◌, ◌≤◌, Bool, true, false, ◌||◌, ◌⊎◌, List, [], ◌∷◌, ◌++◌, length, map, reverse, get_or, set, take, drop, refl, sym, ap, ◌∙◌, subst, inl, inr, arith}
+-- Steps of loops that look for a view; the order of its rows; and what a change of one view shows.
+use Rattle.std.proofs.Common.{◌≡◌, ◌==◌, ℕ, zero, suc, ◌+◌, ◌<◌, Bool, true, false, ◌||◌, ◌⊎◌, List, [], ◌∷◌, ◌++◌, length, map, reverse, get_or, set, take, drop, None, Some, IfSome, MatchOption, Option, Result, Ok, Err, OnOk, OnErr, refl, sym, ap, ◌∙◌, subst, inl, inr, arith}
+use Rattle.std.specs.List.{list_any}
+use Rattle.std.specs.Option.{is_some}
 use Rattle.std.proofs.Math.Seq.{drop-cons}
 use Rattle.std.proofs.Math.Seq.{map-set_same}
 use Rattle.std.proofs.Math.Bool.{or-false}
 use Rattle.std.proofs.lemmas.Bool.{eqb-true, eq-eqb, or_cases}
-use Rattle.std.proofs.lemmas.List.{drop_all, length-map, take_more, reverse-append}
+use Rattle.std.proofs.lemmas.List.{length-map, take_more, reverse-append}
 use Rattle.of_match.specs.Key.{key_number}
+use Rattle.flow_table.specs.Sorted.{AreRows, at_place, row_place}
 use Rattle.flow_table.specs.declared.view.ViewRow.{ViewRow}
 use Rattle.flow_table.specs.ViewRows.{ViewRows}
 use Rattle.flow_table.specs.declared.view.TableView.{TableView as Lent}
 use Rattle.flow_table.specs.View.{TableView, plain, plains}
 use Rattle.flow_table.specs.laws.PlainLaws.{plains-read, plains-set, switches-more}
-use Rattle.net_txn.specs.Views.{with_rows, is_viewed, IsViewAt, IsRowPlace}
+use Rattle.net_txn.specs.Views.{rows_at, with_rows, is_viewed, IsViewAt, AreInKeyOrder}
 use Rattle.net_txn.specs.Undos.{switches_of}
-use Rattle.net_txn.specs.laws.ViewLaws.{with_rows-placed, IsViewAt-within}
-
-abbrev pub RowPlaces : ℕ → List ViewRow → ℕ → Type 0
-RowPlaces p rows i = (j : ℕ) → IsRowPlace p (drop i rows) j → IsRowPlace p rows (i + j)
+use Rattle.net_txn.specs.laws.ViewLaws.{with_rows-placed, IsViewAt-within, AreInKeyOrder-read, AreInKeyOrder-at, any_row}
 
 abbrev pub ViewPlaces : ℕ → List Lent → ℕ → Type 0
 ViewPlaces d views i = (j : ℕ) → IsViewAt d (plains (drop i views)) j → IsViewAt d (plains views) (i + j)
@@ -25,25 +25,6 @@ front : (X : Type 0) (xs : List X) (i : ℕ) (x : X) → i < length xs → x ≡
 front X xs i x lt is =
     let next : suc i ≡ i + 1 = omega arith in
     drop-cons xs i x lt ∙ ap (λ (y : X). y ∷ drop (suc i) xs) (sym is) ∙ ap (λ (n : ℕ). x ∷ drop n xs) next
-
-pub rows_more : (p : ℕ) (rows : List ViewRow) (i : ℕ) (r : ViewRow) → i < length rows → r ≡ get_or rows i r → key_number r.key < p → RowPlaces p rows i → RowPlaces p rows (i + 1)
-rows_more p rows i r lt is below before j h =
-    let here : IsRowPlace p (drop i rows) (suc j) = subst (λ (xs : List ViewRow). IsRowPlace p xs (suc j)) (sym (front ViewRow rows i r lt is)) (below, h) in
-    let same : i + suc j ≡ i + 1 + j = omega arith in
-    subst (IsRowPlace p rows) same (before (suc j) here)
-
-pub rows_stop : (p : ℕ) (rows : List ViewRow) (i : ℕ) (r : ViewRow) → i < length rows → r ≡ get_or rows i r → p ≤ key_number r.key → RowPlaces p rows i → IsRowPlace p rows i
-rows_stop p rows i r lt is le before =
-    let here : IsRowPlace p (drop i rows) 0 = subst (λ (xs : List ViewRow). IsRowPlace p xs 0) (sym (front ViewRow rows i r lt is)) le in
-    let same : i + 0 ≡ i = omega arith in
-    subst (IsRowPlace p rows) same (before 0 here)
-
-pub rows_end : (p : ℕ) (rows : List ViewRow) (i : ℕ) → i ≡ length rows → RowPlaces p rows i → IsRowPlace p rows (length rows)
-rows_end p rows i is before =
-    let none : drop i rows ≡ [] = drop_all i rows (omega arith) in
-    let here : IsRowPlace p (drop i rows) 0 = subst (λ (xs : List ViewRow). IsRowPlace p xs 0) (sym none) refl in
-    let same : i + 0 ≡ length rows = omega arith in
-    subst (IsRowPlace p rows) same (before 0 here)
 
 pub views_more : (d : ℕ) (views : List Lent) (i : ℕ) (v : Lent) → i < length views → v ≡ get_or views i v → (v.dpid == d) ≡ false → ViewPlaces d views i → ViewPlaces d views (i + 1)
 views_more d views i v lt is other before j h =
@@ -59,6 +40,29 @@ views_stop d views i v lt is same_dpid before =
 
 pub view_within : (d : ℕ) (views : List Lent) (i : ℕ) → IsViewAt d (plains views) i → i < length views
 view_within d views i is = subst (λ (n : ℕ). i < n) (length-map views plain) (IsViewAt-within d (plains views) i is)
+
+pub within_items : (d : ℕ) (views seen : List Lent) (i : ℕ) → seen ≡ views → IsViewAt d (plains seen) i → i < length views
+within_items d views seen i same is = subst (λ (vs : List Lent). i < length vs) same (view_within d seen i is)
+
+-- the rows of a view that was read stand in key order
+pub rows_in_order : (views : List Lent) (i : ℕ) (v : Lent) → AreInKeyOrder (plains views) → i < length views → v ≡ get_or views i v → AreRows v.rows.rows
+rows_in_order views i v h within is =
+    AreInKeyOrder-read (plains views) i (plain v) h (subst (λ (n : ℕ). i < n) (sym (length-map views plain)) within) (plains-read views i v within is)
+
+-- those of the view that was found
+pub found_order : {X : Type 0} (d : ℕ) (rows_of : X → List ViewRow) (vs : List TableView) (o : Option X) → AreInKeyOrder vs → MatchOption o (rows_at d vs ≡ None) (λ v. rows_at d vs ≡ Some (rows_of v)) → IfSome o (λ v. AreRows (rows_of v))
+found_order d rows_of vs None h is = tt
+found_order d rows_of vs (Some v) h is = AreInKeyOrder-at d vs (rows_of v) h is
+
+-- they stay so where the views are changed, or stay
+pub order_kept : {A E : Type 0} (r : Result A E) (old changed now : List TableView) → AreInKeyOrder old → AreInKeyOrder changed → OnOk r (now ≡ changed) → OnErr r (now ≡ old) → AreInKeyOrder now
+order_kept (Ok x) old changed now h new ok err = subst AreInKeyOrder (sym ok) new
+order_kept (Err e) old changed now h new ok err = subst AreInKeyOrder (sym err) h
+
+-- whether some row has a key, by the row that was found
+pub some_row : {X : Type 0} (n : ℕ) (row_of : X → ViewRow) (rows : List ViewRow) (o : Option X) → MatchOption o (at_place row_place n rows ≡ None) (λ r. at_place row_place n rows ≡ Some (row_of r)) → is_some o ≡ list_any (λ r. key_number r.key == n) rows
+some_row n row_of rows None is = sym (any_row n rows ∙ ap (λ (found : Option ViewRow). is_some found) is)
+some_row n row_of rows (Some r) is = sym (any_row n rows ∙ ap (λ (found : Option ViewRow). is_some found) is)
 
 -- the rows of a view are changed
 pub rows_placed : (d : ℕ) (change : List ViewRow → List ViewRow) (views seen : List Lent) (i : ℕ) (v : Lent) (new : ViewRows) → seen ≡ views → IsViewAt d (plains seen) i → v ≡ get_or views i v → new.rows ≡ change v.rows.rows

@@ -1,5 +1,5 @@
 -- The tables of the joined switches as their owner sees them, each by its switch. All of this is our own.
-use Rattle.std.specs.Prelude.{◌≡◌, ◌==◌, ℕ, ◌+◌, ◌<◌, ◌≤◌, Bool, false, List, [], ◌∷◌, Option, Some, None, if◌then◌else◌}
+use Rattle.std.specs.Prelude.{◌≡◌, ◌==◌, ℕ, ◌+◌, ◌≤◌, Bool, false, List, [], ◌∷◌, Option, Some, None, if◌then◌else◌}
 use Rattle.std.specs.List.{list_any}
 use Rattle.std.proofs.Common.{zero, suc}
 use Rattle.of_match.specs.declared.key.Key.{Key}
@@ -8,7 +8,7 @@ use Rattle.of_wire.specs.declared.bodies.FlowMod.{FlowMod}
 use Rattle.flow_table.specs.declared.view.ViewRow.{ViewRow}
 use Rattle.flow_table.specs.View.{TableView}
 use Rattle.flow_table.specs.Change.{is_delete}
-use Rattle.flow_table.specs.Sorted.{with_row}
+use Rattle.flow_table.specs.Sorted.{AreRows, with_row}
 use Rattle.lego_model.specs.ViewRows.{row_in}
 
 -- the rows of a switch, while it is joined
@@ -33,6 +33,11 @@ abbrev pub ViewsAscend : ℕ → List TableView → Type 0
 ViewsAscend least [] = Unit {0}
 ViewsAscend least (v ∷ vs) = (least ≤ v.dpid) × ViewsAscend (v.dpid + 1) vs
 
+-- the rows of each view stand in key order, each key once
+abbrev pub AreInKeyOrder : List TableView → Type 0
+AreInKeyOrder [] = Unit {0}
+AreInKeyOrder (v ∷ vs) = AreRows v.rows × AreInKeyOrder vs
+
 -- the views, the rows of one switch changed
 abbrev pub with_rows : ℕ → (List ViewRow → List ViewRow) → List TableView → List TableView
 with_rows d change [] = []
@@ -43,12 +48,6 @@ abbrev pub IsViewAt : ℕ → List TableView → ℕ → Type 0
 IsViewAt d [] i = ⊥
 IsViewAt d (v ∷ vs) zero = v.dpid ≡ d
 IsViewAt d (v ∷ vs) (suc i) = ((v.dpid == d) ≡ false) × IsViewAt d vs i
-
--- where a row goes: the rows before it have lower places
-abbrev pub IsRowPlace : ℕ → List ViewRow → ℕ → Type 0
-IsRowPlace p [] i = i ≡ 0
-IsRowPlace p (r ∷ rs) zero = p ≤ key_number r.key
-IsRowPlace p (r ∷ rs) (suc i) = (key_number r.key < p) × IsRowPlace p rs i
 
 -- ---- What a FLOW_MOD that touches no row leaves (OpenFlow 1.0.0, 4.6): it adds a row, unless it is a DELETE.
 

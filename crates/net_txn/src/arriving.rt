@@ -17,7 +17,6 @@ use crate::exchange::say;
 use crate::halt::Halt;
 use crate::message_event::{error_event, event_with, removed_key, tells};
 use crate::net::Net;
-use crate::views::remove_in;
 use app_frames::{Event, EventKind};
 use flow_table::TableView;
 use lego_model::TxnFault;
@@ -96,8 +95,8 @@ impl Net {
                 self.alloc, dpid, *kind, *code,
             )?)),
             Message::FlowRemoved(flow) => {
-                let event = removed_event(self.alloc, &self.views, dpid, flow, message)?;
-                remove_in(self.alloc, &mut self.views, dpid, &removed_key(flow));
+                let event = removed_event(self.alloc, self.views.all(), dpid, flow, message)?;
+                self.views.remove(dpid, &removed_key(flow));
                 Ok(event)
             }
             Message::PortStatus(status) => {

@@ -18,7 +18,6 @@ use crate::net::{Net, await_from, following};
 use crate::notices::take_effect;
 use crate::prepared::{Prepared, prepare};
 use crate::rows::key_of;
-use crate::views::{find, is_row, make_room};
 use app_frames::Answer;
 use lego_model::TxnFault;
 use of_types::Dpid;
@@ -64,7 +63,7 @@ impl Net {
         let awaited = await_from(dpid, self.xid);
         self.xid = following(awaited.barrier);
         let Prepared { frame, row, logged } = prepare(self.alloc, dpid, awaited.first, flow)?;
-        make_room(self.alloc, &mut self.views, dpid)?;
+        self.views.make_room(dpid)?;
         let before = self.log.len();
         push_logged(&mut self.log, logged)?;
         let answer = ask(
@@ -111,7 +110,7 @@ impl Net {
         ensures flooded { IfErr result (IfGivenUp W.Tells dpid flow (W.seen world.old) (W.seen world.new) self.old) }
         ensures stays { StaysBut self.old self.new }
     {
-        let known = is_row(&self.views, dpid, &key_of(&flow));
+        let known = self.views.is_row(dpid, &key_of(&flow));
         let before = self.log.len();
         let made = self.make(world, dpid, flow);
         if is_forgotten(known, &made) {
@@ -150,7 +149,7 @@ impl Net {
     ) -> Result<Answer, TxnFault>
         ensures { Changes W.Tells dpid bytes.now (W.seen world.old) (W.seen world.new) self.old self.new result }
     {
-        let Some(view) = find(&self.views, dpid) else {
+        let Some(view) = self.views.find(dpid) else {
             return Ok(Answer::Unknown);
         };
         match answer_bytes(self.alloc, bytes, view.rows.as_slice())? {

@@ -3,6 +3,7 @@
 ghost use Rattle.std.specs.Prelude.{◌≡◌, None, Some, nat_lt, if◌then◌else◌, IfOk};
 ghost use Rattle.of_action.specs.Spelling.{list_size};
 ghost use Rattle.of_wire.specs.declared.message.Message.TheVariants as messages;
+ghost use Rattle.flow_table.specs.Sorted.{AreRows};
 ghost use Rattle.flow_table.specs.Errors.{bad_type, bad_len};
 ghost use Rattle.flow_table.specs.Refusals.{or_else, most_action_bytes, stats_refusal};
 ghost use Rattle.lego_model.specs.Answers.{rows_of_view, unknown_action, flow_mod_refused, packet_refused, not_yet, would_touch, wire_fault};
@@ -76,6 +77,7 @@ fn refuse_flow(m: &FlowMod) -> Option<OfError>
 
 /// Tells the same, and that entries which are there stay as they are.
 fn refuse_change(m: &FlowMod, rows: &[ViewRow]) -> Option<OfError>
+    requires { AreRows rows.now }
     ensures { result ≡ or_else (flow_mod_refused m.now) (not_yet (would_touch m.now (rows_of_view rows.now))) }
 {
     let refusal = refuse_flow(m);
@@ -122,6 +124,7 @@ fn answer_fault(fault: &WireFault) -> OfError
 /// Tells what the host makes of a FLOW_MOD.
 #[tactic(auto, unfolding(lego_model::specs::Answers::host_refusal))]
 fn answer_change(m: FlowMod, rows: &[ViewRow]) -> HostAnswer
+    requires { AreRows rows.now }
     ensures { IsHostAnswerOf (rows_of_view rows.now) (messages.FlowMod m) result }
 {
     match refuse_change(&m, rows) {
@@ -156,6 +159,7 @@ fn answer_packet(m: PacketOut, rows: &[ViewRow]) -> HostAnswer
 /// Tells what the host makes of a message that was read, for a switch with these rows.
 #[tactic(auto, unfolding(lego_model::specs::Answers::host_refusal))]
 fn answer_message(message: Message, rows: &[ViewRow]) -> HostAnswer
+    requires { AreRows rows.now }
     ensures { IsHostAnswerOf (rows_of_view rows.now) message result }
 {
     match message {
@@ -173,6 +177,7 @@ pub(crate) fn answer_bytes(
     bytes: &[u8],
     rows: &[ViewRow],
 ) -> Result<HostAnswer, AllocError>
+    requires { AreRows rows.now }
     ensures { IfOk result (IsHostAnswer (rows_of_view rows.now) bytes.now) }
 {
     match decode(alloc, bytes) {

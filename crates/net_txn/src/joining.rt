@@ -20,6 +20,7 @@ use crate::halt::Halt;
 use crate::net::{Net, following};
 use crate::port_table::PortTable;
 use crate::ports::KnownPorts;
+use crate::view_table::ViewTable;
 use flow_table::{TableView, ViewList};
 use lego_model::{Awaited, Notices, TxnFault};
 use of_types::{Dpid, Xid};
@@ -53,7 +54,11 @@ fn position_for(views: &[TableView], dpid: Dpid) -> usize
 }
 
 /// Puts an empty view among the others.
-fn put_view(alloc: Global, views: &mut Vec<TableView>, dpid: Dpid) -> Result<(), AllocError>
+pub(crate) fn put_view(
+    alloc: Global,
+    views: &mut Vec<TableView>,
+    dpid: Dpid,
+) -> Result<(), AllocError>
     ensures ok { OnOk result (plains views.new.items ≡ with_view dpid (plains views.old.items)) }
     ensures err { OnErr result (plains views.new.items ≡ plains views.old.items) }
 {
@@ -81,20 +86,20 @@ fn known_ports(alloc: Global, dpid: Dpid, ports: &PortList) -> Result<KnownPorts
 /// Takes a switch in, with an empty view.
 fn admit(
     alloc: Global,
-    views: &mut Vec<TableView>,
+    views: &mut ViewTable,
     ports: &mut PortTable,
     known: KnownPorts,
 ) -> Result<(), AllocError>
-    ensures views { OnOk result (plains views.new.items ≡ with_view known.dpid (plains views.old.items)) }
+    ensures views { OnOk result (views.new ≡ with_view known.dpid views.old) }
     ensures ports { OnOk result (ports.new.known ≡ ports.old.known ++ known ∷ []) }
-    ensures views_err { OnErr result (plains views.new.items ≡ plains views.old.items) }
+    ensures views_err { OnErr result (views.new ≡ views.old) }
     ensures ports_err { OnErr result (ports.new.known ≡ ports.old.known) }
     ensures left { ports.new.left ≡ ports.old.left }
 {
     let dpid = known.dpid;
     let before = ports.known().len();
     ports.push(known)?;
-    match put_view(alloc, views, dpid) {
+    match views.put_view(alloc, dpid) {
         Ok(()) => Ok(()),
         Err(error) => {
             ports.truncate(before);
@@ -122,7 +127,7 @@ impl Net {
         self.xid = following(awaited.barrier);
         let emptying = emptying(self.alloc, first)?;
         let known = known_ports(self.alloc, dpid, &features.ports)?;
-        self.views.reserve(1)?;
+        self.views.reserve()?;
         self.ports.reserve()?;
         greet(
             world,

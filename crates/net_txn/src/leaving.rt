@@ -101,7 +101,7 @@ impl Net {
     {
         let body = known_text(self.alloc, self.ports.known(), dpid)?;
         self.kept.forget(dpid);
-        forget_view(&mut self.views, dpid);
+        self.views.forget(dpid);
         self.ports.forget(dpid);
         Ok(Event {
             kind: EventKind::Leave,
@@ -116,7 +116,7 @@ impl Net {
         ensures { self.new ≡ lost_net dpid self.old }
     {
         self.kept.forget(dpid);
-        forget_view(&mut self.views, dpid);
+        self.views.forget(dpid);
         self.ports.lose(dpid);
     }
 

@@ -41,6 +41,7 @@ mod undo;
 mod undo_order;
 mod undo_progress;
 mod undo_wait;
+mod view_table;
 mod views;
 mod wait;
 

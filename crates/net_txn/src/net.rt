@@ -12,6 +12,7 @@ use crate::logged::Logged;
 use crate::port_table::PortTable;
 use crate::queue::{EventQueue, MessageQueue};
 use crate::room::Room;
+use crate::view_table::ViewTable;
 use flow_table::TableView;
 use lego_model::{Awaited, Notices};
 use of_types::limits::MOST_MESSAGE_BYTES;
@@ -27,7 +28,7 @@ use std::marker::Model;
 pub struct Net {
     pub(crate) alloc: Global,
     pub(crate) buf: Vec<u8>,
-    pub(crate) views: Vec<TableView>,
+    pub(crate) views: ViewTable,
     /// The known ports of the joined switches, and those of the switches that were lost.
     pub(crate) ports: PortTable,
     pub(crate) log: Vec<Logged>,
@@ -47,13 +48,12 @@ impl Model for Net {
     ghost use Rattle.std.specs.Prelude.{◌≡◌, ◌≤◌, vec_len, All};
     ghost use Rattle.of_wire.specs.declared.message.Message.TheVariants as messages;
     ghost use Rattle.of_wire.specs.Grammar.{IsMessage};
-    ghost use Rattle.flow_table.specs.View.{plains};
     ghost use Rattle.net_txn.specs.Net.{NetState};
 
     ghost Value = { NetState };
 
     ghost view = { λ s. record {
-      views = plains s.views.items;
+      views = s.views;
       ports = s.ports.known;
       log = s.log.items;
       held = record { packets = s.held.items; notices = s.notices };
@@ -95,7 +95,7 @@ impl Net {
         Ok(Net {
             alloc,
             buf: vec![in alloc; 0; MOST_MESSAGE_BYTES]?,
-            views: Vec::new(alloc),
+            views: ViewTable::new(alloc),
             ports: PortTable::new(alloc),
             log: Vec::new(alloc),
             held: Vec::new(alloc),
@@ -112,7 +112,7 @@ impl Net {
     pub fn views(&self) -> &[TableView]
         ensures { plains result.now ≡ self.now.views }
     {
-        &self.views
+        self.views.all()
     }
 
     /// Returns the moment, in seconds from the start; takes no memory.

@@ -9,7 +9,7 @@ ghost use Rattle.net_txn.specs.Views.{with_rows, with_added};
 
 use crate::arriving::removed_event;
 use crate::queue::EventQueue;
-use crate::views::put_added;
+use crate::view_table::ViewTable;
 use app_frames::Event;
 use flow_table::{TableView, ViewRow};
 use of_types::{ByteList, Dpid};
@@ -81,18 +81,18 @@ fn events_of_notices(
 /// held.
 pub(crate) fn take_effect(
     alloc: Global,
-    views: &mut Vec<TableView>,
+    views: &mut ViewTable,
     held: &mut EventQueue,
     dpid: Dpid,
     row: Option<ViewRow>,
     notices: &[ByteList],
 ) -> Result<(), AllocError>
-    ensures ok { OnOk result (plains views.new.items ≡ with_rows dpid (with_added row) (plains views.old.items)) }
-    ensures held { OnOk result (held.new ≡ held.old ++ notices_told dpid (plains views.old.items) notices.now) }
-    ensures err { OnErr result ((plains views.new.items ≡ plains views.old.items) ⊎ (plains views.new.items ≡ with_rows dpid (with_added row) (plains views.old.items))) }
+    ensures ok { OnOk result (views.new ≡ with_rows dpid (with_added row) views.old) }
+    ensures held { OnOk result (held.new ≡ held.old ++ notices_told dpid views.old notices.now) }
+    ensures err { OnErr result ((views.new ≡ views.old) ⊎ (views.new ≡ with_rows dpid (with_added row) views.old)) }
     ensures unheld { OnErr result (held.new ≡ held.old) }
 {
-    let mut events = events_of_notices(alloc, views, dpid, notices)?;
-    put_added(alloc, views, dpid, row)?;
+    let mut events = events_of_notices(alloc, views.all(), dpid, notices)?;
+    views.put_added(dpid, row)?;
     held.append(&mut events)
 }

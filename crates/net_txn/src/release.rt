@@ -14,7 +14,6 @@ use crate::exchange::{pass, say};
 use crate::halt::Halt;
 use crate::net::{Net, following};
 use crate::queue::{EventQueue, MessageQueue};
-use crate::views::is_viewed;
 use lego_model::{Awaited, Notices, TxnFault};
 use of_types::{ByteList, Dpid, Xid};
 use of_wire::{Message, PacketOut, WireFault, decode, encode};
@@ -210,7 +209,7 @@ impl Net {
         requires { IsMessage (messages.PacketOut packet) }
         ensures { ReleasesPacket W.Tells (dpid, packet) (W.seen world.old) (W.seen world.new) self.old self.new queue.old queue.new result }
     {
-        if !is_viewed(&self.views, dpid) {
+        if !self.views.is_viewed(dpid) {
             return Ok(false);
         }
         let xid = self.xid;

@@ -1,6 +1,6 @@
 //! The rows of a view: which of them a FLOW_MOD means, and where one stands, or would stand.
 
-ghost use Rattle.std.specs.Prelude.{◌≡◌, ◌≢◌, ◌==◌, ◌<◌, ◌&&◌, true, false, not, nat_lt, length, slice_index_or, OnOk, OnErr};
+ghost use Rattle.std.specs.Prelude.{◌≡◌, ◌==◌, ◌<◌, ◌&&◌, not, OnOk, OnErr};
 ghost use Rattle.std.specs.List.{list_any};
 ghost use Rattle.std.specs.Ordering.{nat_cmp};
 ghost use Rattle.of_match.specs.Key.{key_number};
@@ -8,10 +8,9 @@ ghost use Rattle.match_overlap.specs.Relations.{is_overlapping};
 ghost use Rattle.flow_table.specs.declared.view.ViewRow.{ViewRow};
 ghost use Rattle.flow_table.specs.Change.{is_modify, key_in, is_output_to, describes, sends_to};
 ghost use Rattle.lego_model.specs.Answers.{rows_of_view, would_clash, would_touch};
-ghost use Rattle.net_txn.specs.Views.{IsRowPlace};
-ghost use Rattle.flow_table.specs.Sorted.{with_row};
+ghost use Rattle.flow_table.specs.Sorted.{AreRows, IsFoundAt, row_place, with_row, without_key};
 
-use flow_table::ViewRow;
+use flow_table::{ViewList, ViewRow};
 use match_overlap::{overlaps, subsumes};
 use of_action::{Action, ActionList};
 use of_match::Key;
@@ -101,11 +100,12 @@ fn has_overlap(key: &Key, rows: &[ViewRow]) -> bool
     rows.iter().any(|row| is_overlap(key, row))
 }
 
-/// Tells whether a row has a key.
+/// Tells whether a row has a key, by halves.
 pub(crate) fn has_key(key: &Key, rows: &[ViewRow]) -> bool
+    requires { AreRows rows.now }
     ensures { result ≡ list_any (λ r. key_number r.key == key_number key.now) rows.now }
 {
-    rows.iter().any(|row| is_same(&row.key, key))
+    keyed_rows::find(rows, key).is_some()
 }
 
 fn has_described(m: &FlowMod, rows: &[ViewRow]) -> bool
@@ -129,6 +129,7 @@ fn would_clash(m: &FlowMod, rows: &[ViewRow]) -> bool
 
 /// Tells whether an ADD would replace a row.
 fn would_replace(m: &FlowMod, rows: &[ViewRow]) -> bool
+    requires { AreRows rows.now }
     ensures { result ≡ (list_any (λ r. key_number r.key == key_number (key_in m.now)) rows.now && not (would_clash m.now (rows_of_view rows.now))) }
 {
     has_key(&key_of(m), rows) && !would_clash(m, rows)
@@ -143,6 +144,7 @@ fn is_modifying(m: &FlowMod) -> bool
 
 /// Tells whether a FLOW_MOD would replace, change or remove a row.
 pub(crate) fn would_touch(m: &FlowMod, rows: &[ViewRow]) -> bool
+    requires { AreRows rows.now }
     ensures { result ≡ would_touch m.now (rows_of_view rows.now) }
 {
     if m.command == flows::ADD {
@@ -154,45 +156,35 @@ pub(crate) fn would_touch(m: &FlowMod, rows: &[ViewRow]) -> bool
     }
 }
 
-/// Tells whether a key stands before another one in key order.
-fn is_before(a: &Key, b: &Key) -> bool
-    ensures { result ≡ nat_lt (key_number a.now) (key_number b.now) }
+/// Tells where the row of a key stands, or where it would stand, by halves.
+fn position(rows: &ViewList, key: &Key) -> Result<usize, usize>
+    requires { AreRows rows.now.rows }
+    ensures { IsFoundAt row_place (key_number key.now) rows.now.rows result }
 {
-    compare(a, b) == Ordering::Less
-}
-
-/// Tells where the row of a key stands, or would stand.
-fn position_of(rows: &[ViewRow], key: &Key) -> usize
-    ensures { IsRowPlace (key_number key.now) rows.now result }
-{
-    for (i, row) in rows.iter().enumerate() {
-        if !is_before(&row.key, key) {
-            return i;
-        }
-    }
-    rows.len()
-}
-
-/// Tells whether the row of a key stands there.
-fn stands_at(rows: &[ViewRow], at: usize, key: &Key) -> bool
-    ensures within { result ≡ true → at < length rows.now }
-    ensures same { (r : ViewRow) → result ≡ true → key_number key.now ≡ key_number (slice_index_or rows.now at r).key }
-    ensures other { (r : ViewRow) → result ≡ false → at < length rows.now → key_number key.now ≢ key_number (slice_index_or rows.now at r).key }
-{
-    at < rows.len() && is_same(key, &rows[at].key)
+    keyed_rows::position(rows.as_slice(), key)
 }
 
 /// Puts a row in its place, in place of one with its key.
-pub(crate) fn put_row(rows: &mut Vec<ViewRow>, row: ViewRow) -> Result<(), AllocError>
-    ensures ok { OnOk result (rows.new.items ≡ with_row row rows.old.items) }
-    ensures err { OnErr result (rows.new.items ≡ rows.old.items) }
+pub(crate) fn put_row(rows: &mut ViewList, row: ViewRow) -> Result<(), AllocError>
+    requires { AreRows rows.old.rows }
+    ensures ok { OnOk result (rows.new.rows ≡ with_row row rows.old.rows) }
+    ensures err { OnErr result (rows.new.rows ≡ rows.old.rows) }
 {
-    let at = position_of(rows, &row.key);
-    if stands_at(rows, at, &row.key) {
-        rows[at] = row;
-        Ok(())
-    } else {
-        rows.insert(at, row)?;
-        Ok(())
+    rows.reserve(1)?;
+    match position(rows, &row.key) {
+        Ok(at) => rows.replace(at, row),
+        Err(at) => rows.insert(at, row),
+    }
+    Ok(())
+}
+
+/// Takes the row of a key out, if there is one.
+pub(crate) fn remove_row(rows: &mut ViewList, key: &Key)
+    requires { AreRows rows.old.rows }
+    ensures { rows.new.rows ≡ without_key key.now rows.old.rows }
+{
+    match position(rows, key) {
+        Ok(at) => rows.remove(at),
+        Err(_) => {}
     }
 }

@@ -3,25 +3,21 @@
 ghost use Rattle.std.specs.Prelude.{◌≡◌, ◌+◌, ◌<◌, ◌≤◌, ℕ, true, not, List, [], ◌∷◌, length, take, drop, map, filter, Option, None, IsOk};
 ghost use Rattle.lego_model.specs.declared.fault.TxnFault.{TxnFault};
 ghost use Rattle.outside.specs.Seen.{Seen};
-ghost use Rattle.flow_table.specs.View.{plains};
 ghost use Rattle.net_txn.specs.Ports.{PortLists};
 ghost use Rattle.net_txn.specs.Undos.{was_lost, ended_by, without_keys, Further, UndoesLog, switches_of, HasPassedBarrier, IsRoomLeft, key_logged};
 ghost use Rattle.net_txn.specs.NetUndos.{ports_in, NetFurther, StaysInUndo};
 ghost use Rattle.net_txn.specs.Views.{is_viewed};
 
-use crate::leaving::forget_view;
 use crate::logged::Logged;
 use crate::net::Net;
 use crate::queue::MessageQueue;
 use crate::reverting::{await_switch, behind, revert};
 use crate::room::note;
 use crate::undo_progress::progress_of;
-use crate::views::remove_in;
-use flow_table::TableView;
+use crate::view_table::ViewTable;
 use lego_model::TxnFault;
 use of_types::Dpid;
 use outside::World;
-use std::alloc::Global;
 
 /// Sends the inverse at a position, and notes the first fault.
 fn revert_noted<W: World>(world: &mut W, net: &mut Net, at: usize, fault: &mut Option<TxnFault>)
@@ -40,7 +36,7 @@ fn revert_noted<W: World>(world: &mut W, net: &mut Net, at: usize, fault: &mut O
         net.alloc,
         &mut net.buf,
         &mut net.kept,
-        &net.views,
+        net.views.all(),
         log,
         &mut net.xid,
     );
@@ -129,11 +125,11 @@ fn await_all<W: World>(world: &mut W, net: &mut Net, from: usize, fault: &mut Op
 }
 
 /// Takes the rows of logged keys out of the views; takes no memory.
-fn take_keys(alloc: Global, views: &mut Vec<TableView>, log: &[Logged])
-    ensures { plains views.new.items ≡ without_keys (map key_logged log.now) (plains views.old.items) }
+fn take_keys(views: &mut ViewTable, log: &[Logged])
+    ensures { views.new ≡ without_keys (map key_logged log.now) views.old }
 {
     for entry in log {
-        remove_in(alloc, views, entry.dpid, &entry.key);
+        views.remove(entry.dpid, &entry.key);
     }
 }
 
@@ -158,13 +154,13 @@ fn undo<W: World>(world: &mut W, net: &mut Net, from: usize) -> Result<(), TxnFa
 }
 
 /// Drops the views and the kept messages of the switches that were lost; takes no memory.
-fn forget_lost(views: &mut Vec<TableView>, kept: &mut MessageQueue, reverted: &[Logged])
-    ensures views { plains views.new.items ≡ filter (λ v. not (was_lost reverted.now v.dpid)) (plains views.old.items) }
+fn forget_lost(views: &mut ViewTable, kept: &mut MessageQueue, reverted: &[Logged])
+    ensures views { views.new ≡ filter (λ v. not (was_lost reverted.now v.dpid)) views.old }
     ensures kept { kept.new ≡ filter (λ m. not (was_lost reverted.now m.0)) kept.old }
 {
     for entry in reverted {
         if progress_of(reverted, entry.dpid).lost {
-            forget_view(views, entry.dpid);
+            views.forget(entry.dpid);
             kept.forget(entry.dpid);
         }
     }
@@ -183,7 +179,7 @@ pub(crate) fn undo_log<W: World>(world: &mut W, net: &mut Net, from: usize) -> R
 {
     let undone = undo(world, net, from);
     let reverted = behind(&net.log, from);
-    take_keys(net.alloc, &mut net.views, reverted);
+    take_keys(&mut net.views, reverted);
     forget_lost(&mut net.views, &mut net.kept, reverted);
     net.log.truncate(from);
     undone

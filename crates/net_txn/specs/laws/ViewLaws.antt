@@ -1,14 +1,16 @@
 -- Laws of views: lookup, and where a change stands.
-use Rattle.std.specs.Prelude.{◌≡◌, ◌≢◌, ◌==◌, ℕ, ◌<◌, ◌≤◌, Bool, true, false, ◌||◌, List, [], ◌∷◌, length, Option, Some, None, if◌then◌else◌, refl}
-use Rattle.std.specs.List.{insert}
+use Rattle.std.specs.Prelude.{◌≡◌, ◌≢◌, ◌==◌, ℕ, ◌<◌, nat_lt, Bool, true, false, ◌||◌, List, [], ◌∷◌, length, filter, Option, Some, None, if◌then◌else◌, refl}
+use Rattle.std.specs.List.{list_any}
 use Rattle.std.specs.Option.{is_some, option_map}
-use Rattle.std.proofs.Common.{zero, suc, get_or, set, sym, ap, ◌∙◌, eqb, ltb, arith, eq-eqb, subst}
-use Rattle.std.proofs.lemmas.Bool.{eqb-true, ne_eqb, lt-ltb, le-ltb}
+use Rattle.std.proofs.Common.{zero, suc, get_or, set, sym, ap, ◌∙◌, eqb, arith, eq-eqb, subst}
+use Rattle.std.proofs.lemmas.Bool.{eqb-true, ne_eqb}
 use Rattle.of_match.specs.Key.{key_number}
 use Rattle.flow_table.specs.declared.view.ViewRow.{ViewRow}
 use Rattle.flow_table.specs.View.{TableView}
-use Rattle.net_txn.specs.Views.{rows_at, is_viewed, with_rows, IsViewAt, IsRowPlace}
-use Rattle.flow_table.specs.Sorted.{with_row}
+use Rattle.flow_table.specs.Sorted.{AreRows, at_place, row_place}
+use Rattle.flow_table.specs.laws.SortedLaws.{Ascends-with_item}
+use Rattle.net_txn.specs.Views.{rows_at, is_viewed, with_rows, with_added, IsViewAt, AreInKeyOrder}
+use Rattle.net_txn.specs.Joining.{with_view}
 
 -- ---- Views
 
@@ -93,40 +95,58 @@ pub rows_at-stays : (d e : ℕ) (change : List ViewRow → List ViewRow) (vs : L
 rows_at-stays d e change [] = refl
 rows_at-stays d e change (v ∷ vs) = stays_if (v.dpid == d) d e change v vs (rows_at-stays d e change vs)
 
--- ---- Rows
+-- ---- Rows in key order
 
-with_row-before : (r s : ViewRow) (ss : List ViewRow) → key_number r.key < key_number s.key → with_row r (s ∷ ss) ≡ r ∷ s ∷ ss
-with_row-before r s ss lt = rw (lt-ltb _ _ lt) refl
+-- whether some row has a key, by what stands at its place
+row_if : (here : Bool) (r : ViewRow) (rest : Bool) (o : Option ViewRow) → rest ≡ is_some o → (here || rest) ≡ is_some (if here then Some r else o)
+row_if true r rest o is = refl
+row_if false r rest o is = is
 
-with_row-same : (r s : ViewRow) (ss : List ViewRow) → key_number r.key ≡ key_number s.key → with_row r (s ∷ ss) ≡ r ∷ ss
-with_row-same r s ss same =
-    let not_below : ltb (key_number r.key) (key_number s.key) ≡ false = le-ltb _ _ (omega arith) in
-    let here : eqb (key_number r.key) (key_number s.key) ≡ true = eq-eqb _ _ same in
-    rw (not_below, here) refl
+pub any_row : (n : ℕ) (rows : List ViewRow) → list_any (λ r. key_number r.key == n) rows ≡ is_some (at_place row_place n rows)
+any_row n [] = refl
+any_row n (r ∷ rs) = row_if (key_number r.key == n) r (list_any (λ s. key_number s.key == n) rs) (at_place row_place n rs) (any_row n rs)
 
-with_row-after : (r s : ViewRow) (ss : List ViewRow) → key_number s.key < key_number r.key → with_row r (s ∷ ss) ≡ s ∷ with_row r ss
-with_row-after r s ss gt =
-    let not_below : ltb (key_number r.key) (key_number s.key) ≡ false = le-ltb _ _ (omega arith) in
-    let apart : eqb (key_number r.key) (key_number s.key) ≡ false = ne_eqb _ _ (λ e. omega arith) in
-    rw (not_below, apart) refl
+pub AreRows-with_added : (row : Option ViewRow) (rows : List ViewRow) → AreRows rows → AreRows (with_added row rows)
+AreRows-with_added None rows h = h
+AreRows-with_added (Some row) rows h = Ascends-with_item row_place rows row h
 
-pub with_row-found : (r : ViewRow) (rows : List ViewRow) (i : ℕ) → IsRowPlace (key_number r.key) rows i → i < length rows → key_number r.key ≡ key_number (get_or rows i r).key → set rows i r ≡ with_row r rows
-with_row-found r [] i is within same = absurd (omega arith)
-with_row-found r (s ∷ ss) zero is within same = sym (with_row-same r s ss same)
-with_row-found r (s ∷ ss) (suc i) is within same = ap (λ (xs : List ViewRow). s ∷ xs) (with_row-found r ss i is.1 (omega arith) same) ∙ sym (with_row-after r s ss is.0)
+pub AreInKeyOrder-read : (vs : List TableView) (i : ℕ) (v : TableView) → AreInKeyOrder vs → i < length vs → v ≡ get_or vs i v → AreRows v.rows
+AreInKeyOrder-read [] i v h within is = absurd (omega arith)
+AreInKeyOrder-read (w ∷ ws) zero v h within is = subst (λ (x : TableView). AreRows x.rows) (sym is) h.0
+AreInKeyOrder-read (w ∷ ws) (suc i) v h within is = AreInKeyOrder-read ws i v h.1 (omega arith) is
 
-pub with_row-absent : (r : ViewRow) (rows : List ViewRow) (i : ℕ) → IsRowPlace (key_number r.key) rows i → (i < length rows → key_number r.key ≢ key_number (get_or rows i r).key) → insert rows i r ≡ with_row r rows
-with_row-absent r [] i is apart = rw is refl
-with_row-absent r (s ∷ ss) zero is apart = sym (with_row-before r s ss (less (apart (omega arith))))
-  where
-    less : key_number r.key ≢ key_number s.key → key_number r.key < key_number s.key
-    less ne = omega (arith, is, ne)
-with_row-absent r (s ∷ ss) (suc i) is apart = ap (λ (xs : List ViewRow). s ∷ xs) (with_row-absent r ss i is.1 (λ lt. apart (omega arith))) ∙ sym (with_row-after r s ss is.0)
+order_at : (here : Bool) (v : TableView) (o : Option (List ViewRow)) (rows : List ViewRow) → AreRows v.rows → (o ≡ Some rows → AreRows rows) → (if here then Some v.rows else o) ≡ Some rows → AreRows rows
+order_at true v o rows h rest is = subst AreRows (same_rows v.rows rows is) h
+order_at false v o rows h rest is = rest is
 
-pub IsRowPlace-le : (p : ℕ) (rows : List ViewRow) (i : ℕ) → IsRowPlace p rows i → i ≤ length rows
-IsRowPlace-le p [] i is = omega arith
-IsRowPlace-le p (r ∷ rs) zero is = omega arith
-IsRowPlace-le p (r ∷ rs) (suc i) is = omega (arith, IsRowPlace-le p rs i is.1)
+pub AreInKeyOrder-at : (d : ℕ) (vs : List TableView) (rows : List ViewRow) → AreInKeyOrder vs → rows_at d vs ≡ Some rows → AreRows rows
+AreInKeyOrder-at d [] rows h is = absurd cc
+AreInKeyOrder-at d (v ∷ vs) rows h is = order_at (v.dpid == d) v (rows_at d vs) rows h.0 (AreInKeyOrder-at d vs rows h.1) is
+
+changed_if : (here : Bool) (d : ℕ) (change : List ViewRow → List ViewRow) (v : TableView) (vs : List TableView) → ((rows : List ViewRow) → AreRows rows → AreRows (change rows)) → AreInKeyOrder (v ∷ vs) → AreInKeyOrder (with_rows d change vs)
+    → AreInKeyOrder (if here then record v { rows = change v.rows } ∷ vs else v ∷ with_rows d change vs)
+changed_if true d change v vs keeps h rest = (keeps v.rows h.0, h.1)
+changed_if false d change v vs keeps h rest = (h.0, rest)
+
+pub AreInKeyOrder-with_rows : (d : ℕ) (change : List ViewRow → List ViewRow) (vs : List TableView) → ((rows : List ViewRow) → AreRows rows → AreRows (change rows)) → AreInKeyOrder vs → AreInKeyOrder (with_rows d change vs)
+AreInKeyOrder-with_rows d change [] keeps h = tt
+AreInKeyOrder-with_rows d change (v ∷ vs) keeps h = changed_if (v.dpid == d) d change v vs keeps h (AreInKeyOrder-with_rows d change vs keeps h.1)
+
+left_if : (stays : Bool) (v : TableView) (vs : List TableView) → AreRows v.rows → AreInKeyOrder vs → AreInKeyOrder (if stays then v ∷ vs else vs)
+left_if true v vs h rest = (h, rest)
+left_if false v vs h rest = rest
+
+pub AreInKeyOrder-filter : (stays : TableView → Bool) (vs : List TableView) → AreInKeyOrder vs → AreInKeyOrder (filter stays vs)
+AreInKeyOrder-filter stays [] h = tt
+AreInKeyOrder-filter stays (v ∷ vs) h = left_if (stays v) v (filter stays vs) h.0 (AreInKeyOrder-filter stays vs h.1)
+
+joined_if : (lower : Bool) (d : ℕ) (v : TableView) (vs rest : List TableView) → AreInKeyOrder (v ∷ vs) → AreInKeyOrder rest → AreInKeyOrder (if lower then v ∷ rest else record { dpid = d; rows = [] } ∷ v ∷ vs)
+joined_if true d v vs rest h more = (h.0, more)
+joined_if false d v vs rest h more = (tt, h)
+
+pub AreInKeyOrder-with_view : (d : ℕ) (vs : List TableView) → AreInKeyOrder vs → AreInKeyOrder (with_view d vs)
+AreInKeyOrder-with_view d [] h = (tt, tt)
+AreInKeyOrder-with_view d (v ∷ vs) h = joined_if (nat_lt v.dpid d) d v vs (with_view d vs) h (AreInKeyOrder-with_view d vs h.1)
 
 -- ---- Which switches have views
 

@@ -1,29 +1,14 @@
-use Rattle.std.proofs.Common.{◌≡◌, ◌≢◌, ℕ, ◌<◌, List, length, get_or, set, ◌∙◌, subst, arith}
-use Rattle.std.specs.List.{insert}
-use Rattle.of_match.specs.Key.{key_number}
+use Rattle.std.proofs.Common.{sym, ap, ◌∙◌, List}
 use Rattle.flow_table.specs.declared.view.ViewRow.{ViewRow}
-use Rattle.net_txn.specs.Views.{IsRowPlace}
-use Rattle.flow_table.specs.Sorted.{with_row}
-use Rattle.net_txn.specs.laws.ViewLaws.{with_row-found, with_row-absent, IsRowPlace-le}
+use Rattle.flow_table.specs.Sorted.{row_place, with_row}
+use Rattle.flow_table.specs.laws.SortedLaws.{with_item-found, with_item-absent}
 use Rattle.net_txn.proofs.rows.put_row.Goals as goal
 
-pub insert-requires : goal.insert-requires
-insert-requires c = omega (arith, IsRowPlace-le (key_number c.args.row.key) c.deref.result.now c.position_of-at.result c.position_of-at.ensures, c.deref.ensures.len)
+pub position-requires : goal.position-requires
+position-requires c = rw c.in_ok-reserve.ensures.rows c.requires
 
-found : (rows seen here : List ViewRow) (r : ViewRow) (i : ℕ) → seen ≡ rows → here ≡ rows → IsRowPlace (key_number r.key) seen i → i < length here → key_number r.key ≡ key_number (get_or here i r).key → set rows i r ≡ with_row r rows
-found rows seen here r i e f is within same =
-    with_row-found r rows i (subst (λ (xs : List ViewRow). IsRowPlace (key_number r.key) xs i) e is) (rw f at within) (rw f at same)
+pub returns-in-Ok-clause-ok : goal.returns-in-Ok-clause-ok
+returns-in-Ok-clause-ok c = c.replace.ensures.rows ∙ sym (with_item-found row_place c.reserve.new.self.rows c.args.row 0 c.in-Ok.at (rw c.in_ok-reserve.ensures.rows c.requires) c.in-Ok.ensures) ∙ ap (λ (rows : List ViewRow). with_row c.args.row rows) c.in_ok-reserve.ensures.rows
 
-absent : (rows seen here : List ViewRow) (r : ViewRow) (i : ℕ) → seen ≡ rows → here ≡ rows → IsRowPlace (key_number r.key) seen i → (i < length here → key_number r.key ≢ key_number (get_or here i r).key) → insert rows i r ≡ with_row r rows
-absent rows seen here r i e f is other =
-    with_row-absent r rows i (subst (λ (xs : List ViewRow). IsRowPlace (key_number r.key) xs i) e is) (subst (λ (xs : List ViewRow). i < length xs → key_number r.key ≢ key_number (get_or xs i r).key) f other)
-
-pub returns-then-stands_at-clause-ok : goal.returns-then-stands_at-clause-ok
-returns-then-stands_at-clause-ok c =
-    let s = c.stands_at.ensures in
-    found _ c.deref.result.now c.deref-2.result.now c.args.row c.position_of-at.result c.deref.ensures.value c.deref-2.ensures.value c.position_of-at.ensures (s.within c.if-stands_at.true) (s.same c.args.row c.if-stands_at.true)
-
-pub returns-in_ok-insert-clause-ok : goal.returns-in_ok-insert-clause-ok
-returns-in_ok-insert-clause-ok c =
-    let s = c.stands_at.ensures in
-    c.in_ok-insert.ensures.items ∙ absent _ c.deref.result.now c.deref-2.result.now c.args.row c.position_of-at.result c.deref.ensures.value c.deref-2.ensures.value c.position_of-at.ensures (s.other c.args.row c.if-stands_at.false)
+pub returns-in-Err-clause-ok : goal.returns-in-Err-clause-ok
+returns-in-Err-clause-ok c = c.insert.ensures.rows ∙ sym (with_item-absent row_place c.reserve.new.self.rows c.args.row c.in-Err.at c.in-Err.ensures) ∙ ap (λ (rows : List ViewRow). with_row c.args.row rows) c.in_ok-reserve.ensures.rows

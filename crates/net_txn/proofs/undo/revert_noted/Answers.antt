@@ -15,7 +15,7 @@ pub returns-in-Err-clause-undoing : goal.returns-in-Err-clause-undoing
 returns-in-Err-clause-undoing g c = λ base first p x u.
     let s = c.net.inside in
     let before = subst (λ (n : NetState). NetFurther g.W.World.Tells base (g.W.World.seen c.args.world.now) first p x n [] (drop (c.args.at + 1) n.log) c.args.fault.now) (sym c.net.view_is) u in
-    let heard : c.deref-in-Err.result.now ≡ c.revert-reverted.new.buf = grind (arith, common_steps) in
+    let heard : c.deref.result.now ≡ c.revert-reverted.new.buf = grind (arith, common_steps) in
     let later = c.in-Err.ensures.undoing base x first p s.ports c.args.fault.now c.index-log-0.result in
     Further-alike (search rules) (cc (c.note.ensures.ports, heard)) (grind (arith, common_steps)) (cc (c.note.ensures.fault, heard)) (later (Further-alike (search rules) refl (rest c.args.at s.log.items c.deref_mut.result.now c.deref_mut.ensures.value) refl before))
 

@@ -1,6 +1,4 @@
-use Rattle.std.proofs.Common.{◌≡◌, List, ap, ◌∙◌}
-use Rattle.flow_table.specs.declared.view.TableView.{TableView as Lent}
-use Rattle.flow_table.specs.View.{plains}
+use Rattle.std.proofs.Common.{◌≡◌, ap, ◌∙◌}
 use Rattle.net_txn.specs.Net.{NetState}
 use Rattle.net_txn.specs.laws.ChangeLaws.{Changes-short, Changes-by_host, Changes-by_switch, host_unknown, host_knows, unknown_unheld, unheld, packet_held, holds_nothing, holds_packet}
 use Rattle.std.proofs.lemmas.Result.{err_from_is_err_and}
@@ -9,22 +7,22 @@ use Rattle.net_txn.proofs.net.Net.change.Goals as goal
 
 pub returns-in_default : goal.returns-in_default
 returns-in_default g c =
-    let v : plains c.deref.result.now ≡ c.args.self.now.views = ap (λ (vs : List Lent). plains vs) c.deref.ensures.value ∙ ap (λ (n : NetState). n.views) c.self.view_is in
-    Changes-by_host {Tells = g.W.World.Tells} c.args.dpid c.args.bytes.now (g.W.World.seen c.args.world.now) c.args.self.now c.args.self.now _ (host_unknown c.args.dpid c.args.bytes.now c.args.self.now (plains c.deref.result.now) v c.in_default.ensures)
+    let v : c.self.inside.views ≡ c.args.self.now.views = ap (λ (n : NetState). n.views) c.self.view_is in
+    Changes-by_host {Tells = g.W.World.Tells} c.args.dpid c.args.bytes.now (g.W.World.seen c.args.world.now) c.args.self.now c.args.self.now _ (host_unknown c.args.dpid c.args.bytes.now c.args.self.now c.self.inside.views v c.in_default.ensures.rows)
     (holds_nothing c.args.dpid c.args.bytes.now Unknown c.args.self.now (unknown_unheld c.args.dpid c.args.bytes.now))
 
 pub returns-in-Answered : goal.returns-in-Answered
 returns-in-Answered g c =
-    let v : plains c.deref.result.now ≡ c.args.self.now.views = ap (λ (vs : List Lent). plains vs) c.deref.ensures.value ∙ ap (λ (n : NetState). n.views) c.self.view_is in
-    let knows = host_knows c.args.dpid c.args.bytes.now c.args.self.now (plains c.deref.result.now) c.in-Some.view.now.rows.rows c.as_slice.result.now v c.in-Some.ensures c.as_slice.ensures in
+    let v : c.self.inside.views ≡ c.args.self.now.views = ap (λ (n : NetState). n.views) c.self.view_is in
+    let knows = host_knows c.args.dpid c.args.bytes.now c.args.self.now c.self.inside.views c.in-Some.view.now.rows.rows c.as_slice.result.now v c.in-Some.ensures.rows c.as_slice.ensures in
     let answered = rw c.in-Answered.is at c.in_ok-answer.ensures in
     Changes-by_host {Tells = g.W.World.Tells} c.args.dpid c.args.bytes.now (g.W.World.seen c.args.world.now) c.args.self.now c.args.self.now c.in-Answered.answer (knows ∙ answered.0)
     (holds_nothing c.args.dpid c.args.bytes.now c.in-Answered.answer c.args.self.now (unheld c.args.dpid c.args.bytes.now c.in-Answered.answer (answered.1 c.args.dpid)))
 
 pub returns-in-Asks : goal.returns-in-Asks
 returns-in-Asks g c =
-    let v : plains c.deref.result.now ≡ c.args.self.now.views = ap (λ (vs : List Lent). plains vs) c.deref.ensures.value ∙ ap (λ (n : NetState). n.views) c.self.view_is in
-    let knows = host_knows c.args.dpid c.args.bytes.now c.args.self.now (plains c.deref.result.now) c.in-Some.view.now.rows.rows c.as_slice.result.now v c.in-Some.ensures c.as_slice.ensures in
+    let v : c.self.inside.views ≡ c.args.self.now.views = ap (λ (n : NetState). n.views) c.self.view_is in
+    let knows = host_knows c.args.dpid c.args.bytes.now c.args.self.now c.self.inside.views c.in-Some.view.now.rows.rows c.as_slice.result.now v c.in-Some.ensures.rows c.as_slice.ensures in
     let asked = rw c.in-Asks.is at c.in_ok-answer.ensures in
     Changes-by_switch g.W.World.Tells c.args.dpid c.args.bytes.now (g.W.World.seen c.args.world.now) (g.W.World.seen c.make_or_lose.new.world) c.args.self.now c.make_or_lose.new.self c.make_or_lose.result asked.1.0 c.in-Asks.flow (knows ∙ asked.0) asked.1.1 c.make_or_lose.ensures
 
@@ -40,8 +38,8 @@ returns-in_err-hold-in-Holds g c =
 
 pub returns-in_ok-hold-in-Holds : goal.returns-in_ok-hold-in-Holds
 returns-in_ok-hold-in-Holds g c =
-    let v : plains c.deref.result.now ≡ c.args.self.now.views = ap (λ (vs : List Lent). plains vs) c.deref.ensures.value ∙ ap (λ (n : NetState). n.views) c.self.view_is in
-    let knows = host_knows c.args.dpid c.args.bytes.now c.args.self.now (plains c.deref.result.now) c.in-Some.view.now.rows.rows c.as_slice.result.now v c.in-Some.ensures c.as_slice.ensures in
+    let v : c.self.inside.views ≡ c.args.self.now.views = ap (λ (n : NetState). n.views) c.self.view_is in
+    let knows = host_knows c.args.dpid c.args.bytes.now c.args.self.now c.self.inside.views c.in-Some.view.now.rows.rows c.as_slice.result.now v c.in-Some.ensures.rows c.as_slice.ensures in
     let held = rw c.in-Holds.is at c.in_ok-answer.ensures in
     Changes-by_host {Tells = g.W.World.Tells} c.args.dpid c.args.bytes.now (g.W.World.seen c.args.world.now) c.args.self.now c.hold.new.self Fine (knows ∙ held.0)
     (c.in_ok-hold-in-Holds.ensures.ok ∙ holds_packet c.args.dpid c.args.bytes.now c.in-Holds.packet c.args.self.now (packet_held c.args.dpid held.1.0 c.args.bytes.now c.in-Holds.packet held.1.1))

@@ -1,9 +1,7 @@
-use Rattle.std.proofs.Common.{rules, ◌≡◌, ℕ, List, [], ◌∷◌, ap, ◌∙◌, subst, arith}
+use Rattle.std.proofs.Common.{rules, ◌≡◌, ℕ, [], ◌∷◌, ap, ◌∙◌, subst, arith}
 use Rattle.std.proofs.lemmas.Result.{err_from_is_err_and}
 use Rattle.of_wire.specs.declared.message.Message.TheVariants.{FlowMod, SetConfig}
 use Rattle.of_wire.specs.Spelling.{message_bytes}
-use Rattle.flow_table.specs.declared.view.TableView.{TableView as Lent}
-use Rattle.flow_table.specs.View.{plains}
 use Rattle.flow_table.specs.Switch.{first_config}
 use Rattle.lego_model.specs.declared.wait.Awaited.{Awaited}
 use Rattle.lego_model.specs.BarrierWaits.{next_xid}
@@ -30,7 +28,7 @@ returns-in_err-greet-clause-halts g c =
     c.greeted-awaited.ensures (c.as_slice.ensures ∙ c.in_ok-emptying.ensures.bytes) (c.as_slice-2.ensures ∙ c.configuring.ensures.bytes ∙ ap (λ (n : ℕ). message_bytes n (SetConfig first_config)) c.following.ensures.next) c.in_err-greet.ensures in
     rw (p.1, p.2) (record {
       not_joined = record {
-        views = ap (λ (vs : List Lent). plains vs) c.reserve.ensures.items ∙ ap (λ (n : NetState). n.views) v;
+        views = c.reserve.ensures ∙ ap (λ (n : NetState). n.views) v;
         known = ap (λ (ps : PortLists). ps.known) c.reserve-2.ensures ∙ ap (λ (n : NetState). n.ports) v;
         kept = kept_for c.args.dpid c.greeted-awaited.result.dpid _ c.args.self.now.kept c.greet.new.kept (ap (λ (a : Awaited). a.dpid) c.greeted-awaited.ensures) (ap (λ (n : NetState). n.kept) v) (talks_kept c.in_err-greet.ensures);
       };
@@ -42,7 +40,7 @@ returns-in_err-admit-clause-halts g c =
     let p = err_from_is_err_and c.from_residual-in_err-admit.result c.from_residual-in_err-admit.ensures.1 in
     let v = c.self.view_is in
     rw (p.1, p.2) (short_behind c.args.dpid _ _ (g.W.World.seen c.args.world.now) (g.W.World.seen c.greet.new.world) c.args.self.now _ _ c.greet.new.kept _ c.in_ok-greet.ensures (record {
-      views = c.in_err-admit.ensures.views_err ∙ ap (λ (vs : List Lent). plains vs) c.reserve.ensures.items ∙ ap (λ (n : NetState). n.views) v;
+      views = c.in_err-admit.ensures.views_err ∙ c.reserve.ensures ∙ ap (λ (n : NetState). n.views) v;
       known = c.in_err-admit.ensures.ports_err ∙ ap (λ (ps : PortLists). ps.known) c.reserve-2.ensures ∙ ap (λ (n : NetState). n.ports) v;
       kept = kept_for c.args.dpid c.greeted-awaited.result.dpid _ c.args.self.now.kept c.greet.new.kept (ap (λ (a : Awaited). a.dpid) c.greeted-awaited.ensures) (ap (λ (n : NetState). n.kept) v) (waits_kept (talks_waits (c.as_slice.result.now ∷ c.as_slice-2.result.now ∷ []) c.in_ok-greet.ensures));
     }))

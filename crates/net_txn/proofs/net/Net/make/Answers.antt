@@ -3,7 +3,6 @@ use Rattle.std.proofs.lemmas.Result.{err_from_is_err_and}
 use Rattle.lego_model.specs.declared.wait.Awaited.{Awaited}
 use Rattle.lego_model.specs.declared.wait.Refusal.{Refusal}
 use Rattle.net_txn.specs.Waits.{Brought}
-use Rattle.flow_table.specs.View.{plains}
 use Rattle.net_txn.specs.Arriving.{notices_told}
 use Rattle.net_txn.specs.Views.{rows_after}
 use Rattle.net_txn.specs.Net.{NetState, awaited_from}
@@ -55,7 +54,7 @@ returns-in-None-clause-result g c =
       views = c.in_ok-take_effect-in-None.ensures.ok ∙ same_views c.args.dpid _ _ _ _ c.in_ok-frame.ensures.row (c.make_room.ensures ∙ ap (λ (n : NetState). n.views) v);
       log = c.in_ok-push_logged.ensures.ok ∙ same_log _ _ _ _ c.in_ok-frame.ensures.logged (ap (λ (n : NetState). n.log) v);
       held = held_more c.args.dpid c.answer.inside.notices.items c.self.inside.held.items c.take_effect.new.held c.self.inside.notices _ c.args.self.now.views c.args.self.now.held
-          (c.in_ok-take_effect-in-None.ensures.held ∙ ap (λ (more : List (List ℕ)). c.self.inside.notices ++ notices_told c.args.dpid (plains c.make_room.new.views.items) more) c.deref.ensures.value)
+          (c.in_ok-take_effect-in-None.ensures.held ∙ ap (λ (more : List (List ℕ)). c.self.inside.notices ++ notices_told c.args.dpid c.make_room.new.self more) c.deref.ensures.value)
           (c.make_room.ensures ∙ ap (λ (n : NetState). n.views) v) (ap (λ (n : NetState). n.held) v);
       xid = c.following-self-inside.ensures.next ∙ ap (λ (x : Awaited). next_xid x.barrier) a;
     }

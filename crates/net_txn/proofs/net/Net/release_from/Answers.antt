@@ -2,7 +2,6 @@ use Rattle.std.proofs.Common.{rules, ◌≡◌, List, [], ◌++◌, ap, ◌∙�
 use Rattle.std.specs.Prelude.{vec_len}
 use Rattle.std.proofs.lemmas.Result.{err_from_is_err_and}
 use Rattle.app_frames.specs.declared.frame.Event.{Event}
-use Rattle.flow_table.specs.View.{plains}
 use Rattle.lego_model.specs.Packets.{Held}
 use Rattle.net_txn.specs.Net.{NetState}
 use Rattle.net_txn.specs.Releases.{committed, Commits}
@@ -16,7 +15,7 @@ returns-in_default g c =
     let s = c.self.inside in
     let old = g.W.World.seen c.args.world.now in
     let new = g.W.World.seen c.undo_from-undone.new.world in
-    let net : NetState = record { views = plains s.views.items; ports = s.ports.known; left = s.ports.left; log = s.log.items; held = record { packets = s.held.items; notices = s.notices }; xid = s.xid; moment = s.moment; kept = s.kept; room = vec_len s.rooms } in
+    let net : NetState = record { views = s.views; ports = s.ports.known; left = s.ports.left; log = s.log.items; held = record { packets = s.held.items; notices = s.notices }; xid = s.xid; moment = s.moment; kept = s.kept; room = vec_len s.rooms } in
     let same : record net { held = record { packets = s.held.items; notices = c.take_room.new.notices } } ≡ c.args.self.now =
     ap (λ (notices : List Event). record net { held = record { packets = s.held.items; notices = notices } }) c.in_default.ensures.left ∙ c.self.view_is in
     let undoes = subst (λ (n : NetState). Undoes g.W.World.Tells c.args.start old new n c.undo_from-undone.new.self c.undo_from-undone.result) same c.undo_from-undone.ensures in
@@ -27,7 +26,7 @@ returns-in_err-sent g c =
     let s = c.self.inside in
     let old = g.W.World.seen c.args.world.now in
     let new = g.W.World.seen c.release_all.new.world in
-    let net : NetState = record { views = plains s.views.items; ports = s.ports.known; left = s.ports.left; log = s.log.items; held = record { packets = s.held.items; notices = s.notices }; xid = s.xid; moment = s.moment; kept = s.kept; room = vec_len s.rooms } in
+    let net : NetState = record { views = s.views; ports = s.ports.known; left = s.ports.left; log = s.log.items; held = record { packets = s.held.items; notices = s.notices }; xid = s.xid; moment = s.moment; kept = s.kept; room = vec_len s.rooms } in
     let mid : NetState = record net { log = c.truncate.new.self.items; held = record { packets = c.replace-held.new.dest.items; notices = c.take_room.new.notices } } in
     let held : c.replace-held.result.items ≡ net.held.packets = search rules in
     let none : c.replace-held.new.dest.items ≡ [] = search rules in
@@ -46,7 +45,7 @@ returns g c =
     let s = c.self.inside in
     let old = g.W.World.seen c.args.world.now in
     let new = g.W.World.seen c.release_all.new.world in
-    let net : NetState = record { views = plains s.views.items; ports = s.ports.known; left = s.ports.left; log = s.log.items; held = record { packets = s.held.items; notices = s.notices }; xid = s.xid; moment = s.moment; kept = s.kept; room = vec_len s.rooms } in
+    let net : NetState = record { views = s.views; ports = s.ports.known; left = s.ports.left; log = s.log.items; held = record { packets = s.held.items; notices = s.notices }; xid = s.xid; moment = s.moment; kept = s.kept; room = vec_len s.rooms } in
     let mid : NetState = record net { log = c.truncate.new.self.items; held = record { packets = c.replace-held.new.dest.items; notices = c.take_room.new.notices } } in
     let held : c.replace-held.result.items ≡ net.held.packets = search rules in
     let none : c.replace-held.new.dest.items ≡ [] = search rules in

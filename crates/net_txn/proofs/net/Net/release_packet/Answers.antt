@@ -1,10 +1,8 @@
-use Rattle.std.proofs.Common.{rules, ◌≡◌, List, true, false, sym, ap, ◌∙◌, subst, arith, Ok, Err}
+use Rattle.std.proofs.Common.{rules, ◌≡◌, true, false, sym, ap, ◌∙◌, subst, arith, Ok, Err}
 use Rattle.std.specs.Prelude.{vec_len}
 use Rattle.std.proofs.lemmas.Result.{err_from_is_err_and}
 use Rattle.lego_model.specs.declared.wait.Awaited.{Awaited}
 use Rattle.lego_model.specs.BarrierWaits.{next_xid}
-use Rattle.flow_table.specs.declared.view.TableView.{TableView as Lent}
-use Rattle.flow_table.specs.View.{plains}
 use Rattle.net_txn.specs.declared.halt.Halt.{Halt}
 use Rattle.net_txn.specs.Views.{is_viewed}
 use Rattle.net_txn.specs.Net.{NetState}
@@ -14,7 +12,7 @@ use Rattle.net_txn.proofs.net.Net.release_packet.Goals as goal
 
 pub returns-then-not-is_viewed : goal.returns-then-not-is_viewed
 returns-then-not-is_viewed g c =
-    let v = ap (λ (vs : List Lent). plains vs) c.deref.ensures.value ∙ ap (λ (n : NetState). n.views) c.self.view_is in
+    let v = ap (λ (n : NetState). n.views) c.self.view_is in
     let unknown : c.is_viewed.result ≡ false = search rules in
     passes_packet g.W.World.Tells c.args.dpid c.args.packet (g.W.World.seen c.args.world.now) c.args.self.now c.args.queue.now (sym (c.is_viewed.ensures ∙ ap (is_viewed c.args.dpid) v) ∙ unknown)
 
@@ -22,10 +20,10 @@ pub returns-in_ok-take_until_reply-in-Ok : goal.returns-in_ok-take_until_reply-i
 returns-in_ok-take_until_reply-in-Ok g c =
     let s = c.self.inside in
     let old = g.W.World.seen c.args.world.now in
-    let net : NetState = record { views = plains s.views.items; ports = s.ports.known; left = s.ports.left; log = s.log.items; held = record { packets = s.held.items; notices = s.notices }; xid = s.xid; moment = s.moment; kept = s.kept; room = vec_len s.rooms } in
+    let net : NetState = record { views = s.views; ports = s.ports.known; left = s.ports.left; log = s.log.items; held = record { packets = s.held.items; notices = s.notices }; xid = s.xid; moment = s.moment; kept = s.kept; room = vec_len s.rooms } in
     let xid = c.following-self-inside.result in
     let known : c.is_viewed.result ≡ true = search rules in
-    let viewed : is_viewed c.args.dpid net.views ≡ true = sym (c.is_viewed.ensures ∙ ap (λ (vs : List Lent). is_viewed c.args.dpid (plains vs)) c.deref.ensures.value) ∙ known in
+    let viewed : is_viewed c.args.dpid net.views ≡ true = sym c.is_viewed.ensures ∙ known in
     let mid = g.W.World.seen c.send_packet.new.world in
     let new = g.W.World.seen c.take_until_reply.new.world in
     let settled = subst (λ (a : Awaited). TakesUntilReply g.W.World.Tells a mid new (record net { xid = xid }) c.take_until_reply.new.self c.args.queue.now c.take_until_reply.new.queue (Ok tt)) c.await_packet.ensures c.in_ok-take_until_reply-in-Ok.ensures in
@@ -38,10 +36,10 @@ returns-in_err-take_until_reply-in-Ok g c =
     let p = err_from_is_err_and c.from_residual.result c.from_residual.ensures.1 in
     let s = c.self.inside in
     let old = g.W.World.seen c.args.world.now in
-    let net : NetState = record { views = plains s.views.items; ports = s.ports.known; left = s.ports.left; log = s.log.items; held = record { packets = s.held.items; notices = s.notices }; xid = s.xid; moment = s.moment; kept = s.kept; room = vec_len s.rooms } in
+    let net : NetState = record { views = s.views; ports = s.ports.known; left = s.ports.left; log = s.log.items; held = record { packets = s.held.items; notices = s.notices }; xid = s.xid; moment = s.moment; kept = s.kept; room = vec_len s.rooms } in
     let xid = c.following-self-inside.result in
     let known : c.is_viewed.result ≡ true = search rules in
-    let viewed : is_viewed c.args.dpid net.views ≡ true = sym (c.is_viewed.ensures ∙ ap (λ (vs : List Lent). is_viewed c.args.dpid (plains vs)) c.deref.ensures.value) ∙ known in
+    let viewed : is_viewed c.args.dpid net.views ≡ true = sym c.is_viewed.ensures ∙ known in
     let mid = g.W.World.seen c.send_packet.new.world in
     let new = g.W.World.seen c.take_until_reply.new.world in
     let fault = c.in_err-take_until_reply-in-Ok.field-0.0 in
@@ -53,10 +51,10 @@ pub returns-in-Err-Lost : goal.returns-in-Err-Lost
 returns-in-Err-Lost g c =
     let s = c.self.inside in
     let old = g.W.World.seen c.args.world.now in
-    let net : NetState = record { views = plains s.views.items; ports = s.ports.known; left = s.ports.left; log = s.log.items; held = record { packets = s.held.items; notices = s.notices }; xid = s.xid; moment = s.moment; kept = s.kept; room = vec_len s.rooms } in
+    let net : NetState = record { views = s.views; ports = s.ports.known; left = s.ports.left; log = s.log.items; held = record { packets = s.held.items; notices = s.notices }; xid = s.xid; moment = s.moment; kept = s.kept; room = vec_len s.rooms } in
     let xid = c.following-self-inside.result in
     let known : c.is_viewed.result ≡ true = search rules in
-    let viewed : is_viewed c.args.dpid net.views ≡ true = sym (c.is_viewed.ensures ∙ ap (λ (vs : List Lent). is_viewed c.args.dpid (plains vs)) c.deref.ensures.value) ∙ known in
+    let viewed : is_viewed c.args.dpid net.views ≡ true = sym c.is_viewed.ensures ∙ known in
     let new = g.W.World.seen c.send_packet.new.world in
     let unsent = subst (λ (h : Halt). PacketUnsent g.W.World.Tells c.args.dpid old new h) c.in-Err-Lost.field-0-is c.in-Err-Lost.ensures in
     let does = lost_before {Tells = g.W.World.Tells} c.args.dpid c.args.packet old new net c.lose.new.self c.args.queue.now xid viewed (omega arith) (c.following-self-inside.ensures.next ∙ ap next_xid c.following.ensures.next) c.lose.ensures unsent in
@@ -66,10 +64,10 @@ pub returns-in-Err-Fault : goal.returns-in-Err-Fault
 returns-in-Err-Fault g c =
     let s = c.self.inside in
     let old = g.W.World.seen c.args.world.now in
-    let net : NetState = record { views = plains s.views.items; ports = s.ports.known; left = s.ports.left; log = s.log.items; held = record { packets = s.held.items; notices = s.notices }; xid = s.xid; moment = s.moment; kept = s.kept; room = vec_len s.rooms } in
+    let net : NetState = record { views = s.views; ports = s.ports.known; left = s.ports.left; log = s.log.items; held = record { packets = s.held.items; notices = s.notices }; xid = s.xid; moment = s.moment; kept = s.kept; room = vec_len s.rooms } in
     let xid = c.following-self-inside.result in
     let known : c.is_viewed.result ≡ true = search rules in
-    let viewed : is_viewed c.args.dpid net.views ≡ true = sym (c.is_viewed.ensures ∙ ap (λ (vs : List Lent). is_viewed c.args.dpid (plains vs)) c.deref.ensures.value) ∙ known in
+    let viewed : is_viewed c.args.dpid net.views ≡ true = sym c.is_viewed.ensures ∙ known in
     let new = g.W.World.seen c.send_packet.new.world in
     let fault = c.in-Err-Fault.fault in
     let unsent = subst (λ (h : Halt). PacketUnsent g.W.World.Tells c.args.dpid old new h) c.in-Err-Fault.field-0-is c.in-Err-Fault.ensures in

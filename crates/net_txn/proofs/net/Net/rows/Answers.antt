@@ -1,7 +1,6 @@
 use Rattle.std.proofs.Common.{sym, ap, ◌∙◌, subst, arith, Ok, Err, Some, None}
 use Rattle.std.specs.Prelude.{vec_len}
 use Rattle.lego_model.specs.BarrierWaits.{next_xid}
-use Rattle.flow_table.specs.View.{plains}
 use Rattle.net_txn.specs.Net.{NetState}
 use Rattle.net_txn.specs.declared.halt.Halt.{Halt}
 use Rattle.net_txn.specs.Asks.{Asks}
@@ -14,7 +13,7 @@ returns-in-Ok-clause-asks g c =
     let s = c.self.inside in
     let old = g.W.World.seen c.args.world.now in
     let new = g.W.World.seen c.request_rows.new.world in
-    let net : NetState = record { views = plains s.views.items; ports = s.ports.known; left = s.ports.left; log = s.log.items; held = record { packets = s.held.items; notices = s.notices }; xid = s.xid; moment = s.moment; kept = s.kept; room = vec_len s.rooms } in
+    let net : NetState = record { views = s.views; ports = s.ports.known; left = s.ports.left; log = s.log.items; held = record { packets = s.held.items; notices = s.notices }; xid = s.xid; moment = s.moment; kept = s.kept; room = vec_len s.rooms } in
     let now : NetState = record net { xid = c.following-self-inside.result; kept = c.request_rows.new.kept } in
     subst (λ (n : NetState). Asks g.W.World.Tells c.args.dpid old new n now (Ok (Some c.in-Ok.rows))) c.self.view_is
     (asks_rows {Tells = g.W.World.Tells} c.args.dpid c.following-self-inside.result old new net c.request_rows.new.kept c.in-Ok.rows (omega arith) (c.following-self-inside.ensures.next ∙ ap next_xid c.following.ensures.next) c.in-Ok.ensures)
@@ -29,7 +28,7 @@ returns-in-Err-Fault-clause-asks g c =
     let s = c.self.inside in
     let old = g.W.World.seen c.args.world.now in
     let new = g.W.World.seen c.request_rows.new.world in
-    let net : NetState = record { views = plains s.views.items; ports = s.ports.known; left = s.ports.left; log = s.log.items; held = record { packets = s.held.items; notices = s.notices }; xid = s.xid; moment = s.moment; kept = s.kept; room = vec_len s.rooms } in
+    let net : NetState = record { views = s.views; ports = s.ports.known; left = s.ports.left; log = s.log.items; held = record { packets = s.held.items; notices = s.notices }; xid = s.xid; moment = s.moment; kept = s.kept; room = vec_len s.rooms } in
     let now : NetState = record net { xid = c.following-self-inside.result; kept = c.request_rows.new.kept } in
     subst (λ (n : NetState). Asks g.W.World.Tells c.args.dpid old new n now (Err c.in-Err-Fault.fault)) c.self.view_is
     (asks_fault {Tells = g.W.World.Tells} c.args.dpid c.following-self-inside.result old new net c.request_rows.new.kept c.in-Err-Fault.fault (c.following-self-inside.ensures.next ∙ ap next_xid c.following.ensures.next) (subst (λ (h : Halt). AsksFrom g.W.World.Tells c.args.dpid c.self.inside.xid (g.W.World.seen c.args.world.now) (g.W.World.seen c.request_rows.new.world) c.self.inside.kept c.request_rows.new.kept (Err h)) c.in-Err-Fault.field-0-is c.in-Err-Fault.ensures))
@@ -43,7 +42,7 @@ returns-in-Err-Lost-clause-asks g c =
     let s = c.self.inside in
     let old = g.W.World.seen c.args.world.now in
     let new = g.W.World.seen c.request_rows.new.world in
-    let net : NetState = record { views = plains s.views.items; ports = s.ports.known; left = s.ports.left; log = s.log.items; held = record { packets = s.held.items; notices = s.notices }; xid = s.xid; moment = s.moment; kept = s.kept; room = vec_len s.rooms } in
+    let net : NetState = record { views = s.views; ports = s.ports.known; left = s.ports.left; log = s.log.items; held = record { packets = s.held.items; notices = s.notices }; xid = s.xid; moment = s.moment; kept = s.kept; room = vec_len s.rooms } in
     let now = asks_lost {Tells = g.W.World.Tells} c.args.dpid c.following-self-inside.result old new net c.request_rows.new.kept (c.following-self-inside.ensures.next ∙ ap next_xid c.following.ensures.next) (subst (λ (h : Halt). AsksFrom g.W.World.Tells c.args.dpid c.self.inside.xid (g.W.World.seen c.args.world.now) (g.W.World.seen c.request_rows.new.world) c.self.inside.kept c.request_rows.new.kept (Err h)) c.in-Err-Lost.field-0-is c.in-Err-Lost.ensures) in
     subst (λ (n : NetState). Asks g.W.World.Tells c.args.dpid old new n c.lose.new.self (Ok None)) c.self.view_is
     (subst (λ (n : NetState). Asks g.W.World.Tells c.args.dpid old new net n (Ok None)) (sym c.lose.ensures) now)

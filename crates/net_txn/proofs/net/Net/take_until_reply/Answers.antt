@@ -1,6 +1,5 @@
 use Rattle.std.proofs.Common.{subst, inl, inr, refl, Ok, Err}
 use Rattle.std.specs.Prelude.{vec_len}
-use Rattle.flow_table.specs.View.{plains}
 use Rattle.lego_model.specs.declared.fault.TxnFault.TheVariants.{NoMemory}
 use Rattle.std.proofs.lemmas.Result.{err_from_is_err_and}
 use Rattle.net_txn.specs.declared.halt.Halt.{Halt}
@@ -37,6 +36,6 @@ returns-in-Err-Fault g c =
     let s = c.self.inside in
     let old = g.W.World.seen c.args.world.now in
     let new = g.W.World.seen c.await_behind.new.world in
-    let net : NetState = record { views = plains s.views.items; ports = s.ports.known; left = s.ports.left; log = s.log.items; held = record { packets = s.held.items; notices = s.notices }; xid = s.xid; moment = s.moment; kept = s.kept; room = vec_len s.rooms } in
+    let net : NetState = record { views = s.views; ports = s.ports.known; left = s.ports.left; log = s.log.items; held = record { packets = s.held.items; notices = s.notices }; xid = s.xid; moment = s.moment; kept = s.kept; room = vec_len s.rooms } in
     subst (λ (x : NetState). TakesUntilReply g.W.World.Tells c.args.awaited.now old new x net c.args.queue.now c.args.queue.now (Err c.in-Err-Fault.fault)) c.self.view_is
     (record { stops = subst (λ (h : Halt). BarrierStops g.W.World.Tells c.args.awaited.now old new h) c.in-Err-Fault.field-0-is c.in-Err-Fault.ensures; stays = stays_same net })

@@ -5,7 +5,6 @@ use Rattle.std.specs.Prelude.{vec_len}
 use Rattle.std.specs.Vec.{with_items}
 use Rattle.std.proofs.lemmas.List.{with_items_is}
 use Rattle.net_txn.specs.declared.logged.Logged.{Logged}
-use Rattle.flow_table.specs.View.{plains}
 use Rattle.net_txn.specs.Net.{NetState}
 use Rattle.net_txn.specs.Undos.{IsUndoOrder, Undoes, key_logged}
 use Rattle.net_txn.specs.laws.WholeLaws.{undoes}
@@ -18,7 +17,7 @@ returns g c =
     let n = c.undo_log.new in
     let start = c.args.start in
     let from = c.within_log-from.result in
-    let net : NetState = record { views = plains s.views.items; ports = s.ports.known; log = s.log.items; held = record { packets = s.held.items; notices = s.notices }; xid = s.xid; moment = s.moment; kept = s.kept; room = vec_len s.rooms; left = s.ports.left } in
+    let net : NetState = record { views = s.views; ports = s.ports.known; log = s.log.items; held = record { packets = s.held.items; notices = s.notices }; xid = s.xid; moment = s.moment; kept = s.kept; room = vec_len s.rooms; left = s.ports.left } in
     let old = g.W.World.seen c.args.world.now in
     let new = g.W.World.seen n.world in
     let front = subst (λ (xs : List Logged). take from xs ≡ take start xs) c.deref.ensures.value c.within_log-from.ensures.front in
