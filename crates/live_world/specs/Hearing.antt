@@ -1,5 +1,5 @@
 -- What a message on a connection is to a live world. Our own choice but for the messages of OpenFlow 1.0.0.
-use Rattle.std.specs.Prelude.{ℕ, Bool, ◌&&◌, ◌||◌, ◌==◌, List, length, Result, Ok, Err, if◌then◌else◌, nat_lt, nat_le}
+use Rattle.std.specs.Prelude.{ℕ, Bool, ◌&&◌, ◌||◌, ◌==◌, List, length, Result, Ok, Err, IsOk, if◌then◌else◌, nat_lt, nat_le}
 use Rattle.of_types.specs.Fields.{number_at}
 use Rattle.of_wire.specs.declared.message.Envelope.{Envelope}
 use Rattle.of_wire.specs.declared.message.Message.{Message}
@@ -54,3 +54,8 @@ hearing_read frame (Err fault) = hearings.Refused
 -- after it: ECHO_REQUESTs and the answer to a question of the live world's own are passed over
 abbrev pub hearing_of : List ℕ → Hearing
 hearing_of frame = hearing_read frame (reading_of frame)
+
+-- all but what is refused is a message
+abbrev pub IsHearingRead : Hearing → List ℕ → Type 0
+IsHearingRead hearings.Refused frame = Unit {0}
+IsHearingRead other frame = IsOk (reading_of frame)

@@ -313,9 +313,12 @@ impl Connection {
         let Stage::Joined(dpid) = self.life.stage else {
             return Ok(None);
         };
-        match self.backlog.take()? {
-            Some(frame) => Ok(Some(Heard::Told(dpid, hand_out(frame.as_slice(), buf)))),
-            None => Ok(None),
+        let Some(frame) = self.backlog.take()? else {
+            return Ok(None);
+        };
+        match hear_joined(frame.as_slice()) {
+            Hearing::Refused => Ok(Some(Heard::Over)),
+            _ => Ok(Some(Heard::Told(dpid, hand_out(frame.as_slice(), buf)))),
         }
     }
 

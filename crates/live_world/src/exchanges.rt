@@ -2,6 +2,7 @@
 
 ghost use Rattle.std.specs.Prelude.{◌≡◌, ◌≤◌, length, IfOk};
 ghost use Rattle.outside.specs.Calls.{most_message, IsMessageIn};
+ghost use Rattle.outside.specs.Parting.{IsReadIn};
 ghost use Rattle.live_world.specs.Connection.{IsAnswerIn};
 
 use crate::clock::Clock;
@@ -78,7 +79,7 @@ impl EventLoop {
         buf: &mut [u8],
     ) -> Result<usize, LinkFault>
         requires { most_message ≤ length buf.old }
-        ensures { IfOk result (λ n. IsMessageIn ⊥ n buf.new) }
+        ensures { IfOk result (λ n. IsMessageIn ⊥ n buf.new × IsReadIn buf.new n) }
     {
         let Some(place) = place_of(&self.connections, dpid) else {
             return Err(LinkFault::Failed);
@@ -106,7 +107,7 @@ impl EventLoop {
         buf: &mut [u8],
     ) -> Result<usize, LinkFault>
         requires { most_message ≤ length buf.old }
-        ensures { IfOk result (λ n. IsMessageIn ⊥ n buf.new) }
+        ensures { IfOk result (λ n. IsMessageIn ⊥ n buf.new × IsReadIn buf.new n) }
     {
         let mut is_over = false;
         for _ in 0..u64::MAX {

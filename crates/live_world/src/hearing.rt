@@ -1,7 +1,7 @@
 //! What a message on a connection is to a live world.
 
 ghost use Rattle.std.specs.Prelude.{◌≡◌, IfOk};
-ghost use Rattle.live_world.specs.Hearing.{greeting_of, hearing_of, is_later_hello, is_own_echo, is_echo_request, answers_request};
+ghost use Rattle.live_world.specs.Hearing.{greeting_of, hearing_of, IsHearingRead, is_later_hello, is_own_echo, is_echo_request, answers_request};
 ghost use Rattle.live_world.specs.Greetings.{IsGreetingOf};
 
 use of_types::{Dpid, Xid, get_u8, get_u32, kinds};
@@ -95,7 +95,8 @@ pub fn hear_greeting(alloc: Global, frame: &[u8]) -> Result<Greeting, AllocError
 
 /// Tells what a joined switch says.
 pub fn hear_joined(frame: &[u8]) -> Hearing
-    ensures { result ≡ hearing_of frame.now }
+    ensures exact { result ≡ hearing_of frame.now }
+    ensures read { IsHearingRead result frame.now }
 {
     if check(frame).is_err() {
         Hearing::Refused

@@ -2,6 +2,7 @@
 
 ghost use Rattle.std.specs.Prelude.{◌≡◌, ℕ, ◌≤◌, List, length, IfOk};
 ghost use Rattle.outside.specs.Calls.{most_message, IsItemIn};
+ghost use Rattle.outside.specs.Parting.{IsItemReadIn};
 ghost use Rattle.live_world.specs.declared.connection.Heard.TheVariants as heard;
 ghost use Rattle.live_world.specs.Connection.{IsHeardIn};
 ghost use Rattle.live_world.specs.Telling.{IsStepIn};
@@ -45,7 +46,7 @@ impl EventLoop {
         buf: &mut [u8],
     ) -> Result<Item, NextFault>
         requires { most_message ≤ length buf.old }
-        ensures { IfOk result (λ item. IsItemIn ⊥ item buf.new) }
+        ensures { IfOk result (λ item. IsItemIn ⊥ item buf.new × IsItemReadIn buf.new item) }
     {
         self.calls = self.calls.wrapping_add(1);
         self.write_out();
@@ -67,7 +68,7 @@ impl EventLoop {
     /// Tells what comes next but for moments.
     fn come<C: Clock>(&mut self, clock: &mut C, buf: &mut [u8]) -> Result<Item, NextFault>
         requires { most_message ≤ length buf.old }
-        ensures { IfOk result (λ item. IsItemIn ⊥ item buf.new) }
+        ensures { IfOk result (λ item. IsItemIn ⊥ item buf.new × IsItemReadIn buf.new item) }
     {
         if self.batch == 0 {
             self.hear(clock, 0)?;

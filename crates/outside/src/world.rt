@@ -1,9 +1,10 @@
 //! The one object that stands for the switches and the applications.
 
-ghost use Rattle.std.specs.Prelude.{◌≡◌, ◌<◌, ◌≤◌, true, length, IsOk};
+ghost use Rattle.std.specs.Prelude.{◌≡◌, ◌<◌, ◌≤◌, ◌↔◌, length, IsTrue, IsOk};
 ghost use Rattle.of_wire.specs.Reading.{reading_of};
 ghost use Rattle.outside.specs.Seen.{Seen};
 ghost use Rattle.outside.specs.Calls.{most_message, Opens, Nexts, Starts, Gives, Takes, Ends, Sends, Receives, PartsWith};
+ghost use Rattle.outside.specs.Parting.{TellsMessage, GivesMessage};
 
 use crate::faults::{GiveFault, LinkFault, NextFault, OpenFault, Short, StartFault};
 use crate::item::{Item, Taken};
@@ -18,7 +19,8 @@ pub trait World {
     // What else it was given and never changes, as the scripts of applications.
     ghost Own: { Type 0 };
 
-    // Whether its switches can be parted with: nothing is of this type where they cannot, one value where they can.
+    // Whether its switches can be parted with: nothing is of this type where they cannot, one value where they can. Such a world
+    // itself ends the link of a switch that sends bytes which are no message, and gives none of them.
     ghost CanPart: { Type 0 };
 
     // What is seen of it.
@@ -31,7 +33,8 @@ pub trait World {
     /// Tells what comes next. Where that has bytes, they stand in the front of the buffer.
     fn next(&mut self, buf: &mut [u8]) -> Result<Item, NextFault>
         requires { most_message ≤ length buf.old }
-        ensures { Nexts Tells (seen self.old) (seen self.new) result buf.new };
+        ensures nexts { Nexts Tells (seen self.old) (seen self.new) result buf.new }
+        ensures message { CanPart → TellsMessage result buf.new };
 
     /// Starts the application by these words.
     fn start(&mut self, app: u32, words: &[String]) -> Result<(), StartFault>
@@ -60,11 +63,12 @@ pub trait World {
     /// this answers `Failed` while the switch is joined, the switch is lost, as by `send`.
     fn recv(&mut self, dpid: Dpid, buf: &mut [u8]) -> Result<usize, LinkFault>
         requires { most_message ≤ length buf.old }
-        ensures { Receives Tells dpid (seen self.old) (seen self.new) result buf.new };
+        ensures receives { Receives Tells dpid (seen self.old) (seen self.new) result buf.new }
+        ensures message { CanPart → GivesMessage result buf.new };
 
-    /// Tells whether its switches can be parted with: true only where they can.
+    /// Tells whether its switches can be parted with.
     fn can_part(&self) -> bool
-        ensures { result ≡ true → CanPart };
+        ensures { IsTrue result ↔ CanPart };
 
     /// Parts with a switch that broke the rules of its link: the link ends. A switch that is joined is lost, as where `send`
     /// answers `Failed`. Where switches cannot be parted with, nothing is promised.

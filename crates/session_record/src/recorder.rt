@@ -3,6 +3,7 @@
 ghost use Rattle.std.specs.Prelude.{◌≡◌, ◌<◌, ◌≤◌, [], length, false, Some, None, IfOk, OnOk, IsOk, map, string_bytes};
 ghost use Rattle.of_wire.specs.Reading.{reading_of};
 ghost use Rattle.lego_model.specs.Journal.{is_event as event_is};
+ghost use Rattle.outside.specs.Parting.{GivesMessage};
 ghost use Rattle.outside.specs.Calls.{most_message, Starts, Gives, Takes, Sends, Receives, PartsWith};
 ghost use Rattle.session_record.specs.Deeds.{Notes};
 ghost use Rattle.session_record.specs.Calls.{start_deeds, give_deeds, take_deeds, NotesLink, NotesParting};
@@ -233,6 +234,7 @@ impl<W: World + Drop> World for Recorder<W> {
     fn recv(&mut self, dpid: Dpid, buf: &mut [u8]) -> Result<usize, LinkFault>
         requires { most_message ≤ length buf.old }
         ensures seen { Receives W.Tells dpid (W.seen self.old.world) (W.seen self.new.world) result buf.new }
+        ensures message { W.CanPart → GivesMessage result buf.new }
         ensures noted { NotesLink dpid result self.old.links self.new.links }
         ensures rest { self.new.log ≡ self.old.log }
     {
