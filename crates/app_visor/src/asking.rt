@@ -5,6 +5,7 @@ ghost use Rattle.app_frames.specs.declared.frame.HostFrame.TheVariants as host;
 ghost use Rattle.app_frames.specs.Frames.{HostFits};
 ghost use Rattle.lego_model.specs.Controller.{answer_frame, event_frame};
 ghost use Rattle.lego_model.specs.AtOnce.{Before};
+ghost use Rattle.net_txn.specs.Causes.{IsPlain};
 ghost use Rattle.app_visor.specs.Dialogues.{LeadsOn};
 ghost use Rattle.app_visor.specs.Beats.{Exchanges, Stops};
 ghost use Rattle.app_visor.specs.CallsFor.{Calmly};
@@ -60,6 +61,7 @@ pub(crate) fn exchange<W: World>(
     ensures err { IfErr result (λ fault. Stops W.Tells app (W.seen world.old) (W.seen world.new) txn.old.net.now txn.new.net.now fault) }
     ensures talks { OnErr result (W.Tells → (s : Before) → LeadsOn app s (W.seen world.old) (W.seen world.new)) }
     ensures calm { W.Tells → Calmly app (W.seen world.old) (W.seen world.new) }
+    ensures parted { W.CanPart → IfErr result IsPlain }
 {
     let answer = txn.change(world, dpid, bytes)?;
     let frame = encode_answer(alloc, answer)?;

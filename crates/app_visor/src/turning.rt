@@ -6,6 +6,7 @@ ghost use Rattle.app_frames.specs.Frames.{HostFits};
 ghost use Rattle.of_types.specs.declared.journal.Act.{Act};
 ghost use Rattle.lego_model.specs.Controller.{event_frame};
 ghost use Rattle.lego_model.specs.AtOnce.{Before, before, Passes};
+ghost use Rattle.net_txn.specs.Causes.{IsPlain};
 ghost use Rattle.app_visor.specs.Dialogues.{LeadsOn, Talks};
 ghost use Rattle.app_visor.specs.Beats.{Stops, Leads, Stays};
 ghost use Rattle.app_visor.specs.CallsFor.{Calmly, CalmLater};
@@ -68,6 +69,7 @@ fn answer<W: World, J: Judge>(
     ensures err { IfErr result (λ fault. Stops W.Tells app (W.seen world.old) (W.seen world.new) txn.old.net.now txn.new.net.now fault) }
     ensures talks { OnErr result (W.Tells → (s : Before) → LeadsOn app s (W.seen world.old) (W.seen world.new)) }
     ensures calm { W.Tells → Calmly app (W.seen world.old) (W.seen world.new) }
+    ensures parted { W.CanPart → IfErr result IsPlain }
 {
     if exchange(alloc, world, txn, app, dpid, bytes.as_slice())? {
         Ok(None)
@@ -92,6 +94,7 @@ fn play<W: World, J: Judge>(
     ensures err { IfErr result (λ fault. Stops W.Tells app (W.seen world.old) (W.seen world.new) txn.old.net.now txn.new.net.now fault) }
     ensures talks { OnErr result (W.Tells → (s : Before) → LeadsOn app s (W.seen world.old) (W.seen world.new)) }
     ensures calm { W.Tells → Calmly app (W.seen world.old) (W.seen world.new) }
+    ensures parted { W.CanPart → IfErr result IsPlain }
 {
     match frame {
         AppFrame::Message(dpid, bytes) => answer(alloc, world, txn, judge, app, dpid, bytes),
@@ -118,6 +121,7 @@ fn play_next<W: World, J: Judge>(
     ensures err { IfErr result (λ fault. Stops W.Tells app (W.seen world.old) (W.seen world.new) txn.old.net.now txn.new.net.now fault) }
     ensures talks { OnErr result (W.Tells → (since : List Act) → LeadsOn app (before intake.old since) (W.seen world.old) (W.seen world.new)) }
     ensures calm { W.Tells → Calmly app (W.seen world.old) (W.seen world.new) }
+    ensures parted { W.CanPart → IfErr result IsPlain }
 {
     match next_frame(alloc, world, app, intake)? {
         Came::Frame(frame) => play(alloc, world, txn, judge, app, frame),
@@ -141,6 +145,7 @@ fn play_all<W: World, J: Judge>(
     ensures err { IfErr result (λ fault. Stops W.Tells app (W.seen world.old) (W.seen world.new) txn.old.net.now txn.new.net.now fault) }
     ensures talks { OnErr result (W.Tells → LeadsOn app (before intake.old []) (W.seen world.old) (W.seen world.new)) }
     ensures calm { W.Tells → Calmly app (W.seen world.old) (W.seen world.new) }
+    ensures parted { W.CanPart → IfErr result IsPlain }
 {
     for _played in 0..budget {
         if let Some(end) = play_next(alloc, world, txn, judge, app, intake)? {
@@ -224,6 +229,8 @@ pub fn turn<W: World, J: Judge>(
     // However it ended, no other application was called, and no point behind the one where it began was quiescent.
     ensures later { W.Tells → CalmLater app.old.index (W.seen world.old) (W.seen world.new) }
     ensures continues { Continues W.Tells (W.seen world.old) (W.seen world.new) }
+    // Where the world's switches can be parted with, one at fault is lost, and a fault is one of memory.
+    ensures parted { W.CanPart → IfErr result IsPlain }
 {
     let rest = replace(&mut app.rest, ByteList::new(alloc));
     let frame = encode_event(alloc, number, txn.moment(), event)?;

@@ -7,6 +7,7 @@ pub mod LastLaws
 pub mod LosingLaws
 pub mod BatchLaws
 pub mod PlainLaws
+pub mod PartedLaws
 pub mod TalkingLaws
 pub mod CutLaws
 pub mod AlikeLaws

@@ -1,9 +1,10 @@
 //! A batch: what comes up to the next rest of the outside, and the events that it makes.
 
-ghost use Rattle.std.specs.Prelude.{◌≡◌, ◌==◌, ◌≤◌, length, None, OnOk, MatchResult, []};
+ghost use Rattle.std.specs.Prelude.{◌≡◌, ◌==◌, ◌≤◌, length, None, IfOk, IfErr, OnOk, MatchResult, []};
 ghost use Rattle.std.specs.List.{list_any};
 ghost use Rattle.outside.specs.declared.step.WorldStep.TheVariants.{From, Joined};
 ghost use Rattle.outside.specs.Calls.{most_message, item_step, IsItemIn};
+ghost use Rattle.outside.specs.Parting.{IsItemReadIn};
 ghost use Rattle.of_wire.specs.Spelling.{message_size};
 ghost use Rattle.net_txn.specs.Views.{rows_at, is_viewed};
 ghost use Rattle.batch_laws.specs.Knowledge.{with_event};
@@ -81,6 +82,7 @@ fn next_item<W: World>(world: &mut W, buf: &mut [u8]) -> Result<Item, Fault>
     ensures asks { AsksNext W.Tells (W.seen world.old) (W.seen world.new) buf.old buf.new }
     ensures done { MatchResult result (λ item. NextDone W.Tells item buf.new (W.seen world.old) (W.seen world.new))
         (λ fault. Fails (IsReason W.Tells (W.seen world.old) (W.seen world.new) 0 0 fault) (IsPlainEnd fault)) }
+    ensures message { W.CanPart → IfOk result (IsItemReadIn buf.new) }
 {
     match world.next(buf) {
         Ok(item) => Ok(item),
@@ -130,6 +132,7 @@ impl Core {
         ensures done { MatchResult result (λ _. ItemDone W.Tells (Joined dpid frame.now) (W.seen world.old) (W.seen world.new) self.old self.new)
             (λ fault. Fails (IsReason W.Tells (W.seen world.old) (W.seen world.new) 0 0 fault)
             (PlainJoin W.Tells dpid (W.seen world.old) (W.seen world.new) fault)) }
+        ensures parted { W.CanPart → IfErr result IsPlainEnd }
     {
         if is_joined(&self.net, dpid) {
             return Ok(());
@@ -153,6 +156,7 @@ impl Core {
         ensures done { MatchResult result (λ _. JoinDone W.Tells dpid message.now (W.seen world.old) (W.seen world.new) self.old self.new)
             (λ fault. Fails (IsReason W.Tells (W.seen world.old) (W.seen world.new) 0 0 fault)
             (PlainJoin W.Tells dpid (W.seen world.old) (W.seen world.new) fault)) }
+        ensures parted { W.CanPart → IfErr result IsPlainEnd }
     {
         if let Message::FeaturesReply(features) = message {
             if self.net.joined(world, dpid, features)? {
@@ -183,6 +187,7 @@ impl Core {
         ensures done { MatchResult result (λ _. ItemDone W.Tells (item_step item buf.now) (W.seen world.old) (W.seen world.new) self.old self.new)
             (λ fault. Fails (WhyItem W.Tells (item_step item buf.now) (W.seen world.old) (W.seen world.new) fault)
             (PlainItem W.Tells (item_step item buf.now) (W.seen world.old) (W.seen world.new) fault)) }
+        ensures parted { W.CanPart → IsItemReadIn buf.now item → IfErr result IsPlainEnd }
     {
         match item {
             Item::From(dpid, size) => self.take_message(world, dpid, &buf[..size]),
@@ -204,6 +209,7 @@ impl Core {
         ensures passes { PassesOnLinks W.Tells (length self.old.store) (W.seen world.old) (W.seen world.new) self.old.net self.new.net result }
         ensures done { MatchResult result (λ left. KeptDone W.Tells left (W.seen world.old) (W.seen world.new) self.old self.new)
             (λ fault. Fails (IsReason W.Tells (W.seen world.old) (W.seen world.new) 0 0 fault) (PlainKept self.old.net fault)) }
+        ensures plain { IfErr result IsPlainEnd }
     {
         for taken in 0..MOST_ITEMS {
             let Some((dpid, message)) = self.net.waiting()? else {
@@ -222,6 +228,7 @@ impl Core {
         ensures done { MatchResult result (λ rest. HandledNext W.Tells rest (W.seen world.old) (W.seen world.new) self.old self.new)
             (λ fault. Fails (IsReason W.Tells (W.seen world.old) (W.seen world.new) 0 0 fault)
             (PlainNext W.Tells (W.seen world.old) (W.seen world.new) fault)) }
+        ensures parted { W.CanPart → IfErr result IsPlainEnd }
     {
         let item = next_item(world, buf)?;
         match item {
@@ -251,6 +258,7 @@ impl Core {
         ensures buffer { length buf.new ≡ length buf.old }
         ensures done { MatchResult result (λ rest. BatchDone W.Tells rest (W.seen world.old) (W.seen world.new) self.old self.new)
             (λ fault. BatchFails W.Tells (length self.old.store) (W.seen world.old) (W.seen world.new) self.old.net fault) }
+        ensures parted { W.CanPart → IfErr result IsPlainEnd }
     {
         let left = self.take_kept(world)?;
         for _item in 0..left {

@@ -1,6 +1,6 @@
 //! Events, given to the application one after the other.
 
-ghost use Rattle.std.specs.Prelude.{◌≡◌, ◌^◌, ◌<◌, ◌≤◌, [], ◌++◌, length, IfOk, OnOk, MatchResult};
+ghost use Rattle.std.specs.Prelude.{◌≡◌, ◌^◌, ◌<◌, ◌≤◌, [], ◌++◌, length, IfOk, IfErr, OnOk, MatchResult};
 ghost use Rattle.lego_io.specs.Count.{NeverFell};
 ghost use Rattle.app_frames.specs.declared.frame.HostFrame.TheVariants as host;
 ghost use Rattle.app_frames.specs.Frames.{HostFits};
@@ -12,6 +12,7 @@ ghost use Rattle.event_dispatch.specs.Passes.{Passes, PassesQuietly};
 ghost use Rattle.event_dispatch.specs.Lines.{OnlyNotes};
 ghost use Rattle.event_dispatch.specs.Runs.{AreRead, StoreRests, CoreGoes, AreGoing, AreBefore, Going};
 ghost use Rattle.event_dispatch.specs.Stored.{closes_slot};
+ghost use Rattle.event_dispatch.specs.Plain.{IsPlainEnd};
 ghost use Rattle.event_dispatch.specs.TurnParts.{TurnFails, PlayDone, PlayKeeps, HoldDone, HoldFails, HoldKeeps, TurnDone, StartDone, StartKeeps, LeaveDone, GoOnDone, CloseDone, CloseKeeps};
 ghost use Rattle.event_dispatch.specs.EventParts.{OfferDone, OfferStops, OffersDone, OffersStop, DispatchDone, DispatchStops, OldestDone, OldestStops, WaitingDone, WaitingStops};
 
@@ -60,6 +61,7 @@ fn play_turn<W: World, J: Judge>(
         occasion.entry.event.now end
         (W.seen world.old) (W.seen world.new) net.old net.new queue.old queue.new app.old.rest app.new.rest store.old store.new)
         (TurnFails W.Tells app.old.index occasion.entry.budget app.old.rest (W.seen world.old) (W.seen world.new) net.old) }
+    ensures parted { W.CanPart → IfErr result IsPlainEnd }
 {
     let Occasion {
         alloc,
@@ -119,6 +121,7 @@ fn hold_turn<W: World, J: Judge>(
         occasion.entry.event.now end
         (W.seen world.old) (W.seen world.new) net.old net.new queue.old queue.new app.old.rest app.new.rest store.old store.new)
         (HoldFails W.Tells app.old.index occasion.entry.budget app.old.rest (W.seen world.old) (W.seen world.new) net.old store.old store.new) }
+    ensures parted { W.CanPart → IfErr result IsPlainEnd }
 {
     let index = app.index;
     let closing = play_turn(world, net, queue, store, app, occasion);
@@ -294,6 +297,7 @@ impl Core {
         ensures done { MatchResult result (λ stops. TurnDone W.Tells (J.accepts judge.now) event.now stops (W.seen world.old) (W.seen world.new) self.old
             self.new app.old app.new)
             (TurnFails W.Tells app.old.state.index app.old.rule.now.budget app.old.state.rest (W.seen world.old) (W.seen world.new) self.old.net) }
+        ensures parted { W.CanPart → IfErr result IsPlainEnd }
     {
         let budget = app.rule.budget;
         let closing = hold_turn(
@@ -331,6 +335,7 @@ fn offer<'x, W: World, J: Judge>(
     ensures done { MatchResult result (λ stops. OfferDone W.Tells (J.accepts judge.now) event.now stops (W.seen world.old) (W.seen world.new) core.old core.new
         app.old app.new)
         (OfferStops W.Tells event.now (W.seen world.old) (W.seen world.new) core.old app.old) }
+    ensures parted { W.CanPart → IfErr result IsPlainEnd }
 {
     if !app.takes(event) {
         return Ok(false);
@@ -356,6 +361,7 @@ fn offer_all<'x, W: World, J: Judge>(
     ensures done { MatchResult result (λ _. OffersDone W.Tells (J.accepts judge.now) event.now (W.seen world.old) (W.seen world.new) core.old core.new
         apps.old.items apps.new.items)
         (OffersStop W.Tells (J.accepts judge.now) event.now (W.seen world.old) (W.seen world.new) core.old apps.old.items) }
+    ensures parted { W.CanPart → IfErr result IsPlainEnd }
 {
     for at in 0..apps.len() {
         if offer(core, world, &mut apps[at], judge, event)? {
@@ -378,6 +384,7 @@ impl Run<'_> {
         ensures passes { Passes W.Tells (length self.old.core.store) (W.seen world.old) (W.seen world.new) self.old.core.net self.new.core.net result }
         ensures done { MatchResult result (λ _. DispatchDone W.Tells (J.accepts judge.now) event.now (W.seen world.old) (W.seen world.new) self.old self.new)
             (DispatchStops W.Tells (J.accepts judge.now) event.now (W.seen world.old) (W.seen world.new) self.old) }
+        ensures parted { W.CanPart → IfErr result IsPlainEnd }
     {
         self.core.events += 1;
         let line = event_line(self.core.alloc, self.core.events, event.kind, event.dpid)?;
@@ -401,6 +408,7 @@ impl Run<'_> {
             (W.seen world.old) (W.seen world.new) self.old self.new)
             (OldestStops W.Tells (J.accepts judge.now) (K.contents sink.old) (K.contents sink.new) (K.faults sink.old) (K.faults sink.new) (W.seen world.old)
             (W.seen world.new) self.old) }
+        ensures parted { W.CanPart → IfErr result IsPlainEnd }
     {
         let Some(event) = self.core.queue.take_first() else {
             return Ok(false);
@@ -429,6 +437,7 @@ impl Run<'_> {
             (W.seen world.new) self.old self.new)
             (WaitingStops W.Tells (J.accepts judge.now) (K.contents sink.old) (K.contents sink.new) (K.faults sink.old) (K.faults sink.new) (W.seen world.old)
             (W.seen world.new) self.old) }
+        ensures parted { W.CanPart → IfErr result IsPlainEnd }
     {
         for _event in 0..MOST_EVENTS {
             if !self.dispatch_oldest(world, judge, sink)? {

@@ -1,7 +1,7 @@
 //! The end of a report: the tables of the joined switches, the applications, and how many events there were. A switch that is lost when it
 //! is asked for its table is told in its place.
 
-ghost use Rattle.std.specs.Prelude.{◌≡◌, [], ◌∷◌, List, length, map, None, Some, MatchOption, IsSome, IfOk, OnOk, MatchResult};
+ghost use Rattle.std.specs.Prelude.{◌≡◌, [], ◌∷◌, List, length, map, None, Some, MatchOption, IsSome, IfOk, IfErr, OnOk, MatchResult};
 ghost use Rattle.flow_table.specs.declared.view.ViewRow.{ViewRow};
 ghost use Rattle.flow_table.specs.View.{plains};
 ghost use Rattle.lego_model.specs.RunReport.{flow_line};
@@ -9,6 +9,7 @@ ghost use Rattle.net_txn.specs.Views.{rows_at};
 ghost use Rattle.run_laws.specs.LastReport.{app_lines, engine_end};
 ghost use Rattle.event_dispatch.specs.Passes.{PassesQuietly};
 ghost use Rattle.event_dispatch.specs.Lines.{OnlyNotes};
+ghost use Rattle.event_dispatch.specs.Plain.{IsPlainEnd};
 ghost use Rattle.event_dispatch.specs.Shows.{application_of, engine_with};
 ghost use Rattle.event_dispatch.specs.ReportEnd.{FindsPlace, FindsFlags, FlowsNoted, RowsNoted, RowsAsked, TableNoted, TableFails};
 ghost use Rattle.event_dispatch.specs.ReportEnd.{TablesNoted, LastNoted, LastFails};
@@ -117,6 +118,7 @@ impl Core {
         ensures passes { PassesQuietly W.Tells (length self.old.store) (W.seen world.old) (W.seen world.new) self.old.net self.new.net result }
         ensures done { MatchResult result (λ rows. RowsAsked W.Tells dpid (W.seen world.old) (W.seen world.new) self.old self.new rows)
             (TableFails W.Tells (W.seen world.old) (W.seen world.new) self.old.net) }
+        ensures parted { W.CanPart → IfErr result IsPlainEnd }
     {
         match self.net.rows(world, dpid) {
             Ok(rows) => Ok(rows),
@@ -130,6 +132,7 @@ impl Core {
         ensures passes { PassesQuietly W.Tells (length self.old.store) (W.seen world.old) (W.seen world.new) self.old.net self.new.net result }
         ensures done { MatchResult result (λ _. TableNoted W.Tells dpid (W.seen world.old) (W.seen world.new) self.old self.new)
             (TableFails W.Tells (W.seen world.old) (W.seen world.new) self.old.net) }
+        ensures parted { W.CanPart → IfErr result IsPlainEnd }
     {
         if !is_joined(&self.net, dpid) {
             return Ok(());
@@ -156,6 +159,7 @@ impl Core {
         ensures passes { PassesQuietly W.Tells (length self.old.store) (W.seen world.old) (W.seen world.new) self.old.net self.new.net result }
         ensures done { MatchResult result (λ _. TablesNoted W.Tells (map (λ v. v.dpid) self.old.net.views) (W.seen world.old) (W.seen world.new) self.old self.new)
             (LastFails W.Tells (W.seen world.old) (W.seen world.new) self.old.net) }
+        ensures parted { W.CanPart → IfErr result IsPlainEnd }
     {
         let switches = self.switches()?;
         for dpid in switches.iter() {
@@ -199,6 +203,7 @@ impl Run<'_> {
         // Where the world keeps its word, this is what the reference controller says at the end, and a fault is a plain one.
         ensures done { MatchResult result (λ _. LastNoted W.Tells (W.seen world.old) (W.seen world.new) self.old self.new)
             (LastFails W.Tells (W.seen world.old) (W.seen world.new) self.old.core.net) }
+        ensures parted { W.CanPart → IfErr result IsPlainEnd }
     {
         self.core.note_tables(world)?;
         Ok(self.core.note_end(&self.apps)?)

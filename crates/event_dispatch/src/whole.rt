@@ -1,6 +1,6 @@
 //! A whole run.
 
-ghost use Rattle.std.specs.Prelude.{◌≡◌, ◌^◌, ◌<◌, ◌≤◌, Bool, List, [], length, map, OnOk, MatchResult};
+ghost use Rattle.std.specs.Prelude.{◌≡◌, ◌^◌, ◌<◌, ◌≤◌, Bool, List, [], length, map, IfErr, OnOk, MatchResult};
 ghost use Rattle.lego_io.specs.Count.{NeverFell};
 ghost use Rattle.outside.specs.Seen.{Continues};
 ghost use Rattle.outside.specs.Calls.{most_message};
@@ -9,7 +9,7 @@ ghost use Rattle.outside.specs.InOrder.{InOrder};
 ghost use Rattle.net_txn.specs.LinkSteps.{MakesNoStrayCall};
 ghost use Rattle.event_dispatch.specs.Runs.{AreGoing, Going, most_rounds};
 ghost use Rattle.event_dispatch.specs.Why.{IsWhy};
-ghost use Rattle.event_dispatch.specs.Plain.{EndsPlain};
+ghost use Rattle.event_dispatch.specs.Plain.{IsPlainEnd, IsPlainServed, EndsPlain};
 ghost use Rattle.crash_policy.specs.Policies.{app_value};
 ghost use Rattle.lego_model.specs.OwnIds.{IsShortRun, OwnIdsAscend};
 ghost use Rattle.lego_model.specs.Places.{Place};
@@ -79,6 +79,7 @@ impl Run<'_> {
             (W.seen world.old) (W.seen world.new) self.old self.new)
             (RoundFails W.Tells (J.accepts judge.now) (K.contents sink.old) (K.contents sink.new) (K.faults sink.old) (K.faults sink.new)
             (W.seen world.old) (W.seen world.new) self.old) }
+        ensures parted { W.CanPart → IfErr result IsPlainEnd }
     {
         let rest = self.core.take_batch(world, buf)?;
         self.core.write_noted(sink)?;
@@ -106,6 +107,7 @@ impl Run<'_> {
             (W.seen world.old) (W.seen world.new) self.old self.new)
             (RoundsFail W.Tells (J.accepts judge.now) (K.contents sink.old) (K.contents sink.new) (K.faults sink.old) (K.faults sink.new)
             (W.seen world.old) (W.seen world.new) self.old) }
+        ensures parted { W.CanPart → IfErr result IsPlainEnd }
     {
         for _round in 0..rounds {
             match self.run_round(world, judge, sink, buf)? {
@@ -142,6 +144,7 @@ impl Run<'_> {
             (W.seen world.old) (W.seen world.new) self.old self.new)
             (ReportFails W.Tells (K.contents sink.old) (K.contents sink.new) (K.faults sink.old) (K.faults sink.new)
             (W.seen world.old) (W.seen world.new) self.old) }
+        ensures parted { W.CanPart → IfErr result IsPlainEnd }
     {
         self.note_last(world)?;
         self.core.write(sink)?;
@@ -156,6 +159,7 @@ impl Run<'_> {
             (W.seen world.old) (W.seen world.new) self.old.core.net (K.faults sink.old) (K.faults sink.new) result }
         ensures done { FinishesSo W.Tells (K.contents sink.old) (K.contents sink.new) (K.faults sink.old) (K.faults sink.new)
             (W.seen world.old) (W.seen world.new) self.old self.new result }
+        ensures parted { W.CanPart → IfErr result IsPlainServed }
     {
         if !self.core.queue.is_empty() {
             return Err(Served::EventsLeft(self.core.queue.len()));
@@ -181,6 +185,7 @@ impl Run<'_> {
             (W.seen world.old) (W.seen world.new) self.old.core.net (K.faults sink.old) (K.faults sink.new) result }
         ensures done { GoesSo W.Tells (J.accepts judge.now) rounds (K.contents sink.old) (K.contents sink.new) (K.faults sink.old) (K.faults sink.new)
             (W.seen world.old) (W.seen world.new) self.old self.new result }
+        ensures parted { W.CanPart → IfErr result IsPlainServed }
     {
         self.begin(world, sink)?;
         self.run_rounds(world, judge, sink, buf, rounds)?;
@@ -234,6 +239,7 @@ fn run_then_end<W: World, J: Judge, K: Sink>(
         (W.seen world.old) (W.seen world.new) run.old.core.net (K.faults sink.old) (K.faults sink.new) result }
     ensures done { GoesSo W.Tells (J.accepts judge.now) rounds (K.contents sink.old) (K.contents sink.new) (K.faults sink.old) (K.faults sink.new)
         (W.seen world.old) (W.seen world.new) run.old run.new result }
+    ensures parted { W.CanPart → IfErr result IsPlainServed }
 {
     let apps = run.apps.len() as u32;
     let ended = run.run_opened(world, judge, sink, buf, rounds);
@@ -254,6 +260,7 @@ fn run<W: World, J: Judge, K: Sink>(
     ensures passes { PassesEnded W.Tells (length rules.now) (W.seen world.old) (W.seen world.new) net_at_first (K.faults sink.old) (K.faults sink.new) result }
     ensures done { RunsSo (map app_value rules.now) W.Tells (J.accepts judge.now) rounds (K.contents sink.old) (K.contents sink.new)
         (K.faults sink.old) (K.faults sink.new) (W.seen world.old) (W.seen world.new) (engine_at_first (map app_value rules.now)) result }
+    ensures parted { W.CanPart → IfErr result IsPlainServed }
 {
     let mut run = Run::new(alloc, rules)?;
     let mut buf = vec![in alloc; 0; MOST_MESSAGE_BYTES]?;
@@ -320,6 +327,8 @@ pub fn serve<W: World, J: Judge, K: Sink>(
     // they make are given behind those that waited, and printed. So the run goes from part to part, up to its end or a fault.
     ensures kept_messages_come_first { GoesItsCourse (map app_value rules.now) W.Tells (J.accepts judge.now) (W.seen world.old) (W.seen world.new)
         (K.contents sink.old) (K.contents sink.new) result }
+    // Where the world's switches can be parted with, one at fault is lost, and no fault of a switch ends the run.
+    ensures no_switch_ends_it { W.CanPart → IsPlainServed result }
 {
     if let Err(served) = open(world, port) {
         return served;

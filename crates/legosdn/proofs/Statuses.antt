@@ -1,10 +1,11 @@
 -- Which stop a status is that of.
-use Rattle.std.proofs.Common.{◌≡◌, ◌⊎◌, ℕ, [], ◌∷◌, Contains, refl, subst, arith, inl, inr}
+use Rattle.std.proofs.Common.{◌≡◌, ◌⊎◌, ℕ, List, [], ◌∷◌, Option, Contains, refl, subst, arith, inl, inr}
 use Rattle.legosdn.specs.declared.stop.InputRefusal.{InputRefusal}
 use Rattle.legosdn.specs.declared.stop.Stop.{Stop}
 use Rattle.legosdn.specs.declared.stop.Stop.TheVariants.{Usage, Refused, ReadFault, WriteFault, Shut, NextFault, SwitchBroke, Diverged, EventsLeft, NoMemory}
 use Rattle.legosdn.specs.Stops.{stop_status}
-use Rattle.legosdn.specs.Headline.{IsEarly, IsLate}
+use Rattle.legosdn.specs.Headline.{IsEarly, IsLate, IsReadCause}
+use Rattle.legosdn.specs.Live.{IsOfNoSwitch}
 
 pub is_usage : (stop : Stop) → stop_status stop ≡ 2 → stop ≡ Usage
 is_usage Usage e = refl
@@ -201,3 +202,29 @@ fault_or_left (SwitchBroke d) within = (2, omega arith, refl)
 fault_or_left (Diverged d) within = (3, omega arith, refl)
 fault_or_left (EventsLeft left) within = (4, omega arith, refl)
 fault_or_left NoMemory within = (5, omega arith, refl)
+
+-- no stop of a switch has the status of one
+pub not_of_switch : (stop : Stop) → IsOfNoSwitch stop → Contains (8 ∷ 9 ∷ []) (stop_status stop) → ⊥
+not_of_switch Usage is e = absurd (grind arith)
+not_of_switch (Refused refusal) is e = absurd (grind arith)
+not_of_switch ReadFault is e = absurd (grind arith)
+not_of_switch WriteFault is e = absurd (grind arith)
+not_of_switch Shut is e = absurd (grind arith)
+not_of_switch NextFault is e = absurd (grind arith)
+not_of_switch (SwitchBroke d) is e = absurd is
+not_of_switch (Diverged d) is e = absurd is
+not_of_switch (EventsLeft left) is e = absurd (grind arith)
+not_of_switch NoMemory is e = absurd (grind arith)
+
+-- an input that is not read is no fault of a switch
+pub read_of_no_switch : (IsRefused : InputRefusal → List ℕ → Type 0) (told : Option (List ℕ)) (old new : ℕ) (stop : Stop) → IsReadCause IsRefused told old new stop → IsOfNoSwitch stop
+read_of_no_switch IsRefused told old new Usage why = tt
+read_of_no_switch IsRefused told old new (Refused refusal) why = tt
+read_of_no_switch IsRefused told old new ReadFault why = tt
+read_of_no_switch IsRefused told old new WriteFault why = tt
+read_of_no_switch IsRefused told old new Shut why = tt
+read_of_no_switch IsRefused told old new NextFault why = tt
+read_of_no_switch IsRefused told old new (SwitchBroke d) why = absurd why
+read_of_no_switch IsRefused told old new (Diverged d) why = absurd why
+read_of_no_switch IsRefused told old new (EventsLeft left) why = tt
+read_of_no_switch IsRefused told old new NoMemory why = tt

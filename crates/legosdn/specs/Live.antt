@@ -57,6 +57,12 @@ pub record ServesWhole {Own : Type 0} (rules : List AppValue) (rounds : ℕ) (se
   pub alike : EndsAlike rules all_allowed (is_spent rounds seen) seen contents now_contents events
   pub stimuli : TookFirst rounds seen
 
+-- it is no stop for what a switch did
+abbrev pub IsOfNoSwitch : Stop → Type 0
+IsOfNoSwitch (SwitchBroke d) = ⊥
+IsOfNoSwitch (Diverged d) = ⊥
+IsOfNoSwitch other = Unit {0}
+
 -- The same with this many events left, and with the lines of those that were dispatched.
 pub record ServesPart {Own : Type 0} (rules : List AppValue) (rounds : ℕ) (seen : Seen Own) (contents now_contents : Option (List ℕ)) (left : ℕ) : Type 0 where
   pub alike : LeavesAlike rules all_allowed (is_spent rounds seen) seen contents now_contents left

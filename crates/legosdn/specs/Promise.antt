@@ -169,6 +169,10 @@ pub record RunPromise {Own : Type 0} (Tells : Type 0) (rounds status : ℕ) (old
   pub statuses : RunStatuses status old new Stays
   pub kept_messages_come_first : Tells → CourseTo status was now old.contents new.contents old.sink_faults new.sink_faults
 
+-- Over a world whose switches can be parted with, whatever these do: no switch ends the run, since one that is at fault is parted with, and lost.
+abbrev pub NoSwitchEnds : ℕ → Type 0
+NoSwitchEnds status = Contains (8 ∷ 9 ∷ []) status → ⊥
+
 -- ---- At every status, whatever the command
 
 -- Of the simulated world: no more calls were stray ones than wanted memory, and none where none did. What was done was done with the session that

@@ -1,9 +1,9 @@
 //! The command `run`.
 
-ghost use Rattle.std.specs.Prelude.{◌≡◌, ◌≤◌};
+ghost use Rattle.std.specs.Prelude.{◌≡◌, ◌≤◌, IfErr};
 ghost use Rattle.lego_io.specs.Count.{NeverFell};
 ghost use Rattle.legosdn.specs.Headline.{streams};
-ghost use Rattle.legosdn.specs.Live.{Serves};
+ghost use Rattle.legosdn.specs.Live.{Serves, IsOfNoSwitch};
 ghost use Rattle.legosdn.specs.Promise.{LiveAtEveryStatus};
 
 use crate::policy::read_program;
@@ -27,6 +27,7 @@ pub fn run_live<S: Source, K: Sink, W: World>(
         (streams (S.remaining source.new) (K.contents sink.new) (S.faults source.new) (K.faults sink.new)) (W.seen live.old) (W.seen live.new) ((live.new ≡ live.old) × (sink.new ≡ sink.old)) }
     ensures always { LiveAtEveryStatus W.Tells (W.seen live.old) (W.seen live.new) }
     ensures never_fell { NeverFell (K.faults sink.old) (K.faults sink.new) }
+    ensures no_switch { W.CanPart → IfErr result IsOfNoSwitch }
 {
     let apps = read_program(alloc, source)?;
     run_world(alloc, &apps, sink, live, port, rounds)

@@ -15,9 +15,8 @@ ghost use Rattle.lego_model.specs.OwnIds.{IsShortRun, OwnIdsAscend};
 ghost use Rattle.lego_model.specs.Application.{names};
 ghost use Rattle.legosdn.specs.Stops.{stop_status, stop_line};
 ghost use Rattle.legosdn.specs.Headline.{IsReplay, IsRun, IsNoSession, streams, IsReadCause, IsRunCause, IsEarly, Loaded, LosesByFaults, RunsAs, KeepsLines, Wrote, Replays};
-ghost use Rattle.legosdn.specs.Live.{Serves};
-ghost use Rattle.legosdn.specs.LinkFaults.{LosesAsTold, TellsAsTold};
-ghost use Rattle.legosdn.specs.Promise.{ReplayPromise, RunPromise, AtEveryStatus, LiveAtEveryStatus};
+ghost use Rattle.legosdn.specs.Live.{Serves, IsOfNoSwitch};
+ghost use Rattle.legosdn.specs.Promise.{ReplayPromise, RunPromise, NoSwitchEnds, AtEveryStatus, LiveAtEveryStatus};
 
 use crate::input::{cut, read_input};
 use crate::live::run_live;
@@ -143,6 +142,7 @@ fn run<S: Source, K: Sink, E: Sink + Drop, W: World>(
     ensures no_command { command_in (map string_bytes words.now) ≡ None
         → IsErrAnd result (λ stop. Contains (2 ∷ 12 ∷ []) (stop_status stop) × (sim.new ≡ sim.old) × (live.new ≡ live.old) × (sink.new ≡ sink.old)) }
     ensures never_fell { NeverFell (K.faults sink.old) (K.faults sink.new) }
+    ensures no_switch { (port rounds : ℕ) → IsRun (map string_bytes words.now) port rounds → W.CanPart → IfErr result IsOfNoSwitch }
 {
     match read_words(alloc, words)? {
         Some(Command::Replay) => replay(alloc, source, sink, sim),
@@ -169,7 +169,7 @@ pub fn halt<K: Sink>(sink: &mut K, stop: Stop) -> u8
 /// of the program: 0 where the whole report was written, 2 where
 /// the words are no command, 3 where the input is refused, 4 where the source failed, 5 where the sink failed, 6 where
 /// the world stays shut or fails, 8 where a switch broke, 9 where it diverged, 10 where events were left, 12 where memory
-/// ran out. A switch whose link fails is lost, and the run goes on. At any status but 0 and 5 the last line that is written says why.
+/// ran out. A switch whose link fails is lost, and the run goes on; so it is with a switch at fault, where the world can part with it. At any status but 0 and 5 the last line that is written says why.
 pub fn legosdn<S: Source, K: Sink, E: Sink + Drop, W: World>(
     alloc: Global,
     words: &[String],
@@ -188,6 +188,8 @@ pub fn legosdn<S: Source, K: Sink, E: Sink + Drop, W: World>(
         → RunPromise W.Tells rounds result (streams (S.remaining source.old) (K.contents sink.old) (S.faults source.old) (K.faults sink.old))
         (streams (S.remaining source.new) (K.contents sink.new) (S.faults source.new) (K.faults sink.new)) (W.seen live.old) (W.seen live.new) (live.new ≡ live.old) }
     ensures run_leaves_sim { (port rounds : ℕ) → IsRun (map string_bytes words.now) port rounds → sim.new ≡ sim.old }
+    // Where the switches of the other world can be parted with, none ends a `run`: statuses 8 and 9 never come.
+    ensures no_switch_ends_the_run { (port rounds : ℕ) → IsRun (map string_bytes words.now) port rounds → W.CanPart → NoSwitchEnds result }
     // At every status, of each world.
     ensures at_every_status { AtEveryStatus (S.remaining source.old) (S.remaining source.new) (seen_of sim.new) }
     ensures simulated_world_tells_as_told { TellsAsTold (seen_of sim.new) }

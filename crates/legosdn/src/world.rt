@@ -9,7 +9,7 @@ ghost use Rattle.outside.specs.InOrder.{InOrder};
 ghost use Rattle.lego_model.specs.OwnIds.{IsShortRun, OwnIdsAscend};
 ghost use Rattle.legosdn.specs.Headline.{IsRunCause};
 ghost use Rattle.run_course.specs.Parts.{TakesCourse};
-ghost use Rattle.legosdn.specs.Live.{TellsInOrder, ServesAs, NoneStray, StandsAt};
+ghost use Rattle.legosdn.specs.Live.{TellsInOrder, ServesAs, NoneStray, StandsAt, IsOfNoSwitch};
 
 use crate::stop::Stop;
 use crash_policy::AppRule;
@@ -40,6 +40,7 @@ pub fn run_world<K: Sink, W: World>(
     ensures ended { W.Tells → (W.seen world.old).history ≡ [] → (state (W.seen world.new)).running ≡ [] }
     ensures ids { W.Tells → (W.seen world.old).history ≡ [] → InOrder (W.seen world.new) → IsShortRun (W.seen world.new) → OwnIdsAscend (W.seen world.new) }
     ensures never_fell { NeverFell (K.faults sink.old) (K.faults sink.new) }
+    ensures no_switch { W.CanPart → IfErr result IsOfNoSwitch }
 {
     match serve(alloc, apps, world, &AllowAll, sink, port, rounds) {
         Served::Ended { .. } => Ok(()),

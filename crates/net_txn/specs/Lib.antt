@@ -1,4 +1,5 @@
 pub mod Causes
+pub mod Parting
 pub mod LinkSteps
 pub mod Waits
 pub mod Host

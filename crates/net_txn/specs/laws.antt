@@ -20,6 +20,7 @@ pub mod ConsequenceLaws
 pub mod OwnIdLaws
 pub mod SaidLaws
 pub mod HaltLaws
+pub mod PartingLaws
 pub mod ExchangeLaws
 pub mod TalkLaws
 pub mod LostLaws

@@ -1,6 +1,7 @@
 //! The end of a transaction whose changes do not stay.
 
-ghost use Rattle.std.specs.Prelude.{◌≡◌, ◌≤◌, length, take, drop};
+ghost use Rattle.std.specs.Prelude.{◌≡◌, ◌≤◌, length, take, drop, IfErr};
+ghost use Rattle.net_txn.specs.Causes.{IsPlain};
 ghost use Rattle.net_txn.specs.Undos.{Undoes};
 
 use crate::logged::Logged;
@@ -29,7 +30,8 @@ impl Net {
         start: usize,
     ) -> Result<(), TxnFault>
         requires { 1 ≤ self.old.room }
-        ensures { Undoes W.Tells start (W.seen world.old) (W.seen world.new) self.old self.new result }
+        ensures undoes { Undoes W.Tells start (W.seen world.old) (W.seen world.new) self.old self.new result }
+        ensures parted { W.CanPart → IfErr result IsPlain }
     {
         self.held.clear();
         self.notices.clear();

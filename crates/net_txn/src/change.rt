@@ -3,8 +3,9 @@
 ghost use Rattle.std.specs.Prelude.{◌≡◌, IfErr, OnOk, OnErr, MatchResult};
 ghost use Rattle.of_wire.specs.declared.message.Message.TheVariants as messages;
 ghost use Rattle.of_wire.specs.Grammar.{IsMessage};
+ghost use Rattle.net_txn.specs.Parting.{IsPlainHalt};
 ghost use Rattle.net_txn.specs.Said.{Speaks};
-ghost use Rattle.net_txn.specs.Causes.{IsHaltCause};
+ghost use Rattle.net_txn.specs.Causes.{IsHaltCause, IsPlain};
 ghost use Rattle.net_txn.specs.Answering.{Asked, IfGivenUp};
 ghost use Rattle.net_txn.specs.Making.{StaysBut, Halts, forgets, log_halted, Makes};
 ghost use Rattle.net_txn.specs.Changes.{Changes};
@@ -59,6 +60,7 @@ impl Net {
         ensures cause { IfErr result (IsHaltCause W.Tells dpid (W.seen world.old) (W.seen world.new)) }
         ensures flooded { IfErr result (IfGivenUp W.Tells dpid flow (W.seen world.old) (W.seen world.new) self.old) }
         ensures stays { StaysBut self.old self.new }
+        ensures parted { W.CanPart → IfErr result IsPlainHalt }
     {
         let awaited = await_from(dpid, self.xid);
         self.xid = following(awaited.barrier);
@@ -109,6 +111,7 @@ impl Net {
         ensures cause { IfErr result (IsHaltCause W.Tells dpid (W.seen world.old) (W.seen world.new)) }
         ensures flooded { IfErr result (IfGivenUp W.Tells dpid flow (W.seen world.old) (W.seen world.new) self.old) }
         ensures stays { StaysBut self.old self.new }
+        ensures parted { W.CanPart → IfErr result IsPlainHalt }
     {
         let known = self.views.is_row(dpid, &key_of(&flow));
         let before = self.log.len();
@@ -127,7 +130,8 @@ impl Net {
         flow: FlowMod,
     ) -> Result<Answer, TxnFault>
         requires { IsMessage (messages.FlowMod flow) }
-        ensures { Makes W.Tells dpid flow (W.seen world.old) (W.seen world.new) self.old self.new result }
+        ensures makes { Makes W.Tells dpid flow (W.seen world.old) (W.seen world.new) self.old self.new result }
+        ensures parted { W.CanPart → IfErr result IsPlain }
     {
         match self.make_or_forget(world, dpid, flow) {
             Ok(answer) => Ok(answer),
@@ -147,7 +151,8 @@ impl Net {
         dpid: Dpid,
         bytes: &[u8],
     ) -> Result<Answer, TxnFault>
-        ensures { Changes W.Tells dpid bytes.now (W.seen world.old) (W.seen world.new) self.old self.new result }
+        ensures changes { Changes W.Tells dpid bytes.now (W.seen world.old) (W.seen world.new) self.old self.new result }
+        ensures parted { W.CanPart → IfErr result IsPlain }
     {
         let Some(view) = self.views.find(dpid) else {
             return Ok(Answer::Unknown);

@@ -1,8 +1,9 @@
 //! A message, a barrier behind it, and what the switch answers.
 
-ghost use Rattle.std.specs.Prelude.{◌≡◌, ◌≤◌, [], ◌∷◌, true, length, IsOk, IfOk};
+ghost use Rattle.std.specs.Prelude.{◌≡◌, ◌≤◌, [], ◌∷◌, true, length, IsOk, IfOk, IfErr};
 ghost use Rattle.of_wire.specs.Reading.{reading_of};
 ghost use Rattle.outside.specs.Calls.{most_message};
+ghost use Rattle.net_txn.specs.Parting.{IsPlainTrouble, IsPlainHalt};
 ghost use Rattle.net_txn.specs.Causes.{halt_by};
 ghost use Rattle.net_txn.specs.Undos.{is_of_link};
 ghost use Rattle.net_txn.specs.Said.{barrier_of, IsHaltBy, SaysTo, Exchanges, Talks};
@@ -77,7 +78,8 @@ fn exchange<W: World>(
 ) -> Result<Response, Trouble>
     requires room { most_message ≤ length buf.old }
     requires read { IsOk (reading_of frame.now) }
-    ensures { Exchanges W.Tells awaited.now (frame.now ∷ barrier_of awaited.now ∷ []) Growing [] (W.seen world.old) (W.seen world.new) kept.old kept.new buf.new result }
+    ensures exchanges { Exchanges W.Tells awaited.now (frame.now ∷ barrier_of awaited.now ∷ []) Growing [] (W.seen world.old) (W.seen world.new) kept.old kept.new buf.new result }
+    ensures parted { W.CanPart → IfErr result IsPlainTrouble }
 {
     send(world, awaited.dpid, frame)?;
     await_barrier(world, buf, kept, awaited, Storage::Growing, &[])
@@ -94,7 +96,8 @@ pub(crate) fn ask<W: World>(
 ) -> Result<Response, Halt>
     requires room { most_message ≤ length buf.old }
     requires read { IsOk (reading_of frame.now) }
-    ensures { Talks W.Tells awaited.now (frame.now ∷ []) (W.seen world.old) (W.seen world.new) kept.old kept.new result }
+    ensures talks { Talks W.Tells awaited.now (frame.now ∷ []) (W.seen world.old) (W.seen world.new) kept.old kept.new result }
+    ensures parted { W.CanPart → IfErr result IsPlainHalt }
 {
     match exchange(world, buf, kept, awaited, frame) {
         Ok(answer) => Ok(answer),
@@ -111,7 +114,8 @@ pub(crate) fn pass<W: World>(
     awaited: &Awaited,
 ) -> Result<Response, Halt>
     requires { most_message ≤ length buf.old }
-    ensures { Talks W.Tells awaited.now [] (W.seen world.old) (W.seen world.new) kept.old kept.new result }
+    ensures talks { Talks W.Tells awaited.now [] (W.seen world.old) (W.seen world.new) kept.old kept.new result }
+    ensures parted { W.CanPart → IfErr result IsPlainHalt }
 {
     match await_barrier(world, buf, kept, awaited, Storage::Growing, &[]) {
         Ok(answer) => Ok(answer),

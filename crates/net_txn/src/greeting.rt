@@ -1,11 +1,12 @@
 //! What a switch is sent when it joins.
 
-ghost use Rattle.std.specs.Prelude.{◌≡◌, ◌≤◌, [], ◌∷◌, length, IsOk, IfOk};
+ghost use Rattle.std.specs.Prelude.{◌≡◌, ◌≤◌, [], ◌∷◌, length, IsOk, IfOk, IfErr};
 ghost use Rattle.of_wire.specs.declared.message.Message.TheVariants as messages;
 ghost use Rattle.of_wire.specs.Reading.{reading_of};
 ghost use Rattle.of_wire.specs.Spelling.{message_bytes};
 ghost use Rattle.flow_table.specs.Switch.{first_config};
 ghost use Rattle.outside.specs.Calls.{most_message};
+ghost use Rattle.net_txn.specs.Parting.{IsPlainHalt};
 ghost use Rattle.net_txn.specs.Joining.{delete_all};
 ghost use Rattle.net_txn.specs.Said.{Talks};
 
@@ -76,7 +77,8 @@ pub(crate) fn greet<W: World>(
     requires room { most_message ≤ length buf.old }
     requires first { IsOk (reading_of first.now) }
     requires second { IsOk (reading_of second.now) }
-    ensures { Talks W.Tells awaited.now (first.now ∷ second.now ∷ []) (W.seen world.old) (W.seen world.new) kept.old kept.new result }
+    ensures talks { Talks W.Tells awaited.now (first.now ∷ second.now ∷ []) (W.seen world.old) (W.seen world.new) kept.old kept.new result }
+    ensures parted { W.CanPart → IfErr result IsPlainHalt }
 {
     say(world, alloc, awaited.dpid, first)?;
     ask(world, alloc, buf, kept, awaited, second)

@@ -5,11 +5,12 @@ ghost use Rattle.lego_model.specs.History.{lost_of};
 ghost use Rattle.outside.specs.Seen.{Continues};
 ghost use Rattle.outside.specs.InOrder.{MessagesSince};
 ghost use Rattle.flow_table.specs.View.{plains};
+ghost use Rattle.net_txn.specs.Parting.{IsPlainHalt};
 ghost use Rattle.net_txn.specs.LinkSteps.{OnLinks, AsksWithoutStrays};
 ghost use Rattle.lego_model.specs.BarrierWaits.{next_xid};
 ghost use Rattle.net_txn.specs.OwnIds.{KeepsIds};
 ghost use Rattle.net_txn.specs.Said.{Speaks};
-ghost use Rattle.net_txn.specs.Causes.{IsCause};
+ghost use Rattle.net_txn.specs.Causes.{IsCause, IsPlain};
 ghost use Rattle.net_txn.specs.Waits.{IfFlooded};
 ghost use Rattle.net_txn.specs.Views.{rows_at};
 ghost use Rattle.net_txn.specs.Joining.{greeted_from, greeting, with_view, IsViewPlace, Joins, JoinsOrNot, DoesNotJoin};
@@ -121,6 +122,7 @@ impl Net {
         ensures speaks { Speaks W.Tells dpid self.old.xid 3 (W.seen world.old) (W.seen world.new) }
         ensures stays { self.new ≡ record self.old { views = self.new.views; ports = self.new.ports; xid = next_xid (next_xid (next_xid self.old.xid)); kept = self.new.kept } }
         ensures xid { self.old.xid < 2 ^ 32 }
+        ensures parted { W.CanPart → IfErr result IsPlainHalt }
     {
         let first = self.xid;
         let awaited = greeted(dpid, first);
@@ -176,6 +178,9 @@ impl Net {
         // Where the world keeps its word and nothing of the switch waited, the switch is empty, as its view is; a fault is
         // one of memory.
         ensures in_step { JoinSteps W.Tells dpid (W.seen world.old) (W.seen world.new) self.old self.new result }
+
+        // Where its switches can be parted with, one at fault is lost, and a fault is one of memory.
+        ensures parted { W.CanPart → IfErr result IsPlain }
     {
         match self.join(world, dpid, features) {
             Ok(()) => Ok(true),

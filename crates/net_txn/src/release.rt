@@ -1,11 +1,13 @@
 //! The release of the packets that a transaction holds.
 
-ghost use Rattle.std.specs.Prelude.{◌≡◌, ◌+◌, ◌<◌, ◌≤◌, [], ◌++◌, All, length, vec_capacity, Ok, Err, IsOk, IfOk, OnOk, OnErr, MatchResult};
+ghost use Rattle.std.specs.Prelude.{◌≡◌, ◌+◌, ◌<◌, ◌≤◌, [], ◌++◌, All, length, vec_capacity, Ok, Err, IsOk, IfOk, IfErr, OnOk, OnErr, MatchResult};
 ghost use Rattle.of_wire.specs.declared.message.Message.TheVariants as messages;
 ghost use Rattle.of_wire.specs.Reading.{reading_of};
 ghost use Rattle.of_wire.specs.Spelling.{message_bytes};
 ghost use Rattle.of_wire.specs.Grammar.{IsMessage};
 ghost use Rattle.outside.specs.Calls.{most_message};
+ghost use Rattle.net_txn.specs.Parting.{IsPlainHalt};
+ghost use Rattle.net_txn.specs.Causes.{IsPlain};
 ghost use Rattle.net_txn.specs.Releases.{takes_read, takes_all, Commits};
 ghost use Rattle.lego_model.specs.FlowQueries.{asked_from};
 ghost use Rattle.net_txn.specs.ReleaseSteps.{StaysSo, PacketSent, PacketUnsent, BarrierPassed, BarrierStops, TakesUntilReply, ReleasesPacket, ReleasesNoted, ReleasedFront, StopsBehind};
@@ -68,8 +70,9 @@ fn await_behind<W: World>(
     awaited: &Awaited,
 ) -> Result<VecDeque<(Dpid, ByteList)>, Halt>
     requires { most_message ≤ length buf.old }
-    ensures { MatchResult result (λ came. BarrierPassed W.Tells awaited.now (W.seen world.old) (W.seen world.new) came.items)
+    ensures awaits { MatchResult result (λ came. BarrierPassed W.Tells awaited.now (W.seen world.old) (W.seen world.new) came.items)
         (BarrierStops W.Tells awaited.now (W.seen world.old) (W.seen world.new)) }
+    ensures parted { W.CanPart → IfErr result IsPlainHalt }
 {
     came.clear();
     pass(world, alloc, buf, came, awaited)?;
@@ -127,6 +130,7 @@ fn release_one<W: World>(
     ensures released { ReleasesNoted W.Tells (dpid, packet) (W.seen world.old) (W.seen world.new) net.old net.new queue.old queue.new sent.old.items sent.new.items result }
     ensures capacity { vec_capacity sent.old ≤ vec_capacity sent.new }
     ensures len { length sent.new.items ≤ length sent.old.items + 1 }
+    ensures parted { W.CanPart → IfErr result IsPlain }
 {
     let size = packet.payload.len() as u32;
     if net.release_packet(world, queue, dpid, packet)? {
@@ -146,9 +150,10 @@ fn release_all<W: World>(
     requires messages { All (λ h. IsMessage (messages.PacketOut h.1)) held.items }
     requires none { room.items ≡ [] }
     requires room { length held.items ≤ vec_capacity room }
-    ensures { MatchResult result
+    ensures released { MatchResult result
         (λ sent. ReleasedFront W.Tells held.items (W.seen world.old) (W.seen world.new) net.old net.new queue.old queue.new sent.items)
         (StopsBehind W.Tells held.items (W.seen world.old) (W.seen world.new) net.old net.new queue.old) }
+    ensures parted { W.CanPart → IfErr result IsPlain }
 {
     let mut sent = room;
     for (dpid, packet) in held {
@@ -185,7 +190,8 @@ impl Net {
         queue: &mut EventQueue,
         awaited: &Awaited,
     ) -> Result<(), TxnFault>
-        ensures { TakesUntilReply W.Tells awaited.now (W.seen world.old) (W.seen world.new) self.old self.new queue.old queue.new result }
+        ensures takes { TakesUntilReply W.Tells awaited.now (W.seen world.old) (W.seen world.new) self.old self.new queue.old queue.new result }
+        ensures parted { W.CanPart → IfErr result IsPlain }
     {
         match await_behind(world, self.alloc, &mut self.buf, &mut self.came, awaited) {
             Ok(came) => Ok(take_all(self, queue, came)?),
@@ -207,7 +213,8 @@ impl Net {
         packet: PacketOut,
     ) -> Result<bool, TxnFault>
         requires { IsMessage (messages.PacketOut packet) }
-        ensures { ReleasesPacket W.Tells (dpid, packet) (W.seen world.old) (W.seen world.new) self.old self.new queue.old queue.new result }
+        ensures releases { ReleasesPacket W.Tells (dpid, packet) (W.seen world.old) (W.seen world.new) self.old self.new queue.old queue.new result }
+        ensures parted { W.CanPart → IfErr result IsPlain }
     {
         if !self.views.is_viewed(dpid) {
             return Ok(false);
@@ -237,9 +244,10 @@ impl Net {
         start: usize,
     ) -> Result<Vec<(Dpid, u32)>, TxnFault>
         requires { 1 ≤ self.old.room }
-        ensures { MatchResult result
+        ensures commits { MatchResult result
             (λ sent. Commits W.Tells start (W.seen world.old) (W.seen world.new) self.old self.new queue.old queue.new (Ok sent.items))
             (λ fault. Commits W.Tells start (W.seen world.old) (W.seen world.new) self.old self.new queue.old queue.new (Err fault)) }
+        ensures parted { W.CanPart → IfErr result IsPlain }
     {
         let Ok(room) = take_room(self.alloc, queue, &mut self.notices, self.held.len()) else {
             let _undone = self.undo_from(world, start);

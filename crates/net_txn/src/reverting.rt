@@ -1,10 +1,11 @@
 //! The inverses of a log, sent from its end on.
 
-ghost use Rattle.std.specs.Prelude.{◌≡◌, ◌+◌, ◌^◌, ◌<◌, ◌≤◌, ℕ, true, false, List, [], ◌∷◌, length, drop, map, Option, is_err, slice_index_or, slice_set};
+ghost use Rattle.std.specs.Prelude.{◌≡◌, ◌+◌, ◌^◌, ◌<◌, ◌≤◌, ℕ, true, false, List, [], ◌∷◌, length, drop, map, Option, IfErr, is_err, slice_index_or, slice_set};
 ghost use Rattle.outside.specs.Seen.{Seen};
 ghost use Rattle.flow_table.specs.View.{TableView as PlainView, plains};
 ghost use Rattle.lego_model.specs.declared.fault.TxnFault.{TxnFault};
 ghost use Rattle.outside.specs.Calls.{most_message};
+ghost use Rattle.net_txn.specs.Parting.{IsPlainTrouble};
 ghost use Rattle.net_txn.specs.declared.logged.Logged.{Logged};
 ghost use Rattle.lego_model.specs.UndoFaults.{inverse_bytes};
 ghost use Rattle.lego_model.specs.BarrierWaits.{next_xid};
@@ -67,6 +68,7 @@ fn send_first<W: World>(
     ensures marked { (e : Logged) → log.new ≡ slice_set log.old 0 (with_progress (record { xid = xid; since = since; failed = is_err result; lost = loses_by result }) (slice_index_or log.old 0 e)) }
     ensures same { map key_logged log.new ≡ map key_logged log.old }
     ensures priority { (e : Logged) → (slice_index_or log.old 0 e).key.priority < 2 ^ 16 }
+    ensures plain { IfErr result IsPlainTrouble }
 {
     let dpid = log[0].dpid;
     let _priority = log[0].key.priority;
@@ -100,6 +102,7 @@ fn await_at<W: World>(
         log.new ≡ slice_set log.old at (with_progress (record { xid = entry.progress.xid; since = 0; failed = is_err result; lost = loses_by result }) entry) }
     ensures same { map key_logged log.new ≡ map key_logged log.old }
     ensures len { length buf.new ≡ length buf.old }
+    ensures parted { W.CanPart → IfErr result IsPlainTrouble }
 {
     let dpid = log[at].dpid;
     let sent = log[at].progress.xid;
@@ -157,6 +160,7 @@ fn revert_to<W: World>(
     ensures same { map key_logged log.new ≡ map key_logged log.old }
     ensures least { 1 ≤ xid.new }
     ensures len { length buf.new ≡ length buf.old }
+    ensures parted { W.CanPart → IfErr result IsPlainTrouble }
 {
     let id = take_xid(xid);
     send_first(world, alloc, log, since, id)?;
@@ -196,6 +200,7 @@ pub(crate) fn revert<W: World>(
     ensures same { map key_logged log.new ≡ map key_logged log.old }
     ensures least { 1 ≤ xid.new }
     ensures len { length buf.new ≡ length buf.old }
+    ensures parted { W.CanPart → IfErr result IsPlainTrouble }
 {
     let dpid = log[0].dpid;
     let progress = progress_of(behind(log, 1), dpid);
@@ -232,6 +237,7 @@ pub(crate) fn await_switch<W: World>(
     ensures same { map key_logged log.new ≡ map key_logged log.old }
     ensures least { 1 ≤ xid.new }
     ensures len { length buf.new ≡ length buf.old }
+    ensures parted { W.CanPart → IfErr result IsPlainTrouble }
 {
     let Some(at) = position_of(log, dpid) else {
         return Ok(());

@@ -1,9 +1,11 @@
 //! The rows of a switch.
 
-ghost use Rattle.std.specs.Prelude.{◌≡◌, ◌≤◌, length, IfOk, IsOk, IsSome};
+ghost use Rattle.std.specs.Prelude.{◌≡◌, ◌≤◌, length, IfOk, IfErr, IsOk, IsSome};
 ghost use Rattle.of_wire.specs.Reading.{reading_of};
 ghost use Rattle.outside.specs.Calls.{most_message};
+ghost use Rattle.net_txn.specs.Parting.{IsPlainHalt};
 ghost use Rattle.net_txn.specs.Views.{rows_at};
+ghost use Rattle.net_txn.specs.Causes.{IsPlain};
 ghost use Rattle.net_txn.specs.Asks.{Asks};
 ghost use Rattle.lego_model.specs.FlowQueries.{all_flows, flows_request, asked_from};
 ghost use Rattle.net_txn.specs.AskSteps.{AsksFrom, AskSteps};
@@ -76,7 +78,8 @@ fn request_rows<W: World>(
     xid: Xid,
 ) -> Result<RowList, Halt>
     requires { most_message ≤ length buf.old }
-    ensures { AsksFrom W.Tells dpid xid (W.seen world.old) (W.seen world.new) kept.old kept.new result }
+    ensures asks { AsksFrom W.Tells dpid xid (W.seen world.old) (W.seen world.new) kept.old kept.new result }
+    ensures parted { W.CanPart → IfErr result IsPlainHalt }
 {
     let awaited = asked(dpid, xid);
     let request = flows_request(alloc, xid)?;
@@ -102,6 +105,9 @@ impl Net {
         // Where the world keeps its word and nothing of the switch waited, the rows are the switch's own, and all else stays; a
         // fault is one of memory, or its own rows have no spelling.
         ensures in_step { AskSteps W.Tells dpid (W.seen world.old) (W.seen world.new) self.old.kept self.new.kept result }
+
+        // Where its switches can be parted with, a fault is one of memory.
+        ensures parted { W.CanPart → IfErr result IsPlain }
     {
         let xid = self.xid;
         self.xid = following(following(xid));

@@ -1,10 +1,11 @@
 //! A transaction over the network: changes that are kept together or not at all.
 
-ghost use Rattle.std.specs.Prelude.{◌≡◌, ◌≤◌, [], ◌∷◌, ◌++◌, true, length, Ok, Err, OnOk, OnErr, MatchResult};
+ghost use Rattle.std.specs.Prelude.{◌≡◌, ◌≤◌, [], ◌∷◌, ◌++◌, true, length, Ok, Err, IfErr, OnOk, OnErr, MatchResult};
 ghost use Rattle.of_wire.specs.declared.message.Message.TheVariants as messages;
 ghost use Rattle.of_wire.specs.Grammar.{IsMessage};
 ghost use Rattle.flow_table.specs.View.{plains};
 ghost use Rattle.net_txn.specs.Views.{is_viewed};
+ghost use Rattle.net_txn.specs.Causes.{IsPlain};
 ghost use Rattle.net_txn.specs.Releases.{Commits};
 ghost use Rattle.net_txn.specs.Changes.{Changes};
 ghost use Rattle.net_txn.specs.Undos.{Undoes};
@@ -61,6 +62,9 @@ impl<'a> Txn<'a> {
         ensures same_reference { self.new.net.ghost_name ≡ self.old.net.ghost_name }
         ensures start { self.new.start ≡ self.old.start }
         ensures changes { Changes W.Tells dpid bytes.now (W.seen world.old) (W.seen world.new) self.old.net.now self.new.net.now result }
+
+        // Where the world's switches can be parted with, one at fault is lost, and a fault is one of memory.
+        ensures parted { W.CanPart → IfErr result IsPlain }
     {
         self.net.change(world, dpid, bytes)
     }
@@ -86,9 +90,12 @@ impl<'a> Txn<'a> {
         queue: &mut EventQueue,
     ) -> Result<Vec<(Dpid, u32)>, TxnFault>
         requires { 1 ≤ self.net.now.room }
-        ensures { MatchResult result
+        ensures commits { MatchResult result
             (λ sent. Commits W.Tells self.entry.start (W.seen world.old) (W.seen world.new) self.entry.net.now self.exit.0.now queue.old queue.new (Ok sent.items))
             (λ fault. Commits W.Tells self.entry.start (W.seen world.old) (W.seen world.new) self.entry.net.now self.exit.0.now queue.old queue.new (Err fault)) }
+
+        // Where the world's switches can be parted with, one at fault is lost, and a fault is one of memory.
+        ensures parted { W.CanPart → IfErr result IsPlain }
     {
         let Txn { net, start } = self;
         net.release_from(world, queue, start)
@@ -99,7 +106,10 @@ impl<'a> Txn<'a> {
     /// takes no memory of its own.
     pub fn abort<W: World>(self, world: &mut W) -> Result<(), TxnFault>
         requires { 1 ≤ self.net.now.room }
-        ensures { Undoes W.Tells self.entry.start (W.seen world.old) (W.seen world.new) self.entry.net.now self.exit.0.now result }
+        ensures undoes { Undoes W.Tells self.entry.start (W.seen world.old) (W.seen world.new) self.entry.net.now self.exit.0.now result }
+
+        // Where the world's switches can be parted with, one at fault is lost, and a fault is one of memory.
+        ensures parted { W.CanPart → IfErr result IsPlain }
     {
         let Txn { net, start } = self;
         net.undo_from(world, start)

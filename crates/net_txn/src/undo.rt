@@ -1,8 +1,10 @@
 //! The undo of what was logged from a position on, once it was put in order.
 
-ghost use Rattle.std.specs.Prelude.{◌≡◌, ◌+◌, ◌<◌, ◌≤◌, ℕ, true, not, List, [], ◌∷◌, length, take, drop, map, filter, Option, None, IsOk};
+ghost use Rattle.std.specs.Prelude.{◌≡◌, ◌+◌, ◌<◌, ◌≤◌, ℕ, true, not, List, [], ◌∷◌, length, take, drop, map, filter, Option, None, IsOk, IfErr};
 ghost use Rattle.lego_model.specs.declared.fault.TxnFault.{TxnFault};
 ghost use Rattle.outside.specs.Seen.{Seen};
+ghost use Rattle.net_txn.specs.Causes.{IsPlain};
+ghost use Rattle.net_txn.specs.Parting.{IsPlainFault};
 ghost use Rattle.net_txn.specs.Ports.{PortLists};
 ghost use Rattle.net_txn.specs.Undos.{was_lost, ended_by, without_keys, Further, UndoesLog, switches_of, HasPassedBarrier, IsRoomLeft, key_logged};
 ghost use Rattle.net_txn.specs.NetUndos.{ports_in, NetFurther, StaysInUndo};
@@ -28,6 +30,7 @@ fn revert_noted<W: World>(world: &mut W, net: &mut Net, at: usize, fault: &mut O
         → NetFurther W.Tells base (W.seen world.new) first p x net.new [] (drop at net.new.log) fault.new }
     ensures stays { StaysInUndo at net.old net.new }
     ensures room { IsRoomLeft fault.old fault.new net.old.room net.new.room }
+    ensures parted { W.CanPart → IsPlainFault fault.old → IsPlainFault fault.new }
 {
     let log = &mut net.log[at..];
     let dpid = log[0].dpid;
@@ -61,6 +64,7 @@ fn revert_all<W: World>(world: &mut W, net: &mut Net, from: usize, fault: &mut O
     ensures undoing { NetFurther W.Tells (W.seen world.old) (W.seen world.new) net.old.kept (ports_in net.old) net.old.xid net.new [] (drop from net.new.log) fault.new }
     ensures stays { StaysInUndo from net.old net.new }
     ensures room { IsRoomLeft fault.old fault.new net.old.room net.new.room }
+    ensures parted { W.CanPart → IsPlainFault fault.old → IsPlainFault fault.new }
 {
     for at in (from..net.logged()).rev() {
         revert_noted(world, net, at, fault);
@@ -84,6 +88,7 @@ fn await_noted<W: World>(
     ensures others { (c : ℕ) → HasPassedBarrier c (drop from net.old.log) → HasPassedBarrier c (drop from net.new.log) }
     ensures stays { StaysInUndo from net.old net.new }
     ensures room { IsRoomLeft fault.old fault.new net.old.room net.new.room }
+    ensures parted { W.CanPart → IsPlainFault fault.old → IsPlainFault fault.new }
 {
     let answered = await_switch(
         world,
@@ -117,6 +122,7 @@ fn await_all<W: World>(world: &mut W, net: &mut Net, from: usize, fault: &mut Op
     ensures barred { (c : ℕ) → is_viewed c net.old.views ≡ true → HasPassedBarrier c (drop from net.new.log) }
     ensures stays { StaysInUndo from net.old net.new }
     ensures room { IsRoomLeft fault.old fault.new net.old.room net.new.room }
+    ensures parted { W.CanPart → IsPlainFault fault.old → IsPlainFault fault.new }
 {
     for at in 0..net.views().len() {
         let dpid = net.views()[at].dpid;
@@ -143,6 +149,7 @@ fn undo<W: World>(world: &mut W, net: &mut Net, from: usize) -> Result<(), TxnFa
     ensures barred { (c : ℕ) → is_viewed c net.old.views ≡ true → HasPassedBarrier c (drop from net.new.log) }
     ensures stays { StaysInUndo from net.old net.new }
     ensures room { (net.old.room ≤ net.new.room + 1) × (IsOk result → net.new.room ≡ net.old.room) }
+    ensures parted { W.CanPart → IfErr result IsPlain }
 {
     let mut fault = None;
     revert_all(world, net, from, &mut fault);
@@ -176,6 +183,7 @@ pub(crate) fn undo_log<W: World>(world: &mut W, net: &mut Net, from: usize) -> R
     ensures held { net.new.held ≡ net.old.held }
     ensures moment { net.new.moment ≡ net.old.moment }
     ensures room { (net.old.room ≤ net.new.room + 1) × (IsOk result → net.new.room ≡ net.old.room) }
+    ensures parted { W.CanPart → IfErr result IsPlain }
 {
     let undone = undo(world, net, from);
     let reverted = behind(&net.log, from);

@@ -1,7 +1,8 @@
 //! The wait for the reply to a barrier in an undo, without memory.
 
-ghost use Rattle.std.specs.Prelude.{◌≡◌, ◌≤◌, length};
+ghost use Rattle.std.specs.Prelude.{◌≡◌, ◌≤◌, length, IfErr};
 ghost use Rattle.outside.specs.Calls.{most_message};
+ghost use Rattle.net_txn.specs.Parting.{IsPlainTrouble};
 ghost use Rattle.net_txn.specs.Undos.{inverses_in, PassesBarrier};
 
 use crate::logged::Logged;
@@ -24,6 +25,7 @@ pub(crate) fn pass_barrier<W: World>(
     requires { most_message ≤ length buf.old }
     ensures passes { PassesBarrier W.Tells dpid xid (inverses_in dpid reverted.now) (W.seen world.old) (W.seen world.new) kept.old kept.new buf.new result }
     ensures len { length buf.new ≡ length buf.old }
+    ensures parted { W.CanPart → IfErr result IsPlainTrouble }
 {
     let awaited = Awaited {
         dpid,

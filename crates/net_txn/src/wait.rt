@@ -1,11 +1,12 @@
 //! Messages to a switch, and the wait for the reply to a barrier, without memory but for messages that are kept.
 
-ghost use Rattle.std.specs.Prelude.{◌≡◌, ◌^◌, ◌<◌, ◌≤◌, [], ◌∷◌, true, false, length, take, IsOk, IfOk, MatchResult};
+ghost use Rattle.std.specs.Prelude.{◌≡◌, ◌^◌, ◌<◌, ◌≤◌, ◌↔◌, [], ◌∷◌, true, false, length, take, IsTrue, IsOk, IfOk, IfErr, MatchResult};
 ghost use Rattle.of_types.specs.Fields.{number_at, IsBytes};
 ghost use Rattle.of_wire.specs.Reading.{reading_of};
 ghost use Rattle.outside.specs.Calls.{most_message};
 ghost use Rattle.lego_model.specs.BarrierWaits.{echo_reply};
 ghost use Rattle.lego_model.specs.declared.wait.Notices.TheVariants.{Held};
+ghost use Rattle.net_txn.specs.Parting.{IsPlainTrouble, IsPlainHalt};
 ghost use Rattle.net_txn.specs.Causes.{link_trouble};
 ghost use Rattle.net_txn.specs.Undos.{inverses_in};
 ghost use Rattle.net_txn.specs.declared.halt.Halt.TheVariants.{Lost, Fault};
@@ -56,6 +57,7 @@ fn receive<W: World>(world: &mut W, dpid: Dpid, buf: &mut [u8]) -> Result<usize,
     ensures read { IfOk result (λ n. IsOk (reading_of (take n buf.new))) }
     ensures hears { HearsOne W.Tells dpid (W.seen world.old) (W.seen world.new) buf.new result }
     ensures len { length buf.new ≡ length buf.old }
+    ensures parted { W.CanPart → IfErr result IsPlainTrouble }
 {
     let len = match world.recv(dpid, buf) {
         Ok(len) => len,
@@ -157,6 +159,7 @@ fn hear<W: World>(
     ensures hears { MatchResult result (HearsNext W.Tells awaited.now storage (inverses_in awaited.now.dpid reverted.now) (W.seen world.old) (W.seen world.new) kept.old kept.new answer.old answer.new)
         (HearsNoMore W.Tells awaited.now storage (inverses_in awaited.now.dpid reverted.now) (W.seen world.old) (W.seen world.new) kept.old kept.new buf.new) }
     ensures len { length buf.new ≡ length buf.old }
+    ensures parted { W.CanPart → IfErr result IsPlainTrouble }
 {
     let len = receive(world, awaited.dpid, buf)?;
     if let Some(key) = key_refused(&buf[..len], reverted, awaited.dpid) {
@@ -170,7 +173,8 @@ fn hear<W: World>(
 
 /// Parts with a switch where the world can, and tells whether it did.
 fn part_with<W: World>(world: &mut W, dpid: Dpid) -> bool
-    ensures { PartsOrNot W.Tells dpid (W.seen world.old) (W.seen world.new) result }
+    ensures parts { PartsOrNot W.Tells dpid (W.seen world.old) (W.seen world.new) result }
+    ensures can { IsTrue result ↔ W.CanPart }
 {
     if world.can_part() {
         world.part(dpid);
@@ -181,7 +185,8 @@ fn part_with<W: World>(world: &mut W, dpid: Dpid) -> bool
 
 /// Parts with a switch that sent too many messages, where the world can; answers why the wait ends.
 fn give_up<W: World>(world: &mut W, dpid: Dpid) -> Trouble
-    ensures { GivesUp W.Tells dpid (W.seen world.old) (W.seen world.new) result }
+    ensures gives_up { GivesUp W.Tells dpid (W.seen world.old) (W.seen world.new) result }
+    ensures parted { W.CanPart → IsPlainTrouble result }
 {
     if part_with(world, dpid) {
         return Trouble::Parted;
@@ -209,7 +214,8 @@ fn ended(fault: TxnFault, is_parted: bool) -> Halt
 
 /// Parts with a switch that is at fault, where the world can; tells how the calls end. Want of memory is no fault of it.
 pub(crate) fn part_or_fail<W: World>(world: &mut W, dpid: Dpid, fault: TxnFault) -> Halt
-    ensures { PartsOrFails W.Tells dpid fault (W.seen world.old) (W.seen world.new) result }
+    ensures parts_or_fails { PartsOrFails W.Tells dpid fault (W.seen world.old) (W.seen world.new) result }
+    ensures parted { W.CanPart → IsPlainHalt result }
 {
     if !is_of_switch(&fault) {
         return Halt::Fault(fault);
@@ -232,6 +238,7 @@ fn wait<W: World>(
     requires growing { awaited.now.notices ≡ Held → storage ≡ Growing }
     ensures exchanges { Exchanges W.Tells awaited.now [] storage (inverses_in awaited.now.dpid reverted.now) (W.seen world.old) (W.seen world.new) kept.old kept.new buf.new result }
     ensures len { length buf.new ≡ length buf.old }
+    ensures parted { W.CanPart → IfErr result IsPlainTrouble }
 {
     let mut answer = Response::new(kept.allocator());
     for _heard in 0..FLOOD {
@@ -257,6 +264,7 @@ pub(crate) fn await_barrier<W: World>(
     requires growing { awaited.now.notices ≡ Held → storage ≡ Growing }
     ensures exchanges { Exchanges W.Tells awaited.now (barrier_of awaited.now ∷ []) storage (inverses_in awaited.now.dpid reverted.now) (W.seen world.old) (W.seen world.new) kept.old kept.new buf.new result }
     ensures len { length buf.new ≡ length buf.old }
+    ensures parted { W.CanPart → IfErr result IsPlainTrouble }
 {
     send(world, awaited.dpid, &barrier_request(awaited.barrier))?;
     wait(world, buf, kept, awaited, storage, reverted)

@@ -40,7 +40,7 @@ next_why item buf old mid new fault nexts at = at.why old (Nexts-continues nexts
 
 -- ---- What was kept
 
-first_read : (kept : List (ℕ × List ℕ)) (m : ℕ × List ℕ) → AreRead kept → slice_get kept 0 ≡ Some m → IsOk (reading_of m.1)
+pub first_read : (kept : List (ℕ × List ℕ)) (m : ℕ × List ℕ) → AreRead kept → slice_get kept 0 ≡ Some m → IsOk (reading_of m.1)
 first_read [] m read is = absurd cc
 first_read (x ∷ xs) m read is = subst (λ (y : ℕ × List ℕ). IsOk (reading_of y.1)) (same_Some x m is) read.0.0
 

@@ -68,7 +68,7 @@ use Rattle.event_dispatch.specs.Plain.{IsPlainServed, IsPlainEnd, PlainRead, Pla
 
 -- ---- Want of memory, and faults of the network
 
-plain_fault : (fault : TxnFault) → IsPlain fault → IsPlainServed (ended_by fault)
+pub plain_fault : (fault : TxnFault) → IsPlain fault → IsPlainServed (ended_by fault)
 plain_fault NoMemory plain = tt
 plain_fault (SwitchBroke e bytes) plain = absurd plain
 plain_fault (Diverged e sent got) plain = absurd plain

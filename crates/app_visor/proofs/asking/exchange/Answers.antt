@@ -9,6 +9,7 @@ use Rattle.app_visor.specs.laws.PlayLaws.{stops_at_change, leads_asked, exchange
 use Rattle.app_visor.specs.laws.AnswerLaws.{answer_fits}
 use Rattle.app_visor.specs.laws.LeadsOnLaws.{leads_on_wanting, leads_on_links, leads_on_then}
 use Rattle.app_visor.specs.laws.CalmLaws.{calm_then, calm_links, calm_wanting, calm_answered}
+use Rattle.net_txn.specs.Causes.{IsPlain}
 use Rattle.app_visor.proofs.asking.exchange.Goals as goal
 
 pub returns-in_err-answer-clause-err : goal.returns-in_err-answer-clause-err
@@ -82,3 +83,18 @@ pub returns-clause-calm : goal.returns-clause-calm
 returns-clause-calm g c = λ tells.
     calm_then (calm_links c.args.app (c.in_ok-answer.ensures.changes.links tells))
     (calm_answered c.args.app c.in_ok-give.field-0 c.as_slice.result.now c.in_ok-answer.answer (c.as_slice.ensures ∙ c.in_ok-frame.ensures) c.in_ok-give.ensures.ok tells)
+
+pub returns-in_err-answer-clause-parted : goal.returns-in_err-answer-clause-parted
+returns-in_err-answer-clause-parted g c =
+    let p = err_from_is_err_and c.from_residual.result c.from_residual.ensures.1 in
+    λ can. err_is IsPlain c.from_residual.result p.0 c.in_err-answer.field-0.0 p.1 p.2 (c.in_err-answer.ensures.parted can)
+
+pub returns-in_err-frame-clause-parted : goal.returns-in_err-frame-clause-parted
+returns-in_err-frame-clause-parted g c =
+    let p = err_from_is_err_and c.from_residual-in_err-frame.result c.from_residual-in_err-frame.ensures.1 in
+    λ can. err_is IsPlain c.from_residual-in_err-frame.result p.0 NoMemory p.1 p.2 tt
+
+pub returns-in_err-give-clause-parted : goal.returns-in_err-give-clause-parted
+returns-in_err-give-clause-parted g c =
+    let p = err_from_is_err_and c.from_residual-in_err-give.result c.from_residual-in_err-give.ensures.1 in
+    λ can. err_is IsPlain c.from_residual-in_err-give.result p.0 NoMemory p.1 p.2 tt

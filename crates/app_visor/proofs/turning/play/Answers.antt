@@ -18,6 +18,7 @@ returns-in-Save g c = record {
   err = tt;
   talks = tt;
   calm = λ tells. calm_none c.args.app (g.W.World.seen c.args.world.now);
+  parted = λ can. tt;
 }
 
 pub returns-in-Done-clause-calm : goal.returns-in-Done-clause-calm

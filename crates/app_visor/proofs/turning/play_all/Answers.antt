@@ -6,6 +6,7 @@ use Rattle.app_visor.specs.laws.BeatLaws.{Leads-refl, Leads-trans, stops_then, s
 use Rattle.app_visor.specs.laws.PlayLaws.{goes_none, goes_more, ends_then, spent_then}
 use Rattle.app_visor.specs.laws.LeadsOnLaws.{leads_on_breaking, leads_on_played}
 use Rattle.app_visor.specs.laws.CalmLaws.{calm_none, calm_then, calm_comes, calm_breaking}
+use Rattle.net_txn.specs.Causes.{IsPlain}
 use Rattle.app_visor.proofs.turning.play_all.Goals as goal
 
 pub loop-played-init : goal.loop-played-init
@@ -71,3 +72,13 @@ returns-in_err-next_frame-clause-calm g c = λ tells. calm_then (c.loop-played.i
 
 pub returns-clause-calm : goal.returns-clause-calm
 returns-clause-calm g c = λ tells. calm_then (c.loop-played.invariant.calm tells) (calm_comes c.in_ok-next_frame.field-0 c.in_ok-next_frame.ensures.ok tells)
+
+pub returns-in_err-end-clause-parted : goal.returns-in_err-end-clause-parted
+returns-in_err-end-clause-parted g c =
+    let p = err_from_is_err_and c.from_residual.result c.from_residual.ensures.1 in
+    λ can. err_is IsPlain c.from_residual.result p.0 c.in_err-end.field-0.0 p.1 p.2 (c.in_err-end.ensures.parted can)
+
+pub returns-in_err-next_frame-clause-parted : goal.returns-in_err-next_frame-clause-parted
+returns-in_err-next_frame-clause-parted g c =
+    let p = err_from_is_err_and c.from_residual-in_err-next_frame.result c.from_residual-in_err-next_frame.ensures.1 in
+    λ can. err_is IsPlain c.from_residual-in_err-next_frame.result p.0 NoMemory p.1 p.2 tt

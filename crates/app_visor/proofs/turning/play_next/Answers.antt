@@ -6,6 +6,7 @@ use Rattle.app_visor.specs.laws.BeatLaws.{Leads-trans, leads_comes, stops_then, 
 use Rattle.app_visor.specs.laws.PlayLaws.{plays_came, ends_over, not_frame}
 use Rattle.app_visor.specs.laws.LeadsOnLaws.{leads_on_breaking, leads_on_came}
 use Rattle.app_visor.specs.laws.CalmLaws.{calm_then, calm_comes, calm_breaking}
+use Rattle.net_txn.specs.Causes.{IsPlain}
 use Rattle.app_visor.proofs.turning.play_next.Goals as goal
 
 pub returns-in_err-came-clause-err : goal.returns-in_err-came-clause-err
@@ -36,6 +37,7 @@ returns-in_default g c = record {
   err = tt;
   talks = tt;
   calm = λ tells. calm_comes c.in_ok-came.came c.in_ok-came.ensures.ok tells;
+  parted = λ can. tt;
 }
 
 pub returns-in_err-came-clause-talks : goal.returns-in_err-came-clause-talks
@@ -53,3 +55,11 @@ returns-in_err-came-clause-calm g c = λ tells. calm_breaking c.in_err-came.ensu
 
 pub returns-in-Frame-clause-calm : goal.returns-in-Frame-clause-calm
 returns-in-Frame-clause-calm g c = λ tells. calm_then (calm_comes c.in_ok-came.came c.in_ok-came.ensures.ok tells) (c.play.ensures.calm tells)
+
+pub returns-in_err-came-clause-parted : goal.returns-in_err-came-clause-parted
+returns-in_err-came-clause-parted g c =
+    let p = err_from_is_err_and c.from_residual.result c.from_residual.ensures.1 in
+    λ can. err_is IsPlain c.from_residual.result p.0 NoMemory p.1 p.2 tt
+
+pub returns-in-Frame-clause-parted : goal.returns-in-Frame-clause-parted
+returns-in-Frame-clause-parted g c = c.play.ensures.parted

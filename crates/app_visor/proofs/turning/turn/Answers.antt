@@ -10,6 +10,7 @@ use Rattle.app_visor.specs.laws.PlayLaws.{turns_gone, turns_given, leads_turn, l
 use Rattle.journal_laws.specs.laws.FrameLaws.{event_is}
 use Rattle.app_visor.specs.laws.LeadsOnLaws.{leads_on_here, leads_on_wanting, leads_on_event, leads_on_turned, talks_of}
 use Rattle.app_visor.specs.laws.CalmLaws.{calm_none, calm_wanting, calm_later, later_given, later_then}
+use Rattle.net_txn.specs.Causes.{IsPlain}
 use Rattle.app_visor.proofs.turning.turn.Goals as goal
 
 pub returns-in_err-frame-clause-err : goal.returns-in_err-frame-clause-err
@@ -166,3 +167,33 @@ returns-in_err-end-2-clause-later g c = λ tells. later_then (later_given c.args
 
 pub returns-clause-later : goal.returns-clause-later
 returns-clause-later g c = λ tells. later_then (later_given c.args.app.now.index c.in_ok-give.field-0 c.as_slice-2.result.now c.in_ok-give.ensures.ok tells) (c.play_all.ensures.calm tells)
+
+pub returns-in_err-frame-clause-parted : goal.returns-in_err-frame-clause-parted
+returns-in_err-frame-clause-parted g c =
+    let p = err_from_is_err_and c.from_residual.result c.from_residual.ensures.1 in
+    λ can. err_is IsPlain c.from_residual.result p.0 NoMemory p.1 p.2 tt
+
+pub returns-in_err-intake-clause-parted : goal.returns-in_err-intake-clause-parted
+returns-in_err-intake-clause-parted g c =
+    let p = err_from_is_err_and c.from_residual-in_err-intake.result c.from_residual-in_err-intake.ensures.1 in
+    λ can. err_is IsPlain c.from_residual-in_err-intake.result p.0 NoMemory p.1 p.2 tt
+
+pub returns-in_err-give-clause-parted : goal.returns-in_err-give-clause-parted
+returns-in_err-give-clause-parted g c =
+    let p = err_from_is_err_and c.from_residual-in_err-give.result c.from_residual-in_err-give.ensures.1 in
+    λ can. err_is IsPlain c.from_residual-in_err-give.result p.0 NoMemory p.1 p.2 tt
+
+pub returns-in_err-end-clause-parted : goal.returns-in_err-end-clause-parted
+returns-in_err-end-clause-parted g c =
+    let p = err_from_is_err_and c.from_residual-in_err-end.result c.from_residual-in_err-end.ensures.1 in
+    λ can. err_is IsPlain c.from_residual-in_err-end.result p.0 c.in_err-end.field-0.0 p.1 p.2 (c.in_err-end.ensures.parted can)
+
+pub returns-in_err-rest-clause-parted : goal.returns-in_err-rest-clause-parted
+returns-in_err-rest-clause-parted g c =
+    let p = err_from_is_err_and c.from_residual-in_err-rest.result c.from_residual-in_err-rest.ensures.1 in
+    λ can. err_is IsPlain c.from_residual-in_err-rest.result p.0 NoMemory p.1 p.2 tt
+
+pub returns-in_err-end-2-clause-parted : goal.returns-in_err-end-2-clause-parted
+returns-in_err-end-2-clause-parted g c =
+    let p = err_from_is_err_and c.from_residual-in_err-end-2.result c.from_residual-in_err-end-2.ensures.1 in
+    λ can. err_is IsPlain c.from_residual-in_err-end-2.result p.0 NoMemory p.1 p.2 tt

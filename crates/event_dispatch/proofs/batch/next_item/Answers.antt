@@ -4,18 +4,21 @@ use Rattle.event_dispatch.proofs.batch.next_item.Goals as goal
 
 pub returns-in-Ok : goal.returns-in-Ok
 returns-in-Ok g c = record {
-  asks = asked_next c.next.ensures (search rules) (search rules);
-  done = record { item = c.in-Ok.ensures.item; nexts = c.in-Ok.ensures };
+  asks = asked_next c.next.ensures.nexts (search rules) (search rules);
+  done = record { item = c.in-Ok.ensures.nexts.item; nexts = c.in-Ok.ensures.nexts };
+  message = c.in-Ok.ensures.message;
 }
 
 pub returns-in-Err-Failed : goal.returns-in-Err-Failed
 returns-in-Err-Failed g c = record {
-  asks = asked_next c.next.ensures (search rules) (search rules);
+  asks = asked_next c.next.ensures.nexts (search rules) (search rules);
   done = record { why = (search rules); plain = tt };
+  message = λ can. tt;
 }
 
 pub returns-in-Err-Short : goal.returns-in-Err-Short
 returns-in-Err-Short g c = record {
-  asks = asked_next c.next.ensures (search rules) (search rules);
+  asks = asked_next c.next.ensures.nexts (search rules) (search rules);
   done = record { why = tt; plain = tt };
+  message = λ can. tt;
 }

@@ -20,4 +20,5 @@ returns g c = record {
       c.play_turn-closing.new.queue c.args.app.now.rest c.play_turn-closing.new.app.rest c.play_turn-closing.result c.args.app.now.index c.args.store.now
       c.play_turn-closing.new.store c.close_store.new.store c.requires.place
       c.requires.rests c.play_turn-closing.ensures.keeps.slots c.close_store.ensures c.play_turn-closing.ensures.done;
+  parted = c.play_turn-closing.ensures.parted;
 }

@@ -9,12 +9,14 @@ returns-then-not-takes g c = record {
   passes = passes_none g.W.World.Tells (g.W.World.seen c.args.world.now) c.args.core.now.net c.args.core.now.net (Ok false) (same_next _);
   done = offer_passed g.W.World.Tells (g.J.Judge.accepts c.args.judge.now) c.args.event.now (g.W.World.seen c.args.world.now) c.args.core.now c.args.app.now
       c.requires.goes c.requires.done c.requires.failed (sym (c.if-not-takes.ensures c.args.core.now.store));
+  parted = λ can. tt;
 }
 
 pub returns-then-len-gt-MOST_BODY : goal.returns-then-len-gt-MOST_BODY
 returns-then-len-gt-MOST_BODY g c = record {
   passes = passes_none g.W.World.Tells (g.W.World.seen c.args.world.now) c.args.core.now.net c.args.core.now.net (Err faults.NoMemory) (same_next _);
   done = offer_none g.W.World.Tells c.args.event.now (g.W.World.seen c.args.world.now) c.args.core.now c.args.app.now;
+  parted = λ can. tt;
 }
 
 pub returns : goal.returns
@@ -24,4 +26,5 @@ returns g c = record {
       (g.W.World.seen c.take_turn.new.world) c.args.core.now
       c.take_turn.new.self c.args.app.now c.take_turn.new.app (sym (c.if-not-takes.ensures c.args.core.now.store)) c.take_turn.ensures.later
       c.take_turn.ensures.done;
+  parted = c.take_turn.ensures.parted;
 }

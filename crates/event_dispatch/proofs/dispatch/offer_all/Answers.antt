@@ -2,6 +2,8 @@ use Rattle.std.proofs.Common.{Ok, length, arith}
 use Rattle.event_dispatch.specs.EventParts.{OffersStop}
 use Rattle.event_dispatch.specs.laws.PassesLaws.{same_next, at_fault, passes_then, passes_fails, passes_as, passes_number}
 use Rattle.event_dispatch.specs.laws.OfferLaws.{offers_first, next_split, next_before, next_place, offers_on, offers_end, all_offered, offers_stop_at}
+use Rattle.event_dispatch.specs.Plain.{IsPlainEnd}
+use Rattle.event_dispatch.specs.laws.CutLaws.{if_err}
 use Rattle.event_dispatch.proofs.dispatch.offer_all.Goals as goal
 
 pub loop-at-init : goal.loop-at-init
@@ -32,6 +34,7 @@ returns-in_err-offer g c = record {
       c.loop-at.invariant (next_split c.loop-at.at c.index_mut.result.now c.loop-at.invariant
       (omega (arith, c.loop-at-test.true, c.len-at-end.ensures, c.loop-at.invariant.number_is, c.requires.going.number)) c.index_mut.ensures.value)
       c.in_err-offer.ensures.passes.continues c.in_err-offer.ensures.done);
+  parted = λ can. if_err IsPlainEnd c.in_err-offer.field-0.0 c.from_residual.result c.from_residual.ensures.1 (c.in_err-offer.ensures.parted can);
 }
 
 pub returns-then-branch : goal.returns-then-branch
@@ -44,6 +47,7 @@ returns-then-branch g c = record {
       c.loop-at.invariant (next_split c.loop-at.at c.index_mut.result.now c.loop-at.invariant
       (omega (arith, c.loop-at-test.true, c.len-at-end.ensures, c.loop-at.invariant.number_is, c.requires.going.number)) c.index_mut.ensures.value)
       c.in_ok-offer.ensures.passes c.in_ok-offer.ensures.done c.if-branch.true;
+  parted = λ can. tt;
 }
 
 pub loop-at-preserved : goal.loop-at-preserved
@@ -59,4 +63,5 @@ returns g c = record {
   done = all_offered c.loop-at.at (g.W.World.seen c.args.world.now) (g.W.World.seen c.loop-at.world) c.args.core.now c.loop-at.core c.args.apps.now.items
       c.loop-at.apps.items c.loop-at.invariant (omega
       (arith, c.loop-at-test.false, c.len-at-end.ensures, c.loop-at.invariant.number_is, c.requires.going.number));
+  parted = λ can. tt;
 }

@@ -25,4 +25,5 @@ returns g c =
             (g.W.World.seen c.args.world.now) (g.W.World.seen c.run_opened-ended.new.world) (g.W.World.seen c.end_all.new.world) (engine_of c.args.run.now)
             c.run_opened-ended.result first.passes.continues last.continues first.passes.never_fell last.talks point last.ended.none_moves first.done.fails;
       };
+      parted = c.run_opened-ended.ensures.parted;
     }

@@ -167,3 +167,10 @@ returns-in-Err-run-clause-kept_messages_come_first g c =
     course_failed (map app_value c.args.rules.now) g.W.World.Tells (g.J.Judge.accepts c.args.judge.now) c.args.rounds c.in-Err-run.served
     (g.K.Sink.contents c.args.sink.now) (g.K.Sink.contents c.run.new.sink) (g.W.World.seen c.args.world.now) (g.W.World.seen c.open.new.world)
     (g.W.World.seen c.run.new.world) c.open.ensures.continues c.in_default.ensures.opened c.in-Err-run.ensures.done.runs c.in-Err-run.ensures.done.fails.cut
+
+pub returns-in-Err-clause-no_switch_ends_it : goal.returns-in-Err-clause-no_switch_ends_it
+returns-in-Err-clause-no_switch_ends_it g c =
+    λ can. unopened_plain g.W.World.Tells (g.W.World.seen c.args.world.now) (g.W.World.seen c.open.new.world) c.in-Err.served c.in-Err.ensures.unopened
+
+pub returns-in-Err-run-clause-no_switch_ends_it : goal.returns-in-Err-run-clause-no_switch_ends_it
+returns-in-Err-run-clause-no_switch_ends_it g c = c.in-Err-run.ensures.parted

@@ -4,6 +4,8 @@ use Rattle.legosdn.specs.Headline.{streams}
 use Rattle.legosdn.specs.Live.{Taken}
 use Rattle.legosdn.proofs.CommandEnds.{serves_unread, serves_taken}
 use Rattle.legosdn.proofs.Promises.{idle_always}
+use Rattle.std.proofs.lemmas.Result.{err_from_is_err_and}
+use Rattle.legosdn.proofs.Statuses.{read_of_no_switch}
 use Rattle.legosdn.proofs.live.run_live.Goals as goal
 
 pub returns-in_err-apps-clause-serves : goal.returns-in_err-apps-clause-serves
@@ -27,3 +29,8 @@ returns-clause-always g c = record {
   no_stray_call = c.run_world.ensures.strays;
   own_ids_ascend = λ tells. c.run_world.ensures.ids tells.told tells.untouched tells.order;
 }
+
+pub returns-in_err-apps-clause-no_switch : goal.returns-in_err-apps-clause-no_switch
+returns-in_err-apps-clause-no_switch g c =
+    let p = err_from_is_err_and c.from_residual.result c.from_residual.ensures.1 in
+    λ can. rw (p.1, p.2) (read_of_no_switch _ _ _ _ c.in_err-apps.field-0.0 c.in_err-apps.ensures.why)

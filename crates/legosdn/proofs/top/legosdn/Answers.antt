@@ -5,7 +5,7 @@ use Rattle.sim_world.specs.World.{seen_of}
 use Rattle.legosdn.specs.Headline.{IsNoSession, IsNoPolicy, IsCause, faults_of, streams, Wrote}
 use Rattle.legosdn.specs.Stops.{stop_line}
 use Rattle.legosdn.proofs.CommandEnds.{by_command}
-use Rattle.legosdn.proofs.Statuses.{is_early, is_usage, is_read_fault, is_write_fault, not_read, not_written}
+use Rattle.legosdn.proofs.Statuses.{not_of_switch, is_early, is_usage, is_read_fault, is_write_fault, not_read, not_written}
 use Rattle.legosdn.proofs.Promises.{replay_ok, replay_err, run_ok, run_err}
 use Rattle.legosdn.proofs.top.legosdn.Goals as goal
 
@@ -90,3 +90,10 @@ returns-in-Err-clause-world_untouched g c = λ within.
         subst (λ x. Wrote (g.K.Sink.contents x) (g.K.Sink.contents c.halt.new.sink) (g.K.Sink.faults x) (g.K.Sink.faults c.halt.new.sink) (stop_line c.in-Err.stop)) still.2 c.halt.ensures.line,
       ),
     )
+
+pub returns-in-Ok-clause-no_switch_ends_the_run : goal.returns-in-Ok-clause-no_switch_ends_the_run
+returns-in-Ok-clause-no_switch_ends_the_run g c = λ port rounds is can within. absurd (grind arith)
+
+pub returns-in-Err-clause-no_switch_ends_the_run : goal.returns-in-Err-clause-no_switch_ends_the_run
+returns-in-Err-clause-no_switch_ends_the_run g c = λ port rounds is can within.
+    not_of_switch c.in-Err.stop (c.in-Err.ensures.no_switch port rounds is can) (subst (λ (status : ℕ). Contains (8 ∷ 9 ∷ []) status) c.halt.ensures.status within)

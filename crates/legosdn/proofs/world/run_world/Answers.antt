@@ -94,3 +94,6 @@ returns-in-NoMemory-clause-course g c = λ told. memory_course (map app_value c.
 
 pub returns-in-Txn-clause-course : goal.returns-in-Txn-clause-course
 returns-in-Txn-clause-course g c = λ told. switch_course (map app_value c.args.apps.now) (g.W.World.seen c.args.world.now) (g.W.World.seen c.serve.new.world) (g.K.Sink.contents c.args.sink.now) (g.K.Sink.contents c.serve.new.sink) c.serve.result c.serve.ensures.kept_messages_come_first told c.in-Txn.fault c.from.result c.in-Txn.is c.from.ensures
+
+pub returns-in-Txn-clause-no_switch : goal.returns-in-Txn-clause-no_switch
+returns-in-Txn-clause-no_switch g c = λ can. absurd (rw c.in-Txn.is at (c.serve.ensures.no_switch_ends_it can))

@@ -24,11 +24,16 @@ loop-dpid-preserved g c =
           c.loop-dpid.sent.items c.release_one.new.sent.items before c.in_ok-release_one.ensures.released,
     )
 
-pub returns-in_err-release_one : goal.returns-in_err-release_one
-returns-in_err-release_one g c =
+pub returns-in_err-release_one-clause-released : goal.returns-in_err-release_one-clause-released
+returns-in_err-release_one-clause-released g c =
     let (split, room, before) = c.loop-dpid.invariant in
     let step : into_iter_items c.loop-dpid.dpid-iterator ≡ (c.in-Some.dpid, c.in-Some.packet) ∷ into_iter_items c.next.new.self = search rules in
     let p = err_from_is_err_and c.from_residual.result c.from_residual.ensures.1 in
     rw (p.1, p.2) (stops_behind c.args.held.items c.loop-dpid.yielded (c.in-Some.dpid, c.in-Some.packet) (into_iter_items c.next.new.self) (g.W.World.seen c.args.world.now) (g.W.World.seen c.loop-dpid.world) (g.W.World.seen c.release_one.new.world)
     c.args.net.now c.loop-dpid.net c.release_one.new.net c.args.queue.now c.loop-dpid.queue c.release_one.new.queue c.loop-dpid.sent.items c.release_one.new.sent.items c.in_err-release_one.field-0.0
     (yielded_here c.args.held.items c.loop-dpid.yielded (into_iter_items c.loop-dpid.dpid-iterator) (into_iter_items c.next.new.self) (c.in-Some.dpid, c.in-Some.packet) split step) before c.in_err-release_one.ensures.released)
+
+pub returns-in_err-release_one-clause-parted : goal.returns-in_err-release_one-clause-parted
+returns-in_err-release_one-clause-parted g c =
+    let p = err_from_is_err_and c.from_residual.result c.from_residual.ensures.1 in
+    λ can. rw (p.1, p.2) (c.in_err-release_one.ensures.parted can)

@@ -31,3 +31,8 @@ returns-clause-undoing g c = λ base views x first ps qs fault e u known unfaile
     let lt : 0 < length c.send_first.new.log = subst (λ (xs : List Logged). 0 < length xs) (sym (e1.marked e)) (lt-length-set c.args.log.now 0 sent c.requires.place) in
     let s = c.await_at.ensures in
     await_reverted d c.send_first.new.log c.await_at.new.log e c.await_at.result c.await_at.new.buf lt here (s.marked e) (omega arith) c.take_xid-id-2.ensures.next p known (rw c.take_xid-id-2.ensures.taken at (s.passes e).replied) (rw c.take_xid-id-2.ensures.taken at (s.passes e).failed)
+
+pub returns-in_err-send_first-clause-parted : goal.returns-in_err-send_first-clause-parted
+returns-in_err-send_first-clause-parted g c =
+    let p = err_from_is_err_and c.from_residual.result c.from_residual.ensures.1 in
+    λ can. rw (p.1, p.2) c.in_err-send_first.ensures.plain

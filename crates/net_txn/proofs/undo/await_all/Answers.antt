@@ -15,6 +15,7 @@ loop-at-init g c = record {
   barred = λ d viewed. absurd cc;
   stays = stays_none c.args.from c.args.net.now;
   room = room_same c.args.fault.now _;
+  parted = λ can old. old;
 }
 
 pub loop-at-preserved : goal.loop-at-preserved
@@ -39,4 +40,5 @@ loop-at-preserved g c =
       ];
       stays = stays_then i.stays s.stays;
       room = room_then c.args.fault.now c.loop-at.fault c.await_noted.new.fault _ _ _ i.room s.room;
+      parted = λ can old. s.parted can (i.parted can old);
     }

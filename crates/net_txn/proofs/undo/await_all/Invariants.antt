@@ -1,6 +1,7 @@
 use Rattle.std.proofs.Common.{◌≡◌, ℕ, true, List, [], take, drop}
 use Rattle.outside.specs.Seen.{Seen}
 use Rattle.net_txn.specs.Ports.{PortLists}
+use Rattle.net_txn.specs.Parting.{IsPlainFault}
 use Rattle.net_txn.specs.Undos.{switches_of, IsRoomLeft, HasPassedBarrier}
 use Rattle.net_txn.specs.NetUndos.{NetFurther, StaysInUndo}
 use Rattle.net_txn.specs.Views.{is_viewed}
@@ -13,4 +14,5 @@ invariant-loop-at g l = record {
   barred : (c : ℕ) → is_viewed c (take l.at l.fn.net.views) ≡ true → HasPassedBarrier c (drop l.from l.net.log);
   stays : StaysInUndo l.from l.fn.net l.net;
   room : IsRoomLeft l.fn.fault l.fault l.fn.net.room l.net.room;
+  parted : g.W.World.CanPart → IsPlainFault l.fn.fault → IsPlainFault l.fault;
 }

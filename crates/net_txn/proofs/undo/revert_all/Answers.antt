@@ -13,6 +13,7 @@ loop-at-init g c =
       stays = stays_none c.args.from net;
       least = omega (arith, c.logged-at.ensures, c.requires.place);
       room = room_same c.args.fault.now net.room;
+      parted = λ can old. old;
     }
 
 pub revert_noted-requires-clause-place : goal.revert_noted-requires-clause-place
@@ -31,6 +32,7 @@ loop-at-preserved g c =
       stays = stays_then i.stays (stays_before c.args.from (c.loop-at.at - 1) (omega arith) s.stays);
       least = omega arith;
       room = room_then c.args.fault.now c.loop-at.fault c.revert_noted.new.fault _ _ _ i.room s.room;
+      parted = λ can old. s.parted can (i.parted can old);
     }
 
 pub returns-clause-undoing : goal.returns-clause-undoing

@@ -1,4 +1,5 @@
 use Rattle.std.proofs.Common.{◌≤◌, [], drop}
+use Rattle.net_txn.specs.Parting.{IsPlainFault}
 use Rattle.net_txn.specs.Undos.{IsRoomLeft}
 use Rattle.net_txn.specs.NetUndos.{NetFurther, StaysInUndo, ports_in}
 use Rattle.net_txn.proofs.undo.revert_all.Given as goal
@@ -9,4 +10,5 @@ invariant-loop-at g l = record {
   stays : StaysInUndo l.from l.fn.net l.net;
   least : l.from ≤ l.at;
   room : IsRoomLeft l.fn.fault l.fault l.fn.net.room l.net.room;
+  parted : g.W.World.CanPart → IsPlainFault l.fn.fault → IsPlainFault l.fault;
 }

@@ -5,6 +5,8 @@ use Rattle.net_txn.specs.declared.logged.Logged.{Logged}
 use Rattle.net_txn.specs.Net.{NetState}
 use Rattle.net_txn.specs.NetUndos.{NetFurther}
 use Rattle.net_txn.specs.laws.FurtherLaws.{Further-alike, first_or_none}
+use Rattle.net_txn.specs.laws.PartingLaws.{halt_plain, fault_plain, first_plain}
+use Rattle.net_txn.specs.Parting.{IsPlainFault}
 use Rattle.net_txn.proofs.undo.revert_noted.Goals as goal
 
 -- what stands behind the first of the entries from a place on
@@ -25,3 +27,6 @@ returns-in_default-clause-undoing g c = λ base first p x u.
     let before = subst (λ (n : NetState). NetFurther g.W.World.Tells base (g.W.World.seen c.args.world.now) first p x n [] (drop (c.args.at + 1) n.log) c.args.fault.now) (sym c.net.view_is) u in
     let later = c.in_default.ensures.undoing base x first p s.ports c.args.fault.now c.index-log-0.result in
     Further-alike (search rules) refl (grind (arith, common_steps)) (first_or_none c.args.fault.now) (later (Further-alike (search rules) refl (rest c.args.at s.log.items c.deref_mut.result.now c.deref_mut.ensures.value) refl before))
+
+pub returns-in-Err-clause-parted : goal.returns-in-Err-clause-parted
+returns-in-Err-clause-parted g c = λ can old. subst IsPlainFault (sym c.note.ensures.fault) (first_plain _ _ old (fault_plain _ (halt_plain _ _ _ (c.in-Err.ensures.parted can))))

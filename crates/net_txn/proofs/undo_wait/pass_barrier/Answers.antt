@@ -10,3 +10,8 @@ pub returns-in_err-await_barrier-clause-passes : goal.returns-in_err-await_barri
 returns-in_err-await_barrier-clause-passes g c =
     let p = err_from_is_err_and c.from_residual.result c.from_residual.ensures.1 in
     rw (p.1, p.2) (passes_err c.args.dpid c.args.xid c.in_err-await_barrier.field-0.0 c.await_barrier.new.buf (omega arith) c.in_err-await_barrier.ensures.exchanges)
+
+pub returns-in_err-await_barrier-clause-parted : goal.returns-in_err-await_barrier-clause-parted
+returns-in_err-await_barrier-clause-parted g c =
+    let p = err_from_is_err_and c.from_residual.result c.from_residual.ensures.1 in
+    λ can. rw (p.1, p.2) (c.in_err-await_barrier.ensures.parted can)

@@ -5,6 +5,7 @@ use Rattle.net_txn.specs.Undos.{inverses_in}
 use Rattle.net_txn.specs.Said.{HearsMessage}
 use Rattle.net_txn.specs.laws.ExchangeLaws.{hears_none, hears_refusal, hears_parts, hears_then}
 use Rattle.net_txn.specs.laws.SizeLaws.{header-read}
+use Rattle.net_txn.specs.laws.PartingLaws.{behind_plain, untreated_plain, err_of}
 use Rattle.net_txn.proofs.wait.hear.Goals as goal
 
 pub get_u32-requires : goal.get_u32-requires
@@ -38,3 +39,17 @@ returns-then-can_part-clause-hears g c =
 
 pub part_behind-requires-clause-bytes : goal.part_behind-requires-clause-bytes
 part_behind-requires-clause-bytes g c = IsBytes-take c.in_ok-len.len c.receive.new.buf c.in_ok-len.ensures.bytes
+
+pub returns-in_err-len-clause-parted : goal.returns-in_err-len-clause-parted
+returns-in_err-len-clause-parted g c =
+    let p = err_from_is_err_and c.from_residual.result c.from_residual.ensures.1 in
+    λ can. rw (p.1, p.2) (c.in_err-len.ensures.parted can)
+
+pub returns-then-can_part-clause-parted : goal.returns-then-can_part-clause-parted
+returns-then-can_part-clause-parted g c = λ can. behind_plain c.part_behind.result c.part_behind.ensures
+
+pub returns-in-Some-clause-parted : goal.returns-in-Some-clause-parted
+returns-in-Some-clause-parted g c = λ can. absurd (let is = rw c.if-can_part.false at (c.can_part.ensures.1 can) in cc)
+
+pub returns-clause-parted : goal.returns-clause-parted
+returns-clause-parted g c = λ can. err_of _ _ _ c.treat.result (λ t not. untreated_plain _ _ t not.why) c.treat.ensures

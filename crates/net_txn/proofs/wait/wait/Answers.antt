@@ -25,4 +25,9 @@ loop-heard-preserved g c = record {
 }
 
 pub returns-clause-exchanges : goal.returns-clause-exchanges
-returns-clause-exchanges g c = flooded _ c.give_up.result c.requires.is_xid (omega arith) c.loop-heard.invariant.heard c.give_up.ensures
+returns-clause-exchanges g c = flooded _ c.give_up.result c.requires.is_xid (omega arith) c.loop-heard.invariant.heard c.give_up.ensures.gives_up
+
+pub returns-in_err-hear-clause-parted : goal.returns-in_err-hear-clause-parted
+returns-in_err-hear-clause-parted g c =
+    let p = err_from_is_err_and c.from_residual.result c.from_residual.ensures.1 in
+    λ can. rw (p.1, p.2) (c.in_err-hear.ensures.parted can)

@@ -3,9 +3,10 @@ use Rattle.event_dispatch.specs.ReportEnd.{TableFails}
 use Rattle.event_dispatch.specs.laws.FaultLaws.{asks_why}
 use Rattle.event_dispatch.specs.laws.LastLaws.{asks_as, asks_wait}
 use Rattle.event_dispatch.specs.laws.PassesLaws.{quiet_links}
-use Rattle.event_dispatch.specs.laws.PlainLaws.{table_asked}
+use Rattle.event_dispatch.specs.laws.PlainLaws.{plain_fault, table_asked}
 use Rattle.event_dispatch.specs.laws.DispatchStrayLaws.{asked_places, asked_reads}
 use Rattle.event_dispatch.specs.laws.NumberLaws.{asked_numbers, asked_end}
+use Rattle.event_dispatch.specs.Plain.{IsPlainEnd}
 use Rattle.event_dispatch.proofs.engine_core.Core.ask_rows.Goals as goal
 
 pub returns-in-Ok : goal.returns-in-Ok
@@ -21,6 +22,7 @@ returns-in-Ok g c = record {
     asks = asks_as g.W.World.Tells c.args.dpid (g.W.World.seen c.args.world.now) (g.W.World.seen c.rows.new.world) c.args.self.now c.rows.new.self
         c.in-Ok.rows c.in-Ok.ensures.asks c.in-Ok.ensures.in_step;
   };
+  parted = λ can. tt;
 }
 
 pub returns-in-Err : goal.returns-in-Err
@@ -38,4 +40,5 @@ returns-in-Err g c = record {
         plain = table_asked c.args.dpid c.args.self.now.net.kept c.rows.new.self.kept c.in-Err.fault c.requires c.in-Err.ensures.asks.continues
             c.in-Err.ensures.in_step;
       });
+  parted = λ can. subst IsPlainEnd (sym c.from.ensures) (plain_fault c.in-Err.fault (c.in-Err.ensures.parted can));
 }

@@ -17,6 +17,9 @@ use Rattle.event_dispatch.specs.laws.PassesLaws.{at_fault, waits_none}
 use Rattle.event_dispatch.specs.laws.PlainLaws.{join_memory, join_fault}
 use Rattle.event_dispatch.specs.laws.TakingLaws.{joins_none, joins_on_links, waits_behind}
 use Rattle.event_dispatch.proofs.engine_core.Core.join.Goals.{in-FeaturesReply+in_ok-joined+then-branch+in_ok-announce, in-FeaturesReply+in_ok-joined+else-branch+in_ok-note_loss, in_default}
+use Rattle.event_dispatch.specs.Plain.{IsPlainEnd}
+use Rattle.event_dispatch.specs.laws.PlainLaws.{plain_fault}
+use Rattle.event_dispatch.specs.laws.CutLaws.{if_err}
 use Rattle.event_dispatch.proofs.engine_core.Core.join.Goals as goal
 
 pub returns-in_err-joined : goal.returns-in_err-joined
@@ -27,6 +30,7 @@ returns-in_err-joined g c = record {
     why = join_why g.W.World.Tells c.args.dpid c.args.self.now.net.xid (g.W.World.seen c.args.world.now) (g.W.World.seen c.joined.new.world) c.in_err-joined.field-0.0 c.in_err-joined.ensures.cause c.in_err-joined.ensures.flooded;
     plain = join_fault c.args.dpid (g.W.World.seen c.args.world.now) (g.W.World.seen c.joined.new.world) c.args.self.now.net c.joined.new.self c.in_err-joined.field-0.0 c.in_err-joined.ensures.in_step;
   });
+  parted = λ can. if_err IsPlainEnd (fault_of c.in_err-joined.field-0.0) c.from_residual.result c.from_residual.ensures.1 (plain_fault c.in_err-joined.field-0.0 (c.in_err-joined.ensures.parted can));
 }
 
 pub returns-in_err-announce : goal.returns-in_err-announce
@@ -34,6 +38,7 @@ returns-in_err-announce g c = record {
   uses = joins_on_links g.W.World.Tells c.args.dpid (g.W.World.seen c.args.world.now) (g.W.World.seen c.joined.new.world) c.args.self.now.net c.joined.new.self _ c.joined.result c.from_residual-in_err-announce.result c.joined.ensures.continues c.joined.ensures.links c.joined.ensures.no_strays
       c.joined.ensures.ids (λ _. c.from_residual-in_err-announce.ensures.0) (inl c.from_residual-in_err-announce.ensures.0);
   done = at_fault _ _ faults.NoMemory c.from_residual-in_err-announce.result c.from_residual-in_err-announce.ensures.1 (record { why = tt; plain = join_memory c.args.dpid (g.W.World.seen c.args.world.now) (g.W.World.seen c.joined.new.world) });
+  parted = λ can. if_err IsPlainEnd faults.NoMemory c.from_residual-in_err-announce.result c.from_residual-in_err-announce.ensures.1 tt;
 }
 
 pub returns-in_err-note_loss : goal.returns-in_err-note_loss
@@ -41,6 +46,7 @@ returns-in_err-note_loss g c = record {
   uses = joins_on_links g.W.World.Tells c.args.dpid (g.W.World.seen c.args.world.now) (g.W.World.seen c.joined.new.world) c.args.self.now.net c.joined.new.self _ c.joined.result c.from_residual-in_err-note_loss.result c.joined.ensures.continues c.joined.ensures.links c.joined.ensures.no_strays
       c.joined.ensures.ids (λ _. c.from_residual-in_err-note_loss.ensures.0) (inl c.from_residual-in_err-note_loss.ensures.0);
   done = at_fault _ _ faults.NoMemory c.from_residual-in_err-note_loss.result c.from_residual-in_err-note_loss.ensures.1 (record { why = tt; plain = join_memory c.args.dpid (g.W.World.seen c.args.world.now) (g.W.World.seen c.joined.new.world) });
+  parted = λ can. if_err IsPlainEnd faults.NoMemory c.from_residual-in_err-note_loss.result c.from_residual-in_err-note_loss.ensures.1 tt;
 }
 
 pub returns : goal.returns
@@ -90,4 +96,5 @@ returns g c = record {
           joins = other_taken c.args.dpid c.args.message.now (g.W.World.seen c.args.world.now) c.args.self.now w.in_default.not-FeaturesReply;
         }))
   ];
+  parted = λ can. tt;
 }

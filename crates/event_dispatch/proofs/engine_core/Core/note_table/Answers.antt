@@ -6,6 +6,8 @@ use Rattle.event_dispatch.specs.laws.LastLaws.{table_told, table_lost, table_out
 use Rattle.event_dispatch.specs.laws.PassesLaws.{same_next, at_fault, quiet_none, quiet_fails, quiet_as}
 use Rattle.event_dispatch.specs.laws.PlainLaws.{table_memory}
 use Rattle.event_dispatch.specs.laws.WhyLaws.{waits_at_end}
+use Rattle.event_dispatch.specs.Plain.{IsPlainEnd}
+use Rattle.event_dispatch.specs.laws.CutLaws.{if_err}
 use Rattle.event_dispatch.proofs.engine_core.Core.note_table.Goals as goal
 
 pub returns-then-not-is_joined : goal.returns-then-not-is_joined
@@ -16,12 +18,14 @@ returns-then-not-is_joined g c = record {
     shown = table_out g.W.World.Tells c.args.dpid
         (g.W.World.seen c.args.world.now) c.args.self.now (c.is_joined.ensures.out (search rules));
   };
+  parted = λ can. tt;
 }
 
 pub returns-in_err-rows : goal.returns-in_err-rows
 returns-in_err-rows g c = record {
   passes = quiet_fails _ _ c.ask_rows.ensures.passes c.from_residual.ensures.0;
   done = at_fault _ _ c.in_err-rows.field-0.0 c.from_residual.result c.from_residual.ensures.1 c.in_err-rows.ensures.done;
+  parted = λ can. if_err IsPlainEnd c.in_err-rows.field-0.0 c.from_residual.result c.from_residual.ensures.1 (c.in_err-rows.ensures.parted can);
 }
 
 pub returns-in_err-note_rows-in-Some : goal.returns-in_err-note_rows-in-Some
@@ -29,6 +33,7 @@ returns-in_err-note_rows-in-Some g c = record {
   passes = quiet_fails _ _ c.ask_rows.ensures.passes c.from_residual-in_err-note_rows-in-Some.ensures.0;
   done = at_fault _ _ faults.NoMemory c.from_residual-in_err-note_rows-in-Some.result c.from_residual-in_err-note_rows-in-Some.ensures.1
       (record { why = tt; plain = table_memory (g.W.World.seen c.args.world.now) (g.W.World.seen c.ask_rows.new.world) c.args.self.now.net });
+  parted = λ can. if_err IsPlainEnd faults.NoMemory c.from_residual-in_err-note_rows-in-Some.result c.from_residual-in_err-note_rows-in-Some.ensures.1 tt;
 }
 
 pub returns-in_err-note_loss-in-None : goal.returns-in_err-note_loss-in-None
@@ -36,6 +41,7 @@ returns-in_err-note_loss-in-None g c = record {
   passes = quiet_fails _ _ c.ask_rows.ensures.passes c.from_residual-in_err-note_loss-in-None.ensures.0;
   done = at_fault _ _ faults.NoMemory c.from_residual-in_err-note_loss-in-None.result c.from_residual-in_err-note_loss-in-None.ensures.1
       (record { why = tt; plain = table_memory (g.W.World.seen c.args.world.now) (g.W.World.seen c.ask_rows.new.world) c.args.self.now.net });
+  parted = λ can. if_err IsPlainEnd faults.NoMemory c.from_residual-in_err-note_loss-in-None.result c.from_residual-in_err-note_loss-in-None.ensures.1 tt;
 }
 
 pub returns-in_ok-note_rows-in-Some : goal.returns-in_ok-note_rows-in-Some
@@ -47,6 +53,7 @@ returns-in_ok-note_rows-in-Some g c = record {
         (subst (AsksAs g.W.World.Tells c.args.dpid (g.W.World.seen c.args.world.now) (g.W.World.seen c.ask_rows.new.world) c.args.self.now
         c.ask_rows.new.self) c.in-Some.is c.in_ok-rows.ensures.done.asks) c.in_ok-note_rows-in-Some.ensures.said;
   };
+  parted = λ can. tt;
 }
 
 pub returns-in_ok-note_loss-in-None : goal.returns-in_ok-note_loss-in-None
@@ -58,4 +65,5 @@ returns-in_ok-note_loss-in-None g c = record {
         (g.W.World.seen c.ask_rows.new.world) c.args.self.now c.ask_rows.new.self) c.in-None.is c.in_ok-rows.ensures.done.asks)
         c.in_ok-note_loss-in-None.ensures.adds;
   };
+  parted = λ can. tt;
 }

@@ -8,6 +8,8 @@ use Rattle.event_dispatch.specs.laws.LastLaws.{take_whole, tables_none, tables_n
 use Rattle.event_dispatch.specs.laws.PassesLaws.{same_next, at_fault, quiet_none, quiet_fails, quiet_then, quiet_as, quiet_number, quiet_so_far_none, quiet_so_far_then}
 use Rattle.event_dispatch.specs.laws.PlainLaws.{calm_anyway, tables_then}
 use Rattle.event_dispatch.specs.laws.WhyLaws.{ends_then, why_then}
+use Rattle.event_dispatch.specs.Plain.{IsPlainEnd}
+use Rattle.event_dispatch.specs.laws.CutLaws.{if_err}
 use Rattle.event_dispatch.proofs.engine_core.Core.note_tables.Goals as goal
 
 pub loop-dpid-init : goal.loop-dpid-init
@@ -41,6 +43,7 @@ returns-in_err-switches g c = record {
         plain = calm_anyway (g.W.World.seen c.args.world.now) (g.W.World.seen c.args.world.now) c.args.self.now.net
             (served_by faults.NoMemory) tt;
       });
+  parted = λ can. if_err IsPlainEnd faults.NoMemory c.from_residual.result c.from_residual.ensures.1 tt;
 }
 
 pub returns-in_err-note_table : goal.returns-in_err-note_table
@@ -57,6 +60,7 @@ returns-in_err-note_table g c =
             (g.W.World.seen c.note_table.new.world) c.args.self.now c.loop-dpid.self fault (c.deref-dpid-items.ensures.value ∙ c.in_ok-switches.ensures)
             c.loop-dpid.invariant.shown c.in_err-note_table.ensures.passes.passes.continues c.in_err-note_table.ensures.done.plain;
       });
+      parted = λ can. if_err IsPlainEnd c.in_err-note_table.field-0.0 c.from_residual-in_err-note_table.result c.from_residual-in_err-note_table.ensures.1 (c.in_err-note_table.ensures.parted can);
     }
 
 pub returns : goal.returns
@@ -69,4 +73,5 @@ returns g c = record {
         (take_whole c.deref-dpid-items.result.now _ c.loop-dpid.dpid-index c.loop-dpid-test.false
         (c.deref-dpid-items.ensures.value ∙ c.in_ok-switches.ensures)) c.loop-dpid.invariant.shown;
   };
+  parted = λ can. tt;
 }

@@ -12,6 +12,8 @@ use Rattle.event_dispatch.specs.laws.SteadyLaws.{calls_then}
 use Rattle.event_dispatch.specs.laws.TakingLaws.{goes_at_first, kept_comes_first, point_at_first}
 use Rattle.event_dispatch.specs.laws.TalkingLaws.{keeps_then}
 use Rattle.event_dispatch.specs.laws.WhyLaws.{waits_then, why_then}
+use Rattle.event_dispatch.specs.Plain.{IsPlainEnd}
+use Rattle.event_dispatch.specs.laws.CutLaws.{if_err}
 use Rattle.event_dispatch.proofs.engine_core.Core.take_batch.Goals as goal
 
 pub loop-item-init : goal.loop-item-init
@@ -61,6 +63,7 @@ returns-in_err-left g c =
         why = failed.done.why;
         plain = batch_kept (g.W.World.seen c.args.world.now) (g.W.World.seen c.take_kept.new.world) c.args.self.now.net c.in_err-left.field-0.0 failed.done.plain;
       });
+      parted = λ can. if_err IsPlainEnd c.in_err-left.field-0.0 c.from_residual.result c.from_residual.ensures.1 c.in_err-left.ensures.plain;
     }
 
 pub returns-in_err-rest : goal.returns-in_err-rest
@@ -78,6 +81,7 @@ returns-in_err-rest g c =
         why = why_then (g.W.World.seen c.args.world.now) (g.W.World.seen c.loop-item.world) (g.W.World.seen c.take_next.new.world) (served_by c.in_err-rest.field-0.0) before.passes.continues failed.done.why;
         plain = batch_next c.loop-item._item (g.W.World.seen c.args.world.now) (g.W.World.seen c.loop-item.world) (g.W.World.seen c.take_next.new.world) c.args.self.now c.loop-item.self c.in_err-rest.field-0.0 before.goes failed.passes.passes.continues failed.done.plain;
       });
+      parted = λ can. if_err IsPlainEnd c.in_err-rest.field-0.0 c.from_residual-in_err-rest.result c.from_residual-in_err-rest.ensures.1 (c.in_err-rest.ensures.parted can);
     }
 
 pub returns-in-Some : goal.returns-in-Some
@@ -95,6 +99,7 @@ returns-in-Some g c =
         batch = batch_ends c.loop-item._item c.in-Some.rest (g.W.World.seen c.args.world.now) (g.W.World.seen c.loop-item.world) (g.W.World.seen c.take_next.new.world) c.args.self.now c.loop-item.self c.take_next.new.self before.goes
             (subst (λ (rest : Option Rest). NextTaken g.W.World.Tells rest (g.W.World.seen c.loop-item.world) (g.W.World.seen c.take_next.new.world) c.loop-item.self c.take_next.new.self) c.in-Some.is next.done.taken);
       };
+      parted = λ can. tt;
     }
 
 pub returns : goal.returns
@@ -111,4 +116,5 @@ returns g c =
         batch = batch_too_long c.loop-item._item c.in_ok-left.left (g.W.World.seen c.args.world.now) (g.W.World.seen c.take_kept.new.world) (g.W.World.seen c.loop-item.world) c.args.self.now c.take_kept.new.self c.loop-item.self
             c.loop-item-test.false before.passes.continues c.in_ok-left.ensures.done.kept before.goes;
       };
+      parted = λ can. tt;
     }

@@ -18,6 +18,7 @@ returns-then-is_joined g c = record {
     read = λ read. read;
     takes = takes_none c.args.self.now c.args.self.now refl (joined_ignored c.args.dpid c.args.frame.now (g.W.World.seen c.args.world.now) c.args.self.now.net c.args.self.now.queue c.requires.none_left (c.if-is_joined.ensures.joined refl));
   };
+  parted = λ can. tt;
 }
 
 pub returns-in-Ok : goal.returns-in-Ok
@@ -39,12 +40,14 @@ returns-in-Ok g c =
             takes = joined_taken c.args.dpid c.args.frame.now c.in-Ok.envelope (g.W.World.seen c.args.world.now) (g.W.World.seen c.join.new.world) c.args.self.now c.join.new.self c.requires.none_left (c.if-is_joined.ensures.out refl) c.in-Ok.ensures.exact uses.continues uses.links uses.places done.joins;
           })
           (λ _ fails. fails);
+      parted = c.join.ensures.parted;
     }
 
 pub returns-then-ran_short : goal.returns-then-ran_short
 returns-then-ran_short g c = record {
   uses = uses_not g.W.World.Tells (Joined c.args.dpid c.args.frame.now) (g.W.World.seen c.args.world.now) c.args.self.now.net c.args.self.now.net (Err faults.NoMemory) refl;
   done = record { why = tt; plain = join_memory c.args.dpid (g.W.World.seen c.args.world.now) (g.W.World.seen c.args.world.now) };
+  parted = λ can. tt;
 }
 
 pub returns-else-ran_short : goal.returns-else-ran_short
@@ -57,4 +60,5 @@ returns-else-ran_short g c = record {
     takes = takes_none c.args.self.now c.args.self.now refl
         (unread_handles c.args.dpid c.args.frame.now c.in-Err.fault (g.W.World.seen c.args.world.now) c.args.self.now.net c.args.self.now.queue c.requires.none_left (c.if-is_joined.ensures.out refl) (unread c.in-Err.fault _ (sym c.if-ran_short.ensures) c.in-Err.ensures.exact));
   };
+  parted = λ can. tt;
 }

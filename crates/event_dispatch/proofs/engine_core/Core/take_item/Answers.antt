@@ -16,6 +16,9 @@ use Rattle.event_dispatch.specs.laws.KeptLaws.{read_alike}
 use Rattle.event_dispatch.specs.laws.PassesLaws.{at_fault, match_weaker, waits_none}
 use Rattle.event_dispatch.specs.laws.PlainLaws.{item_from, item_joined, item_memory}
 use Rattle.event_dispatch.specs.laws.TakingLaws.{uses_none, uses_not, from_ascends}
+use Rattle.event_dispatch.specs.laws.PartedLaws.{message_plain, in_front}
+use Rattle.event_dispatch.specs.Plain.{IsPlainEnd}
+use Rattle.event_dispatch.specs.laws.CutLaws.{if_err}
 use Rattle.event_dispatch.proofs.engine_core.Core.take_item.Goals as goal
 
 pub returns-in-From : goal.returns-in-From
@@ -36,6 +39,7 @@ returns-in-From g c =
             why = why.from_why c.args.item c.in-From.dpid c.in-From.size c.args.buf.now (g.W.World.seen c.args.world.now) (g.W.World.seen c.take_message.new.world) fault c.in-From.is fails.why;
             plain = item_from c.args.item c.in-From.dpid c.in-From.size c.args.buf.now (g.W.World.seen c.args.world.now) (g.W.World.seen c.take_message.new.world) fault c.in-From.is fails.plain;
           });
+      parted = λ can read. message_plain _ _ _ c.take_message.result c.take_message.ensures.done (in_front c.args.item c.in-From.dpid c.in-From.size c.args.buf.now c.in-From.is read);
     }
 
 pub returns-in-Joined : goal.returns-in-Joined
@@ -57,6 +61,7 @@ returns-in-Joined g c =
             why = why.joined_why (item_step c.args.item c.args.buf.now) (g.W.World.seen c.args.world.now) (g.W.World.seen c.take_in.new.world) fault fails.why;
             plain = item_joined c.args.item c.in-Joined.dpid c.in-Joined.size c.args.buf.now (g.W.World.seen c.args.world.now) (g.W.World.seen c.take_in.new.world) fault c.in-Joined.is fails.plain;
           });
+      parted = λ can read. c.take_in.ensures.parted can;
     }
 
 pub returns-in_ok-take_out-in-Left : goal.returns-in_ok-take_out-in-Left
@@ -72,6 +77,7 @@ returns-in_ok-take_out-in-Left g c =
             (left_step c.args.item c.in-Left.dpid c.args.buf.now c.in-Left.is)
             (left_taken c.in-Left.dpid (g.W.World.seen c.args.world.now) c.args.self.now c.take_out.new.self c.requires.none_left (ap (λ (v : Vec ℕ Global). v.items) c.take_out.ensures.lines) left.departs);
       };
+      parted = λ can read. tt;
     }
 
 pub returns-in_err-take_out-in-Left : goal.returns-in_err-take_out-in-Left
@@ -81,6 +87,7 @@ returns-in_err-take_out-in-Left g c = record {
     why = why.item_memory (item_step c.args.item c.args.buf.now) (g.W.World.seen c.args.world.now) (g.W.World.seen c.args.world.now);
     plain = item_memory c.args.item c.args.buf.now (g.W.World.seen c.args.world.now) (g.W.World.seen c.args.world.now);
   });
+  parted = λ can read. if_err IsPlainEnd faults.NoMemory c.from_residual.result c.from_residual.ensures.1 tt;
 }
 
 pub returns-in-Moment : goal.returns-in-Moment
@@ -97,6 +104,7 @@ returns-in-Moment g c =
             (takes_none c.args.self.now (record c.args.self.now { net = c.set_moment.new.self }) refl
             (moment_handles c.in-Moment.moment (g.W.World.seen c.args.world.now) c.args.self.now.net c.set_moment.new.self c.args.self.now.queue c.requires.none_left set));
       };
+      parted = λ can read. tt;
     }
 
 pub returns-in-Idle : goal.returns-in-Idle
@@ -108,4 +116,5 @@ returns-in-Idle g c = record {
     read = λ read. read;
     takes = takes_none c.args.self.now c.args.self.now refl (rest_handles c.args.item c.args.buf.now (g.W.World.seen c.args.world.now) c.args.self.now.net c.args.self.now.queue c.requires.none_left c.in-Idle.is);
   };
+  parted = λ can read. tt;
 }

@@ -7,6 +7,9 @@ use Rattle.event_dispatch.specs.laws.ItemLaws.{kept_why}
 use Rattle.event_dispatch.specs.laws.PassesLaws.{same_next, at_fault, waits_none}
 use Rattle.event_dispatch.specs.laws.PlainLaws.{kept_memory, kept_none}
 use Rattle.event_dispatch.specs.laws.TakingLaws.{on_links_at_first, on_links_fails, on_links_as, on_links_waits, taken_passes, taken_so_far}
+use Rattle.event_dispatch.specs.laws.PartedLaws.{kept_read}
+use Rattle.event_dispatch.specs.Plain.{IsPlainEnd}
+use Rattle.event_dispatch.specs.laws.CutLaws.{if_err}
 use Rattle.event_dispatch.proofs.engine_core.Core.take_kept.Goals as goal
 
 pub loop-taken-init : goal.loop-taken-init
@@ -36,6 +39,7 @@ pub returns-in_err-dpid : goal.returns-in_err-dpid
 returns-in_err-dpid g c = record {
   passes = on_links_fails c.waiting.new.self c.from_residual.result c.loop-taken.invariant.passes c.from_residual.ensures.0;
   done = at_fault _ _ faults.NoMemory c.from_residual.result c.from_residual.ensures.1 (record { why = tt; plain = kept_memory c.args.self.now.net });
+  plain = if_err IsPlainEnd faults.NoMemory c.from_residual.result c.from_residual.ensures.1 tt;
 }
 
 pub returns-in_default : goal.returns-in_default
@@ -50,6 +54,7 @@ returns-in_default g c =
         read = taken_read c.loop-taken.self.net c.waiting.new.self rest so_far.read;
         kept = kept_ends c.loop-taken.taken (g.W.World.seen c.args.world.now) (g.W.World.seen c.loop-taken.world) c.args.self.now c.loop-taken.self _ so_far.kept rest (sym c.in_default.is ∙ c.in_ok-dpid.ensures.first) refl refl;
       };
+      plain = tt;
     }
 
 pub returns-in_err-take_message : goal.returns-in_err-take_message
@@ -62,6 +67,8 @@ returns-in_err-take_message g c =
         why = kept_why c.loop-taken.self.net.kept _ _ _ (g.W.World.seen c.args.world.now) (g.W.World.seen c.loop-taken.world) (g.W.World.seen c.take_message.new.world) c.in_err-take_message.field-0.0 so_far.read (sym c.in_ok-dpid.ensures.first ∙ c.in-Some.is) c.as_slice.ensures so_far.passes.passes.continues failed.done.why;
         plain = kept_none c.args.self.now c.loop-taken.self _ c.in_err-take_message.field-0.0 so_far.kept (sym c.in-Some.is ∙ c.in_ok-dpid.ensures.first);
       });
+      plain = if_err IsPlainEnd c.in_err-take_message.field-0.0 c.from_residual-in_err-take_message.result c.from_residual-in_err-take_message.ensures.1
+          (c.in_err-take_message.ensures.done.plain.plain (kept_read c.loop-taken.self.net.kept _ _ _ so_far.read (sym c.in_ok-dpid.ensures.first ∙ c.in-Some.is) c.as_slice.ensures));
     }
 
 pub returns : goal.returns
@@ -75,4 +82,5 @@ returns g c =
         read = so_far.read;
         kept = kept_all c.loop-taken.taken (g.W.World.seen c.args.world.now) (g.W.World.seen c.loop-taken.world) c.args.self.now c.loop-taken.self c.loop-taken-test.false so_far.kept;
       };
+      plain = tt;
     }

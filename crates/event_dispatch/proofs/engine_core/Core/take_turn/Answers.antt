@@ -10,6 +10,8 @@ use Rattle.event_dispatch.specs.laws.PassesLaws.{same_next, at_fault, passes_the
 use Rattle.event_dispatch.specs.laws.PlainLaws.{turn_memory}
 use Rattle.event_dispatch.specs.laws.TalkingLaws.{turn_closed}
 use Rattle.event_dispatch.specs.laws.TurnLaws.{turn_is}
+use Rattle.event_dispatch.specs.Plain.{IsPlainEnd}
+use Rattle.event_dispatch.specs.laws.CutLaws.{if_err}
 use Rattle.event_dispatch.proofs.engine_core.Core.take_turn.Goals as goal
 
 pub returns-in_err-closing : goal.returns-in_err-closing
@@ -19,6 +21,7 @@ returns-in_err-closing g c = record {
   done = at_fault _ (TurnFails g.W.World.Tells c.args.app.now.state.index c.args.app.now.rule.now.budget c.args.app.now.state.rest
       (g.W.World.seen c.args.world.now) (g.W.World.seen c.hold_turn.new.world) c.args.self.now.net) c.in_err-closing.field-0.0 c.from_residual.result
       c.from_residual.ensures.1 c.in_err-closing.ensures.done.fails;
+  parted = λ can. if_err IsPlainEnd c.in_err-closing.field-0.0 c.from_residual.result c.from_residual.ensures.1 (c.in_err-closing.ensures.parted can);
 }
 
 pub returns-in_err-close : goal.returns-in_err-close
@@ -43,6 +46,7 @@ returns-in_err-close g c = record {
             (λ told. subst (λ (i : ℕ). OwnSteps i (g.W.World.seen c.hold_turn.new.world) (g.W.World.seen c.close.new.world)) c.hold_turn.ensures.keeps.index
             (c.close.ensures.keeps.own told)) c.in_ok-closing.ensures.done.plays.plays;
       });
+  parted = λ can. if_err IsPlainEnd faults.NoMemory c.from_residual-in_err-close.result c.from_residual-in_err-close.ensures.1 tt;
 }
 
 pub returns : goal.returns
@@ -68,4 +72,5 @@ returns g c = record {
         c.args.self.now c.close.new.self c.args.app.now c.close.new.app c.in_ok-closing.ensures.done.plays c.hold_turn.ensures.keeps.index
         c.hold_turn.ensures.keeps.alive c.in_ok-close.ensures.done.stops c.in_ok-close.ensures.done.closes;
   };
+  parted = λ can. tt;
 }

@@ -5,12 +5,13 @@ use Rattle.event_dispatch.specs.declared.fault.Fault.TheVariants as faults
 use Rattle.event_dispatch.specs.EventParts.{OldestStops}
 use Rattle.event_dispatch.specs.Shows.{engine_of}
 use Rattle.event_dispatch.specs.Why.{served_by}
-use Rattle.event_dispatch.specs.laws.CutLaws.{still_is, fails_next, one_still, one_unwritten}
+use Rattle.event_dispatch.specs.laws.CutLaws.{still_is, fails_next, one_still, one_unwritten, if_err}
 use Rattle.event_dispatch.specs.laws.OfferLaws.{going_queued}
 use Rattle.event_dispatch.specs.laws.PassesLaws.{same_next, at_fault, passes_none, passes_fails, passes_as}
 use Rattle.event_dispatch.specs.laws.PlainLaws.{run_anyway, run_fails}
 use Rattle.event_dispatch.specs.laws.RoundLaws.{one_settled, none_settled, going_stays}
 use Rattle.event_dispatch.specs.laws.WhyLaws.{same_fell, IsWhy-sink}
+use Rattle.event_dispatch.specs.Plain.{IsPlainEnd}
 use Rattle.event_dispatch.proofs.run.Run.dispatch_oldest.Goals as goal
 
 pub returns-in_default : goal.returns-in_default
@@ -24,6 +25,7 @@ returns-in_default g c = record {
     dispatches = none_settled g.W.World.Tells (g.J.Judge.accepts c.args.judge.now) (g.K.Sink.contents c.args.sink.now) (g.W.World.seen c.args.world.now)
         c.args.self.now c.take_first.new.self c.take_first.ensures.rest (search rules) c.requires.none_waits;
   };
+  parted = λ can. tt;
 }
 
 pub returns-in_err-dispatch : goal.returns-in_err-dispatch
@@ -48,6 +50,7 @@ returns-in_err-dispatch g c = record {
             (g.W.World.seen c.dispatch.new.world) c.args.self.now c.take_first.new.self c.requires.few c.in-Some.ensures.first c.in-Some.ensures.rest
             c.in_err-dispatch.ensures.done.fails);
       });
+  parted = λ can. if_err IsPlainEnd c.in_err-dispatch.field-0.0 c.from_residual.result c.from_residual.ensures.1 (c.in_err-dispatch.ensures.parted can);
 }
 
 pub returns-in_err-write : goal.returns-in_err-write
@@ -65,6 +68,7 @@ returns-in_err-write g c = record {
         why = c.in_err-write.ensures.rose;
         plain = run_anyway (g.W.World.seen c.args.world.now) (g.W.World.seen c.dispatch.new.world) (engine_of c.args.self.now) (served_by faults.Write) tt;
       });
+  parted = λ can. if_err IsPlainEnd faults.Write c.from_residual-in_err-write.result c.from_residual-in_err-write.ensures.1 tt;
 }
 
 pub returns : goal.returns
@@ -81,4 +85,5 @@ returns g c = record {
         c.in_ok-dispatch.ensures.passes.continues c.requires.few c.in-Some.ensures.first c.in-Some.ensures.rest c.requires.none_waits
         c.in_ok-dispatch.ensures.done.dispatched c.write.ensures.stays c.in_ok-write.ensures.writes;
   };
+  parted = λ can. tt;
 }

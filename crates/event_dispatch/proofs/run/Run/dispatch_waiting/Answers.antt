@@ -5,6 +5,8 @@ use Rattle.event_dispatch.specs.laws.PassesLaws.{same_next, at_fault, passes_the
 use Rattle.event_dispatch.specs.laws.PlainLaws.{run_settled}
 use Rattle.event_dispatch.specs.laws.RoundLaws.{some_none, some_more, settles_early, settles_all}
 use Rattle.event_dispatch.specs.laws.WhyLaws.{fell_then, same_fell, why_behind}
+use Rattle.event_dispatch.specs.Plain.{IsPlainEnd}
+use Rattle.event_dispatch.specs.laws.CutLaws.{if_err}
 use Rattle.event_dispatch.proofs.run.Run.dispatch_waiting.Goals as goal
 
 pub loop-event-init : goal.loop-event-init
@@ -52,6 +54,7 @@ returns-in_err-dispatch_oldest g c = record {
             c.loop-event.self (served_by c.in_err-dispatch_oldest.field-0.0) c.loop-event.invariant.passes.continues c.loop-event.invariant.dispatches
             c.in_err-dispatch_oldest.ensures.passes.continues c.in_err-dispatch_oldest.ensures.done.plain;
       });
+  parted = λ can. if_err IsPlainEnd c.in_err-dispatch_oldest.field-0.0 c.from_residual.result c.from_residual.ensures.1 (c.in_err-dispatch_oldest.ensures.parted can);
 }
 
 pub returns-then-not-branch : goal.returns-then-not-branch
@@ -74,6 +77,7 @@ returns-then-not-branch g c = record {
         (g.W.World.seen c.loop-event.world) (g.W.World.seen c.dispatch_oldest.new.world) c.args.self.now c.loop-event.self c.dispatch_oldest.new.self
         c.in_ok-dispatch_oldest.ensures.passes.continues c.loop-event.invariant.dispatches c.in_ok-dispatch_oldest.ensures.done.dispatches);
   };
+  parted = λ can. tt;
 }
 
 pub loop-event-preserved : goal.loop-event-preserved
@@ -104,4 +108,5 @@ returns g c = record {
         (g.K.Sink.contents c.loop-event.sink) (g.W.World.seen c.args.world.now) (g.W.World.seen c.loop-event.world) c.args.self.now c.loop-event.self
         (omega (arith, c.loop-event-test.false, c.loop-event.auto._event-end)) c.loop-event.invariant.dispatches;
   };
+  parted = λ can. tt;
 }

@@ -2,12 +2,13 @@ use Rattle.event_dispatch.specs.declared.fault.Fault.TheVariants as faults
 use Rattle.std.proofs.Common.{refl}
 use Rattle.event_dispatch.specs.declared.fault.Fault.{Fault}
 use Rattle.event_dispatch.specs.Why.{served_by}
-use Rattle.event_dispatch.specs.laws.CutLaws.{still_is, end_stopped, end_unwritten}
+use Rattle.event_dispatch.specs.laws.CutLaws.{still_is, end_stopped, end_unwritten, if_err}
 use Rattle.event_dispatch.specs.laws.PassesLaws.{at_fault}
 use Rattle.event_dispatch.specs.laws.PartsLaws.{on_still, on_fails, on_written}
 use Rattle.event_dispatch.specs.laws.PlainLaws.{calm_anyway}
 use Rattle.event_dispatch.specs.laws.WholeLaws.{ends_is}
 use Rattle.event_dispatch.specs.laws.WhyLaws.{IsWhy-sink, same_fell}
+use Rattle.event_dispatch.specs.Plain.{IsPlainEnd}
 use Rattle.event_dispatch.proofs.run.Run.end_report.Goals as goal
 
 pub returns-in_err-note_last : goal.returns-in_err-note_last
@@ -25,6 +26,7 @@ returns-in_err-note_last g c =
             (g.K.Sink.faults c.args.sink.now) (served_by fault) (same_fell (g.K.Sink.faults c.args.sink.now)) fails.why;
         plain = fails.plain;
       });
+      parted = λ can. if_err IsPlainEnd c.in_err-note_last.field-0.0 c.from_residual.result c.from_residual.ensures.1 (c.in_err-note_last.ensures.parted can);
     }
 
 pub returns-in_err-write : goal.returns-in_err-write
@@ -37,6 +39,7 @@ returns-in_err-write g c = record {
     why = c.in_err-write.ensures.rose;
     plain = calm_anyway (g.W.World.seen c.args.world.now) (g.W.World.seen c.note_last.new.world) c.args.self.now.core.net (served_by faults.Write) tt;
   });
+  parted = λ can. if_err IsPlainEnd faults.Write c.from_residual-in_err-write.result c.from_residual-in_err-write.ensures.1 tt;
 }
 
 pub returns : goal.returns
@@ -45,4 +48,5 @@ returns g c = record {
   done = ends_is g.W.World.Tells (g.K.Sink.contents c.args.sink.now) (g.K.Sink.contents c.write.new.sink) (g.W.World.seen c.args.world.now)
       (g.W.World.seen c.note_last.new.world) c.args.self.now c.note_last.new.self c.write.new.self c.requires.none_waits c.in_ok-note_last.ensures.done.shown
       c.in_ok-note_last.ensures.done.waits.events c.in_ok-write.ensures.writes c.write.ensures.stays;
+  parted = λ can. tt;
 }

@@ -1,8 +1,10 @@
 use Rattle.std.proofs.Common.{rules, refl}
-use Rattle.event_dispatch.specs.laws.CutLaws.{finish_cut}
+use Rattle.event_dispatch.specs.laws.CutLaws.{finish_cut, if_err}
 use Rattle.event_dispatch.specs.laws.PartsLaws.{served_left, served_fails, served_done, finish_fails}
 use Rattle.event_dispatch.specs.laws.PlainLaws.{calm_anyway}
 use Rattle.event_dispatch.specs.laws.WholeLaws.{some_left}
+use Rattle.event_dispatch.specs.Plain.{IsPlainServed}
+use Rattle.event_dispatch.specs.Why.{served_by}
 use Rattle.event_dispatch.proofs.run.Run.finish.Goals as goal
 
 pub returns-then-not-is_empty : goal.returns-then-not-is_empty
@@ -17,6 +19,7 @@ returns-then-not-is_empty g c = record {
       plain = calm_anyway (g.W.World.seen c.args.world.now) (g.W.World.seen c.args.world.now) c.args.self.now.core.net _ tt;
     };
   };
+  parted = λ can. tt;
 }
 
 pub returns-in_err-end_report : goal.returns-in_err-end_report
@@ -32,6 +35,7 @@ returns-in_err-end_report g c =
             why = fails.why;
             plain = fails.plain;
           });
+      parted = λ can. if_err IsPlainServed (served_by fault) c.from_residual.result c.from_residual.ensures.1 (c.in_err-end_report.ensures.parted can);
     }
 
 pub returns : goal.returns
@@ -41,4 +45,5 @@ returns g c = record {
     finishes = ((search rules), c.in_ok-end_report.ensures.done);
     fails = tt;
   };
+  parted = λ can. tt;
 }

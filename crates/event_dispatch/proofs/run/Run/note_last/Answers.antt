@@ -6,6 +6,8 @@ use Rattle.event_dispatch.specs.laws.LastLaws.{last_shown}
 use Rattle.event_dispatch.specs.laws.PassesLaws.{at_fault, quiet_fails, quiet_as}
 use Rattle.event_dispatch.specs.laws.PlainLaws.{calm_anyway}
 use Rattle.event_dispatch.specs.laws.WhyLaws.{waits_at_end}
+use Rattle.event_dispatch.specs.Plain.{IsPlainEnd}
+use Rattle.event_dispatch.specs.laws.CutLaws.{if_err}
 use Rattle.event_dispatch.proofs.run.Run.note_last.Goals as goal
 
 pub returns-in_err-note_tables : goal.returns-in_err-note_tables
@@ -13,6 +15,7 @@ returns-in_err-note_tables g c = record {
   passes = quiet_fails _ _ c.note_tables.ensures.passes c.from_residual.ensures.0;
   apps = refl;
   done = at_fault _ _ c.in_err-note_tables.field-0.0 c.from_residual.result c.from_residual.ensures.1 c.in_err-note_tables.ensures.done;
+  parted = λ can. if_err IsPlainEnd c.in_err-note_tables.field-0.0 c.from_residual.result c.from_residual.ensures.1 (c.in_err-note_tables.ensures.parted can);
 }
 
 pub returns-in_err-note_end : goal.returns-in_err-note_end
@@ -25,6 +28,7 @@ returns-in_err-note_end g c = record {
         plain = calm_anyway (g.W.World.seen c.args.world.now) (g.W.World.seen c.note_tables.new.world) c.args.self.now.core.net
             (served_by faults.NoMemory) tt;
       });
+  parted = λ can. if_err IsPlainEnd faults.NoMemory c.from_residual-in_err-note_end.result c.from_residual-in_err-note_end.ensures.1 tt;
 }
 
 pub returns : goal.returns
@@ -36,4 +40,5 @@ returns g c = record {
     shown = last_shown c.args.self.now c.note_tables.new.self c.note_end.new.self c.deref.result.now c.in_ok-note_tables.ensures.passes.passes.continues
         c.in_ok-note_tables.ensures.done.shown c.deref.ensures.value c.in_ok-note_end.ensures.adds;
   };
+  parted = λ can. tt;
 }

@@ -1,11 +1,12 @@
 use Rattle.std.proofs.Common.{length, inl, ◌∙◌}
 use Rattle.event_dispatch.specs.Why.{served_by}
 use Rattle.event_dispatch.specs.Shows.{engine_of}
-use Rattle.event_dispatch.specs.laws.CutLaws.{goes_cut, rounds_cut}
+use Rattle.event_dispatch.specs.laws.CutLaws.{goes_cut, rounds_cut, if_err}
 use Rattle.event_dispatch.specs.laws.PartsLaws.{on_then, on_number, served_fails, served_then, served_number, goes_fails, went_fails}
 use Rattle.event_dispatch.specs.laws.PlainLaws.{run_anyway, whole_rounds}
 use Rattle.event_dispatch.specs.laws.WholeLaws.{went_as, number_then}
 use Rattle.event_dispatch.specs.laws.WhyLaws.{why_behind, fell_then}
+use Rattle.event_dispatch.specs.Plain.{IsPlainServed}
 use Rattle.event_dispatch.proofs.run.Run.run_opened.Goals as goal
 
 pub returns-in_err-begin : goal.returns-in_err-begin
@@ -22,6 +23,7 @@ returns-in_err-begin g c =
             why = fails.why;
             plain = run_anyway (g.W.World.seen c.args.world.now) (g.W.World.seen c.begin.new.world) (engine_of c.args.self.now) (served_by fault) fails.plain;
           });
+      parted = λ can. if_err IsPlainServed (served_by fault) c.from_residual.result c.from_residual.ensures.1 fails.plain;
     }
 
 pub returns-in_err-run_rounds : goal.returns-in_err-run_rounds
@@ -45,6 +47,7 @@ returns-in_err-run_rounds g c =
             plain = whole_rounds (g.W.World.seen c.args.world.now) (g.W.World.seen c.begin.new.world) (g.W.World.seen c.run_rounds.new.world) c.args.self.now
                 c.begin.new.self (served_by fault) first.passes.passes.continues first.done.begins later fails.plain;
           });
+      parted = λ can. if_err IsPlainServed (served_by fault) c.from_residual-in_err-run_rounds.result c.from_residual-in_err-run_rounds.ensures.1 (c.in_err-run_rounds.ensures.parted can);
     }
 
 pub returns : goal.returns
@@ -78,4 +81,5 @@ returns g c =
             }) last.passes.continues (fell_then (g.K.Sink.faults c.args.sink.now) (g.K.Sink.faults c.begin.new.sink)
             (g.K.Sink.faults c.run_rounds.new.sink) first.passes.never_fell rounds.passes.never_fell) last.done.fails;
       };
+      parted = c.finish.ensures.parted;
     }

@@ -4,12 +4,13 @@ use Rattle.checkpoint_store.specs.Slots.{Slot}
 use Rattle.event_dispatch.specs.declared.fault.Fault.{Fault}
 use Rattle.event_dispatch.specs.Why.{served_by}
 use Rattle.event_dispatch.specs.Shows.{engine_of}
-use Rattle.event_dispatch.specs.laws.CutLaws.{still_is, round_behind, round_unwritten}
+use Rattle.event_dispatch.specs.laws.CutLaws.{still_is, round_behind, round_unwritten, if_err}
 use Rattle.event_dispatch.specs.laws.PassesLaws.{at_fault}
 use Rattle.event_dispatch.specs.laws.PartsLaws.{on_of, on_still, on_then, on_done, on_fails, on_written, on_number}
 use Rattle.event_dispatch.specs.laws.PlainLaws.{run_anyway, run_calm, run_batch}
 use Rattle.event_dispatch.specs.laws.RoundLaws.{round_is, going_written}
 use Rattle.event_dispatch.specs.laws.WhyLaws.{IsWhy-sink, why_behind, same_fell}
+use Rattle.event_dispatch.specs.Plain.{IsPlainEnd}
 use Rattle.event_dispatch.proofs.run.Run.run_round.Goals as goal
 
 pub returns-in_err-rest : goal.returns-in_err-rest
@@ -32,6 +33,7 @@ returns-in_err-rest g c =
             (g.K.Sink.faults c.args.sink.now) (served_by fault) (same_fell (g.K.Sink.faults c.args.sink.now)) fails.why;
         plain = run_calm (g.W.World.seen c.args.world.now) (g.W.World.seen c.take_batch.new.world) c.args.self.now (served_by fault) fails.plain;
       });
+      parted = λ can. if_err IsPlainEnd c.in_err-rest.field-0.0 c.from_residual.result c.from_residual.ensures.1 (c.in_err-rest.ensures.parted can);
     }
 
 pub returns-in_err-write_noted : goal.returns-in_err-write_noted
@@ -51,6 +53,7 @@ returns-in_err-write_noted g c =
         why = c.in_err-write_noted.ensures.lines.rose;
         plain = run_anyway (g.W.World.seen c.args.world.now) (g.W.World.seen c.take_batch.new.world) (engine_of c.args.self.now) (served_by faults.Write) tt;
       });
+      parted = λ can. if_err IsPlainEnd faults.Write c.from_residual-in_err-write_noted.result c.from_residual-in_err-write_noted.ensures.1 tt;
     }
 
 pub returns-in_err-dispatch_waiting : goal.returns-in_err-dispatch_waiting
@@ -82,6 +85,7 @@ returns-in_err-dispatch_waiting g c =
             (served_by fault) batch.passes.continues c.requires.none_waits batch.done.waits batch.done.batch
             c.write_noted.ensures.lines.stays later fails.plain;
       });
+      parted = λ can. if_err IsPlainEnd c.in_err-dispatch_waiting.field-0.0 c.from_residual-in_err-dispatch_waiting.result c.from_residual-in_err-dispatch_waiting.ensures.1 (c.in_err-dispatch_waiting.ensures.parted can);
     }
 
 pub returns : goal.returns
@@ -103,6 +107,7 @@ returns g c =
         number = waiting.done.number ∙ (ap (λ (slots : List Slot). length slots) (c.in_ok-write_noted.ensures.lines.waits.store ∙ batch.done.waits.store));
         events = omega (arith, waiting.done.events, c.in_ok-write_noted.ensures.lines.waits.events, batch.done.waits.events);
       };
+      parted = λ can. tt;
     }
 
 pub dispatch_waiting-requires-clause-going : goal.dispatch_waiting-requires-clause-going

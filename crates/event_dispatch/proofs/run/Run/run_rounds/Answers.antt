@@ -7,6 +7,8 @@ use Rattle.event_dispatch.specs.laws.PartsLaws.{on_none, on_then, on_done, on_fa
 use Rattle.event_dispatch.specs.laws.PlainLaws.{run_rounds}
 use Rattle.event_dispatch.specs.laws.RoundLaws.{rounds_none, rounds_next, rounds_last, rounds_out}
 use Rattle.event_dispatch.specs.laws.WhyLaws.{why_behind}
+use Rattle.event_dispatch.specs.Plain.{IsPlainEnd}
+use Rattle.event_dispatch.specs.laws.CutLaws.{if_err}
 use Rattle.event_dispatch.proofs.run.Run.run_rounds.Goals as goal
 
 pub loop-round-init : goal.loop-round-init
@@ -55,6 +57,7 @@ returns-in-End g c = record {
     going = c.in_ok-run_round.ensures.done.going;
     number = c.in_ok-run_round.ensures.done.number ∙ c.loop-round.invariant.number;
   };
+  parted = λ can. tt;
 }
 
 pub returns : goal.returns
@@ -67,6 +70,7 @@ returns g c = record {
     going = c.loop-round.invariant.going;
     number = c.loop-round.invariant.number;
   };
+  parted = λ can. tt;
 }
 
 pub returns-in_err-run_round : goal.returns-in_err-run_round
@@ -96,4 +100,5 @@ returns-in_err-run_round g c =
         plain = run_rounds (g.W.World.seen c.args.world.now) (g.W.World.seen c.loop-round.world) (g.W.World.seen c.run_round.new.world) c.args.self.now
             c.loop-round.self (served_by fault) before.passes.continues c.loop-round.invariant.rounds later fails.plain;
       });
+      parted = λ can. if_err IsPlainEnd c.in_err-run_round.field-0.0 c.from_residual.result c.from_residual.ensures.1 (c.in_err-run_round.ensures.parted can);
     }

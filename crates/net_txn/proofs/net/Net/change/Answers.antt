@@ -5,39 +5,39 @@ use Rattle.std.proofs.lemmas.Result.{err_from_is_err_and}
 use Rattle.app_frames.specs.declared.frame.Answer.TheVariants.{Fine, Unknown}
 use Rattle.net_txn.proofs.net.Net.change.Goals as goal
 
-pub returns-in_default : goal.returns-in_default
-returns-in_default g c =
+pub returns-in_default-clause-changes : goal.returns-in_default-clause-changes
+returns-in_default-clause-changes g c =
     let v : c.self.inside.views ≡ c.args.self.now.views = ap (λ (n : NetState). n.views) c.self.view_is in
     Changes-by_host {Tells = g.W.World.Tells} c.args.dpid c.args.bytes.now (g.W.World.seen c.args.world.now) c.args.self.now c.args.self.now _ (host_unknown c.args.dpid c.args.bytes.now c.args.self.now c.self.inside.views v c.in_default.ensures.rows)
     (holds_nothing c.args.dpid c.args.bytes.now Unknown c.args.self.now (unknown_unheld c.args.dpid c.args.bytes.now))
 
-pub returns-in-Answered : goal.returns-in-Answered
-returns-in-Answered g c =
+pub returns-in-Answered-clause-changes : goal.returns-in-Answered-clause-changes
+returns-in-Answered-clause-changes g c =
     let v : c.self.inside.views ≡ c.args.self.now.views = ap (λ (n : NetState). n.views) c.self.view_is in
     let knows = host_knows c.args.dpid c.args.bytes.now c.args.self.now c.self.inside.views c.in-Some.view.now.rows.rows c.as_slice.result.now v c.in-Some.ensures.rows c.as_slice.ensures in
     let answered = rw c.in-Answered.is at c.in_ok-answer.ensures in
     Changes-by_host {Tells = g.W.World.Tells} c.args.dpid c.args.bytes.now (g.W.World.seen c.args.world.now) c.args.self.now c.args.self.now c.in-Answered.answer (knows ∙ answered.0)
     (holds_nothing c.args.dpid c.args.bytes.now c.in-Answered.answer c.args.self.now (unheld c.args.dpid c.args.bytes.now c.in-Answered.answer (answered.1 c.args.dpid)))
 
-pub returns-in-Asks : goal.returns-in-Asks
-returns-in-Asks g c =
+pub returns-in-Asks-clause-changes : goal.returns-in-Asks-clause-changes
+returns-in-Asks-clause-changes g c =
     let v : c.self.inside.views ≡ c.args.self.now.views = ap (λ (n : NetState). n.views) c.self.view_is in
     let knows = host_knows c.args.dpid c.args.bytes.now c.args.self.now c.self.inside.views c.in-Some.view.now.rows.rows c.as_slice.result.now v c.in-Some.ensures.rows c.as_slice.ensures in
     let asked = rw c.in-Asks.is at c.in_ok-answer.ensures in
-    Changes-by_switch g.W.World.Tells c.args.dpid c.args.bytes.now (g.W.World.seen c.args.world.now) (g.W.World.seen c.make_or_lose.new.world) c.args.self.now c.make_or_lose.new.self c.make_or_lose.result asked.1.0 c.in-Asks.flow (knows ∙ asked.0) asked.1.1 c.make_or_lose.ensures
+    Changes-by_switch g.W.World.Tells c.args.dpid c.args.bytes.now (g.W.World.seen c.args.world.now) (g.W.World.seen c.make_or_lose.new.world) c.args.self.now c.make_or_lose.new.self c.make_or_lose.result asked.1.0 c.in-Asks.flow (knows ∙ asked.0) asked.1.1 c.make_or_lose.ensures.makes
 
-pub returns-in_err-answer : goal.returns-in_err-answer
-returns-in_err-answer g c =
+pub returns-in_err-answer-clause-changes : goal.returns-in_err-answer-clause-changes
+returns-in_err-answer-clause-changes g c =
     let p = err_from_is_err_and c.from_residual.result c.from_residual.ensures.1 in
     rw (p.1, p.2) (Changes-short c.args.dpid c.args.bytes.now (g.W.World.seen c.args.world.now) c.args.self.now)
 
-pub returns-in_err-hold-in-Holds : goal.returns-in_err-hold-in-Holds
-returns-in_err-hold-in-Holds g c =
+pub returns-in_err-hold-in-Holds-clause-changes : goal.returns-in_err-hold-in-Holds-clause-changes
+returns-in_err-hold-in-Holds-clause-changes g c =
     let p = err_from_is_err_and c.from_residual-in_err-hold-in-Holds.result c.from_residual-in_err-hold-in-Holds.ensures.1 in
     rw (p.1, p.2, c.in_err-hold-in-Holds.ensures.err) (Changes-short c.args.dpid c.args.bytes.now (g.W.World.seen c.args.world.now) c.args.self.now)
 
-pub returns-in_ok-hold-in-Holds : goal.returns-in_ok-hold-in-Holds
-returns-in_ok-hold-in-Holds g c =
+pub returns-in_ok-hold-in-Holds-clause-changes : goal.returns-in_ok-hold-in-Holds-clause-changes
+returns-in_ok-hold-in-Holds-clause-changes g c =
     let v : c.self.inside.views ≡ c.args.self.now.views = ap (λ (n : NetState). n.views) c.self.view_is in
     let knows = host_knows c.args.dpid c.args.bytes.now c.args.self.now c.self.inside.views c.in-Some.view.now.rows.rows c.as_slice.result.now v c.in-Some.ensures.rows c.as_slice.ensures in
     let held = rw c.in-Holds.is at c.in_ok-answer.ensures in

@@ -25,12 +25,12 @@ returns-in_err-greet-clause-halts g c =
     let new = g.W.World.seen c.greet.new.world in
     let halt = c.in_err-greet.field-0.0 in
     let halts = greeted_halts {Tells = g.W.World.Tells} c.args.dpid c.self.inside.xid c.greeted-awaited.result c.as_slice.result.now c.as_slice-2.result.now old new _ c.greet.new.kept halt (omega arith)
-    c.greeted-awaited.ensures (c.as_slice.ensures ∙ c.in_ok-emptying.ensures.bytes) (c.as_slice-2.ensures ∙ c.configuring.ensures.bytes ∙ ap (λ (n : ℕ). message_bytes n (SetConfig first_config)) c.following.ensures.next) c.in_err-greet.ensures in
+    c.greeted-awaited.ensures (c.as_slice.ensures ∙ c.in_ok-emptying.ensures.bytes) (c.as_slice-2.ensures ∙ c.configuring.ensures.bytes ∙ ap (λ (n : ℕ). message_bytes n (SetConfig first_config)) c.following.ensures.next) c.in_err-greet.ensures.talks in
     rw (p.1, p.2) (record {
       not_joined = record {
         views = c.reserve.ensures ∙ ap (λ (n : NetState). n.views) v;
         known = ap (λ (ps : PortLists). ps.known) c.reserve-2.ensures ∙ ap (λ (n : NetState). n.ports) v;
-        kept = kept_for c.args.dpid c.greeted-awaited.result.dpid _ c.args.self.now.kept c.greet.new.kept (ap (λ (a : Awaited). a.dpid) c.greeted-awaited.ensures) (ap (λ (n : NetState). n.kept) v) (talks_kept c.in_err-greet.ensures);
+        kept = kept_for c.args.dpid c.greeted-awaited.result.dpid _ c.args.self.now.kept c.greet.new.kept (ap (λ (a : Awaited). a.dpid) c.greeted-awaited.ensures) (ap (λ (n : NetState). n.kept) v) (talks_kept c.in_err-greet.ensures.talks);
       };
       halts = subst (λ (n : ℕ). WaitHalts g.W.World.Tells (greeted_from c.args.dpid n) (greeting c.args.dpid n) old new halt) x halts;
     })
@@ -39,26 +39,26 @@ pub returns-in_err-admit-clause-halts : goal.returns-in_err-admit-clause-halts
 returns-in_err-admit-clause-halts g c =
     let p = err_from_is_err_and c.from_residual-in_err-admit.result c.from_residual-in_err-admit.ensures.1 in
     let v = c.self.view_is in
-    rw (p.1, p.2) (short_behind c.args.dpid _ _ (g.W.World.seen c.args.world.now) (g.W.World.seen c.greet.new.world) c.args.self.now _ _ c.greet.new.kept _ c.in_ok-greet.ensures (record {
+    rw (p.1, p.2) (short_behind c.args.dpid _ _ (g.W.World.seen c.args.world.now) (g.W.World.seen c.greet.new.world) c.args.self.now _ _ c.greet.new.kept _ c.in_ok-greet.ensures.talks (record {
       views = c.in_err-admit.ensures.views_err ∙ c.reserve.ensures ∙ ap (λ (n : NetState). n.views) v;
       known = c.in_err-admit.ensures.ports_err ∙ ap (λ (ps : PortLists). ps.known) c.reserve-2.ensures ∙ ap (λ (n : NetState). n.ports) v;
-      kept = kept_for c.args.dpid c.greeted-awaited.result.dpid _ c.args.self.now.kept c.greet.new.kept (ap (λ (a : Awaited). a.dpid) c.greeted-awaited.ensures) (ap (λ (n : NetState). n.kept) v) (waits_kept (talks_waits (c.as_slice.result.now ∷ c.as_slice-2.result.now ∷ []) c.in_ok-greet.ensures));
+      kept = kept_for c.args.dpid c.greeted-awaited.result.dpid _ c.args.self.now.kept c.greet.new.kept (ap (λ (a : Awaited). a.dpid) c.greeted-awaited.ensures) (ap (λ (n : NetState). n.kept) v) (waits_kept (talks_waits (c.as_slice.result.now ∷ c.as_slice-2.result.now ∷ []) c.in_ok-greet.ensures.talks));
     }))
 
 pub returns-in_err-greet-clause-speaks : goal.returns-in_err-greet-clause-speaks
-returns-in_err-greet-clause-speaks g c = talks_speak c.args.self.now.xid 3 _ _ _ c.args.dpid (c.as_slice.result.now ∷ c.as_slice-2.result.now ∷ []) c.greet.result (ap (λ (a : Awaited). a.dpid) c.greeted-awaited.ensures) c.greet.ensures
+returns-in_err-greet-clause-speaks g c = talks_speak c.args.self.now.xid 3 _ _ _ c.args.dpid (c.as_slice.result.now ∷ c.as_slice-2.result.now ∷ []) c.greet.result (ap (λ (a : Awaited). a.dpid) c.greeted-awaited.ensures) c.greet.ensures.talks
     (greeting_ascends c.args.dpid c.args.self.now.xid c.greeted-awaited.result c.as_slice.result.now c.as_slice-2.result.now (c.greeted-awaited.ensures ∙ ap (λ (n : NetState). greeted_from c.args.dpid n.xid) c.self.view_is)
     (c.as_slice.ensures ∙ c.in_ok-emptying.ensures.bytes ∙ ap (λ (n : NetState). message_bytes n.xid (FlowMod delete_all)) c.self.view_is)
     (c.as_slice-2.ensures ∙ c.configuring.ensures.bytes ∙ ap (λ (x : ℕ). message_bytes x (SetConfig first_config)) c.following.ensures.next ∙ ap (λ (n : NetState). message_bytes (next_xid n.xid) (SetConfig first_config)) c.self.view_is))
 
 pub returns-in_err-admit-clause-speaks : goal.returns-in_err-admit-clause-speaks
-returns-in_err-admit-clause-speaks g c = talks_speak c.args.self.now.xid 3 _ _ _ c.args.dpid (c.as_slice.result.now ∷ c.as_slice-2.result.now ∷ []) c.greet.result (ap (λ (a : Awaited). a.dpid) c.greeted-awaited.ensures) c.greet.ensures
+returns-in_err-admit-clause-speaks g c = talks_speak c.args.self.now.xid 3 _ _ _ c.args.dpid (c.as_slice.result.now ∷ c.as_slice-2.result.now ∷ []) c.greet.result (ap (λ (a : Awaited). a.dpid) c.greeted-awaited.ensures) c.greet.ensures.talks
     (greeting_ascends c.args.dpid c.args.self.now.xid c.greeted-awaited.result c.as_slice.result.now c.as_slice-2.result.now (c.greeted-awaited.ensures ∙ ap (λ (n : NetState). greeted_from c.args.dpid n.xid) c.self.view_is)
     (c.as_slice.ensures ∙ c.in_ok-emptying.ensures.bytes ∙ ap (λ (n : NetState). message_bytes n.xid (FlowMod delete_all)) c.self.view_is)
     (c.as_slice-2.ensures ∙ c.configuring.ensures.bytes ∙ ap (λ (x : ℕ). message_bytes x (SetConfig first_config)) c.following.ensures.next ∙ ap (λ (n : NetState). message_bytes (next_xid n.xid) (SetConfig first_config)) c.self.view_is))
 
 pub returns-clause-speaks : goal.returns-clause-speaks
-returns-clause-speaks g c = talks_speak c.args.self.now.xid 3 _ _ _ c.args.dpid (c.as_slice.result.now ∷ c.as_slice-2.result.now ∷ []) c.greet.result (ap (λ (a : Awaited). a.dpid) c.greeted-awaited.ensures) c.greet.ensures
+returns-clause-speaks g c = talks_speak c.args.self.now.xid 3 _ _ _ c.args.dpid (c.as_slice.result.now ∷ c.as_slice-2.result.now ∷ []) c.greet.result (ap (λ (a : Awaited). a.dpid) c.greeted-awaited.ensures) c.greet.ensures.talks
     (greeting_ascends c.args.dpid c.args.self.now.xid c.greeted-awaited.result c.as_slice.result.now c.as_slice-2.result.now (c.greeted-awaited.ensures ∙ ap (λ (n : NetState). greeted_from c.args.dpid n.xid) c.self.view_is)
     (c.as_slice.ensures ∙ c.in_ok-emptying.ensures.bytes ∙ ap (λ (n : NetState). message_bytes n.xid (FlowMod delete_all)) c.self.view_is)
     (c.as_slice-2.ensures ∙ c.configuring.ensures.bytes ∙ ap (λ (x : ℕ). message_bytes x (SetConfig first_config)) c.following.ensures.next ∙ ap (λ (n : NetState). message_bytes (next_xid n.xid) (SetConfig first_config)) c.self.view_is))
@@ -75,9 +75,14 @@ returns-clause-joins g c =
           (c.as_slice.ensures ∙ c.in_ok-emptying.ensures.bytes ∙ ap (λ (n : NetState). message_bytes n.xid (FlowMod delete_all)) v)
           (c.as_slice-2.ensures ∙ c.configuring.ensures.bytes ∙ ap (λ (x : ℕ). message_bytes x (SetConfig first_config)) c.following.ensures.next ∙ ap (λ (n : NetState). message_bytes (next_xid n.xid) (SetConfig first_config)) v)
           (ap (λ (n : NetState). n.kept) v)
-          (talks_waits (first ∷ second ∷ []) c.in_ok-greet.ensures);
+          (talks_waits (first ∷ second ∷ []) c.in_ok-greet.ensures.talks);
       views = search rules;
       known = search rules;
       xid = search rules;
-      losses = replied_none_lost _ _ c.in_ok-greet.ensures;
+      losses = replied_none_lost _ _ c.in_ok-greet.ensures.talks;
     }
+
+pub returns-in_err-greet-clause-parted : goal.returns-in_err-greet-clause-parted
+returns-in_err-greet-clause-parted g c =
+    let p = err_from_is_err_and c.from_residual-in_err-greet.result c.from_residual-in_err-greet.ensures.1 in
+    λ can. rw (p.1, p.2) (c.in_err-greet.ensures.parted can)

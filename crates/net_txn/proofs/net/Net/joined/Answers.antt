@@ -9,6 +9,7 @@ use Rattle.net_txn.specs.laws.JoiningStepLaws.{in_step_of}
 use Rattle.net_txn.specs.laws.TalkLaws.{speaks_on, speaks_links, speaks_place}
 use Rattle.net_txn.specs.laws.OwnIdLaws.{third_next, waits_leave, speaks_on_ids, speaks_over_ids}
 use Rattle.net_txn.specs.laws.ReadLaws.{joins_read}
+use Rattle.net_txn.specs.Parting.{IsPlainHalt}
 use Rattle.net_txn.proofs.net.Net.joined.Goals as goal
 
 pub returns-in-Ok-clause-links : goal.returns-in-Ok-clause-links
@@ -67,3 +68,6 @@ returns-in-Err-Lost-clause-ids g c =
 pub returns-in-Err-Fault-clause-ids : goal.returns-in-Err-Fault-clause-ids
 returns-in-Err-Fault-clause-ids g c =
     speaks_over_ids c.join.new.self.xid c.join.ensures.speaks (omega arith) (λ small. ap (λ (n : NetState). n.xid) c.join.ensures.stays ∙ third_next c.args.self.now.xid small)
+
+pub returns-in-Err-Fault-clause-parted : goal.returns-in-Err-Fault-clause-parted
+returns-in-Err-Fault-clause-parted g c = λ can. subst IsPlainHalt c.in-Err-Fault.field-0-is (c.in-Err-Fault.ensures.parted can)

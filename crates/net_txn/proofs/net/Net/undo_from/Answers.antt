@@ -10,8 +10,8 @@ use Rattle.net_txn.specs.Undos.{IsUndoOrder, Undoes, key_logged}
 use Rattle.net_txn.specs.laws.WholeLaws.{undoes}
 use Rattle.net_txn.proofs.net.Net.undo_from.Goals as goal
 
-pub returns : goal.returns
-returns g c =
+pub returns-clause-undoes : goal.returns-clause-undoes
+returns-clause-undoes g c =
     let s = c.self.inside in
     let u = c.undo_log.ensures in
     let n = c.undo_log.new in
