@@ -10,12 +10,15 @@ use Rattle.lego_model.specs.Places.{Place}
 use Rattle.lego_model.specs.Controller.{event_frame}
 use Rattle.outside.specs.Seen.{Seen}
 use Rattle.outside.specs.State.{state}
+use Rattle.outside.specs.Conforming.{Conforming}
 use Rattle.net_txn.specs.Net.{NetState}
+use Rattle.net_txn.specs.Views.{ViewsAscend}
 use Rattle.app_visor.specs.declared.state.TurnEnd.{TurnEnd}
 use Rattle.app_visor.specs.Beats.{Beat}
 use Rattle.app_visor.specs.Turns.{reply_by, Turns}
 use Rattle.app_visor.specs.Attempts.{OneTry, starts_of, Restarts}
 use Rattle.switch_laws.specs.Shown.{shown_places, shown_by}
+use Rattle.switch_laws.specs.Since.{Ready}
 use Rattle.journal_laws.specs.Readings.{LastStands}
 use Rattle.lego_model.specs.History.{starts_in, replies_in, own_acts}
 
@@ -42,6 +45,8 @@ pub record AreRead (Own : Type 0) (app : ℕ) (Tells : Type 0) (accepts : List T
       → TurnRead app budget rest old mid t.given t.trace
   pub tries : (kept : List ℕ) (old new : Seen Own) (found : Option (List ℕ)) (tries : List Tried) → Tells → (s : Restarts Tells app kept old new found tries) → TriesRead app old new s.all found
 
--- the judge of the engine says what that of the reference controller says of the switches that it shows
+-- The judge of the engine says what that of the reference controller says of the switches that it shows, in a world that keeps its word, where
+-- views and switches agree.
 pub record JudgesAlike (Own : Type 0) (allows : List Place → Bool) (accepts : List TableView → Bool) : Type 0 where
-  pub alike : (seen : Seen Own) (net : NetState) → allows (shown_places seen.given.declared (shown_by net) (state seen)) ≡ accepts net.views
+  pub alike : (seen : Seen Own) (net : NetState) → Conforming seen → Ready seen net → ViewsAscend 0 net.views
+      → allows (shown_places seen.given.declared (shown_by net) (state seen)) ≡ accepts net.views

@@ -19,7 +19,7 @@ ghost use Rattle.app_visor.specs.Beats.{Stops};
 ghost use Rattle.app_visor.specs.Turns.{reply_by, Turns};
 ghost use Rattle.switch_laws.specs.Shown.{shown_by, shown_places};
 ghost use Rattle.switch_laws.specs.Released.{StopsFor};
-ghost use Rattle.switch_laws.specs.Since.{Ready};
+ghost use Rattle.switch_laws.specs.Since.{Ready, Goes};
 ghost use Rattle.lego_model.specs.AfterFault.{NoEventSince, UndoneButFailed, TurnDone, TurnKept, TurnReleasing, TablesLeft};
 ghost use Rattle.lego_model.specs.laws.CutTurnLaws.{CutAtMessage};
 ghost use Rattle.turn_laws.specs.Chain.{PlayedAlike};
@@ -28,11 +28,12 @@ use outside::World;
 
 /// In a world that keeps its word, where all was ready: a turn goes as the reference controller plays it on its own switches,
 /// where it loses the same ones at the same messages, and these stand then as the world's do, with the flags of the owners; and the
-/// same packets are held. What may have to be undone of it stands so.
+/// same packets are held. What may have to be undone of it stands so. Its judge says of these switches what the engine's says of the
+/// views, wherever views and switches stand so.
 pub fn turns_are_shown<W: World>()
     ensures { (accepts : List TableView → Bool) (allows : List Place → Bool) (app budget : ℕ) (rest frame : List ℕ) (old new : Seen W.Own) (net now_net : NetState) (end : TurnEnd) (unread : List ℕ)
         → W.Tells → Conforming new → Ready old net → (t : Turns W.Tells accepts app budget rest frame old new net now_net end unread)
-        → allows (shown_places old.given.declared (shown_by now_net) (state new)) ≡ accepts now_net.views
+        → ((lost : List ℕ) → Goes (length net.log) lost old new net now_net → allows (shown_places old.given.declared (shown_by now_net) (state new)) ≡ accepts now_net.views)
         → PlayedAlike allows budget rest (reply_by t.given t.trace) old new net now_net t.answers t.outcome }
 {}
 

@@ -117,8 +117,10 @@ at_end Tells accepts allows event old mid e mid_net end unread told keeps judges
     let whole = Talk (give_act t.given e.index frame) ∷ t.trace in
     let first : Goes (length e.net.log) [] old old e.net e.net = record { since = begun old e.net; ready = calm.ready } in
     let given_is : mid.given ≡ old.given = (Chain-continues Tells e.index whole old mid e.net mid_net t.chain).given in
-    let judged : allows (places_at old mid mid_net) ≡ accepts mid_net.views =
-    subst (λ (g : Given _). allows (shown_places g.declared (shown_by mid_net) (state mid)) ≡ accepts mid_net.views) given_is (judges.alike mid mid_net) in
+    let rests = chain_rests Tells e.index whole old mid e.net mid_net told t.chain in
+    let judged : (lost : List ℕ) → Goes (length e.net.log) lost old mid e.net mid_net → allows (places_at old mid mid_net) ≡ accepts mid_net.views =
+    λ lost goes. subst (λ (g : Given _). allows (shown_places g.declared (shown_by mid_net) (state mid)) ≡ accepts mid_net.views) given_is
+        (judges.alike mid mid_net keeps goes.ready (turn_stays (length e.net.log) lost old mid e.net mid_net goes rests calm).order) in
     let shown = turn-shown Tells accepts allows e.index e.rule.budget e.rest frame old mid e.net mid_net end unread told keeps calm.ready t judged in
     record {
       messages = shown.messages;
@@ -126,7 +128,7 @@ at_end Tells accepts allows event old mid e mid_net end unread told keeps judges
       leaves = shown.leaves;
       goes = shown.goes;
       chain = chain_keeps Tells e.index (length e.net.log) [] old e.net whole old mid e.net mid_net told keeps t.chain first calm.sound;
-      rests = chain_rests Tells e.index whole old mid e.net mid_net told t.chain;
+      rests = rests;
       marks = chain_marks Tells e.index t.trace t.chain.1.0 mid e.net mid_net told t.chain.1.1.1 (behind_event e.index t.given frame (acts_in t.trace) t.answers t.inputs_is)
           ∙ given_marks Tells t.given e.index e.events frame old t.chain.1.0 told t.chain.1.1.0 (event_numbered e.events e.net.moment event few);
       turned = λ packets undone starts said replies front.

@@ -185,7 +185,8 @@ chain-shown {Own} Tells app allows start lost first net0 (Asks x ∷ trace) old 
 -- ---- A turn
 
 pub turn-shown : {Own : Type 0} (Tells : Type 0) (accepts : List TableView → Bool) (allows : List Place → Bool) (app budget : ℕ) (rest frame : List ℕ) (old new : Seen Own) (net now_net : NetState) (end : TurnEnd) (unread : List ℕ) → Tells → Conforming new → Ready old net
-    → (t : Turns Tells accepts app budget rest frame old new net now_net end unread) → allows (shown_places old.given.declared (shown_by now_net) (state new)) ≡ accepts now_net.views
+    → (t : Turns Tells accepts app budget rest frame old new net now_net end unread)
+    → ((lost : List ℕ) → Goes (length net.log) lost old new net now_net → allows (shown_places old.given.declared (shown_by now_net) (state new)) ≡ accepts now_net.views)
     → PlayedAlike allows budget rest (reply_by t.given t.trace) old new net now_net t.answers t.outcome
 turn-shown Tells accepts allows app budget rest frame old new net now_net end unread told keeps ready t judges =
     let first : Goes (length net.log) [] old old net net = record { since = begun old net; ready = ready } in
@@ -195,5 +196,5 @@ turn-shown Tells accepts allows app budget rest frame old new net now_net end un
       left = leads.left;
       leaves = leads.leaves;
       goes = leads.goes;
-      played = turn_alike (table_of allows) (play_at old old net leads.messages []) (play_at old new now_net [] leads.left) t (leads.answers []) judges;
+      played = turn_alike (table_of allows) (play_at old old net leads.messages []) (play_at old new now_net [] leads.left) t (leads.answers []) (judges (leavers leads.left) leads.goes);
     }
