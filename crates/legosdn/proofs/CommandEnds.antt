@@ -5,14 +5,13 @@ use Rattle.command_words.specs.declared.command.Command.{Command}
 use Rattle.command_words.specs.declared.command.Command.TheVariants.{Replay, Run}
 use Rattle.command_words.specs.Commands.{command_in}
 use Rattle.lego_io.specs.Count.{NeverFell}
-use Rattle.crash_policy.specs.Policies.{AppValue}
 use Rattle.outside.specs.Seen.{Seen}
 use Rattle.outside.specs.InOrder.{BringMessages}
 use Rattle.sim_world.specs.World.{WorldData, seen_of}
 use Rattle.legosdn.specs.declared.stop.InputRefusal.{InputRefusal}
 use Rattle.legosdn.specs.declared.stop.Stop.{Stop}
 use Rattle.legosdn.specs.declared.stop.Stop.TheVariants.{Usage, Refused, ReadFault, WriteFault, Shut, NextFault, SwitchBroke, Diverged, EventsLeft, NoMemory}
-use Rattle.legosdn.specs.Input.{run_policy}
+use Rattle.legosdn.specs.Input.{ProgramValue, run_policy}
 use Rattle.legosdn.specs.Stops.{stop_status, stop_line, refusal_line}
 use Rattle.legosdn.specs.Headline.{NoneFloods, Streams, streams, IsReplay, IsRun, IsNoSession, IsNoPolicy, IsReadCause, IsRunCause, IsEarly, IsLate, SpellsPolicy, OfInput, Loaded, KeepsLines, RunsAs, Wrote, NotBegun, Replays}
 use Rattle.legosdn.specs.Live.{Taken, IsTaken, TellsInOrder, ServesWhole, ServesUntil, ServesAs, ServesCut, StandsAt, TakenAs, ServesTaken, Serves}
@@ -96,13 +95,13 @@ none_early : {Own T : Type 0} (Stays Tells : Type 0) (k l : ℕ) (old new : Seen
 none_early Stays Tells k l old new (Ok x) cause = tt
 none_early Stays Tells k l old new (Err stop) cause = not_early Stays Tells k l old new stop cause
 
-pub serves_taken : {Own T : Type 0} (Tells : Type 0) (rounds : ℕ) (old new : Streams) (was now : Seen Own) (Stays : Type 0) (result : Result T Stop) (apps : List AppValue) → Taken apps old.remaining new.remaining
-    → (TellsInOrder Tells was now → ServesAs apps rounds result now old.contents new.contents) → (Tells → TakesCourse was now old.contents (StandsAt result new.contents)) → IfErr result (IsRunCause Tells old.sink_faults new.sink_faults was now)
+pub serves_taken : {Own T : Type 0} (Tells : Type 0) (rounds : ℕ) (old new : Streams) (was now : Seen Own) (Stays : Type 0) (result : Result T Stop) (program : ProgramValue) → Taken program old.remaining new.remaining
+    → (TellsInOrder Tells was now → ServesAs program rounds result now old.contents new.contents) → (Tells → TakesCourse was now old.contents (StandsAt result new.contents)) → IfErr result (IsRunCause Tells old.sink_faults new.sink_faults was now)
     → Serves Tells rounds result old new was now Stays
-serves_taken Tells rounds old new was now Stays result apps taken runs course why = record {
-  taken = taken_as old.remaining new.remaining result (apps, taken);
-  no_other = inl (apps, taken);
-  runs = λ tells. inl (apps, taken, runs tells);
+serves_taken Tells rounds old new was now Stays result program taken runs course why = record {
+  taken = taken_as old.remaining new.remaining result (program, taken);
+  no_other = inl (program, taken);
+  runs = λ tells. inl (program, taken, runs tells);
   course = course;
   why = ran_causes Tells IsNoPolicy old.remaining old.source_faults new.source_faults old.sink_faults new.sink_faults was now result why;
   early = none_early Stays Tells old.sink_faults new.sink_faults was now result why;
@@ -117,12 +116,12 @@ when_late P (Ok x) holds = tt
 when_late P (Err stop) holds = λ late. holds
 
 -- a session was loaded into a new world, and run
-pub replays_loaded : {T : Type 0} (old new : Streams) (was begun now : WorldData) (Stays : Type 0) (result : Result T Stop) (apps : List AppValue) → Loaded apps old.remaining new.remaining (seen_of now)
-    → RunsAs apps result now old.contents new.contents → KeepsLines now → IsNew was → IsNew begun → IfErr result (IsRunCause (Unit {0}) old.sink_faults new.sink_faults (seen_of begun) (seen_of now))
+pub replays_loaded : {T : Type 0} (old new : Streams) (was begun now : WorldData) (Stays : Type 0) (result : Result T Stop) (program : ProgramValue) → Loaded program old.remaining new.remaining (seen_of now)
+    → RunsAs program result now old.contents new.contents → KeepsLines now → IsNew was → IsNew begun → IfErr result (IsRunCause (Unit {0}) old.sink_faults new.sink_faults (seen_of begun) (seen_of now))
     → Replays result old new was now Stays
-replays_loaded old new was begun now Stays result apps loaded runs lines first second why = record {
-  loaded = loaded_as old.remaining new.remaining (seen_of now) (seen_of begun) old.sink_faults new.sink_faults result why (apps, loaded);
-  runs = inl (apps, loaded, runs);
+replays_loaded old new was begun now Stays result program loaded runs lines first second why = record {
+  loaded = loaded_as old.remaining new.remaining (seen_of now) (seen_of begun) old.sink_faults new.sink_faults result why (program, loaded);
+  runs = inl (program, loaded, runs);
   lines = on_ok (KeepsLines now) result lines;
   late_lines = when_late (KeepsLines now) result lines;
   why = run_causes old.remaining old.source_faults new.source_faults old.sink_faults new.sink_faults (seen_of was) (seen_of begun) (seen_of now) result (are_new was first) (are_new begun second) why;
@@ -131,31 +130,31 @@ replays_loaded old new was begun now Stays result apps loaded runs lines first s
 
 -- ---- The run of the applications that were taken
 
-told_spelled : (told : Option (List ℕ)) (apps : List AppValue) (input : List ℕ) → IfSome told (λ bytes. input ≡ bytes) → run_policy input ≡ Ok apps → IfSome told (λ bytes. SpellsPolicy bytes apps)
-told_spelled None apps input whole spelled = tt
-told_spelled (Some bytes) apps input whole spelled = subst (λ (b : List ℕ). run_policy b ≡ Ok apps) whole spelled
+told_spelled : (told : Option (List ℕ)) (program : ProgramValue) (input : List ℕ) → IfSome told (λ bytes. input ≡ bytes) → run_policy input ≡ Ok program → IfSome told (λ bytes. SpellsPolicy bytes program)
+told_spelled None program input whole spelled = tt
+told_spelled (Some bytes) program input whole spelled = subst (λ (b : List ℕ). run_policy b ≡ Ok program) whole spelled
 
 -- it is that which the input spells
-pub of_policy : (P : List AppValue → Type 0) (told left : Option (List ℕ)) (apps : List AppValue) → Taken apps told left → P apps → OfInput SpellsPolicy told P
-of_policy P told left apps taken holds = record { apps = apps; spelled = told_spelled told apps taken.input taken.whole taken.spelled; holds = holds }
+pub of_policy : (P : ProgramValue → Type 0) (told left : Option (List ℕ)) (program : ProgramValue) → Taken program told left → P program → OfInput SpellsPolicy told P
+of_policy P told left program taken holds = record { program = program; spelled = told_spelled told program taken.input taken.whole taken.spelled; holds = holds }
 
-pub served_whole : {Own : Type 0} {rounds : ℕ} (told left : Option (List ℕ)) (seen : Seen Own) (a b : Option (List ℕ)) → ServesTaken {T = Unit {0}} rounds (Ok tt) told left seen a b → (apps : List AppValue) × Taken apps told left × ServesWhole apps rounds seen a b
+pub served_whole : {Own : Type 0} {rounds : ℕ} (told left : Option (List ℕ)) (seen : Seen Own) (a b : Option (List ℕ)) → ServesTaken {T = Unit {0}} rounds (Ok tt) told left seen a b → (program : ProgramValue) × Taken program told left × ServesWhole program rounds seen a b
 served_whole told left seen a b (inl served) = served
 served_whole told left seen a b (inr before) = absurd before
 
-pub served_of_policy : {Own : Type 0} {rounds : ℕ} (told left : Option (List ℕ)) (seen : Seen Own) (a b : Option (List ℕ)) → ServesTaken {T = Unit {0}} rounds (Ok tt) told left seen a b → OfInput SpellsPolicy told (λ apps. ServesWhole apps rounds seen a b)
-served_of_policy {rounds = rounds} told left seen a b serves = let served = served_whole told left seen a b serves in of_policy (λ apps. ServesWhole apps rounds seen a b) told left served.0 served.1 served.2
+pub served_of_policy : {Own : Type 0} {rounds : ℕ} (told left : Option (List ℕ)) (seen : Seen Own) (a b : Option (List ℕ)) → ServesTaken {T = Unit {0}} rounds (Ok tt) told left seen a b → OfInput SpellsPolicy told (λ program. ServesWhole program rounds seen a b)
+served_of_policy {rounds = rounds} told left seen a b serves = let served = served_whole told left seen a b serves in of_policy (λ program. ServesWhole program rounds seen a b) told left served.0 served.1 served.2
 
-served_late : {Own : Type 0} (rounds : ℕ) (told left : Option (List ℕ)) (seen : Seen Own) (a b : Option (List ℕ)) (stop : Stop) → IsLate stop → ServesTaken {T = Unit {0}} rounds (Err stop) told left seen a b → (apps : List AppValue) × Taken apps told left × ServesUntil apps rounds stop seen a b
+served_late : {Own : Type 0} (rounds : ℕ) (told left : Option (List ℕ)) (seen : Seen Own) (a b : Option (List ℕ)) (stop : Stop) → IsLate stop → ServesTaken {T = Unit {0}} rounds (Err stop) told left seen a b → (program : ProgramValue) × Taken program told left × ServesUntil program rounds stop seen a b
 served_late rounds told left seen a b stop late (inl served) = served
 served_late rounds told left seen a b stop late (inr before) = not_before _ stop before.0 late
 
 -- at such a status it went so far, or did not begin
 pub served_or_not_begun : {Own : Type 0} {rounds : ℕ} (told left : Option (List ℕ)) (status : ℕ) (seen : Seen Own) (stop : Stop) (contents before now_contents : Option (List ℕ)) (faults_old faults faults_new : ℕ) → status ≡ stop_status stop
     → Contains (5 ∷ 6 ∷ 8 ∷ 9 ∷ 10 ∷ 12 ∷ []) (stop_status stop) → NeverFell faults_old faults → ServesTaken {T = Unit {0}} rounds (Err stop) told left seen contents before → Wrote before now_contents faults faults_new (stop_line stop)
-    → OfInput SpellsPolicy told (λ apps. ServesCut apps rounds status seen contents now_contents faults_old faults_new) ⊎ NotBegun status seen contents now_contents faults_old faults_new
+    → OfInput SpellsPolicy told (λ program. ServesCut program rounds status seen contents now_contents faults_old faults_new) ⊎ NotBegun status seen contents now_contents faults_old faults_new
 served_or_not_begun {rounds = rounds} told left status seen stop contents before now_contents faults_old faults faults_new is within up (inl served) written =
-    inl (of_policy (λ apps. ServesCut apps rounds status seen contents now_contents faults_old faults_new) told left served.0 served.1 (record {
+    inl (of_policy (λ program. ServesCut program rounds status seen contents now_contents faults_old faults_new) told left served.0 served.1 (record {
       stop = stop;
       status_is = is;
       before = before;
@@ -182,8 +181,8 @@ diverged_live rounds told left seen a b stop serves messages nine =
     (subst (λ (s : Stop). ServesUntil served.0 rounds s seen a b) is.1 served.2).0 messages
 
 -- a policy that is taken is not refused
-pub good_policy : (told : Option (List ℕ)) (input : List ℕ) (apps : List AppValue) → told ≡ Some input → run_policy input ≡ Ok apps → (refusal : InputRefusal) → IfSome told (IsNoPolicy refusal) → ⊥
-good_policy told input apps whole spelled refusal cause = no_both apps (refusal_line refusal) (sym spelled ∙ subst (λ (t : Option (List ℕ)). IfSome t (IsNoPolicy refusal)) whole cause)
+pub good_policy : (told : Option (List ℕ)) (input : List ℕ) (program : ProgramValue) → told ≡ Some input → run_policy input ≡ Ok program → (refusal : InputRefusal) → IfSome told (IsNoPolicy refusal) → ⊥
+good_policy told input program whole spelled refusal cause = no_both program (refusal_line refusal) (sym spelled ∙ subst (λ (t : Option (List ℕ)). IfSome t (IsNoPolicy refusal)) whole cause)
 
 refused_or_taken : (bytes : List ℕ) (left : Option (List ℕ)) (line : List ℕ) → IsTaken (Some bytes) left → run_policy bytes ≡ Err line → ⊥
 refused_or_taken bytes left line taken e = no_both taken.0 line (sym taken.1.spelled ∙ ap run_policy taken.1.whole ∙ e)

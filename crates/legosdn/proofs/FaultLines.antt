@@ -19,14 +19,13 @@ use Rattle.outside.specs.Conforming.{MayAct, MayStep}
 use Rattle.outside.specs.InOrder.{MayCome, MayComeAll, InOrder}
 use Rattle.outside.specs.laws.LinkLaws.{KeepsDeclared, link_of-same, link_of-other, keeps_sent, keeps_got, keeps_told, keeps_lost, keeps_failed}
 use Rattle.outside.specs.laws.LinkKeptLaws.{keeps_joined, keeps_left, keeps_stimulated}
-use Rattle.crash_policy.specs.Policies.{AppValue}
 use Rattle.session_text.specs.Loading.{fail_of, given_by}
 use Rattle.lego_model.specs.SessionLines.{SessionValue}
 use Rattle.sim_world.specs.Told.{without_links}
 use Rattle.sim_world.specs.Scripts.{Scripts, KeepsScripts}
 use Rattle.sim_world.specs.World.{WorldData, AreAsTold, given_of, seen_of}
 use Rattle.sim_world.specs.Places.{IsExpected, AreExpected}
-use Rattle.legosdn.specs.Input.{session_of}
+use Rattle.legosdn.specs.Input.{ProgramValue, session_of}
 use Rattle.legosdn.specs.Headline.{IsLoaded}
 use Rattle.legosdn.specs.Live.{NoneStray}
 use Rattle.legosdn.specs.LinkFaults.{is_call_of, calls_of, LostAtFaults, LosesAsTold, TellsAsTold}
@@ -239,11 +238,11 @@ pub loses_as_told : (seen : Seen Scripts) → InOrder seen → NoneStray seen �
 loses_as_told seen order none = λ faults fails. lost_at_faults seen faults order none fails
 
 -- of the session that the input spells
-pub lost_by_lines : (apps : List AppValue) (told left : Option (List ℕ)) (seen : Seen Scripts) (input : List ℕ) (session : SessionValue) → IsLoaded told left seen → LosesAsTold seen
-    → told ≡ Some input → session_of input ≡ Ok (apps, session) → LostAtFaults session.faults seen.history
+pub lost_by_lines : (program : ProgramValue) (told left : Option (List ℕ)) (seen : Seen Scripts) (input : List ℕ) (session : SessionValue) → IsLoaded told left seen → LosesAsTold seen
+    → told ≡ Some input → session_of input ≡ Ok (program, session) → LostAtFaults session.faults seen.history
 unfolding given_by
-lost_by_lines apps told left seen input session loaded lost whole spelled =
-    lost session.faults (ap (λ (g : Given Scripts). g.fails) (given_session loaded.0 apps told left seen input session loaded.1 whole spelled))
+lost_by_lines program told left seen input session loaded lost whole spelled =
+    lost session.faults (ap (λ (g : Given Scripts). g.fails) (given_session loaded.0 program told left seen input session loaded.1 whole spelled))
 
 -- where nothing was done
 pub lost_nowhere : {Own : Type 0} (faults : List (ℕ × ℕ)) (seen : Seen Own) → seen.history ≡ [] → LostAtFaults faults seen.history

@@ -7,6 +7,7 @@ mod Loads
 mod Losses
 mod Causes
 mod Places
+mod Judged
 mod WorldRuns
 mod Said
 mod FaultLines

@@ -3,7 +3,6 @@ use Rattle.std.proofs.Common.{◌≡◌, ℕ, List, Option, Some, None, Result, 
 use Rattle.std.specs.Result.{IsErrAnd}
 use Rattle.lego_io.specs.Lines.{lines_of}
 use Rattle.lego_io.specs.Source.{ended}
-use Rattle.crash_policy.specs.Policies.{AppValue}
 use Rattle.crash_policy.specs.Order.{policy_of}
 use Rattle.outside.specs.Seen.{Seen, Continues}
 use Rattle.sim_world.specs.Scripts.{Scripts}
@@ -19,40 +18,40 @@ use Rattle.legosdn.specs.declared.stop.InputRefusal.TheVariants.{Session}
 use Rattle.legosdn.specs.declared.stop.Stop.{Stop}
 use Rattle.legosdn.specs.declared.stop.Stop.TheVariants.{Usage, Refused, ReadFault, WriteFault, Shut, NextFault, SwitchBroke, Diverged, EventsLeft, NoMemory}
 use Rattle.lego_model.specs.Application.{names as app_names}
-use Rattle.legosdn.specs.Input.{Read, with_read, apps_in, or_refused, session_lines, session_behind, session_of}
+use Rattle.legosdn.specs.Input.{ProgramValue, Read, with_read, program_in, or_refused, session_lines, session_behind, session_of}
 use Rattle.legosdn.specs.Stops.{stop_of_session}
 use Rattle.legosdn.specs.Headline.{IsNoSession, IsReadCause, IsRunCause, IsEarly, IsLate, Loaded, IsLoaded, LoadedAt, LoadedAs, RunsNoOther}
 
-session_text-lines : (apps : List AppValue) (names : List (List ℕ)) (n : ℕ) (bytes : List ℕ) → names ≡ app_names apps → session_text names n bytes ≡ session_lines apps n (lines_of bytes)
+session_text-lines : (program : ProgramValue) (names : List (List ℕ)) (n : ℕ) (bytes : List ℕ) → names ≡ app_names program.apps → session_text names n bytes ≡ session_lines program.apps n (lines_of bytes)
 unfolding session_text session_lines
-session_text-lines apps names n bytes named = rw named refl
+session_text-lines program names n bytes named = rw named refl
 
 -- The applications are those of the policy before the separator, and what is read of the bytes behind it is what the input spells.
-pub record Behind (told : Option (List ℕ)) (apps : List AppValue) (input : List ℕ) (n : ℕ) (bytes : List ℕ) (names : List (List ℕ)) : Type 0 where
+pub record Behind (told : Option (List ℕ)) (program : ProgramValue) (input : List ℕ) (n : ℕ) (bytes : List ℕ) (names : List (List ℕ)) : Type 0 where
   pub whole : IfSome told (λ left. input ≡ left)
-  pub spelled : session_of input ≡ or_refused apps (session_lines apps n (lines_of bytes))
-  pub named : names ≡ app_names apps
+  pub spelled : session_of input ≡ or_refused program (session_lines program.apps n (lines_of bytes))
+  pub named : names ≡ app_names program.apps
 
 -- with what the input is cut into, and what is read of its policy
 pub record CutInto (input policy text : List ℕ) (behind : Option (ℕ × List (List ℕ))) : Type 0 where
   pub spelled : session_of input ≡ session_behind policy behind
   pub policy_is : text ≡ policy
 
-pub spelled_behind : (apps : List AppValue) (input policy text : List ℕ) (behind : Option (ℕ × List (List ℕ))) (n : ℕ) (lines : List (List ℕ)) → CutInto input policy text behind → behind ≡ Some (n, lines)
-    → apps_in (policy_of text) ≡ Ok apps → session_of input ≡ or_refused apps (session_lines apps n lines)
-spelled_behind apps input policy text behind n lines c found read =
+pub spelled_behind : (program : ProgramValue) (input policy text : List ℕ) (behind : Option (ℕ × List (List ℕ))) (n : ℕ) (lines : List (List ℕ)) → CutInto input policy text behind → behind ≡ Some (n, lines)
+    → program_in (policy_of text) ≡ Ok program → session_of input ≡ or_refused program (session_lines program.apps n lines)
+spelled_behind program input policy text behind n lines c found read =
     c.spelled ∙ ap (session_behind policy) found
-    ∙ ap (λ (bytes : List ℕ). with_read (apps_in (policy_of bytes)) (λ x. or_refused x (session_lines x n lines))) (sym c.policy_is)
-    ∙ ap (λ (r : Read (List AppValue)). with_read r (λ x. or_refused x (session_lines x n lines))) read
+    ∙ ap (λ (bytes : List ℕ). with_read (program_in (policy_of bytes)) (λ x. or_refused x (session_lines x n lines))) (sym c.policy_is)
+    ∙ ap (λ (r : Read ProgramValue). with_read r (λ x. or_refused x (session_lines x n lines))) read
 
-pub loads : (told left : Option (List ℕ)) (seen : Seen Scripts) (apps : List AppValue) (input : List ℕ) (n : ℕ) (bytes : List ℕ) (names : List (List ℕ)) → Behind told apps input n bytes names → left ≡ ended told
-    → (s : SessionValue) × (session_text names n bytes ≡ Ok s) × Begins (given_by s) seen → Loaded apps told left seen
-loads told left seen apps input n bytes names behind end read = record {
+pub loads : (told left : Option (List ℕ)) (seen : Seen Scripts) (program : ProgramValue) (input : List ℕ) (n : ℕ) (bytes : List ℕ) (names : List (List ℕ)) → Behind told program input n bytes names → left ≡ ended told
+    → (s : SessionValue) × (session_text names n bytes ≡ Ok s) × Begins (given_by s) seen → Loaded program told left seen
+loads told left seen program input n bytes names behind end read = record {
   input = input;
   session = read.0;
   whole = behind.whole;
   end = end;
-  spelled = behind.spelled ∙ ap (or_refused apps) (sym (session_text-lines apps names n bytes behind.named) ∙ read.1);
+  spelled = behind.spelled ∙ ap (or_refused program) (sym (session_text-lines program names n bytes behind.named) ∙ read.1);
   given = read.2.all;
 }
 
@@ -63,21 +62,21 @@ told_refused None input refusal whole e = tt
 told_refused (Some left) input refusal whole e = subst (IsNoSession refusal) whole e
 
 -- the text behind is no session of it
-session_cause : (told : Option (List ℕ)) (old new : ℕ) (apps : List AppValue) (input : List ℕ) (n : ℕ) (bytes : List ℕ) (names : List (List ℕ)) (w v : WorldData) (error : SessionError) → Behind told apps input n bytes names
+session_cause : (told : Option (List ℕ)) (old new : ℕ) (program : ProgramValue) (input : List ℕ) (n : ℕ) (bytes : List ℕ) (names : List (List ℕ)) (w v : WorldData) (error : SessionError) → Behind told program input n bytes names
     → LoadFails error w v (session_text names n bytes) → IsReadCause IsNoSession told old new (stop_of_session error)
-session_cause told old new apps input n bytes names w v text.NoMemory behind fails = tt
-session_cause told old new apps input n bytes names w v (text.Bad fault) behind fails =
-    told_refused told input (Session fault) behind.whole (behind.spelled ∙ ap (or_refused apps) (sym (session_text-lines apps names n bytes behind.named) ∙ fails.0))
+session_cause told old new program input n bytes names w v text.NoMemory behind fails = tt
+session_cause told old new program input n bytes names w v (text.Bad fault) behind fails =
+    told_refused told input (Session fault) behind.whole (behind.spelled ∙ ap (or_refused program) (sym (session_text-lines program names n bytes behind.named) ∙ fails.0))
 
-pub session_causes : {T : Type 0} (told : Option (List ℕ)) (old new : ℕ) (apps : List AppValue) (input : List ℕ) (n : ℕ) (bytes : List ℕ) (names : List (List ℕ)) (w v : WorldData) (error : SessionError) (result : Result T Stop)
-    → IsErrAnd result (λ stop. stop ≡ stop_of_session error) → Behind told apps input n bytes names → LoadFails error w v (session_text names n bytes) → IfErr result (IsReadCause IsNoSession told old new)
-session_causes told old new apps input n bytes names w v error (Ok x) is behind fails = tt
-session_causes told old new apps input n bytes names w v error (Err stop) is behind fails = rw is (session_cause told old new apps input n bytes names w v error behind fails)
+pub session_causes : {T : Type 0} (told : Option (List ℕ)) (old new : ℕ) (program : ProgramValue) (input : List ℕ) (n : ℕ) (bytes : List ℕ) (names : List (List ℕ)) (w v : WorldData) (error : SessionError) (result : Result T Stop)
+    → IsErrAnd result (λ stop. stop ≡ stop_of_session error) → Behind told program input n bytes names → LoadFails error w v (session_text names n bytes) → IfErr result (IsReadCause IsNoSession told old new)
+session_causes told old new program input n bytes names w v error (Ok x) is behind fails = tt
+session_causes told old new program input n bytes names w v error (Err stop) is behind fails = rw is (session_cause told old new program input n bytes names w v error behind fails)
 
 -- ---- What the world was given, however a command ended
 
 -- it may have been read before what was done
-pub loaded_on : {apps : List AppValue} {told left : Option (List ℕ)} (old new : Seen Scripts) → Continues (Unit {0}) old new → Loaded apps told left old → Loaded apps told left new
+pub loaded_on : {program : ProgramValue} {told left : Option (List ℕ)} (old new : Seen Scripts) → Continues (Unit {0}) old new → Loaded program told left old → Loaded program told left new
 loaded_on old new on loaded = record { input = loaded.input; session = loaded.session; whole = loaded.whole; end = loaded.end; spelled = loaded.spelled; given = on.given ∙ loaded.given }
 
 -- the world was run

@@ -9,14 +9,14 @@ use Rattle.crash_policy.specs.declared.policy_fault.PolicyFault.{PolicyFault}
 use Rattle.crash_policy.specs.declared.policy_fault.PolicyFault.TheVariants.{Text, UnknownKey, Missing, Range, Double, NoMemory}
 use Rattle.crash_policy.specs.declared.policy_file.AppRule.{AppRule}
 use Rattle.crash_policy.specs.declared.policy_file.PolicyFile.{PolicyFile}
-use Rattle.crash_policy.specs.Policies.{AppValue, app_value, policy_value}
+use Rattle.crash_policy.specs.Policies.{app_value, policy_value}
 use Rattle.crash_policy.specs.laws.BoundLaws.{IsSized}
 use Rattle.crash_policy.specs.Faults.{Refuses}
 use Rattle.crash_policy.specs.Order.{policy_of}
 use Rattle.legosdn.specs.declared.stop.InputRefusal.{InputRefusal}
 use Rattle.legosdn.specs.declared.stop.Stop.{Stop}
 use Rattle.legosdn.specs.declared.stop.Stop.TheVariants as stops
-use Rattle.legosdn.specs.Input.{Read, with_read, most_input, is_taken, has_words, apps_in, with_words, run_policy}
+use Rattle.legosdn.specs.Input.{Read, with_read, most_input, is_taken, has_words, ProgramValue, program_in, with_words, run_policy}
 use Rattle.legosdn.specs.Stops.{refusal_line, policy_words, stop_of_policy}
 use Rattle.legosdn.specs.Headline.{IsNoPolicy, IsReadCause, IsPolicyCause}
 use Rattle.legosdn.specs.Live.{Taken}
@@ -46,11 +46,11 @@ few_read file apps same sized =
 
 fault_cause : (text : List ℕ) (fault : PolicyFault) → Refuses fault (policy_of text) → IsPolicyCause text (stop_of_policy fault)
 unfolding refusal_line policy_words
-fault_cause text Text refuses = ap apps_in refuses
-fault_cause text (UnknownKey key) refuses = ap apps_in refuses
-fault_cause text (Missing key) refuses = ap apps_in refuses
-fault_cause text (Range key) refuses = ap apps_in refuses
-fault_cause text (Double name) refuses = ap apps_in refuses
+fault_cause text Text refuses = ap program_in refuses
+fault_cause text (UnknownKey key) refuses = ap program_in refuses
+fault_cause text (Missing key) refuses = ap program_in refuses
+fault_cause text (Range key) refuses = ap program_in refuses
+fault_cause text (Double name) refuses = ap program_in refuses
 fault_cause text NoMemory refuses = tt
 
 pub fault_causes : {T : Type 0} (text : List ℕ) (fault : PolicyFault) (result : Result T Stop) → IsErrAnd result (λ stop. stop ≡ stop_of_policy fault) → Refuses fault (policy_of text) → IfErr result (IsPolicyCause text)
@@ -59,7 +59,7 @@ fault_causes text fault (Err stop) is refuses = rw is (fault_cause text fault re
 
 -- ---- Of an input
 
-run_is : (input : List ℕ) → length input ≤ most_input → run_policy input ≡ with_read (apps_in (policy_of input)) with_words
+run_is : (input : List ℕ) → length input ≤ most_input → run_policy input ≡ with_read (program_in (policy_of input)) with_words
 unfolding run_policy
 run_is input within = rw (le-ltb most_input (length input) within) refl
 
@@ -69,8 +69,8 @@ pub record ReadAs (told : Option (List ℕ)) (input text : List ℕ) : Type 0 wh
   pub within : length input ≤ most_input
   pub text_is : text ≡ input
 
-policy_is : (told : Option (List ℕ)) (input text : List ℕ) → ReadAs told input text → run_policy input ≡ with_read (apps_in (policy_of text)) with_words
-policy_is told input text r = run_is input r.within ∙ ap (λ (t : List ℕ). with_read (apps_in (policy_of t)) with_words) (sym r.text_is)
+policy_is : (told : Option (List ℕ)) (input text : List ℕ) → ReadAs told input text → run_policy input ≡ with_read (program_in (policy_of text)) with_words
+policy_is told input text r = run_is input r.within ∙ ap (λ (t : List ℕ). with_read (program_in (policy_of t)) with_words) (sym r.text_is)
 
 told_refused : (told : Option (List ℕ)) (input : List ℕ) (refusal : InputRefusal) → IfSome told (λ left. input ≡ left) → IsNoPolicy refusal input → IfSome told (IsNoPolicy refusal)
 told_refused None input refusal whole e = tt
@@ -79,7 +79,7 @@ told_refused (Some left) input refusal whole e = subst (IsNoPolicy refusal) whol
 -- the text gives no applications
 app_cause : (told : Option (List ℕ)) (old new : ℕ) (input text : List ℕ) (stop : Stop) → ReadAs told input text → IsPolicyCause text stop → IsReadCause IsNoPolicy told old new stop
 app_cause told old new input text stops.Usage r cause = absurd cause
-app_cause told old new input text (stops.Refused refusal) r cause = told_refused told input refusal r.whole (policy_is told input text r ∙ ap (λ (x : Read (List AppValue)). with_read x with_words) cause)
+app_cause told old new input text (stops.Refused refusal) r cause = told_refused told input refusal r.whole (policy_is told input text r ∙ ap (λ (x : Read ProgramValue). with_read x with_words) cause)
 app_cause told old new input text stops.ReadFault r cause = absurd cause
 app_cause told old new input text stops.WriteFault r cause = absurd cause
 app_cause told old new input text stops.Shut r cause = absurd cause
@@ -93,19 +93,19 @@ pub app_causes : {T : Type 0} (told : Option (List ℕ)) (old new : ℕ) (input 
 app_causes told old new input text stop (Ok x) is r cause = tt
 app_causes told old new input text stop (Err s) is r cause = rw is (app_cause told old new input text stop r cause)
 
-commands_are : (told : Option (List ℕ)) (input text : List ℕ) (apps : List AppValue) (read : Read (List AppValue)) → ReadAs told input text → apps_in (policy_of text) ≡ Ok apps → with_words apps ≡ read → run_policy input ≡ read
-commands_are told input text apps read r spelled is = policy_is told input text r ∙ ap (λ (x : Read (List AppValue)). with_read x with_words) spelled ∙ is
+commands_are : (told : Option (List ℕ)) (input text : List ℕ) (program : ProgramValue) (read : Read ProgramValue) → ReadAs told input text → program_in (policy_of text) ≡ Ok program → with_words program ≡ read → run_policy input ≡ read
+commands_are told input text program read r spelled is = policy_is told input text r ∙ ap (λ (x : Read ProgramValue). with_read x with_words) spelled ∙ is
 
 -- one has no command
-pub command_causes : {T : Type 0} (told : Option (List ℕ)) (old new : ℕ) (input text : List ℕ) (apps : List AppValue) (refusal : InputRefusal) (result : Result T Stop) → IsErrAnd result (λ stop. stop ≡ stops.Refused refusal) → ReadAs told input text
-    → apps_in (policy_of text) ≡ Ok apps → with_words apps ≡ Err (refusal_line refusal) → IfErr result (IsReadCause IsNoPolicy told old new)
-command_causes told old new input text apps refusal (Ok x) is r spelled refused = tt
-command_causes told old new input text apps refusal (Err stop) is r spelled refused = rw is (told_refused told input refusal r.whole (commands_are told input text apps (Err (refusal_line refusal)) r spelled refused))
+pub command_causes : {T : Type 0} (told : Option (List ℕ)) (old new : ℕ) (input text : List ℕ) (program : ProgramValue) (refusal : InputRefusal) (result : Result T Stop) → IsErrAnd result (λ stop. stop ≡ stops.Refused refusal) → ReadAs told input text
+    → program_in (policy_of text) ≡ Ok program → with_words program ≡ Err (refusal_line refusal) → IfErr result (IsReadCause IsNoPolicy told old new)
+command_causes told old new input text program refusal (Ok x) is r spelled refused = tt
+command_causes told old new input text program refusal (Err stop) is r spelled refused = rw is (told_refused told input refusal r.whole (commands_are told input text program (Err (refusal_line refusal)) r spelled refused))
 
-pub takes : (told left : Option (List ℕ)) (input text : List ℕ) (apps : List AppValue) → ReadAs told input text → left ≡ ended told → apps_in (policy_of text) ≡ Ok apps → with_words apps ≡ Ok apps → Taken apps told left
-takes told left input text apps r end spelled is = record {
+pub takes : (told left : Option (List ℕ)) (input text : List ℕ) (program : ProgramValue) → ReadAs told input text → left ≡ ended told → program_in (policy_of text) ≡ Ok program → with_words program ≡ Ok program → Taken program told left
+takes told left input text program r end spelled is = record {
   input = input;
   whole = r.whole;
   end = end;
-  spelled = commands_are told input text apps (Ok apps) r spelled is;
+  spelled = commands_are told input text program (Ok program) r spelled is;
 }

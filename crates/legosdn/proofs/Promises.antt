@@ -1,7 +1,6 @@
 -- The promises of both commands, from how each ends.
 use Rattle.std.proofs.Common.{◌≡◌, ◌⊎◌, ◌≤◌, ℕ, List, [], ◌∷◌, Option, Ok, Err, IfSome, Contains, refl, sym, subst, ap, ◌∙◌, arith, inl, inr}
 use Rattle.lego_io.specs.Count.{NeverFell}
-use Rattle.crash_policy.specs.Policies.{AppValue}
 use Rattle.outside.specs.declared.step.WorldStep.TheVariants.{NotOpened}
 use Rattle.outside.specs.Seen.{Seen, journal}
 use Rattle.outside.specs.State.{state}
@@ -14,7 +13,7 @@ use Rattle.lego_model.specs.OwnIds.{IsShortRun, OwnIdsAscend}
 use Rattle.legosdn.specs.declared.stop.InputRefusal.{InputRefusal}
 use Rattle.legosdn.specs.declared.stop.Stop.{Stop}
 use Rattle.legosdn.specs.declared.stop.Stop.TheVariants.{Usage, Refused, ReadFault, WriteFault, Shut, NextFault, SwitchBroke, Diverged, EventsLeft, NoMemory}
-use Rattle.legosdn.specs.Input.{session_of, run_policy}
+use Rattle.legosdn.specs.Input.{ProgramValue, session_of, run_policy}
 use Rattle.legosdn.specs.Stops.{stop_status, stop_line, refusal_line}
 use Rattle.legosdn.specs.Headline.{IsNoSession, IsNoPolicy, Streams, faults_at, IsCause, NoneFailed, IsEarly, SpellsSession, SpellsPolicy, IsLoaded, LosesByFaults, UpToPoint, NeverRuns, StopsAs, RunsLoaded, Wrote, Replays}
 use Rattle.legosdn.specs.LinkFaults.{LosesAsTold}
@@ -88,33 +87,33 @@ not_opened : {Own : Type 0} (seen : Seen Own) → seen.history ≡ NotOpened ∷
 unfolding journal
 not_opened seen is = ap journal is
 
-memory_dialogues : {Own : Type 0} {Short : Type 0} {Holds : Seen Own → Type 0} (apps : List AppValue) (seen : Seen Own) (a b : Option (List ℕ)) → UpToPoint apps seen Short Holds ⊎ NothingDone [] seen a b → AreDialogues apps seen ⊎ (journal seen.history ≡ [])
-memory_dialogues apps seen a b (inl until) = inl until.at_once
-memory_dialogues apps seen a b (inr nothing) = inr (nothing_done seen nothing.history)
+memory_dialogues : {Own : Type 0} {Short : Type 0} {Holds : Seen Own → Type 0} (program : ProgramValue) (seen : Seen Own) (a b : Option (List ℕ)) → UpToPoint program seen Short Holds ⊎ NothingDone [] seen a b → AreDialogues program seen ⊎ (journal seen.history ≡ [])
+memory_dialogues program seen a b (inl until) = inl until.at_once
+memory_dialogues program seen a b (inr nothing) = inr (nothing_done seen nothing.history)
 
-serves_dialogues : {Own : Type 0} (apps : List AppValue) (rounds : ℕ) (stop : Stop) (seen : Seen Own) (a b : Option (List ℕ)) → (IsEarly stop → seen.history ≡ []) → ServesUntil apps rounds stop seen a b → AreDialogues apps seen ⊎ (journal seen.history ≡ [])
-serves_dialogues apps rounds Usage seen a b early until = inr (nothing_done seen (early tt))
-serves_dialogues apps rounds (Refused refusal) seen a b early until = inr (nothing_done seen (early tt))
-serves_dialogues apps rounds ReadFault seen a b early until = inr (nothing_done seen (early tt))
-serves_dialogues apps rounds WriteFault seen a b early until = inl until.at_once
-serves_dialogues apps rounds Shut seen a b early until = inr (not_opened seen until.history)
-serves_dialogues apps rounds NextFault seen a b early until = inl until.at_once
-serves_dialogues apps rounds (SwitchBroke d) seen a b early until = inl until.1.at_once
-serves_dialogues apps rounds (Diverged d) seen a b early until = inl until.1.at_once
-serves_dialogues apps rounds (EventsLeft left) seen a b early until = inl until.alike.at_once
-serves_dialogues apps rounds NoMemory seen a b early until = memory_dialogues apps seen a b until
+serves_dialogues : {Own : Type 0} (program : ProgramValue) (rounds : ℕ) (stop : Stop) (seen : Seen Own) (a b : Option (List ℕ)) → (IsEarly stop → seen.history ≡ []) → ServesUntil program rounds stop seen a b → AreDialogues program seen ⊎ (journal seen.history ≡ [])
+serves_dialogues program rounds Usage seen a b early until = inr (nothing_done seen (early tt))
+serves_dialogues program rounds (Refused refusal) seen a b early until = inr (nothing_done seen (early tt))
+serves_dialogues program rounds ReadFault seen a b early until = inr (nothing_done seen (early tt))
+serves_dialogues program rounds WriteFault seen a b early until = inl until.at_once
+serves_dialogues program rounds Shut seen a b early until = inr (not_opened seen until.history)
+serves_dialogues program rounds NextFault seen a b early until = inl until.at_once
+serves_dialogues program rounds (SwitchBroke d) seen a b early until = inl until.1.at_once
+serves_dialogues program rounds (Diverged d) seen a b early until = inl until.1.at_once
+serves_dialogues program rounds (EventsLeft left) seen a b early until = inl until.alike.at_once
+serves_dialogues program rounds NoMemory seen a b early until = memory_dialogues program seen a b until
 
-stops_dialogues : (apps : List AppValue) (stop : Stop) (now : WorldData) (a b : Option (List ℕ)) → (IsEarly stop → (seen_of now).history ≡ []) → StopsAs apps stop now a b → AreDialogues apps (seen_of now) ⊎ (journal (seen_of now).history ≡ [])
-stops_dialogues apps Usage now a b early until = inr (nothing_done (seen_of now) (early tt))
-stops_dialogues apps (Refused refusal) now a b early until = inr (nothing_done (seen_of now) (early tt))
-stops_dialogues apps ReadFault now a b early until = inr (nothing_done (seen_of now) (early tt))
-stops_dialogues apps WriteFault now a b early until = inl until.at_once
-stops_dialogues apps Shut now a b early until = inr (not_opened (seen_of now) until.history)
-stops_dialogues apps NextFault now a b early until = inl until.at_once
-stops_dialogues apps (SwitchBroke d) now a b early until = inl until.1.at_once
-stops_dialogues apps (Diverged d) now a b early until = inl until.1.at_once
-stops_dialogues apps (EventsLeft left) now a b early until = inl until.alike.at_once
-stops_dialogues apps NoMemory now a b early until = memory_dialogues apps (seen_of now) a b until
+stops_dialogues : (program : ProgramValue) (stop : Stop) (now : WorldData) (a b : Option (List ℕ)) → (IsEarly stop → (seen_of now).history ≡ []) → StopsAs program stop now a b → AreDialogues program (seen_of now) ⊎ (journal (seen_of now).history ≡ [])
+stops_dialogues program Usage now a b early until = inr (nothing_done (seen_of now) (early tt))
+stops_dialogues program (Refused refusal) now a b early until = inr (nothing_done (seen_of now) (early tt))
+stops_dialogues program ReadFault now a b early until = inr (nothing_done (seen_of now) (early tt))
+stops_dialogues program WriteFault now a b early until = inl until.at_once
+stops_dialogues program Shut now a b early until = inr (not_opened (seen_of now) until.history)
+stops_dialogues program NextFault now a b early until = inl until.at_once
+stops_dialogues program (SwitchBroke d) now a b early until = inl until.1.at_once
+stops_dialogues program (Diverged d) now a b early until = inl until.1.at_once
+stops_dialogues program (EventsLeft left) now a b early until = inl until.alike.at_once
+stops_dialogues program NoMemory now a b early until = memory_dialogues program (seen_of now) a b until
 
 -- with the applications of the input
 those : {P Q R : Type 0} → (P → R) → P ⊎ Q → R ⊎ Q
@@ -122,11 +121,11 @@ those to (inl p) = inl (to p)
 those to (inr q) = inr q
 
 run_dialogues : {Own : Type 0} (rounds : ℕ) (told left : Option (List ℕ)) (seen : Seen Own) (a b : Option (List ℕ)) (stop : Stop) → (IsEarly stop → seen.history ≡ []) → ServesTaken {T = Unit {0}} rounds (Err stop) told left seen a b → AnswersMeanDone SpellsPolicy told seen
-run_dialogues rounds told left seen a b stop early (inl served) = those (of_policy (λ apps. AreDialogues apps seen) told left served.0 served.1) (serves_dialogues served.0 rounds stop seen a b early served.2)
+run_dialogues rounds told left seen a b stop early (inl served) = those (of_policy (λ program. AreDialogues program seen) told left served.0 served.1) (serves_dialogues served.0 rounds stop seen a b early served.2)
 run_dialogues rounds told left seen a b stop early (inr before) = inr (nothing_done seen before.1)
 
 replay_dialogues : (told left : Option (List ℕ)) (now : WorldData) (a b : Option (List ℕ)) (stop : Stop) → (IsEarly stop → (seen_of now).history ≡ []) → RunsLoaded {T = Unit {0}} (Err stop) told left now a b → AnswersMeanDone SpellsSession told (seen_of now)
-replay_dialogues told left now a b stop early (inl ran) = those (of_session (λ apps. AreDialogues apps (seen_of now)) told left (seen_of now) ran.0 ran.1) (stops_dialogues ran.0 stop now a b early ran.2)
+replay_dialogues told left now a b stop early (inl ran) = those (of_session (λ program. AreDialogues program (seen_of now)) told left (seen_of now) ran.0 ran.1) (stops_dialogues ran.0 stop now a b early ran.2)
 replay_dialogues told left now a b stop early (inr before) = inr (nothing_done (seen_of now) before.1)
 
 -- ---- `replay`
@@ -143,10 +142,10 @@ replay_ok old new was now Stays ends =
         whole_run = λ zero. whole_of_input old.remaining new.remaining now old.contents new.contents ends.runs;
         events_left = λ ten. absurd (omega (arith, ten));
       };
-      report_is_exact = λ apps session is zero. reports apps old.remaining new.remaining (seen_of now) old.contents new.contents is.input session ran is.whole is.spelled;
-      answer_means_that_it_is_done = inl (of_session (λ apps. AreDialogues apps (seen_of now)) old.remaining new.remaining (seen_of now) ran.0 ran.1 ran.2.alike.at_once);
+      report_is_exact = λ program session is zero. reports program old.remaining new.remaining (seen_of now) old.contents new.contents is.input session ran is.whole is.spelled;
+      answer_means_that_it_is_done = inl (of_session (λ program. AreDialogues program (seen_of now)) old.remaining new.remaining (seen_of now) ran.0 ran.1 ran.2.alike.at_once);
       stop_has_its_cause = record { status_has_cause = inl refl; run_until_fault = λ within. absurd (grind (arith, within)) };
-      good_input_is_answered = λ apps session is none. (0, omega arith, refl);
+      good_input_is_answered = λ program session is none. (0, omega arith, refl);
       statuses = record {
         input_refused = λ three. absurd (omega (arith, three));
         refused_input_never_runs = λ line. none_refused old.remaining new.remaining (seen_of now) line 0 ends.loaded;
@@ -165,7 +164,7 @@ replay_err old mid contents faults was now Stays stop status halts ends = record
     events_left = λ ten.
         left_of_input mid.remaining now stop old.contents mid.contents contents old.sink_faults mid.sink_faults faults old.remaining (faults_at old (seen_of was)) (faults_at mid (seen_of now)) (sym halts.status_is ∙ ten) halts.never_fell ends.runs ends.why halts.line;
   };
-  report_is_exact = λ apps session is zero. absurd (not_zero stop (sym halts.status_is ∙ zero));
+  report_is_exact = λ program session is zero. absurd (not_zero stop (sym halts.status_is ∙ zero));
   answer_means_that_it_is_done = replay_dialogues old.remaining mid.remaining now old.contents mid.contents stop (λ early. none_done_early old.remaining mid.remaining (seen_of now) stop early ends.loaded) ends.runs;
   stop_has_its_cause = record {
     status_has_cause = has_cause (Unit {0}) IsNoSession stop status old mid contents faults (seen_of was) (seen_of now) halts ends.why;
@@ -173,8 +172,8 @@ replay_err old mid contents faults was now Stays stop status halts ends = record
         cut_or_not_begun old.remaining mid.remaining status now stop old.contents mid.contents contents old.sink_faults mid.sink_faults faults halts.status_is
         (fault_or_left stop (subst (λ (s : ℕ). Contains (5 ∷ 6 ∷ 8 ∷ 9 ∷ 12 ∷ []) s) halts.status_is within)) halts.never_fell ends.runs halts.line;
   };
-  good_input_is_answered = λ apps session is none.
-      answers (Unit {0}) IsNoSession stop status old mid contents faults (seen_of was) (seen_of now) halts ends.why (good_session old.remaining is.input apps session is.whole is.spelled)
+  good_input_is_answered = λ program session is none.
+      answers (Unit {0}) IsNoSession stop status old mid contents faults (seen_of was) (seen_of now) halts ends.why (good_session old.remaining is.input program session is.whole is.spelled)
       (λ eight. broke_as old.remaining mid.remaining now stop old.contents mid.contents ends.runs none.no_flood eight (messages_of now none.messages))
       (λ nine. diverged_as old.remaining mid.remaining now stop old.contents mid.contents ends.runs nine (messages_of now none.messages)) none.none_failed;
   statuses = record {
@@ -194,12 +193,12 @@ run_ok Tells rounds old new was now World Sink ends = record {
   failed_turn_leaves_nothing_behind = λ tells zero. served_of_policy old.remaining new.remaining now old.contents new.contents (ends.runs tells);
   report_is_exact = λ tells zero.
       let served = served_whole old.remaining new.remaining now old.contents new.contents (ends.runs tells) in
-      of_policy (λ apps. ReportsTold apps rounds old new now) old.remaining new.remaining served.0 served.1 (served.2, served.2.alike.as_told.report);
+      of_policy (λ program. ReportsTold program rounds old new now) old.remaining new.remaining served.0 served.1 (served.2, served.2.alike.as_told.report);
   answer_means_that_it_is_done = λ tells.
       let served = served_whole old.remaining new.remaining now old.contents new.contents (ends.runs tells) in
-      inl (of_policy (λ apps. AreDialogues apps now) old.remaining new.remaining served.0 served.1 served.2.alike.at_once);
+      inl (of_policy (λ program. AreDialogues program now) old.remaining new.remaining served.0 served.1 served.2.alike.at_once);
   stop_has_its_cause = record { status_has_cause = inl refl; run_until_stop = λ tells within. absurd (grind (arith, within)) };
-  good_input_is_answered = λ tells apps is none. (0, omega arith, refl);
+  good_input_is_answered = λ tells program is none. (0, omega arith, refl);
   statuses = record {
     policy_refused = λ three. absurd (omega (arith, three));
     refused_policy_never_runs = λ line. none_refused_policy old.remaining new.remaining _ line ends.taken;
@@ -221,8 +220,8 @@ run_err {Own = Own} Tells rounds old mid contents faults was now World Sink stop
         served_or_not_begun old.remaining mid.remaining status now stop old.contents mid.contents contents old.sink_faults mid.sink_faults faults halts.status_is
         (subst (λ (s : ℕ). Contains (5 ∷ 6 ∷ 8 ∷ 9 ∷ 10 ∷ 12 ∷ []) s) halts.status_is within) halts.never_fell (ends.runs tells) halts.line;
   };
-  good_input_is_answered = λ tells apps is none.
-      answers Tells IsNoPolicy stop status old mid contents faults was now halts ends.why (good_policy old.remaining is.input apps is.whole is.spelled)
+  good_input_is_answered = λ tells program is none.
+      answers Tells IsNoPolicy stop status old mid contents faults was now halts ends.why (good_policy old.remaining is.input program is.whole is.spelled)
       (broke_live rounds old.remaining mid.remaining now old.contents mid.contents stop (ends.runs tells) none.no_flood none.messages)
       (diverged_live rounds old.remaining mid.remaining now old.contents mid.contents stop (ends.runs tells) none.messages) none.none_failed;
   statuses = record {
@@ -247,8 +246,8 @@ run_err {Own = Own} Tells rounds old mid contents faults was now World Sink stop
 pub new_always : (told left : Option (List ℕ)) (sim : WorldData) → IsNew sim → AtEveryStatus told left (seen_of sim)
 new_always told left sim new = record {
   no_stray_call = new_strays sim new;
-  lost_at_fault_lines = λ apps session is. lost_nowhere session.faults (seen_of sim) (untouched sim new);
-  none_lost_without_fault = λ apps session is faults. nothing_lost (seen_of sim) (untouched sim new);
+  lost_at_fault_lines = λ program session is. lost_nowhere session.faults (seen_of sim) (untouched sim new);
+  none_lost_without_fault = λ program session is faults. nothing_lost (seen_of sim) (untouched sim new);
   no_other_session = inl (untouched sim new);
   every_application_ended = none_runs sim new;
   own_ids_ascend = λ short. no_ids sim new;
@@ -257,8 +256,8 @@ new_always told left sim new = record {
 pub loaded_always : (told left : Option (List ℕ)) (seen : Seen Scripts) → IsLoaded told left seen → seen.counts.strays ≤ seen.counts.shorts → LosesByFaults seen × LosesAsTold seen → (state seen).running ≡ [] → (IsShortRun seen → OwnIdsAscend seen) → AtEveryStatus told left seen
 loaded_always told left seen loaded strays lost ended ids = record {
   no_stray_call = strays;
-  lost_at_fault_lines = λ apps session is. lost_by_lines apps told left seen is.input session loaded lost.1 is.whole is.spelled;
-  none_lost_without_fault = λ apps session is faults. none_lost_by apps told left seen is.input session (inr loaded) lost.0 is.whole is.spelled faults;
+  lost_at_fault_lines = λ program session is. lost_by_lines program told left seen is.input session loaded lost.1 is.whole is.spelled;
+  none_lost_without_fault = λ program session is faults. none_lost_by program told left seen is.input session (inr loaded) lost.0 is.whole is.spelled faults;
   no_other_session = inr loaded;
   every_application_ended = ended;
   own_ids_ascend = ids;

@@ -6,7 +6,6 @@ use Rattle.std.specs.Result.{IsErrAnd}
 use Rattle.of_types.specs.declared.journal.WorldStim.{WorldStim}
 use Rattle.lego_io.specs.Count.{NeverFell}
 use Rattle.lego_io.specs.laws.CountLaws.{Rose-after}
-use Rattle.crash_policy.specs.Policies.{AppValue}
 use Rattle.lego_model.specs.SessionLines.{SessionValue}
 use Rattle.lego_model.specs.SessionText.{session_text}
 use Rattle.lego_model.specs.laws.SessionTextLaws.{session_read}
@@ -27,8 +26,8 @@ use Rattle.session_text.specs.Loading.{given_by}
 use Rattle.legosdn.specs.declared.stop.InputRefusal.{InputRefusal}
 use Rattle.legosdn.specs.declared.stop.Stop.{Stop}
 use Rattle.legosdn.specs.declared.stop.Stop.TheVariants.{Usage, Refused, ReadFault, WriteFault, Shut, NextFault, SwitchBroke, Diverged, EventsLeft, NoMemory}
-use Rattle.legosdn.specs.Input.{session_of}
-use Rattle.legosdn.specs.Said.{all_allowed}
+use Rattle.legosdn.specs.Input.{ProgramValue, session_of}
+use Rattle.legosdn.specs.Said.{allowed_by}
 use Rattle.legosdn.specs.Stops.{stop_status, stop_line, refusal_line}
 use Rattle.legosdn.specs.Headline.{Faults, IsNoSession, IsReadCause, IsCause, NoneFailed, IsEarly, IsLate, SpellsSession, OfInput, Loaded, KeepsLines, Wrote, RunsWhole, RunsPart, NoneFloods, SomeRefused, StopsAs, RunsAs, StopsBefore, RunsLoaded, LeftAs, CutShort, NotBegun}
 use Rattle.legosdn.specs.Live.{TellsInOrder, ServesWhole, ServesPart, ServesUntil, ServesAs}
@@ -83,25 +82,25 @@ lines_seen : (sim : WorldData) → KeepsLines sim → KeepsScripts (seen_of sim)
 unfolding seen_of given_of
 lines_seen sim lines = lines
 
-runs_whole : (rules : List AppValue) (sim : WorldData) (a b : Option (List ℕ)) → KeepsLines sim → length (seen_of sim).given.stimuli ≤ 1000000 → ServesWhole rules 1000000000 (seen_of sim) a b → RunsWhole rules (seen_of sim) a b
-runs_whole rules sim a b lines few whole =
+runs_whole : (program : ProgramValue) (sim : WorldData) (a b : Option (List ℕ)) → KeepsLines sim → length (seen_of sim).given.stimuli ≤ 1000000 → ServesWhole program 1000000000 (seen_of sim) a b → RunsWhole program (seen_of sim) a b
+runs_whole program sim a b lines few whole =
     let all = all_happen (seen_of sim) few whole.stimuli in
-    let alike = subst (λ (spent : Bool). EndsAlike rules all_allowed spent (seen_of sim) a b whole.events) (never_spent (seen_of sim) few all) whole.alike in
+    let alike = subst (λ (spent : Bool). EndsAlike program.apps (allowed_by program.judge) spent (seen_of sim) a b whole.events) (never_spent (seen_of sim) few all) whole.alike in
     record {
       events = whole.events;
       alike = alike;
       stimuli = all;
-      as_said = λ no_call. ends_as_said rules (seen_of sim) a b whole.events alike all (kept_to_lines (length rules) (seen_of sim) (without_links (seen_of sim).given.fails) (lines_seen sim lines) no_call alike.in_order alike.at_once);
+      as_said = λ no_call. ends_as_said program (seen_of sim) a b whole.events alike all (kept_to_lines (length program.apps) (seen_of sim) (without_links (seen_of sim).given.fails) (lines_seen sim lines) no_call alike.in_order alike.at_once);
     }
 
-runs_part : (rules : List AppValue) (sim : WorldData) (a b : Option (List ℕ)) (left : ℕ) → KeepsLines sim → length (seen_of sim).given.stimuli ≤ 1000000 → ServesPart rules 1000000000 (seen_of sim) a b left → RunsPart rules (seen_of sim) a b left
-runs_part rules sim a b left lines few part =
+runs_part : (program : ProgramValue) (sim : WorldData) (a b : Option (List ℕ)) (left : ℕ) → KeepsLines sim → length (seen_of sim).given.stimuli ≤ 1000000 → ServesPart program 1000000000 (seen_of sim) a b left → RunsPart program (seen_of sim) a b left
+runs_part program sim a b left lines few part =
     let all = all_happen (seen_of sim) few part.stimuli in
-    let alike = subst (λ (spent : Bool). LeavesAlike rules all_allowed spent (seen_of sim) a b left) (never_spent (seen_of sim) few all) part.alike in
+    let alike = subst (λ (spent : Bool). LeavesAlike program.apps (allowed_by program.judge) spent (seen_of sim) a b left) (never_spent (seen_of sim) few all) part.alike in
     record {
       alike = alike;
       stimuli = all;
-      as_said = λ no_call. leaves_as_said rules (seen_of sim) a b left alike all (kept_to_lines (length rules) (seen_of sim) (without_links (seen_of sim).given.fails) (lines_seen sim lines) no_call alike.in_order alike.at_once);
+      as_said = λ no_call. leaves_as_said program (seen_of sim) a b left alike all (kept_to_lines (length program.apps) (seen_of sim) (without_links (seen_of sim).given.fails) (lines_seen sim lines) no_call alike.in_order alike.at_once);
     }
 
 some_refused : (sim : WorldData) → (BringMessages (seen_of sim).history → ⊥) → SomeRefused sim
@@ -109,21 +108,21 @@ unfolding seen_of
 some_refused sim none = none
 
 -- how it goes, over what the lines of the session say
-stops_said : (rules : List AppValue) (sim : WorldData) (a b : Option (List ℕ)) (stop : Stop) → KeepsLines sim → length (seen_of sim).given.stimuli ≤ 1000000 → ServesUntil rules 1000000000 stop (seen_of sim) a b → StopsAs rules stop sim a b
-stops_said rules sim a b Usage lines few until = tt
-stops_said rules sim a b (Refused refusal) lines few until = tt
-stops_said rules sim a b ReadFault lines few until = tt
-stops_said rules sim a b WriteFault lines few until = writing_said rules sim a b lines until
-stops_said rules sim a b Shut lines few until = until
-stops_said rules sim a b NextFault lines few until = lines_said rules sim a b lines until
-stops_said rules sim a b (SwitchBroke d) lines few until = ((λ none. some_refused sim (until.0 none)), lines_said rules sim a b lines until.1)
-stops_said rules sim a b (Diverged d) lines few until = (some_refused sim until.0, lines_said rules sim a b lines until.1)
-stops_said rules sim a b (EventsLeft left) lines few until = runs_part rules sim a b left lines few until
-stops_said rules sim a b NoMemory lines few until = memory_said rules sim a b (NothingDone [] (seen_of sim) a b) lines until
+stops_said : (program : ProgramValue) (sim : WorldData) (a b : Option (List ℕ)) (stop : Stop) → KeepsLines sim → length (seen_of sim).given.stimuli ≤ 1000000 → ServesUntil program 1000000000 stop (seen_of sim) a b → StopsAs program stop sim a b
+stops_said program sim a b Usage lines few until = tt
+stops_said program sim a b (Refused refusal) lines few until = tt
+stops_said program sim a b ReadFault lines few until = tt
+stops_said program sim a b WriteFault lines few until = writing_said program sim a b lines until
+stops_said program sim a b Shut lines few until = until
+stops_said program sim a b NextFault lines few until = lines_said program sim a b lines until
+stops_said program sim a b (SwitchBroke d) lines few until = ((λ none. some_refused sim (until.0 none)), lines_said program sim a b lines until.1)
+stops_said program sim a b (Diverged d) lines few until = (some_refused sim until.0, lines_said program sim a b lines until.1)
+stops_said program sim a b (EventsLeft left) lines few until = runs_part program sim a b left lines few until
+stops_said program sim a b NoMemory lines few until = memory_said program sim a b (NothingDone [] (seen_of sim) a b) lines until
 
-pub runs_said : {T : Type 0} (rules : List AppValue) (sim : WorldData) (a b : Option (List ℕ)) (result : Result T Stop) → KeepsLines sim → length (seen_of sim).given.stimuli ≤ 1000000 → ServesAs rules 1000000000 result (seen_of sim) a b → RunsAs rules result sim a b
-runs_said rules sim a b (Ok x) lines few serves = runs_whole rules sim a b lines few serves
-runs_said rules sim a b (Err stop) lines few serves = stops_said rules sim a b stop lines few serves
+pub runs_said : {T : Type 0} (program : ProgramValue) (sim : WorldData) (a b : Option (List ℕ)) (result : Result T Stop) → KeepsLines sim → length (seen_of sim).given.stimuli ≤ 1000000 → ServesAs program 1000000000 result (seen_of sim) a b → RunsAs program result sim a b
+runs_said program sim a b (Ok x) lines few serves = runs_whole program sim a b lines few serves
+runs_said program sim a b (Err stop) lines few serves = stops_said program sim a b stop lines few serves
 
 -- as few stimuli behind a run as before it
 pub still_few : (old new : Seen Scripts) → Continues (Unit {0}) old new → length old.given.stimuli ≤ 1000000 → length new.given.stimuli ≤ 1000000
@@ -131,38 +130,38 @@ still_few old new continues few = subst (λ g. length g.stimuli ≤ 1000000) (sy
 
 -- ---- The run of the applications that were loaded
 
-told_spelled : (told : Option (List ℕ)) (apps : List AppValue) (input : List ℕ) (session : SessionValue) → IfSome told (λ bytes. input ≡ bytes) → session_of input ≡ Ok (apps, session) → IfSome told (λ bytes. SpellsSession bytes apps)
-told_spelled None apps input session whole spelled = tt
-told_spelled (Some bytes) apps input session whole spelled = (session, subst (λ (b : List ℕ). session_of b ≡ Ok (apps, session)) whole spelled)
+told_spelled : (told : Option (List ℕ)) (program : ProgramValue) (input : List ℕ) (session : SessionValue) → IfSome told (λ bytes. input ≡ bytes) → session_of input ≡ Ok (program, session) → IfSome told (λ bytes. SpellsSession bytes program)
+told_spelled None program input session whole spelled = tt
+told_spelled (Some bytes) program input session whole spelled = (session, subst (λ (b : List ℕ). session_of b ≡ Ok (program, session)) whole spelled)
 
 -- it is that which the input spells
-pub of_session : (P : List AppValue → Type 0) (told left : Option (List ℕ)) (seen : Seen Scripts) (apps : List AppValue) → Loaded apps told left seen → P apps → OfInput SpellsSession told P
-of_session P told left seen apps loaded holds = record {
-  apps = apps;
-  spelled = told_spelled told apps loaded.input loaded.session loaded.whole loaded.spelled;
+pub of_session : (P : ProgramValue → Type 0) (told left : Option (List ℕ)) (seen : Seen Scripts) (program : ProgramValue) → Loaded program told left seen → P program → OfInput SpellsSession told P
+of_session P told left seen program loaded holds = record {
+  program = program;
+  spelled = told_spelled told program loaded.input loaded.session loaded.whole loaded.spelled;
   holds = holds;
 }
 
 -- a run that came to its end was one of such applications,
-pub ran_whole : (told left : Option (List ℕ)) (sim : WorldData) (a b : Option (List ℕ)) → RunsLoaded {T = Unit {0}} (Ok tt) told left sim a b → (apps : List AppValue) × Loaded apps told left (seen_of sim) × RunsWhole apps (seen_of sim) a b
+pub ran_whole : (told left : Option (List ℕ)) (sim : WorldData) (a b : Option (List ℕ)) → RunsLoaded {T = Unit {0}} (Ok tt) told left sim a b → (program : ProgramValue) × Loaded program told left (seen_of sim) × RunsWhole program (seen_of sim) a b
 ran_whole told left sim a b (inl ran) = ran
 ran_whole told left sim a b (inr before) = absurd before
 
-pub whole_of_input : (told left : Option (List ℕ)) (sim : WorldData) (a b : Option (List ℕ)) → RunsLoaded {T = Unit {0}} (Ok tt) told left sim a b → OfInput SpellsSession told (λ apps. RunsWhole apps (seen_of sim) a b)
-whole_of_input told left sim a b runs = let ran = ran_whole told left sim a b runs in of_session (λ apps. RunsWhole apps (seen_of sim) a b) told left (seen_of sim) ran.0 ran.1 ran.2
+pub whole_of_input : (told left : Option (List ℕ)) (sim : WorldData) (a b : Option (List ℕ)) → RunsLoaded {T = Unit {0}} (Ok tt) told left sim a b → OfInput SpellsSession told (λ program. RunsWhole program (seen_of sim) a b)
+whole_of_input told left sim a b runs = let ran = ran_whole told left sim a b runs in of_session (λ program. RunsWhole program (seen_of sim) a b) told left (seen_of sim) ran.0 ran.1 ran.2
 
 -- and so was one that a stop ended that comes once the world runs
 abbrev RanUntil : Stop → Option (List ℕ) → Option (List ℕ) → WorldData → Option (List ℕ) → Option (List ℕ) → Type 0
-RanUntil stop told left sim a b = (apps : List AppValue) × Loaded apps told left (seen_of sim) × StopsAs apps stop sim a b
+RanUntil stop told left sim a b = (program : ProgramValue) × Loaded program told left (seen_of sim) × StopsAs program stop sim a b
 
 ran_late : (told left : Option (List ℕ)) (sim : WorldData) (a b : Option (List ℕ)) (stop : Stop) → IsLate stop → RunsLoaded {T = Unit {0}} (Err stop) told left sim a b → RanUntil stop told left sim a b
 ran_late told left sim a b stop late (inl ran) = ran
 ran_late told left sim a b stop late (inr before) = not_before _ stop before.0 late
 
 -- how the run went up to a stop
-cut_short : (apps : List AppValue) (status : ℕ) (sim : WorldData) (stop : Stop) (contents before now_contents : Option (List ℕ)) (faults_old faults faults_new : ℕ) → status ≡ stop_status stop → NeverFell faults_old faults → StopsAs apps stop sim contents before
-    → Wrote before now_contents faults faults_new (stop_line stop) → CutShort apps status sim contents now_contents faults_old faults_new
-cut_short apps status sim stop contents before now_contents faults_old faults faults_new is up runs written = record {
+cut_short : (program : ProgramValue) (status : ℕ) (sim : WorldData) (stop : Stop) (contents before now_contents : Option (List ℕ)) (faults_old faults faults_new : ℕ) → status ≡ stop_status stop → NeverFell faults_old faults → StopsAs program stop sim contents before
+    → Wrote before now_contents faults faults_new (stop_line stop) → CutShort program status sim contents now_contents faults_old faults_new
+cut_short program status sim stop contents before now_contents faults_old faults faults_new is up runs written = record {
   stop = stop;
   status_is = is;
   before = before;
@@ -192,23 +191,23 @@ not_begun status seen stop contents before now_contents faults_old faults faults
 -- at such a status it went so far, or did not begin
 pub cut_or_not_begun : (told left : Option (List ℕ)) (status : ℕ) (sim : WorldData) (stop : Stop) (contents before now_contents : Option (List ℕ)) (faults_old faults faults_new : ℕ) → status ≡ stop_status stop
     → Contains (5 ∷ 6 ∷ 8 ∷ 9 ∷ 10 ∷ 12 ∷ []) (stop_status stop) → NeverFell faults_old faults → RunsLoaded {T = Unit {0}} (Err stop) told left sim contents before → Wrote before now_contents faults faults_new (stop_line stop)
-    → OfInput SpellsSession told (λ apps. CutShort apps status sim contents now_contents faults_old faults_new) ⊎ NotBegun status (seen_of sim) contents now_contents faults_old faults_new
+    → OfInput SpellsSession told (λ program. CutShort program status sim contents now_contents faults_old faults_new) ⊎ NotBegun status (seen_of sim) contents now_contents faults_old faults_new
 cut_or_not_begun told left status sim stop contents before now_contents faults_old faults faults_new is within up (inl ran) written =
-    inl (of_session (λ apps. CutShort apps status sim contents now_contents faults_old faults_new) told left (seen_of sim) ran.0 ran.1
+    inl (of_session (λ program. CutShort program status sim contents now_contents faults_old faults_new) told left (seen_of sim) ran.0 ran.1
     (cut_short ran.0 status sim stop contents before now_contents faults_old faults faults_new is up ran.2 written))
 cut_or_not_begun told left status sim stop contents before now_contents faults_old faults faults_new is within up (inr before_all) written =
     inr (not_begun status (seen_of sim) stop contents before now_contents faults_old faults faults_new is (is_memory stop before_all.0 within) up before_all.1 before_all.2 written)
 
 -- where events are left, the last line tells how many
-left_as : (apps : List AppValue) (sim : WorldData) (left : ℕ) (stop : Stop) (contents before now_contents : Option (List ℕ)) (faults_old faults faults_new : ℕ) (told : Option (List ℕ)) (old new : Faults Scripts) → stop ≡ EventsLeft left → NeverFell faults_old faults
-    → StopsAs apps stop sim contents before → IsCause (Unit {0}) IsNoSession told old new stop → Wrote before now_contents faults faults_new (stop_line stop) → LeftAs apps sim contents now_contents faults_old faults_new
-left_as apps sim left stop contents before now_contents faults_old faults faults_new told old new is up runs cause written = record {
+left_as : (program : ProgramValue) (sim : WorldData) (left : ℕ) (stop : Stop) (contents before now_contents : Option (List ℕ)) (faults_old faults faults_new : ℕ) (told : Option (List ℕ)) (old new : Faults Scripts) → stop ≡ EventsLeft left → NeverFell faults_old faults
+    → StopsAs program stop sim contents before → IsCause (Unit {0}) IsNoSession told old new stop → Wrote before now_contents faults faults_new (stop_line stop) → LeftAs program sim contents now_contents faults_old faults_new
+left_as program sim left stop contents before now_contents faults_old faults faults_new told old new is up runs cause written = record {
   left = left;
   some = subst (IsCause (Unit {0}) IsNoSession told old new) is cause;
   before = before;
   faults = faults;
   never_fell = up;
-  run = subst (λ (s : Stop). StopsAs apps s sim contents before) is runs;
+  run = subst (λ (s : Stop). StopsAs program s sim contents before) is runs;
   written = subst (λ (s : Stop). Wrote before now_contents faults faults_new (stop_line s)) is written;
 }
 
@@ -217,11 +216,11 @@ late_at stop other is late = subst IsLate (sym is) late
 
 pub left_of_input : (rest : Option (List ℕ)) (sim : WorldData) (stop : Stop) (contents before now_contents : Option (List ℕ)) (faults_old faults faults_new : ℕ) (told : Option (List ℕ)) (old new : Faults Scripts) → stop_status stop ≡ 10 → NeverFell faults_old faults
     → RunsLoaded {T = Unit {0}} (Err stop) told rest sim contents before → IsCause (Unit {0}) IsNoSession told old new stop → Wrote before now_contents faults faults_new (stop_line stop)
-    → OfInput SpellsSession told (λ apps. LeftAs apps sim contents now_contents faults_old faults_new)
+    → OfInput SpellsSession told (λ program. LeftAs program sim contents now_contents faults_old faults_new)
 left_of_input rest sim stop contents before now_contents faults_old faults faults_new told old new ten up runs cause written =
     let last = is_left stop ten in
     let ran = ran_late told rest sim contents before stop (late_at stop (EventsLeft last.0) last.1 tt) runs in
-    of_session (λ apps. LeftAs apps sim contents now_contents faults_old faults_new) told rest (seen_of sim) ran.0 ran.1
+    of_session (λ program. LeftAs program sim contents now_contents faults_old faults_new) told rest (seen_of sim) ran.0 ran.1
     (left_as ran.0 sim last.0 stop contents before now_contents faults_old faults faults_new told old new last.1 up ran.2 cause written)
 
 -- where an input is not read, nothing was done
@@ -296,8 +295,8 @@ completes Tells IsRefused told old new (EventsLeft left) cause good broke diverg
 completes Tells IsRefused told old new NoMemory cause good broke diverged none = (2, omega arith, refl)
 
 -- an input that spells a session is not refused
-pub good_session : (told : Option (List ℕ)) (input : List ℕ) (apps : List AppValue) (session : SessionValue) → told ≡ Some input → session_of input ≡ Ok (apps, session) → (refusal : InputRefusal) → IfSome told (IsNoSession refusal) → ⊥
-good_session told input apps session whole spelled refusal cause = no_both (apps, session) (refusal_line refusal) (sym spelled ∙ subst (λ (t : Option (List ℕ)). IfSome t (IsNoSession refusal)) whole cause)
+pub good_session : (told : Option (List ℕ)) (input : List ℕ) (program : ProgramValue) (session : SessionValue) → told ≡ Some input → session_of input ≡ Ok (program, session) → (refusal : InputRefusal) → IfSome told (IsNoSession refusal) → ⊥
+good_session told input program session whole spelled refusal cause = no_both (program, session) (refusal_line refusal) (sym spelled ∙ subst (λ (t : Option (List ℕ)). IfSome t (IsNoSession refusal)) whole cause)
 
 -- nothing was counted in a new world
 pub new_strays : (w : WorldData) → IsNew w → (seen_of w).counts.strays ≤ (seen_of w).counts.shorts

@@ -6,7 +6,6 @@ use Rattle.std.specs.List.{AllByRecursion}
 use Rattle.of_types.specs.declared.journal.Act.{Act}
 use Rattle.of_types.specs.declared.journal.Act.TheVariants.{Stim, Started, Gave, Gone, Took, Ended, Sent, Got, Lost}
 use Rattle.of_types.specs.declared.journal.WorldStim.{WorldStim}
-use Rattle.crash_policy.specs.Policies.{AppValue}
 use Rattle.outside.specs.declared.call.FailCall.{FailCall}
 use Rattle.outside.specs.declared.step.WorldStep.{WorldStep}
 use Rattle.outside.specs.declared.step.WorldStep.TheVariants.{Acted, TookInto, From, Joined, Left, Moment, Idle, End, Opened, NotOpened, NextFailed, SendLost, RecvLost, SendFailed, RecvFailed}
@@ -27,8 +26,8 @@ use Rattle.lego_model.specs.Application.{names}
 use Rattle.lego_model.specs.ReferenceRun.{fresh_from, AreSaid}
 use Rattle.lego_model.specs.WholeRun.{EndsAs, EndsAlike, LeavesAs, LeavesAlike}
 use Rattle.session_text.specs.Loading.{fail_of, given_by}
-use Rattle.legosdn.specs.Input.{Read, session_of}
-use Rattle.legosdn.specs.Said.{all_allowed, said_by, reference_over, reference_of_session, WithEnough}
+use Rattle.legosdn.specs.Input.{ProgramValue, Read, session_of}
+use Rattle.legosdn.specs.Said.{allowed_by, said_by, reference_over, reference_of_session, WithEnough}
 use Rattle.legosdn.specs.Headline.{Loaded, RunsWhole}
 use Rattle.lego_model.specs.laws.JournalLaws.{acts-nil}
 
@@ -160,22 +159,22 @@ kept_to_lines number seen fails keeps none orderly at_once = record {
 
 -- ---- The whole run, and one that leaves events
 
-pub ends_as_said : (rules : List AppValue) (seen : Seen Scripts) (contents now_contents : Option (List ℕ)) (events : ℕ) → (alike : EndsAlike rules all_allowed false seen contents now_contents events) → stimuli_in seen ≡ seen.given.stimuli → KeptToLines (length rules) seen
-    → WithEnough (λ more. EndsAs rules seen contents now_contents events (reference_over rules more alike.losses seen.given))
-ends_as_said rules seen contents now_contents events alike stimuli k = record {
-  enough = told_in (length rules) seen;
-  holds = λ more few. subst (λ (xs : List WorldStim). EndsAs rules seen contents now_contents events
-      (reference all_allowed seen.given.declared (fresh_from 0 rules (said_by more seen.given.own)) alike.losses false xs)) stimuli
-      (alike.as_said _ (are_said (length rules) seen more k few));
+pub ends_as_said : (program : ProgramValue) (seen : Seen Scripts) (contents now_contents : Option (List ℕ)) (events : ℕ) → (alike : EndsAlike program.apps (allowed_by program.judge) false seen contents now_contents events) → stimuli_in seen ≡ seen.given.stimuli → KeptToLines (length program.apps) seen
+    → WithEnough (λ more. EndsAs program.apps seen contents now_contents events (reference_over program more alike.losses seen.given))
+ends_as_said program seen contents now_contents events alike stimuli k = record {
+  enough = told_in (length program.apps) seen;
+  holds = λ more few. subst (λ (xs : List WorldStim). EndsAs program.apps seen contents now_contents events
+      (reference (allowed_by program.judge) seen.given.declared (fresh_from 0 program.apps (said_by more seen.given.own)) alike.losses false xs)) stimuli
+      (alike.as_said _ (are_said (length program.apps) seen more k few));
 }
 
-pub leaves_as_said : (rules : List AppValue) (seen : Seen Scripts) (contents now_contents : Option (List ℕ)) (left : ℕ) → (alike : LeavesAlike rules all_allowed false seen contents now_contents left) → stimuli_in seen ≡ seen.given.stimuli → KeptToLines (length rules) seen
-    → WithEnough (λ more. LeavesAs rules seen contents now_contents left (reference_over rules more alike.losses seen.given))
-leaves_as_said rules seen contents now_contents left alike stimuli k = record {
-  enough = told_in (length rules) seen;
-  holds = λ more few. subst (λ (xs : List WorldStim). LeavesAs rules seen contents now_contents left
-      (reference all_allowed seen.given.declared (fresh_from 0 rules (said_by more seen.given.own)) alike.losses false xs)) stimuli
-      (alike.as_said _ (are_said (length rules) seen more k few));
+pub leaves_as_said : (program : ProgramValue) (seen : Seen Scripts) (contents now_contents : Option (List ℕ)) (left : ℕ) → (alike : LeavesAlike program.apps (allowed_by program.judge) false seen contents now_contents left) → stimuli_in seen ≡ seen.given.stimuli → KeptToLines (length program.apps) seen
+    → WithEnough (λ more. LeavesAs program.apps seen contents now_contents left (reference_over program more alike.losses seen.given))
+leaves_as_said program seen contents now_contents left alike stimuli k = record {
+  enough = told_in (length program.apps) seen;
+  holds = λ more few. subst (λ (xs : List WorldStim). LeavesAs program.apps seen contents now_contents left
+      (reference (allowed_by program.judge) seen.given.declared (fresh_from 0 program.apps (said_by more seen.given.own)) alike.losses false xs)) stimuli
+      (alike.as_said _ (are_said (length program.apps) seen more k few));
 }
 
 -- ---- From the bytes of the input
@@ -189,36 +188,36 @@ none_of_applications : (session : SessionValue) → without_links (given_by sess
 unfolding given_by
 none_of_applications session = fails_of_links session.faults
 
-same_spelled : (a b : List AppValue × SessionValue) (r : Read (List AppValue × SessionValue)) → r ≡ Ok a → r ≡ Ok b → a ≡ b
+same_spelled : (a b : ProgramValue × SessionValue) (r : Read (ProgramValue × SessionValue)) → r ≡ Ok a → r ≡ Ok b → a ≡ b
 same_spelled a b r one other = cc
 
 -- the applications and the session that were loaded are those that the input spells
-loaded_is : (rules apps : List AppValue) (told left : Option (List ℕ)) (seen : Seen Scripts) (input : List ℕ) (session : SessionValue) → (loaded : Loaded rules told left seen) → told ≡ Some input → session_of input ≡ Ok (apps, session)
-    → ◌≡◌ {A = List AppValue × SessionValue} (rules, loaded.session) (apps, session)
-loaded_is rules apps told left seen input session loaded whole spelled =
+loaded_is : (program program : ProgramValue) (told left : Option (List ℕ)) (seen : Seen Scripts) (input : List ℕ) (session : SessionValue) → (loaded : Loaded program told left seen) → told ≡ Some input → session_of input ≡ Ok (program, session)
+    → ◌≡◌ {A = ProgramValue × SessionValue} (program, loaded.session) (program, session)
+loaded_is program program told left seen input session loaded whole spelled =
     let same : loaded.input ≡ input = subst (λ (t : Option (List ℕ)). IfSome t (λ bytes. loaded.input ≡ bytes)) whole loaded.whole in
-    same_spelled (rules, loaded.session) (apps, session) (session_of input) (ap session_of (sym same) ∙ loaded.spelled) spelled
+    same_spelled (program, loaded.session) (program, session) (session_of input) (ap session_of (sym same) ∙ loaded.spelled) spelled
 
-pub app_is : (rules apps : List AppValue) (told left : Option (List ℕ)) (seen : Seen Scripts) (input : List ℕ) (session : SessionValue) → Loaded rules told left seen → told ≡ Some input → session_of input ≡ Ok (apps, session) → rules ≡ apps
-app_is rules apps told left seen input session loaded whole spelled = ap (λ (p : List AppValue × SessionValue). p.0) (loaded_is rules apps told left seen input session loaded whole spelled)
+pub app_is : (program program : ProgramValue) (told left : Option (List ℕ)) (seen : Seen Scripts) (input : List ℕ) (session : SessionValue) → Loaded program told left seen → told ≡ Some input → session_of input ≡ Ok (program, session) → program ≡ program
+app_is program program told left seen input session loaded whole spelled = ap (λ (p : ProgramValue × SessionValue). p.0) (loaded_is program program told left seen input session loaded whole spelled)
 
-pub given_session : (rules apps : List AppValue) (told left : Option (List ℕ)) (seen : Seen Scripts) (input : List ℕ) (session : SessionValue) → Loaded rules told left seen → told ≡ Some input → session_of input ≡ Ok (apps, session) → seen.given ≡ given_by session
-given_session rules apps told left seen input session loaded whole spelled =
-    loaded.given ∙ ap (λ (p : List AppValue × SessionValue). given_by p.1) (loaded_is rules apps told left seen input session loaded whole spelled)
+pub given_session : (program program : ProgramValue) (told left : Option (List ℕ)) (seen : Seen Scripts) (input : List ℕ) (session : SessionValue) → Loaded program told left seen → told ≡ Some input → session_of input ≡ Ok (program, session) → seen.given ≡ given_by session
+given_session program program told left seen input session loaded whole spelled =
+    loaded.given ∙ ap (λ (p : ProgramValue × SessionValue). given_by p.1) (loaded_is program program told left seen input session loaded whole spelled)
 
 -- the whole report is that of the reference controller of the session
-session_report : (apps : List AppValue) (seen : Seen Scripts) (contents now_contents : Option (List ℕ)) (session : SessionValue) → seen.given ≡ given_by session → (runs : RunsWhole apps seen contents now_contents)
-    → WithEnough (λ more. now_contents ≡ append_known contents (run_report (names apps) (reference_of_session apps more runs.alike.losses session)))
-session_report apps seen contents now_contents session given runs =
+session_report : (program : ProgramValue) (seen : Seen Scripts) (contents now_contents : Option (List ℕ)) (session : SessionValue) → seen.given ≡ given_by session → (runs : RunsWhole program seen contents now_contents)
+    → WithEnough (λ more. now_contents ≡ append_known contents (run_report (names program.apps) (reference_of_session program more runs.alike.losses session)))
+session_report program seen contents now_contents session given runs =
     let said = runs.as_said (ap (λ (g : Given Scripts). without_links g.fails) given ∙ none_of_applications session) in
     record {
       enough = said.enough;
-      holds = λ more few. subst (λ (g : Given Scripts). now_contents ≡ append_known contents (run_report (names apps) (reference_over apps more runs.alike.losses g))) given (said.holds more few).report;
+      holds = λ more few. subst (λ (g : Given Scripts). now_contents ≡ append_known contents (run_report (names program.apps) (reference_over program more runs.alike.losses g))) given (said.holds more few).report;
     }
 
-pub reports : (apps : List AppValue) (told left : Option (List ℕ)) (seen : Seen Scripts) (contents now_contents : Option (List ℕ)) (input : List ℕ) (session : SessionValue)
-    → (rules : List AppValue) × Loaded rules told left seen × RunsWhole rules seen contents now_contents → told ≡ Some input → session_of input ≡ Ok (apps, session)
-    → (runs : RunsWhole apps seen contents now_contents) × WithEnough (λ more. now_contents ≡ append_known contents (run_report (names apps) (reference_of_session apps more runs.alike.losses session)))
-reports apps told left seen contents now_contents input session ran whole spelled =
-    let runs = subst (λ (rules : List AppValue). RunsWhole rules seen contents now_contents) (app_is ran.0 apps told left seen input session ran.1 whole spelled) ran.2 in
-    (runs, session_report apps seen contents now_contents session (given_session ran.0 apps told left seen input session ran.1 whole spelled) runs)
+pub reports : (program : ProgramValue) (told left : Option (List ℕ)) (seen : Seen Scripts) (contents now_contents : Option (List ℕ)) (input : List ℕ) (session : SessionValue)
+    → (program : ProgramValue) × Loaded program told left seen × RunsWhole program seen contents now_contents → told ≡ Some input → session_of input ≡ Ok (program, session)
+    → (runs : RunsWhole program seen contents now_contents) × WithEnough (λ more. now_contents ≡ append_known contents (run_report (names program.apps) (reference_of_session program more runs.alike.losses session)))
+reports program told left seen contents now_contents input session ran whole spelled =
+    let runs = subst (λ (program : ProgramValue). RunsWhole program seen contents now_contents) (app_is ran.0 program told left seen input session ran.1 whole spelled) ran.2 in
+    (runs, session_report program seen contents now_contents session (given_session ran.0 program told left seen input session ran.1 whole spelled) runs)

@@ -4,7 +4,6 @@ use Rattle.std.specs.Io.KnownBytes.{append_known}
 use Rattle.lego_io.specs.Count.{Rose, NeverFell}
 use Rattle.lego_io.specs.Source.{ended}
 use Rattle.lego_io.specs.Sink.{TookPart}
-use Rattle.crash_policy.specs.Policies.{AppValue}
 use Rattle.outside.specs.declared.step.WorldStep.TheVariants.{NotOpened}
 use Rattle.outside.specs.Seen.{Seen, journal}
 use Rattle.outside.specs.InOrder.{BringMessages}
@@ -25,8 +24,8 @@ use Rattle.crash_policy.specs.Order.{policy_of}
 use Rattle.command_words.specs.Commands.{command_in}
 use Rattle.command_words.specs.declared.command.Command.TheVariants.{Replay, Run}
 use Rattle.legosdn.specs.declared.stop.InputRefusal.{InputRefusal}
-use Rattle.legosdn.specs.Input.{apps_in, session_of, run_policy}
-use Rattle.legosdn.specs.Said.{all_allowed, reference_over, WithEnough, LinesRun, MemoryRun, WritingRun}
+use Rattle.legosdn.specs.Input.{ProgramValue, program_in, session_of, run_policy}
+use Rattle.legosdn.specs.Said.{allowed_by, reference_over, WithEnough, LinesRun, MemoryRun, WritingRun}
 use Rattle.legosdn.specs.declared.stop.Stop.{Stop}
 use Rattle.legosdn.specs.declared.stop.Stop.TheVariants.{Usage, Refused, ReadFault, WriteFault, Shut, NextFault, SwitchBroke, Diverged, EventsLeft, NoMemory}
 use Rattle.legosdn.specs.Stops.{stop_status, stop_line, refusal_line, stop_of_switch}
@@ -82,7 +81,7 @@ IsReadCause IsRefused told old new other = ⊥
 
 -- why a policy text gives no applications: it is refused, by that line, or memory was wanting
 abbrev pub IsPolicyCause : List ℕ → Stop → Type 0
-IsPolicyCause text (Refused refusal) = apps_in (policy_of text) ≡ Err (refusal_line refusal)
+IsPolicyCause text (Refused refusal) = program_in (policy_of text) ≡ Err (refusal_line refusal)
 IsPolicyCause text NoMemory = Unit {0}
 IsPolicyCause text other = ⊥
 
@@ -128,30 +127,30 @@ IsLate (EventsLeft left) = Unit {0}
 IsLate other = ⊥
 
 -- what an input spells to a command: its applications, with a session of it to `replay`
-abbrev pub SpellsSession : List ℕ → List AppValue → Type 0
-SpellsSession input apps = (session : SessionValue) × (session_of input ≡ Ok (apps, session))
+abbrev pub SpellsSession : List ℕ → ProgramValue → Type 0
+SpellsSession input program = (session : SessionValue) × (session_of input ≡ Ok (program, session))
 
-abbrev pub SpellsPolicy : List ℕ → List AppValue → Type 0
-SpellsPolicy input apps = run_policy input ≡ Ok apps
+abbrev pub SpellsPolicy : List ℕ → ProgramValue → Type 0
+SpellsPolicy input program = run_policy input ≡ Ok program
 
 -- It is so of the applications that the input spells, of which this was told.
-pub record OfInput (Spells : List ℕ → List AppValue → Type 0) (told : Option (List ℕ)) (P : List AppValue → Type 0) : Type 0 where
-  pub apps : List AppValue
-  pub spelled : IfSome told (λ input. Spells input apps)
-  pub holds : P apps
+pub record OfInput (Spells : List ℕ → ProgramValue → Type 0) (told : Option (List ℕ)) (P : ProgramValue → Type 0) : Type 0 where
+  pub program : ProgramValue
+  pub spelled : IfSome told (λ input. Spells input program)
+  pub holds : P program
 
 -- The source was read to its end, what it told spells applications and a session, and the world was given that session.
-pub record Loaded (apps : List AppValue) (told left : Option (List ℕ)) (seen : Seen Scripts) : Type 0 where
+pub record Loaded (program : ProgramValue) (told left : Option (List ℕ)) (seen : Seen Scripts) : Type 0 where
   pub input : List ℕ
   pub session : SessionValue
   pub whole : IfSome told (λ bytes. input ≡ bytes)
   pub end : left ≡ ended told
-  pub spelled : session_of input ≡ Ok (apps, session)
+  pub spelled : session_of input ≡ Ok (program, session)
   pub given : seen.given ≡ given_by session
 
 -- so it is for some applications
 abbrev pub IsLoaded : Option (List ℕ) → Option (List ℕ) → Seen Scripts → Type 0
-IsLoaded told left seen = (apps : List AppValue) × Loaded apps told left seen
+IsLoaded told left seen = (program : ProgramValue) × Loaded program told left seen
 
 -- Nothing was done in the world, or the world was given that session.
 abbrev pub RunsNoOther : Option (List ℕ) → Option (List ℕ) → Seen Scripts → Type 0
@@ -184,32 +183,32 @@ NeverRuns status seen = Contains (2 ∷ 3 ∷ 4 ∷ 12 ∷ []) status × (seen.h
 -- tables agree, each application was given what it is given there, the packets that were released are those that it releases, the switches that
 -- were lost are those that it loses, no event is left, and what was written is the whole report. The journal is a dialogue with each application, in which each change had reached its switch
 -- at once when it was answered.
-pub record RunsWhole (rules : List AppValue) (seen : Seen Scripts) (contents now_contents : Option (List ℕ)) : Type 0 where
+pub record RunsWhole (program : ProgramValue) (seen : Seen Scripts) (contents now_contents : Option (List ℕ)) : Type 0 where
   pub events : ℕ
-  pub alike : EndsAlike rules all_allowed false seen contents now_contents events
+  pub alike : EndsAlike program.apps (allowed_by program.judge) false seen contents now_contents events
   pub stimuli : stimuli_in seen ≡ seen.given.stimuli
   -- it is that over what the lines of the session say of the applications too
-  pub as_said : without_links seen.given.fails ≡ [] → WithEnough (λ more. EndsAs rules seen contents now_contents events (reference_over rules more alike.losses seen.given))
+  pub as_said : without_links seen.given.fails ≡ [] → WithEnough (λ more. EndsAs program.apps seen contents now_contents events (reference_over program more alike.losses seen.given))
 
 -- The same with this many events left, and with the lines of those that were dispatched.
-pub record RunsPart (rules : List AppValue) (seen : Seen Scripts) (contents now_contents : Option (List ℕ)) (left : ℕ) : Type 0 where
-  pub alike : LeavesAlike rules all_allowed false seen contents now_contents left
+pub record RunsPart (program : ProgramValue) (seen : Seen Scripts) (contents now_contents : Option (List ℕ)) (left : ℕ) : Type 0 where
+  pub alike : LeavesAlike program.apps (allowed_by program.judge) false seen contents now_contents left
   pub stimuli : stimuli_in seen ≡ seen.given.stimuli
-  pub as_said : without_links seen.given.fails ≡ [] → WithEnough (λ more. LeavesAs rules seen contents now_contents left (reference_over rules more alike.losses seen.given))
+  pub as_said : without_links seen.given.fails ≡ [] → WithEnough (λ more. LeavesAs program.apps seen contents now_contents left (reference_over program more alike.losses seen.given))
 
 -- Of the run as far as a point this is so: no point behind it is quiescent, so that what lies behind it is of one stimulus, of one event, or of
 -- the end of the report; and all bytes that came of switches up to there are messages. The whole journal is a dialogue with each application,
 -- in which each change had reached its switch at once when it was answered. Where an event was given behind that point, its turn was undone:
 -- each switch has its entries again, or failed in the undo; or the turn was whole and its packets were being released, and each switch moved by
 -- those that were sent to it alone. Only where memory was wanting may a turn have been whole of which no packet was being released.
-pub record UpToPoint {Own : Type 0} (rules : List AppValue) (seen : Seen Own) (Short : Type 0) (Holds : Seen Own → Type 0) : Type 0 where
+pub record UpToPoint {Own : Type 0} (program : ProgramValue) (seen : Seen Own) (Short : Type 0) (Holds : Seen Own → Type 0) : Type 0 where
   pub last : Seen Own
   pub given : last.given ≡ seen.given
   pub last_point : IsLastQuiescent last seen
   pub messages : BringMessages last.history
   pub holds : Holds last
-  pub tables : TablesBehind rules Short last seen
-  pub at_once : (i : ℕ) → i < length rules → AtOnce i (journal seen.history)
+  pub tables : TablesBehind program.apps Short last seen
+  pub at_once : (i : ℕ) → i < length program.apps → AtOnce i (journal seen.history)
 
 -- no packet that was released made its switch send as many messages as are too many
 abbrev pub NoneFloods : {Own : Type 0} → Seen Own → Type 0
@@ -224,19 +223,19 @@ SomeRefused sim = BringMessages sim.history → ⊥
 -- comes next failed, or a switch; where the sink failed it took a part of the lines of the last; where memory was wanting those of the start
 -- are there, if a stimulus happened. Or nothing was done. Only where bytes come that are no message, a switch diverges, or breaks, unless a
 -- packet that was released made it send as many messages as are too many.
-abbrev pub StopsAs : List AppValue → Stop → WorldData → Option (List ℕ) → Option (List ℕ) → Type 0
-StopsAs rules (EventsLeft left) sim contents now_contents = RunsPart rules (seen_of sim) contents now_contents left
-StopsAs rules WriteFault sim contents now_contents = UpToPoint rules (seen_of sim) ⊥ (λ last. WritingRun rules last contents now_contents)
-StopsAs rules Shut sim contents now_contents = NothingDone (NotOpened ∷ []) (seen_of sim) contents now_contents
-StopsAs rules NextFault sim contents now_contents = UpToPoint rules (seen_of sim) ⊥ (λ last. LinesRun rules last contents now_contents)
-StopsAs rules (SwitchBroke d) sim contents now_contents = (NoneFloods (seen_of sim) → SomeRefused sim) × UpToPoint rules (seen_of sim) ⊥ (λ last. LinesRun rules last contents now_contents)
-StopsAs rules (Diverged d) sim contents now_contents = SomeRefused sim × UpToPoint rules (seen_of sim) ⊥ (λ last. LinesRun rules last contents now_contents)
-StopsAs rules NoMemory sim contents now_contents = UpToPoint rules (seen_of sim) (Unit {0}) (λ last. MemoryRun rules (seen_of sim) last contents now_contents) ⊎ NothingDone [] (seen_of sim) contents now_contents
-StopsAs rules other sim contents now_contents = Unit {0}
+abbrev pub StopsAs : ProgramValue → Stop → WorldData → Option (List ℕ) → Option (List ℕ) → Type 0
+StopsAs program (EventsLeft left) sim contents now_contents = RunsPart program (seen_of sim) contents now_contents left
+StopsAs program WriteFault sim contents now_contents = UpToPoint program (seen_of sim) ⊥ (λ last. WritingRun program last contents now_contents)
+StopsAs program Shut sim contents now_contents = NothingDone (NotOpened ∷ []) (seen_of sim) contents now_contents
+StopsAs program NextFault sim contents now_contents = UpToPoint program (seen_of sim) ⊥ (λ last. LinesRun program last contents now_contents)
+StopsAs program (SwitchBroke d) sim contents now_contents = (NoneFloods (seen_of sim) → SomeRefused sim) × UpToPoint program (seen_of sim) ⊥ (λ last. LinesRun program last contents now_contents)
+StopsAs program (Diverged d) sim contents now_contents = SomeRefused sim × UpToPoint program (seen_of sim) ⊥ (λ last. LinesRun program last contents now_contents)
+StopsAs program NoMemory sim contents now_contents = UpToPoint program (seen_of sim) (Unit {0}) (λ last. MemoryRun program (seen_of sim) last contents now_contents) ⊎ NothingDone [] (seen_of sim) contents now_contents
+StopsAs program other sim contents now_contents = Unit {0}
 
-abbrev pub RunsAs : {T : Type 0} → List AppValue → Result T Stop → WorldData → Option (List ℕ) → Option (List ℕ) → Type 0
-RunsAs rules (Ok x) sim contents now_contents = RunsWhole rules (seen_of sim) contents now_contents
-RunsAs rules (Err stop) sim contents now_contents = StopsAs rules stop sim contents now_contents
+abbrev pub RunsAs : {T : Type 0} → ProgramValue → Result T Stop → WorldData → Option (List ℕ) → Option (List ℕ) → Type 0
+RunsAs program (Ok x) sim contents now_contents = RunsWhole program (seen_of sim) contents now_contents
+RunsAs program (Err stop) sim contents now_contents = StopsAs program stop sim contents now_contents
 
 -- each start of an application, and all that it gave and was given, went as the lines of the session say
 abbrev pub KeepsLines : WorldData → Type 0
@@ -256,23 +255,23 @@ pub record WroteLast (new : Option (List ℕ)) (faults_old faults_new : ℕ) (by
   pub written : Wrote before new faults faults_new bytes
 
 -- Events are left: their number is in the last line, behind the lines of the events that were dispatched.
-pub record LeftAs (rules : List AppValue) (sim : WorldData) (contents now_contents : Option (List ℕ)) (faults_old faults_new : ℕ) : Type 0 where
+pub record LeftAs (program : ProgramValue) (sim : WorldData) (contents now_contents : Option (List ℕ)) (faults_old faults_new : ℕ) : Type 0 where
   pub left : ℕ
   pub some : 1 ≤ left
   pub before : Option (List ℕ)
   pub faults : ℕ
   pub never_fell : NeverFell faults_old faults
-  pub run : RunsPart rules (seen_of sim) contents before left
+  pub run : RunsPart program (seen_of sim) contents before left
   pub written : Wrote before now_contents faults faults_new (stop_line (EventsLeft left))
 
 -- How the run went up to a stop of this status, whose line stands behind what was written up to there.
-pub record CutShort (rules : List AppValue) (status : ℕ) (sim : WorldData) (contents now_contents : Option (List ℕ)) (faults_old faults_new : ℕ) : Type 0 where
+pub record CutShort (program : ProgramValue) (status : ℕ) (sim : WorldData) (contents now_contents : Option (List ℕ)) (faults_old faults_new : ℕ) : Type 0 where
   pub stop : Stop
   pub status_is : status ≡ stop_status stop
   pub before : Option (List ℕ)
   pub faults : ℕ
   pub never_fell : NeverFell faults_old faults
-  pub run : StopsAs rules stop sim contents before
+  pub run : StopsAs program stop sim contents before
   pub written : Wrote before now_contents faults faults_new (stop_line stop)
 
 -- Or it did not begin: memory was wanting before, and nothing was done in the world.
@@ -297,7 +296,7 @@ StopsBefore (Err stop) seen contents now_contents = (IsEarly stop ⊎ (stop ≡ 
 
 -- how the run went of the applications that were loaded, if any were: they were, but where the stop comes before, or memory was wanting
 abbrev pub RunsLoaded : {T : Type 0} → Result T Stop → Option (List ℕ) → Option (List ℕ) → WorldData → Option (List ℕ) → Option (List ℕ) → Type 0
-RunsLoaded result told left sim contents now_contents = ((apps : List AppValue) × Loaded apps told left (seen_of sim) × RunsAs apps result sim contents now_contents) ⊎ StopsBefore result (seen_of sim) contents now_contents
+RunsLoaded result told left sim contents now_contents = ((program : ProgramValue) × Loaded program told left (seen_of sim) × RunsAs program result sim contents now_contents) ⊎ StopsBefore result (seen_of sim) contents now_contents
 
 pub record Replays {T : Type 0} (result : Result T Stop) (old new : Streams) (was now : WorldData) (Stays : Type 0) : Type 0 where
   pub loaded : LoadedAs result old.remaining new.remaining (seen_of now)

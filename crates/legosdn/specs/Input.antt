@@ -1,17 +1,21 @@
 -- What an input spells: to `replay` a policy, a line `---`, and a session; to `run` a policy alone. These text forms are our own.
-use Rattle.std.specs.Prelude.{ℕ, ◌+◌, ◌&&◌, Bool, true, false, List, [], ◌∷◌, ◌++◌, length, Option, Some, None, Result, Ok, Err, nat_lt, if◌then◌else◌, codes}
+use Rattle.std.specs.Prelude.{ℕ, ◌+◌, ◌&&◌, Bool, true, false, List, [], ◌∷◌, ◌++◌, length, map, Option, Some, None, Result, Ok, Err, nat_lt, if◌then◌else◌, codes}
 use Rattle.std.specs.List.{list_all}
 use Rattle.crash_policy.specs.declared.policy_file.Policy.{Policy}
 use Rattle.crash_policy.specs.declared.policy_file.Policy.TheVariants.{Absolute, Equivalence, None as NoRestart}
-use Rattle.crash_policy.specs.Policies.{AppValue, PolicyValue}
+use Rattle.crash_policy.specs.declared.policy_file.AppRule.{AppRule}
+use Rattle.crash_policy.specs.Policies.{AppValue, PolicyValue, app_value}
 use Rattle.crash_policy.specs.Faults.{Fault}
 use Rattle.crash_policy.specs.Order.{policy_of}
+use Rattle.net_guard.specs.declared.quota.ChosenJudge.{ChosenJudge}
+use Rattle.net_guard.specs.declared.quota.ChosenJudge.TheVariants.{All, Quota}
 use Rattle.lego_io.specs.Lines.{cut_at_lf, without_cr, lines_of}
 use Rattle.lego_model.specs.declared.session.SessionFault.{SessionFault}
 use Rattle.lego_model.specs.Words.{is_word}
 use Rattle.lego_model.specs.SessionLines.{SessionValue}
 use Rattle.lego_model.specs.SessionText.{at_first, lines_from, ◌>>=◌}
 use Rattle.lego_model.specs.Application.{names}
+use Rattle.legosdn.specs.declared.policy.Program.{Program}
 use Rattle.legosdn.specs.declared.stop.InputRefusal.TheVariants.{Size, Separator, PolicyLater, NoCommand, Session}
 use Rattle.legosdn.specs.Stops.{fault_words, policy_line, refusal_line}
 
@@ -43,19 +47,34 @@ is_built NoRestart = true
 unfoldable pub is_taken : AppValue → Bool
 is_taken app = is_built app.policy && list_all is_built app.rules
 
-abbrev pub or_later : List AppValue → Bool → Read (List AppValue)
-or_later apps true = Ok apps
-or_later apps false = Err (refusal_line PolicyLater)
+-- what runs: the applications in their order, and the judge of the tables that their turns leave
+pub record ProgramValue : Type 0 where
+  pub apps : List AppValue
+  pub judge : ChosenJudge
 
--- it can run all of them, and no judge counts entries
-abbrev pub taken_apps : Option ℕ → List AppValue → Read (List AppValue)
-taken_apps None apps = or_later apps (list_all is_taken apps)
-taken_apps (Some quota) apps = Err (refusal_line PolicyLater)
+abbrev pub program_of : List AppRule → ChosenJudge → ProgramValue
+program_of apps judge = record { apps = map app_value apps; judge = judge }
 
--- the applications of a policy text, in their order
-abbrev pub apps_in : Result PolicyValue Fault → Read (List AppValue)
-apps_in (Ok policy) = taken_apps policy.quota policy.apps
-apps_in (Err fault) = Err (policy_line (fault_words fault))
+abbrev pub program_value : Program → ProgramValue
+program_value program = program_of program.apps.items program.judge
+
+-- where a quota is given the judge counts entries, else it lets all tables stand
+abbrev pub judge_of : Option ℕ → ChosenJudge
+judge_of None = All
+judge_of (Some most) = Quota (record { most = most })
+
+abbrev pub or_later : ProgramValue → Bool → Read ProgramValue
+or_later program true = Ok program
+or_later program false = Err (refusal_line PolicyLater)
+
+-- it can run all of them
+abbrev pub taken_program : PolicyValue → Read ProgramValue
+taken_program policy = or_later (record { apps = policy.apps; judge = judge_of policy.quota }) (list_all is_taken policy.apps)
+
+-- the program of a policy text
+abbrev pub program_in : Result PolicyValue Fault → Read ProgramValue
+program_in (Ok policy) = taken_program policy
+program_in (Err fault) = Err (policy_line (fault_words fault))
 
 -- ---- `run`
 
@@ -68,16 +87,16 @@ unfoldable pub has_words : AppValue → Bool
 has_words app = are_words app.command
 
 -- a command starts each of them
-abbrev pub or_none : List AppValue → Bool → Read (List AppValue)
-or_none apps true = Ok apps
-or_none apps false = Err (refusal_line NoCommand)
+abbrev pub or_none : ProgramValue → Bool → Read ProgramValue
+or_none program true = Ok program
+or_none program false = Err (refusal_line NoCommand)
 
-abbrev pub with_words : List AppValue → Read (List AppValue)
-with_words apps = or_none apps (list_all has_words apps)
+abbrev pub with_words : ProgramValue → Read ProgramValue
+with_words program = or_none program (list_all has_words program.apps)
 
--- the applications that a policy starts, in their order, or the line by which the policy is refused
-unfoldable pub run_policy : List ℕ → Read (List AppValue)
-run_policy input = if nat_lt most_input (length input) then Err (refusal_line Size) else with_read (apps_in (policy_of input)) with_words
+-- the program that a policy starts, or the line by which the policy is refused
+unfoldable pub run_policy : List ℕ → Read ProgramValue
+run_policy input = if nat_lt most_input (length input) then Err (refusal_line Size) else with_read (program_in (policy_of input)) with_words
 
 -- ---- `replay`
 
@@ -98,16 +117,16 @@ behind_separator n (line ∷ lines) = if is_separator line then Some (n + 1, lin
 unfoldable pub session_lines : List AppValue → ℕ → List (List ℕ) → Result SessionValue SessionFault
 session_lines apps n lines = lines_from (names apps) n at_first lines >>= λ p. Ok p.so_far.session
 
--- with its applications
-abbrev pub or_refused : List AppValue → Result SessionValue SessionFault → Read (List AppValue × SessionValue)
-or_refused apps (Ok session) = Ok (apps, session)
-or_refused apps (Err fault) = Err (refusal_line (Session fault))
+-- with its program
+abbrev pub or_refused : ProgramValue → Result SessionValue SessionFault → Read (ProgramValue × SessionValue)
+or_refused program (Ok session) = Ok (program, session)
+or_refused program (Err fault) = Err (refusal_line (Session fault))
 
 -- the policy before a separator, and the session behind it
-abbrev pub session_behind : List ℕ → Option (ℕ × List (List ℕ)) → Read (List AppValue × SessionValue)
+abbrev pub session_behind : List ℕ → Option (ℕ × List (List ℕ)) → Read (ProgramValue × SessionValue)
 session_behind policy None = Err (refusal_line Separator)
-session_behind policy (Some (n, lines)) = with_read (apps_in (policy_of policy)) (λ apps. or_refused apps (session_lines apps n lines))
+session_behind policy (Some (n, lines)) = with_read (program_in (policy_of policy)) (λ program. or_refused program (session_lines program.apps n lines))
 
--- the applications and the session that an input spells, or the line by which it is refused
-unfoldable pub session_of : List ℕ → Read (List AppValue × SessionValue)
+-- the program and the session that an input spells, or the line by which it is refused
+unfoldable pub session_of : List ℕ → Read (ProgramValue × SessionValue)
 session_of input = if nat_lt most_input (length input) then Err (refusal_line Size) else session_behind (policy_text input) (behind_separator 1 (lines_of input))

@@ -1,7 +1,6 @@
 -- What `run` promises: how it takes its policy, and how a run over any world goes, where that world tells. All of this is our own choice.
 use Rattle.std.specs.Prelude.{◌≡◌, ℕ, ◌⊎◌, List, [], ◌∷◌, length, Option, IfSome, Result, Ok, Err, IfErr}
 use Rattle.std.specs.Io.KnownBytes.{append_known}
-use Rattle.crash_policy.specs.Policies.{AppValue}
 use Rattle.lego_io.specs.Count.{NeverFell}
 use Rattle.lego_io.specs.Source.{ended}
 use Rattle.outside.specs.declared.step.WorldStep.TheVariants.{NotOpened}
@@ -15,23 +14,23 @@ use Rattle.lego_model.specs.CutRun.{NothingDone}
 use Rattle.run_course.specs.Parts.{Standing, WritesPart, TakesCourse}
 use Rattle.legosdn.specs.declared.stop.Stop.{Stop}
 use Rattle.legosdn.specs.declared.stop.Stop.TheVariants.{WriteFault, Shut, NextFault, SwitchBroke, Diverged, EventsLeft, NoMemory}
-use Rattle.legosdn.specs.Input.{run_policy}
+use Rattle.legosdn.specs.Input.{ProgramValue, run_policy}
 use Rattle.legosdn.specs.Stops.{stop_status, stop_line}
-use Rattle.legosdn.specs.Said.{all_allowed}
+use Rattle.legosdn.specs.Said.{allowed_by}
 use Rattle.legosdn.specs.Headline.{NoneFloods, Streams, faults_at, IsNoPolicy, IsCause, IsEarly, IsLate, UpToPoint, Wrote, StopsBefore}
 
 -- ---- The policy
 
 -- The source was read to its end, and what it told is a policy that is taken.
-pub record Taken (apps : List AppValue) (told left : Option (List ℕ)) : Type 0 where
+pub record Taken (program : ProgramValue) (told left : Option (List ℕ)) : Type 0 where
   pub input : List ℕ
   pub whole : IfSome told (λ bytes. input ≡ bytes)
   pub end : left ≡ ended told
-  pub spelled : run_policy input ≡ Ok apps
+  pub spelled : run_policy input ≡ Ok program
 
 -- so it is for some applications
 abbrev pub IsTaken : Option (List ℕ) → Option (List ℕ) → Type 0
-IsTaken told left = (apps : List AppValue) × Taken apps told left
+IsTaken told left = (program : ProgramValue) × Taken program told left
 
 -- ---- The world
 
@@ -52,9 +51,9 @@ NoneStray seen = AreExpected seen.history (at_first seen.given)
 -- tables agree, each application was given what it is given there, the packets that were released are those that it releases, the switches that
 -- were lost are those that it loses, no event is left, and what was written is the whole report. The journal is a dialogue with each application, in which each change had reached its switch
 -- at once when it was answered.
-pub record ServesWhole {Own : Type 0} (rules : List AppValue) (rounds : ℕ) (seen : Seen Own) (contents now_contents : Option (List ℕ)) : Type 0 where
+pub record ServesWhole {Own : Type 0} (program : ProgramValue) (rounds : ℕ) (seen : Seen Own) (contents now_contents : Option (List ℕ)) : Type 0 where
   pub events : ℕ
-  pub alike : EndsAlike rules all_allowed (is_spent rounds seen) seen contents now_contents events
+  pub alike : EndsAlike program.apps (allowed_by program.judge) (is_spent rounds seen) seen contents now_contents events
   pub stimuli : TookFirst rounds seen
 
 -- it is no stop for what a switch did
@@ -64,8 +63,8 @@ IsOfNoSwitch (Diverged d) = ⊥
 IsOfNoSwitch other = Unit {0}
 
 -- The same with this many events left, and with the lines of those that were dispatched.
-pub record ServesPart {Own : Type 0} (rules : List AppValue) (rounds : ℕ) (seen : Seen Own) (contents now_contents : Option (List ℕ)) (left : ℕ) : Type 0 where
-  pub alike : LeavesAlike rules all_allowed (is_spent rounds seen) seen contents now_contents left
+pub record ServesPart {Own : Type 0} (program : ProgramValue) (rounds : ℕ) (seen : Seen Own) (contents now_contents : Option (List ℕ)) (left : ℕ) : Type 0 where
+  pub alike : LeavesAlike program.apps (allowed_by program.judge) (is_spent rounds seen) seen contents now_contents left
   pub stimuli : TookFirst rounds seen
 
 -- How a run goes that ends so. Where events are left it is as above. Where a fault ends it, it is that of the reference controller up to the
@@ -73,28 +72,28 @@ pub record ServesPart {Own : Type 0} (rules : List AppValue) (rounds : ℕ) (see
 -- comes next failed, or a switch; where the sink failed it took a part of the lines of the last; where memory was wanting those of the start
 -- are there, if a stimulus happened. Or nothing was done. Only where bytes come that are no message, a switch diverges, or breaks, unless a
 -- packet that was released made it send as many messages as are too many.
-abbrev pub ServesUntil : {Own : Type 0} → List AppValue → (rounds : ℕ) → Stop → Seen Own → Option (List ℕ) → Option (List ℕ) → Type 0
-ServesUntil rules rounds (EventsLeft left) seen contents now_contents = ServesPart rules rounds seen contents now_contents left
-ServesUntil rules rounds WriteFault seen contents now_contents = UpToPoint rules seen ⊥ (λ last. CutInLines rules all_allowed last contents now_contents)
-ServesUntil rules rounds Shut seen contents now_contents = NothingDone (NotOpened ∷ []) seen contents now_contents
-ServesUntil rules rounds NextFault seen contents now_contents = UpToPoint rules seen ⊥ (λ last. CutBehindLines rules all_allowed last contents now_contents)
-ServesUntil rules rounds (SwitchBroke d) seen contents now_contents = (NoneFloods seen → BringMessages seen.history → ⊥) × UpToPoint rules seen ⊥ (λ last. CutBehindLines rules all_allowed last contents now_contents)
-ServesUntil rules rounds (Diverged d) seen contents now_contents = (BringMessages seen.history → ⊥) × UpToPoint rules seen ⊥ (λ last. CutBehindLines rules all_allowed last contents now_contents)
-ServesUntil rules rounds NoMemory seen contents now_contents = UpToPoint rules seen (Unit {0}) (λ last. CutForMemory rules all_allowed seen last contents now_contents) ⊎ NothingDone [] seen contents now_contents
-ServesUntil rules rounds other seen contents now_contents = Unit {0}
+abbrev pub ServesUntil : {Own : Type 0} → ProgramValue → (rounds : ℕ) → Stop → Seen Own → Option (List ℕ) → Option (List ℕ) → Type 0
+ServesUntil program rounds (EventsLeft left) seen contents now_contents = ServesPart program rounds seen contents now_contents left
+ServesUntil program rounds WriteFault seen contents now_contents = UpToPoint program seen ⊥ (λ last. CutInLines program.apps (allowed_by program.judge) last contents now_contents)
+ServesUntil program rounds Shut seen contents now_contents = NothingDone (NotOpened ∷ []) seen contents now_contents
+ServesUntil program rounds NextFault seen contents now_contents = UpToPoint program seen ⊥ (λ last. CutBehindLines program.apps (allowed_by program.judge) last contents now_contents)
+ServesUntil program rounds (SwitchBroke d) seen contents now_contents = (NoneFloods seen → BringMessages seen.history → ⊥) × UpToPoint program seen ⊥ (λ last. CutBehindLines program.apps (allowed_by program.judge) last contents now_contents)
+ServesUntil program rounds (Diverged d) seen contents now_contents = (BringMessages seen.history → ⊥) × UpToPoint program seen ⊥ (λ last. CutBehindLines program.apps (allowed_by program.judge) last contents now_contents)
+ServesUntil program rounds NoMemory seen contents now_contents = UpToPoint program seen (Unit {0}) (λ last. CutForMemory program.apps (allowed_by program.judge) seen last contents now_contents) ⊎ NothingDone [] seen contents now_contents
+ServesUntil program rounds other seen contents now_contents = Unit {0}
 
-abbrev pub ServesAs : {Own T : Type 0} → List AppValue → (rounds : ℕ) → Result T Stop → Seen Own → Option (List ℕ) → Option (List ℕ) → Type 0
-ServesAs rules rounds (Ok x) seen contents now_contents = ServesWhole rules rounds seen contents now_contents
-ServesAs rules rounds (Err stop) seen contents now_contents = ServesUntil rules rounds stop seen contents now_contents
+abbrev pub ServesAs : {Own T : Type 0} → ProgramValue → (rounds : ℕ) → Result T Stop → Seen Own → Option (List ℕ) → Option (List ℕ) → Type 0
+ServesAs program rounds (Ok x) seen contents now_contents = ServesWhole program rounds seen contents now_contents
+ServesAs program rounds (Err stop) seen contents now_contents = ServesUntil program rounds stop seen contents now_contents
 
 -- How the run went up to a stop of this status, whose line stands behind what was written up to there.
-pub record ServesCut {Own : Type 0} (rules : List AppValue) (rounds status : ℕ) (seen : Seen Own) (contents now_contents : Option (List ℕ)) (faults_old faults_new : ℕ) : Type 0 where
+pub record ServesCut {Own : Type 0} (program : ProgramValue) (rounds status : ℕ) (seen : Seen Own) (contents now_contents : Option (List ℕ)) (faults_old faults_new : ℕ) : Type 0 where
   pub stop : Stop
   pub status_is : status ≡ stop_status stop
   pub before : Option (List ℕ)
   pub faults : ℕ
   pub never_fell : NeverFell faults_old faults
-  pub run : ServesUntil rules rounds stop seen contents before
+  pub run : ServesUntil program rounds stop seen contents before
   pub written : Wrote before now_contents faults faults_new (stop_line stop)
 
 -- ---- The course of a run, over any world that tells
@@ -131,7 +130,7 @@ TakenAs (Err stop) told left = IsLate stop → IsTaken told left
 
 -- how the run went of the applications that were taken, if any were: they were, but where the stop comes before, or memory was wanting
 abbrev pub ServesTaken : {Own T : Type 0} → (rounds : ℕ) → Result T Stop → Option (List ℕ) → Option (List ℕ) → Seen Own → Option (List ℕ) → Option (List ℕ) → Type 0
-ServesTaken rounds result told left seen contents now_contents = ((apps : List AppValue) × Taken apps told left × ServesAs apps rounds result seen contents now_contents) ⊎ StopsBefore result seen contents now_contents
+ServesTaken rounds result told left seen contents now_contents = ((program : ProgramValue) × Taken program told left × ServesAs program rounds result seen contents now_contents) ⊎ StopsBefore result seen contents now_contents
 
 pub record Serves {Own T : Type 0} (Tells : Type 0) (rounds : ℕ) (result : Result T Stop) (old new : Streams) (was now : Seen Own) (Stays : Type 0) : Type 0 where
   pub taken : TakenAs result old.remaining new.remaining

@@ -2,7 +2,6 @@
 -- world what is so at every status. All of this is our own choice.
 use Rattle.std.specs.Prelude.{◌≡◌, ◌⊎◌, ◌<◌, ◌≤◌, ℕ, List, [], ◌∷◌, length, Option, Some, IfSome, Ok, Err, Contains}
 use Rattle.std.specs.Io.KnownBytes.{append_known}
-use Rattle.crash_policy.specs.Policies.{AppValue}
 use Rattle.outside.specs.Seen.{Seen, journal}
 use Rattle.outside.specs.State.{state}
 use Rattle.outside.specs.InOrder.{BringMessages}
@@ -17,8 +16,8 @@ use Rattle.lego_model.specs.RunReport.{run_report}
 use Rattle.lego_model.specs.SessionLines.{SessionValue}
 use Rattle.lego_model.specs.WholeRun.{is_spent}
 use Rattle.legosdn.specs.declared.stop.InputRefusal.{InputRefusal}
-use Rattle.legosdn.specs.Input.{session_of, run_policy}
-use Rattle.legosdn.specs.Said.{all_allowed, reference_of_session, WithEnough}
+use Rattle.legosdn.specs.Input.{ProgramValue, session_of, run_policy}
+use Rattle.legosdn.specs.Said.{allowed_by, reference_of_session, WithEnough}
 use Rattle.legosdn.specs.Stops.{stop_line, refusal_line}
 use Rattle.legosdn.specs.Headline.{IsNoSession, IsNoPolicy, Streams, faults_at, IsCause, NoneFailed, SpellsSession, SpellsPolicy, OfInput, IsLoaded, RunsNoOther, NeverRuns, RunsWhole, NoneFloods, SomeRefused, KeepsLines, Wrote, WroteLast, LeftAs, CutShort, NotBegun, Stopped}
 use Rattle.legosdn.specs.LinkFaults.{LostAtFaults}
@@ -27,16 +26,16 @@ use Rattle.legosdn.specs.Live.{IsTaken, TellsInOrder, NoneStray, ServesWhole, Se
 -- ---- The input
 
 -- It is this session, with these applications,
-pub record IsSession (told : Option (List ℕ)) (apps : List AppValue) (session : SessionValue) : Type 0 where
+pub record IsSession (told : Option (List ℕ)) (program : ProgramValue) (session : SessionValue) : Type 0 where
   pub input : List ℕ
   pub whole : told ≡ Some input
-  pub spelled : session_of input ≡ Ok (apps, session)
+  pub spelled : session_of input ≡ Ok (program, session)
 
 -- or a policy that `run` takes, with these.
-pub record IsPolicy (told : Option (List ℕ)) (apps : List AppValue) : Type 0 where
+pub record IsPolicy (told : Option (List ℕ)) (program : ProgramValue) : Type 0 where
   pub input : List ℕ
   pub whole : told ≡ Some input
-  pub spelled : run_policy input ≡ Ok apps
+  pub spelled : run_policy input ≡ Ok program
 
 -- ---- Statuses
 
@@ -74,12 +73,12 @@ pub record NothingInTheWay {Own : Type 0} (old new : Streams) (was now : Seen Ow
 -- The journal is a dialogue with each of these applications: each answer is to its next message, and a change that passed the host's tests had then
 -- reached its switch. Since the frame given before, the change was sent there, a barrier behind it, the barrier's reply came, and no other change was
 -- sent.
-abbrev pub AreDialogues : {Own : Type 0} → List AppValue → Seen Own → Type 0
-AreDialogues apps seen = (i : ℕ) → i < length apps → AtOnce i (journal seen.history)
+abbrev pub AreDialogues : {Own : Type 0} → ProgramValue → Seen Own → Type 0
+AreDialogues program seen = (i : ℕ) → i < length program.apps → AtOnce i (journal seen.history)
 
 -- so it is with those of the input, or nothing was done
-abbrev pub AnswersMeanDone : {Own : Type 0} → (List ℕ → List AppValue → Type 0) → Option (List ℕ) → Seen Own → Type 0
-AnswersMeanDone Spells told seen = OfInput Spells told (λ apps. AreDialogues apps seen) ⊎ (journal seen.history ≡ [])
+abbrev pub AnswersMeanDone : {Own : Type 0} → (List ℕ → ProgramValue → Type 0) → Option (List ℕ) → Seen Own → Type 0
+AnswersMeanDone Spells told seen = OfInput Spells told (λ program. AreDialogues program seen) ⊎ (journal seen.history ≡ [])
 
 -- ---- `replay`
 
@@ -88,17 +87,17 @@ AnswersMeanDone Spells told seen = OfInput Spells told (λ apps. AreDialogues ap
 -- was given what it is given there, the packets that were released are those that it releases, the switches that were lost are those that it loses,
 -- no event is left, and what was written is the whole report.
 pub record ReplayLeavesNothing (status : ℕ) (old new : Streams) (now : WorldData) : Type 0 where
-  pub whole_run : status ≡ 0 → OfInput SpellsSession old.remaining (λ apps. RunsWhole apps (seen_of now) old.contents new.contents)
+  pub whole_run : status ≡ 0 → OfInput SpellsSession old.remaining (λ program. RunsWhole program (seen_of now) old.contents new.contents)
   -- at 10 the same with the lines of the events that were dispatched, and how many are left behind them
-  pub events_left : status ≡ 10 → OfInput SpellsSession old.remaining (λ apps. LeftAs apps now old.contents new.contents old.sink_faults new.sink_faults)
+  pub events_left : status ≡ 10 → OfInput SpellsSession old.remaining (λ program. LeftAs program now old.contents new.contents old.sink_faults new.sink_faults)
 
 -- That report is the one of the reference controller over the session that the input spells: over its switches and stimuli and what its lines say of
 -- the applications, where it loses the same switches in the same places, with as many ready starts and plain turns behind the last line as one
 -- likes, if they are enough.
-abbrev pub ReportsSession : List AppValue → SessionValue → Streams → Streams → WorldData → Type 0
-ReportsSession apps session old new now =
-    (run : RunsWhole apps (seen_of now) old.contents new.contents)
-    × WithEnough (λ more. new.contents ≡ append_known old.contents (run_report (names apps) (reference_of_session apps more run.alike.losses session)))
+abbrev pub ReportsSession : ProgramValue → SessionValue → Streams → Streams → WorldData → Type 0
+ReportsSession program session old new now =
+    (run : RunsWhole program (seen_of now) old.contents new.contents)
+    × WithEnough (λ more. new.contents ≡ append_known old.contents (run_report (names program.apps) (reference_of_session program more run.alike.losses session)))
 
 -- A stop has its cause. Where a fault ends the run, it is that of the reference controller up to the last quiescent point: what was written is what
 -- this says so far, or a part of the lines of what was done last where the sink failed, and behind it stands the line that says why; and the whole
@@ -106,7 +105,7 @@ ReportsSession apps session old new now =
 pub record ReplayStops (status : ℕ) (old new : Streams) (was now : WorldData) : Type 0 where
   pub status_has_cause : HasCause (Unit {0}) IsNoSession status old new (seen_of was) (seen_of now)
   pub run_until_fault : Contains (5 ∷ 6 ∷ 8 ∷ 9 ∷ 12 ∷ []) status
-      → OfInput SpellsSession old.remaining (λ apps. CutShort apps status now old.contents new.contents old.sink_faults new.sink_faults)
+      → OfInput SpellsSession old.remaining (λ program. CutShort program status now old.contents new.contents old.sink_faults new.sink_faults)
       ⊎ NotBegun status (seen_of now) old.contents new.contents old.sink_faults new.sink_faults
 
 -- What else statuses say. At 3 the input is refused; a refused input never runs. Where the world runs, the input was read to its end and is a
@@ -123,20 +122,20 @@ pub record ReplayStatuses (status : ℕ) (old new : Streams) (now : WorldData) :
 -- The promise of `replay`.
 pub record ReplayPromise (status : ℕ) (old new : Streams) (was now : WorldData) : Type 0 where
   pub failed_turn_leaves_nothing_behind : ReplayLeavesNothing status old new now
-  pub report_is_exact : (apps : List AppValue) (session : SessionValue) → IsSession old.remaining apps session → status ≡ 0 → ReportsSession apps session old new now
+  pub report_is_exact : (program : ProgramValue) (session : SessionValue) → IsSession old.remaining program session → status ≡ 0 → ReportsSession program session old new now
   pub answer_means_that_it_is_done : AnswersMeanDone SpellsSession old.remaining (seen_of now)
   pub stop_has_its_cause : ReplayStops status old new was now
-  pub good_input_is_answered : (apps : List AppValue) (session : SessionValue) → IsSession old.remaining apps session → NothingInTheWay old new (seen_of was) (seen_of now) → IsAnswered status
+  pub good_input_is_answered : (program : ProgramValue) (session : SessionValue) → IsSession old.remaining program session → NothingInTheWay old new (seen_of was) (seen_of now) → IsAnswered status
   pub statuses : ReplayStatuses status old new now
 
 -- ---- `run`, over a world that may tell
 
 -- At status 0 the first stimuli happened that the world was given, as many as there are rounds, or all; and the report is the one of the reference
 -- controller over what the world told.
-abbrev pub ReportsTold : {Own : Type 0} → List AppValue → (rounds : ℕ) → Streams → Streams → Seen Own → Type 0
-ReportsTold apps rounds old new now =
-    (run : ServesWhole apps rounds now old.contents new.contents)
-    × (new.contents ≡ append_known old.contents (run_report (names apps) (reference_of apps all_allowed (is_spent rounds now) run.alike.losses now)))
+abbrev pub ReportsTold : {Own : Type 0} → ProgramValue → (rounds : ℕ) → Streams → Streams → Seen Own → Type 0
+ReportsTold program rounds old new now =
+    (run : ServesWhole program rounds now old.contents new.contents)
+    × (new.contents ≡ append_known old.contents (run_report (names program.apps) (reference_of program.apps (allowed_by program.judge) (is_spent rounds now) run.alike.losses now)))
 
 -- A stop has its cause, over any world. Where events are left, or a fault ends the run, the run is that of the reference controller as far as it
 -- goes, and behind what was written stands the line that says why. A switch diverges only where bytes came that are no message, and breaks only
@@ -144,7 +143,7 @@ ReportsTold apps rounds old new now =
 pub record RunStops {Own : Type 0} (Tells : Type 0) (rounds status : ℕ) (old new : Streams) (was now : Seen Own) : Type 0 where
   pub status_has_cause : HasCause Tells IsNoPolicy status old new was now
   pub run_until_stop : TellsInOrder Tells was now → Contains (5 ∷ 6 ∷ 8 ∷ 9 ∷ 10 ∷ 12 ∷ []) status
-      → OfInput SpellsPolicy old.remaining (λ apps. ServesCut apps rounds status now old.contents new.contents old.sink_faults new.sink_faults)
+      → OfInput SpellsPolicy old.remaining (λ program. ServesCut program rounds status now old.contents new.contents old.sink_faults new.sink_faults)
       ⊎ NotBegun status now old.contents new.contents old.sink_faults new.sink_faults
 
 -- What else statuses say. At 3 the input is refused; a refused one never runs. Where the world runs, the input was read to its end and is a policy
@@ -161,11 +160,11 @@ pub record RunStatuses (status : ℕ) (old new : Streams) (Stays : Type 0) : Typ
 -- is room. The events that they make are given behind those that waited, each with its number, and printed. So the run goes from part to part, as far
 -- as it goes, and what was written is the lines of these parts.
 pub record RunPromise {Own : Type 0} (Tells : Type 0) (rounds status : ℕ) (old new : Streams) (was now : Seen Own) (Stays : Type 0) : Type 0 where
-  pub failed_turn_leaves_nothing_behind : TellsInOrder Tells was now → status ≡ 0 → OfInput SpellsPolicy old.remaining (λ apps. ServesWhole apps rounds now old.contents new.contents)
-  pub report_is_exact : TellsInOrder Tells was now → status ≡ 0 → OfInput SpellsPolicy old.remaining (λ apps. ReportsTold apps rounds old new now)
+  pub failed_turn_leaves_nothing_behind : TellsInOrder Tells was now → status ≡ 0 → OfInput SpellsPolicy old.remaining (λ program. ServesWhole program rounds now old.contents new.contents)
+  pub report_is_exact : TellsInOrder Tells was now → status ≡ 0 → OfInput SpellsPolicy old.remaining (λ program. ReportsTold program rounds old new now)
   pub answer_means_that_it_is_done : TellsInOrder Tells was now → AnswersMeanDone SpellsPolicy old.remaining now
   pub stop_has_its_cause : RunStops Tells rounds status old new was now
-  pub good_input_is_answered : TellsInOrder Tells was now → (apps : List AppValue) → IsPolicy old.remaining apps → NothingInTheWay old new was now → IsAnswered status
+  pub good_input_is_answered : TellsInOrder Tells was now → (program : ProgramValue) → IsPolicy old.remaining program → NothingInTheWay old new was now → IsAnswered status
   pub statuses : RunStatuses status old new Stays
   pub kept_messages_come_first : Tells → CourseTo status was now old.contents new.contents old.sink_faults new.sink_faults
 
@@ -181,8 +180,8 @@ NoSwitchEnds status = Contains (8 ∷ 9 ∷ []) status → ⊥
 -- steps and declared switches.
 pub record AtEveryStatus (told left : Option (List ℕ)) (seen : Seen Scripts) : Type 0 where
   pub no_stray_call : seen.counts.strays ≤ seen.counts.shorts
-  pub lost_at_fault_lines : (apps : List AppValue) (session : SessionValue) → IsSession told apps session → LostAtFaults session.faults seen.history
-  pub none_lost_without_fault : (apps : List AppValue) (session : SessionValue) → IsSession told apps session → session.faults ≡ [] → lost_of seen ≡ []
+  pub lost_at_fault_lines : (program : ProgramValue) (session : SessionValue) → IsSession told program session → LostAtFaults session.faults seen.history
+  pub none_lost_without_fault : (program : ProgramValue) (session : SessionValue) → IsSession told program session → session.faults ≡ [] → lost_of seen ≡ []
   pub no_other_session : RunsNoOther told left seen
   pub every_application_ended : (state seen).running ≡ []
   pub own_ids_ascend : IsShortRun seen → OwnIdsAscend seen

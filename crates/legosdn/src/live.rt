@@ -29,6 +29,14 @@ pub fn run_live<S: Source, K: Sink, W: World>(
     ensures never_fell { NeverFell (K.faults sink.old) (K.faults sink.new) }
     ensures no_switch { W.CanPart → IfErr result IsOfNoSwitch }
 {
-    let apps = read_program(alloc, source)?;
-    run_world(alloc, &apps, sink, live, port, rounds)
+    let program = read_program(alloc, source)?;
+    run_world(
+        alloc,
+        &program.apps,
+        &program.judge,
+        sink,
+        live,
+        port,
+        rounds,
+    )
 }

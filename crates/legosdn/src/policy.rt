@@ -1,11 +1,11 @@
 //! The policy, and the applications that it names.
 
-ghost use Rattle.std.specs.Prelude.{◌≡◌, ◌≤◌, Ok, Err, length, map, IfOk, IfErr};
+ghost use Rattle.std.specs.Prelude.{◌≡◌, ◌≤◌, Ok, Err, length, IfOk, IfErr};
 ghost use Rattle.std.specs.List.{list_all};
 ghost use Rattle.lego_io.specs.Count.{NeverFell};
 ghost use Rattle.crash_policy.specs.Policies.{app_value, policy_value};
 ghost use Rattle.crash_policy.specs.Order.{policy_of};
-ghost use Rattle.legosdn.specs.Input.{is_built as is_built_in, is_taken as is_taken_in, has_words, with_words, apps_in};
+ghost use Rattle.legosdn.specs.Input.{is_built as is_built_in, is_taken as is_taken_in, has_words, with_words, judge_of as judge_by, program_value, program_in as program_of_policy};
 ghost use Rattle.legosdn.specs.Stops.{refusal_line};
 ghost use Rattle.legosdn.specs.Headline.{IsReadCause, IsNoPolicy, IsPolicyCause};
 ghost use Rattle.legosdn.specs.Live.{Taken};
@@ -14,7 +14,17 @@ use crate::input::read_input;
 use crate::stop::{InputRefusal, Stop};
 use crash_policy::{AppRule, Policy, PolicyFile, read_policy};
 use lego_io::Source;
+use net_guard::{ChosenJudge, Quota};
 use std::alloc::Global;
+
+/// What runs: applications, and the judge of the tables that their turns leave.
+#[derive(Drop, Debug)]
+pub struct Program {
+    /// The applications, in the order of the policy.
+    pub apps: Vec<AppRule>,
+    /// A turn whose tables it refuses is undone.
+    pub judge: ChosenJudge,
+}
 
 /// Tells whether the engine can do what a policy says so far.
 fn is_built(policy: Policy) -> bool
@@ -48,28 +58,41 @@ fn are_taken(apps: &[AppRule]) -> bool
     apps.iter().all(|app| is_taken(app))
 }
 
-/// Gives the applications of a policy, where the engine can run all of them so far.
+/// Makes the judge of a policy.
+fn judge_of(quota: Option<u32>) -> ChosenJudge
+    ensures { result ≡ judge_by quota }
+{
+    match quota {
+        None => ChosenJudge::All,
+        Some(most) => ChosenJudge::Quota(Quota { most }),
+    }
+}
+
+/// Gives the program of a policy, where the engine can run all of its applications so far.
 #[tactic(auto, using(crate::proofs::Policies::all_taken))]
-fn taken_apps(policy: PolicyFile) -> Result<Vec<AppRule>, InputRefusal>
-    ensures taken { IfOk result (λ apps. apps_in (Ok (policy_value policy)) ≡ Ok (map app_value apps.items)) }
-    ensures same { IfOk result (λ apps. apps ≡ policy.apps) }
-    ensures refused { IfErr result (λ refusal. apps_in (Ok (policy_value policy)) ≡ Err (refusal_line refusal)) }
+fn taken_program(policy: PolicyFile) -> Result<Program, InputRefusal>
+    ensures taken { IfOk result (λ program. program_of_policy (Ok (policy_value policy)) ≡ Ok (program_value program)) }
+    ensures same { IfOk result (λ program. program.apps ≡ policy.apps) }
+    ensures refused { IfErr result (λ refusal. program_of_policy (Ok (policy_value policy)) ≡ Err (refusal_line refusal)) }
 {
     let PolicyFile { quota, apps } = policy;
-    if quota.is_none() && are_taken(&apps) {
-        return Ok(apps);
+    if are_taken(&apps) {
+        return Ok(Program {
+            apps,
+            judge: judge_of(quota),
+        });
     }
     Err(InputRefusal::PolicyLater)
 }
 
-/// Reads the applications of a policy text, in their order.
-pub fn read_apps(alloc: Global, text: &[u8]) -> Result<Vec<AppRule>, Stop>
-    ensures taken { IfOk result (λ apps. apps_in (policy_of text.now) ≡ Ok (map app_value apps.items)) }
-    ensures few { IfOk result (λ apps. length apps.items ≤ 32) }
+/// Reads the program of a policy text.
+pub fn program_in(alloc: Global, text: &[u8]) -> Result<Program, Stop>
+    ensures taken { IfOk result (λ program. program_of_policy (policy_of text.now) ≡ Ok (program_value program)) }
+    ensures few { IfOk result (λ program. length program.apps.items ≤ 32) }
     ensures why { IfErr result (IsPolicyCause text.now) }
 {
     let policy = read_policy(alloc, text)?;
-    Ok(taken_apps(policy)?)
+    Ok(taken_program(policy)?)
 }
 
 /// Tells whether a command starts an application.
@@ -87,26 +110,26 @@ fn are_startable(apps: &[AppRule]) -> bool
     apps.iter().all(|app| is_startable(app))
 }
 
-/// Gives the applications, where each has a command.
+/// Gives the program, where each application has a command.
 #[tactic(auto, using(crate::proofs::Policies::all_have_words))]
-fn with_commands(apps: Vec<AppRule>) -> Result<Vec<AppRule>, InputRefusal>
-    ensures taken { IfOk result (λ same. (same ≡ apps) × (with_words (map app_value apps.items) ≡ Ok (map app_value apps.items))) }
-    ensures refused { IfErr result (λ refusal. with_words (map app_value apps.items) ≡ Err (refusal_line refusal)) }
+fn with_commands(program: Program) -> Result<Program, InputRefusal>
+    ensures taken { IfOk result (λ same. (same ≡ program) × (with_words (program_value program) ≡ Ok (program_value program))) }
+    ensures refused { IfErr result (λ refusal. with_words (program_value program) ≡ Err (refusal_line refusal)) }
 {
-    if !are_startable(&apps) {
+    if !are_startable(&program.apps) {
         return Err(InputRefusal::NoCommand);
     }
-    Ok(apps)
+    Ok(program)
 }
 
-/// Reads an input to its end, as a policy, and gives the applications that it starts, in their order.
-pub fn read_program<S: Source>(alloc: Global, source: &mut S) -> Result<Vec<AppRule>, Stop>
-    ensures taken { IfOk result (λ apps. Taken (map app_value apps.items) (S.remaining source.old) (S.remaining source.new)) }
-    ensures few { IfOk result (λ apps. length apps.items ≤ 32) }
+/// Reads an input to its end, as a policy, and gives the program that it starts.
+pub fn read_program<S: Source>(alloc: Global, source: &mut S) -> Result<Program, Stop>
+    ensures taken { IfOk result (λ program. Taken (program_value program) (S.remaining source.old) (S.remaining source.new)) }
+    ensures few { IfOk result (λ program. length program.apps.items ≤ 32) }
     ensures why { IfErr result (IsReadCause IsNoPolicy (S.remaining source.old) (S.faults source.old) (S.faults source.new)) }
     ensures never_fell { NeverFell (S.faults source.old) (S.faults source.new) }
 {
     let input = read_input(alloc, source)?;
-    let apps = read_apps(alloc, &input)?;
-    Ok(with_commands(apps)?)
+    let program = program_in(alloc, &input)?;
+    Ok(with_commands(program)?)
 }

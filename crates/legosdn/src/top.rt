@@ -13,6 +13,7 @@ ghost use Rattle.sim_world.specs.Building.{nothing_given, IsNew};
 ghost use Rattle.command_words.specs.Commands.{command_in};
 ghost use Rattle.lego_model.specs.OwnIds.{IsShortRun, OwnIdsAscend};
 ghost use Rattle.lego_model.specs.Application.{names};
+ghost use Rattle.legosdn.specs.Input.{program_of, program_value};
 ghost use Rattle.legosdn.specs.Stops.{stop_status, stop_line};
 ghost use Rattle.legosdn.specs.Headline.{IsReplay, IsRun, IsNoSession, streams, IsReadCause, IsRunCause, IsEarly, Loaded, LosesByFaults, RunsAs, KeepsLines, Wrote, Replays};
 ghost use Rattle.legosdn.specs.Live.{Serves, IsOfNoSwitch};
@@ -20,12 +21,13 @@ ghost use Rattle.legosdn.specs.Promise.{ReplayPromise, RunPromise, NoSwitchEnds,
 
 use crate::input::{cut, read_input};
 use crate::live::run_live;
-use crate::policy::read_apps;
+use crate::policy::{Program, program_in};
 use crate::stop::Stop;
 use crate::world::run_world;
 use command_words::{Command, read_words};
 use crash_policy::AppRule;
 use lego_io::{Sink, Source};
+use net_guard::ChosenJudge;
 use of_types::limits::MOST_ROUNDS;
 use outside::World;
 use session_text::read_session;
@@ -44,13 +46,13 @@ fn app_names(alloc: Global, apps: &[AppRule]) -> Result<Vec<String>, AllocError>
     Ok(names)
 }
 
-/// Reads an input to its end, and its session into the world; answers its applications, in their order.
-fn load<S: Source>(alloc: Global, source: &mut S, sim: &mut SimWorld) -> Result<Vec<AppRule>, Stop>
+/// Reads an input to its end, and its session into the world; answers its program.
+fn load<S: Source>(alloc: Global, source: &mut S, sim: &mut SimWorld) -> Result<Program, Stop>
     requires new { IsNew sim.old }
     requires nothing { given_of sim.old ≡ nothing_given }
-    ensures loaded { IfOk result (λ apps. Loaded (map app_value apps.items) (S.remaining source.old) (S.remaining source.new) (seen_of sim.new)) }
+    ensures loaded { IfOk result (λ program. Loaded (program_value program) (S.remaining source.old) (S.remaining source.new) (seen_of sim.new)) }
     ensures new { IsNew sim.new }
-    ensures few_apps { IfOk result (λ apps. length apps.items ≤ 32) }
+    ensures few_apps { IfOk result (λ program. length program.apps.items ≤ 32) }
     ensures few { OnOk result (length (seen_of sim.new).given.stimuli ≤ 1000000) }
     ensures why { IfErr result (IsReadCause IsNoSession (S.remaining source.old) (S.faults source.old) (S.faults source.new)) }
     ensures early { IfErr result (λ stop. IsEarly stop → sim.new ≡ sim.old) }
@@ -58,10 +60,10 @@ fn load<S: Source>(alloc: Global, source: &mut S, sim: &mut SimWorld) -> Result<
 {
     let input = read_input(alloc, source)?;
     let parts = cut(&input)?;
-    let apps = read_apps(alloc, parts.policy)?;
-    let names = app_names(alloc, &apps)?;
+    let program = program_in(alloc, parts.policy)?;
+    let names = app_names(alloc, &program.apps)?;
     read_session(alloc, parts.session, parts.first_line, &names, sim)?;
-    Ok(apps)
+    Ok(program)
 }
 
 /// Finds that the simulated world keeps its word.
@@ -79,12 +81,13 @@ fn keeps_word<E: Sink + Drop>(sim: &Traced<SimWorld, E>)
 fn simulate<K: Sink, E: Sink + Drop>(
     alloc: Global,
     apps: &[AppRule],
+    judge: &ChosenJudge,
     sink: &mut K,
     sim: &mut Traced<SimWorld, E>,
 ) -> Result<(), Stop>
     requires few { length apps.now ≤ 32 }
     ensures runs { (seen_of sim.old).history ≡ [] → length (seen_of sim.old).given.stimuli ≤ 1000000
-        → RunsAs (map app_value apps.now) result sim.new (K.contents sink.old) (K.contents sink.new) }
+        → RunsAs (program_of apps.now judge.now) result sim.new (K.contents sink.old) (K.contents sink.new) }
     ensures lines { KeepsLines sim.new }
     ensures strays { (seen_of sim.old).history ≡ [] → (seen_of sim.new).counts.strays ≤ (seen_of sim.new).counts.shorts }
     ensures lost { (seen_of sim.old).history ≡ [] → LosesByFaults (seen_of sim.new) × LosesAsTold (seen_of sim.new) }
@@ -94,7 +97,7 @@ fn simulate<K: Sink, E: Sink + Drop>(
     ensures ids { (seen_of sim.old).history ≡ [] → IsShortRun (seen_of sim.new) → OwnIdsAscend (seen_of sim.new) }
     ensures never_fell { NeverFell (K.faults sink.old) (K.faults sink.new) }
 {
-    let ended = run_world(alloc, apps, sink, sim, 0, MOST_ROUNDS);
+    let ended = run_world(alloc, apps, judge, sink, sim, 0, MOST_ROUNDS);
     keeps_word(sim);
     ended
 }
@@ -113,8 +116,8 @@ fn replay<S: Source, K: Sink, E: Sink + Drop>(
     ensures always { AtEveryStatus (S.remaining source.old) (S.remaining source.new) (seen_of sim.new) }
     ensures never_fell { NeverFell (K.faults sink.old) (K.faults sink.new) }
 {
-    let apps = load(alloc, source, sim.world_mut())?;
-    simulate(alloc, &apps, sink, sim)
+    let program = load(alloc, source, sim.world_mut())?;
+    simulate(alloc, &program.apps, &program.judge, sink, sim)
 }
 
 /// Runs the command that the words are.

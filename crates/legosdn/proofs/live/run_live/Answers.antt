@@ -1,5 +1,5 @@
-use Rattle.crash_policy.specs.Policies.{app_value}
-use Rattle.std.proofs.Common.{map, refl, sym, subst}
+use Rattle.legosdn.specs.Input.{program_of}
+use Rattle.std.proofs.Common.{refl, sym, subst}
 use Rattle.legosdn.specs.Headline.{streams}
 use Rattle.legosdn.specs.Live.{Taken}
 use Rattle.legosdn.proofs.CommandEnds.{serves_unread, serves_taken}
@@ -8,20 +8,20 @@ use Rattle.std.proofs.lemmas.Result.{err_from_is_err_and}
 use Rattle.legosdn.proofs.Statuses.{read_of_no_switch}
 use Rattle.legosdn.proofs.live.run_live.Goals as goal
 
-pub returns-in_err-apps-clause-serves : goal.returns-in_err-apps-clause-serves
-returns-in_err-apps-clause-serves g c =
+pub returns-in_err-program-clause-serves : goal.returns-in_err-program-clause-serves
+returns-in_err-program-clause-serves g c =
     serves_unread g.W.World.Tells c.args.rounds (g.S.Source.remaining c.args.source.now) (g.S.Source.remaining c.read_program.new.source) (g.S.Source.faults c.args.source.now) (g.S.Source.faults c.read_program.new.source)
-    (g.K.Sink.faults c.args.sink.now) (g.W.World.seen c.args.live.now) (g.K.Sink.contents c.args.sink.now) _ c.in_err-apps.field-0.0 c.from_residual.result c.from_residual.ensures.1 c.in_err-apps.ensures.why (refl, refl)
+    (g.K.Sink.faults c.args.sink.now) (g.W.World.seen c.args.live.now) (g.K.Sink.contents c.args.sink.now) _ c.in_err-program.field-0.0 c.from_residual.result c.from_residual.ensures.1 c.in_err-program.ensures.why (refl, refl)
 
 pub returns-clause-serves : goal.returns-clause-serves
 returns-clause-serves g c =
     serves_taken g.W.World.Tells c.args.rounds (streams (g.S.Source.remaining c.args.source.now) (g.K.Sink.contents c.args.sink.now) (g.S.Source.faults c.args.source.now) (g.K.Sink.faults c.args.sink.now))
     (streams (g.S.Source.remaining c.read_program.new.source) (g.K.Sink.contents c.run_world.new.sink) (g.S.Source.faults c.read_program.new.source) (g.K.Sink.faults c.run_world.new.sink)) (g.W.World.seen c.args.live.now) (g.W.World.seen c.run_world.new.world) _ c.run_world.result
-    (map app_value c.deref.result.now)
-    (subst (λ apps. Taken (map app_value apps) (g.S.Source.remaining c.args.source.now) (g.S.Source.remaining c.read_program.new.source)) (sym c.deref.ensures.value) c.in_ok-apps.ensures.taken) c.run_world.ensures.runs c.run_world.ensures.course c.run_world.ensures.why
+    (program_of c.deref.result.now c.in_ok-program.program.judge)
+    (subst (λ apps. Taken (program_of apps c.in_ok-program.program.judge) (g.S.Source.remaining c.args.source.now) (g.S.Source.remaining c.read_program.new.source)) (sym c.deref.ensures.value) c.in_ok-program.ensures.taken) c.run_world.ensures.runs c.run_world.ensures.course c.run_world.ensures.why
 
-pub returns-in_err-apps-clause-always : goal.returns-in_err-apps-clause-always
-returns-in_err-apps-clause-always g c = idle_always g.W.World.Tells (g.W.World.seen c.args.live.now)
+pub returns-in_err-program-clause-always : goal.returns-in_err-program-clause-always
+returns-in_err-program-clause-always g c = idle_always g.W.World.Tells (g.W.World.seen c.args.live.now)
 
 pub returns-clause-always : goal.returns-clause-always
 returns-clause-always g c = record {

@@ -1,5 +1,4 @@
-use Rattle.std.proofs.Common.{map}
-use Rattle.crash_policy.specs.Policies.{app_value}
+use Rattle.legosdn.specs.Input.{program_of}
 use Rattle.sim_world.specs.World.{seen_of}
 use Rattle.legosdn.proofs.FaultLines.{loses_as_told}
 use Rattle.legosdn.proofs.Losses.{none_is_lost}
@@ -9,7 +8,7 @@ use Rattle.legosdn.proofs.top.simulate.Goals as goal
 
 pub returns-clause-runs : goal.returns-clause-runs
 returns-clause-runs g c = λ none few.
-    runs_said (map app_value c.args.apps.now) c.run_world-ended.new.world (g.K.Sink.contents c.args.sink.now) (g.K.Sink.contents c.run_world-ended.new.sink) c.run_world-ended.result c.keeps_word.ensures.scripts
+    runs_said (program_of c.args.apps.now c.args.judge.now) c.run_world-ended.new.world (g.K.Sink.contents c.args.sink.now) (g.K.Sink.contents c.run_world-ended.new.sink) c.run_world-ended.result c.keeps_word.ensures.scripts
     (still_few (seen_of c.args.sim.now) (seen_of c.run_world-ended.new.world) c.run_world-ended.ensures.continues few)
     (c.run_world-ended.ensures.runs (tells (seen_of c.args.sim.now) (seen_of c.run_world-ended.new.world) none c.keeps_word.ensures.word))
 
