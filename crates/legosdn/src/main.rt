@@ -14,16 +14,19 @@ ghost use Rattle.sim_world.specs.Building.{nothing_given, IsNew};
 mod input;
 mod live;
 mod policy;
+mod recording;
 mod settings;
 mod stop;
 mod top;
 mod world;
 
+use crate::recording::{KeptSource, write_recording};
 use crate::settings::{SettingFault, Settings, SystemClock};
 use crate::top::legosdn;
 use lego_io::{Sink, Source, StdSink, StdSource, write_all};
 use live_world::{Clock, LiveWorld};
-use outside::World;
+use outside::{Told, World};
+use session_record::Recorder;
 use sim_world::SimWorld;
 use std::alloc::{AllocError, Global};
 use std::env::Env;
@@ -67,33 +70,68 @@ fn with_trace<W: World + Drop, K: Sink + Drop>(
 #[derive(Drop)]
 struct Console<S, K> {
     words: Vec<String>,
-    source: S,
+    source: KeptSource<S>,
     sink: K,
 }
 
-/// Makes the call over a simulated world and another one, whose acts are told where the environment asks for it.
+/// Returns this world, which is recorded where the environment asks for it.
+fn with_record<W: World + Drop>(
+    settings: &Settings,
+    alloc: Global,
+    world: W,
+) -> Result<Recorder<W>, AllocError> {
+    if settings.is_recorded {
+        Recorder::new(alloc, world)
+    } else {
+        Ok(Recorder::silent(alloc, world))
+    }
+}
+
+/// Writes the recording of a run that has ended, where the environment asks for it. The world ends here.
+fn end_of<S, K, E: Sink + Drop, L: Told + Drop>(
+    settings: &Settings,
+    alloc: Global,
+    console: &Console<S, K>,
+    live: Traced<Recorder<L>, E>,
+) {
+    let (recorder, mut errors) = live.into_parts();
+    if settings.is_recorded {
+        write_recording(
+            alloc,
+            &console.words,
+            &console.source,
+            &recorder,
+            &mut errors,
+        );
+    }
+}
+
+/// Makes the call over a simulated world and another one, whose acts are told, and which is recorded, where the environment asks for it.
 ///
 /// Each world is made in a function of its own: to prove one that holds both takes a quarter of an hour.
-fn call_over<S: Source + Drop, K: Sink + Drop, E: Sink + Drop, L: World + Drop>(
+fn call_over<S: Source + Drop, K: Sink + Drop, E: Sink + Drop, L: Told + Drop>(
     settings: &Settings,
     alloc: Global,
     console: &mut Console<S, K>,
     sim: &mut Traced<SimWorld, E>,
     live: L,
     errors: E,
-) -> u8
+) -> Result<u8, AllocError>
     requires new_world { IsNew sim.old }
     requires empty_world { given_of sim.old ≡ nothing_given }
 {
-    let mut live = with_trace(settings, alloc, live, errors);
-    legosdn(
+    let recorder = with_record(settings, alloc, live)?;
+    let mut live = with_trace(settings, alloc, recorder, errors);
+    let status = legosdn(
         alloc,
         &console.words,
         &mut console.source,
         &mut console.sink,
         sim,
         &mut live,
-    )
+    );
+    end_of(settings, alloc, console, live);
+    Ok(status)
 }
 
 /// Where what is told of the world of real switches goes: its acts, and what it notes beside them.
@@ -131,7 +169,10 @@ fn run_beside<
     if settings.is_traced {
         live.note_connections();
     }
-    Ok(call_over(settings, alloc, console, sim, live, acts))
+    if settings.is_recorded {
+        live.keep_stimuli();
+    }
+    call_over(settings, alloc, console, sim, live, acts)
 }
 
 /// Runs the command of the words over a simulated world and the world of real switches, and answers the status. The acts of
@@ -162,7 +203,7 @@ fn run(rt: &HostRuntime, settings: &Settings) -> Result<u8, AllocError> {
     let alloc = rt.alloc();
     let mut console = Console {
         words: words_of(rt)?,
-        source: StdSource::new(rt, alloc)?,
+        source: KeptSource::new(alloc, StdSource::new(rt, alloc)?, settings.is_recorded),
         sink: StdSink::new(rt, alloc)?,
     };
     let errors = StdSink::new(rt.stderr(), alloc)?;

@@ -16,6 +16,9 @@ const TRACE: &str = "LEGOSDN_TRACE";
 /// The variable with the port at which a connection ends a run.
 const STOP: &str = "LEGOSDN_STOP";
 
+/// The variable that asks for a recording.
+const RECORD: &str = "LEGOSDN_RECORD";
+
 /// Why a setting is none. It shows as the line that the program writes.
 #[derive(Clone, Copy, Debug, PartialEq, Eq, Error)]
 pub enum SettingFault {
@@ -25,6 +28,9 @@ pub enum SettingFault {
     /// What is set as the port at which a run is ended is none: 1 to 65,535.
     #[error("bad setting")]
     Stop,
+    /// A recording is asked for beside a trace, which goes to the same place.
+    #[error("bad setting")]
+    Record,
     /// Memory ran out.
     #[error("no memory")]
     NoMemory,
@@ -37,6 +43,8 @@ pub struct Settings {
     pub address: Ipv4Addr,
     /// Whether acts are told on standard error: where `LEGOSDN_TRACE` is `1`.
     pub is_traced: bool,
+    /// Whether a run is recorded on standard error: where `LEGOSDN_RECORD` is `1`.
+    pub is_recorded: bool,
     /// The port of 127.0.0.1 at which a connection ends a run: that of `LEGOSDN_STOP`, if it is set.
     pub stop_port: Option<u16>,
 }
@@ -44,11 +52,16 @@ pub struct Settings {
 impl Settings {
     /// Reads the settings of this process.
     pub fn read<R: Env + AllocGlobal>(rt: &R) -> Result<Settings, SettingFault> {
-        Ok(Settings {
+        let settings = Settings {
             address: address_of(rt)?,
-            is_traced: is_traced(rt)?,
+            is_traced: is_one(rt, TRACE)?,
+            is_recorded: is_one(rt, RECORD)?,
             stop_port: stop_port_of(rt)?,
-        })
+        };
+        if settings.is_traced && settings.is_recorded {
+            return Err(SettingFault::Record);
+        }
+        Ok(settings)
     }
 }
 
@@ -76,8 +89,8 @@ fn stop_port_of<R: Env + AllocGlobal>(rt: &R) -> Result<Option<u16>, SettingFaul
     }
 }
 
-fn is_traced<R: Env + AllocGlobal>(rt: &R) -> Result<bool, SettingFault> {
-    match env::var(rt, TRACE) {
+fn is_one<R: Env + AllocGlobal>(rt: &R, name: &str) -> Result<bool, SettingFault> {
+    match env::var(rt, name) {
         Ok(text) => Ok(text.as_str() == "1"),
         Err(VarError::OutOfMemory) => Err(SettingFault::NoMemory),
         Err(_) => Ok(false),
