@@ -7,7 +7,7 @@ use Rattle.of_match.specs.declared.key.Key.{Key}
 use Rattle.of_action.specs.declared.action.Action.{Action}
 use Rattle.flow_table.specs.declared.entry.Entry.{Entry}
 use Rattle.flow_table.specs.declared.view.ViewRow.{ViewRow}
-use Rattle.flow_table.specs.RowKeys.{shown_row, held_entry}
+use Rattle.flow_table.specs.RowKeys.{shown_row}
 use Rattle.flow_table.specs.View.{TableView}
 use Rattle.flow_table.specs.Switch.{Declared, SwitchState}
 use Rattle.undo_laws.specs.CorrectedSwitch.{corrected_switch}
@@ -24,9 +24,9 @@ use Rattle.switch_laws.specs.laws.CorrectionLaws.{goes_along}
 use Rattle.switch_laws.specs.laws.StandLaws.{all-stand}
 use Rattle.run_laws.specs.Readings.{JudgesAlike}
 use Rattle.net_guard.specs.declared.quota.ChosenJudge.{ChosenJudge}
-use Rattle.net_guard.specs.Judging.{face_of, is_allowed}
+use Rattle.net_guard.specs.Judging.{Face, face_of, row_with, is_allowed}
 use Rattle.net_guard.specs.laws.FaceLaws.{allowed-alike}
-use Rattle.legosdn.specs.Said.{row_of, table_of, tables_of, allowed_by}
+use Rattle.legosdn.specs.Said.{table_of, tables_of, allowed_by}
 
 -- ---- A table as its rows are known
 
@@ -34,9 +34,9 @@ use Rattle.legosdn.specs.Said.{row_of, table_of, tables_of, allowed_by}
 abbrev rows_in : Option SwitchState → Option Rows
 rows_in o = option_map (λ x. rows_of_table x.table.entries) o
 
-rows-face : (es : List Entry) → map shown_row (map row_of es) ≡ rows_of_table es
+rows-face : (rows : Rows) → map shown_row (map row_with rows) ≡ rows
 rows-face [] = refl
-rows-face (e ∷ es) = ap (λ (rows : Rows). held_entry e ∷ rows) (rows-face es)
+rows-face (row ∷ rows) = ap (λ (more : Rows). row ∷ more) (rows-face rows)
 
 rows-shown : (rows : List ViewRow) (es : List Entry) → rows_of_table (map (correction_in rows) es) ≡ rows_of_table es
 rows-shown rows [] = refl
@@ -70,9 +70,6 @@ first-rows v vs = rw (eq-eqb v.dpid v.dpid refl) refl
 later-rows : (d : ℕ) (v : TableView) (vs : List TableView) → (v.dpid == d) ≡ false → known_rows d (v ∷ vs) ≡ known_rows d vs
 later-rows d v vs other = rw other refl
 
-some_is_none : {A : Type 0} (x : A) → Some x ≡ None → ⊥
-some_is_none x is = cc
-
 -- what is known of each switch from a number on is what there is of it, and it is a declared one
 record Knows (f : ℕ → Option SwitchState) (least : ℕ) (ds : List Declared) (vs : List TableView) : Type 0 where
   declared : AreDeclaredFrom least ds
@@ -85,7 +82,7 @@ viewed-declared : (f : ℕ → Option SwitchState) (least : ℕ) (ds : List Decl
 viewed-declared f least ds v vs k =
     elim (cases_Bool (is_declared v.dpid ds)) [
       | inl is ↦ is
-      | inr other ↦ absurd (some_is_none (map shown_row v.rows) (sym (first-rows v vs) ∙ k.known v.dpid k.order.0 ∙ ap rows_in (k.none v.dpid k.order.0 other)))
+      | inr other ↦ absurd (cc (sym (first-rows v vs) ∙ k.known v.dpid k.order.0 ∙ ap rows_in (k.none v.dpid k.order.0 other)))
     ]
 
 -- behind the first declared switch
@@ -107,7 +104,7 @@ order-out f least x xs (v ∷ vs) k out =
     elim (cases_Bool (v.dpid == x.dpid)) [
       | inl here ↦
           let same = eqb-true v.dpid x.dpid here in
-          absurd (some_is_none (map shown_row v.rows) (sym (first-rows v vs) ∙ k.known v.dpid k.order.0 ∙ ap (λ (n : ℕ). rows_in (f n)) same ∙ ap rows_in out))
+          absurd (cc (sym (first-rows v vs) ∙ k.known v.dpid k.order.0 ∙ ap (λ (n : ℕ). rows_in (f n)) same ∙ ap rows_in out))
       | inr other ↦ (view-later f least x xs v vs k other, k.order.1)
     ]
 
@@ -127,7 +124,7 @@ here-joined f least x xs v vs s k joined =
       | inr other ↦
           let later = view-later f least x xs v vs k other in
           let none = none-below (v.dpid + 1) x.dpid vs k.order.1 (omega (arith, later)) in
-          absurd (some_is_none (rows_of_table s.table.entries) (sym (ap rows_in joined) ∙ sym (k.known x.dpid k.declared.0) ∙ later-rows x.dpid v vs other ∙ ap (option_map rows_of_view) none))
+          absurd (cc (sym (ap rows_in joined) ∙ sym (k.known x.dpid k.declared.0) ∙ later-rows x.dpid v vs other ∙ ap (option_map rows_of_view) none))
     ]
 
 knows-joined : (f : ℕ → Option SwitchState) (least : ℕ) (x : Declared) (xs : List Declared) (v : TableView) (vs : List TableView) (s : SwitchState) → Knows f least (x ∷ xs) (v ∷ vs) → v.dpid ≡ x.dpid → Knows f (x.dpid + 1) xs vs
@@ -140,16 +137,13 @@ knows-joined f least x xs v vs s k same = record {
   none = none-later f least x xs k.declared.0 k.none;
 }
 
-abbrev Face : Type 0
-Face = ℕ × Rows
-
 -- the first table looks as the first view does
 face-joined : (f : ℕ → Option SwitchState) (least : ℕ) (x : Declared) (xs : List Declared) (v : TableView) (vs : List TableView) (s : SwitchState) → Knows f least (x ∷ xs) (v ∷ vs) → f x.dpid ≡ Some s → v.dpid ≡ x.dpid
-    → ◌≡◌ {A = Face} (x.dpid, map shown_row (map row_of s.table.entries)) (face_of v)
+    → ◌≡◌ {A = Face} (x.dpid, map shown_row (map row_with (rows_of_table s.table.entries))) (face_of v)
 face-joined f least x xs v vs s k joined same =
     let rows : map shown_row v.rows ≡ rows_of_table s.table.entries =
     same_Some (map shown_row v.rows) (rows_of_table s.table.entries) (sym (first-rows v vs) ∙ k.known v.dpid k.order.0 ∙ ap (λ (n : ℕ). rows_in (f n)) same ∙ ap rows_in joined) in
-    ap₂ (λ (n : ℕ) (rs : Rows). (n, rs)) (sym same) (rows-face s.table.entries ∙ sym rows)
+    ap₂ (λ (n : ℕ) (rs : Rows). (n, rs)) (sym same) (rows-face (rows_of_table s.table.entries) ∙ sym rows)
 
 faces-none : (f : ℕ → Option SwitchState) (least : ℕ) (vs : List TableView) → Knows f least [] vs → map face_of vs ≡ []
 faces-none f least [] k = refl
@@ -162,7 +156,7 @@ FacesAre f ds vs = map face_of (tables_of (places f ds)) ≡ map face_of vs
 faces-first : (f : ℕ → Option SwitchState) (least : ℕ) (x : Declared) (xs : List Declared) → ((ws : List TableView) → Knows f (x.dpid + 1) xs ws → FacesAre f xs ws)
     → (o : Option SwitchState) → f x.dpid ≡ o → (vs : List TableView) → Knows f least (x ∷ xs) vs → map face_of (table_of x.dpid o ++ tables_of (places f xs)) ≡ map face_of vs
 faces-first f least x xs rest None out vs k = rest vs (knows-out f least x xs vs k out)
-faces-first f least x xs rest (Some s) joined [] k = absurd (some_is_none (rows_of_table s.table.entries) (sym (ap rows_in joined) ∙ sym (k.known x.dpid k.declared.0)))
+faces-first f least x xs rest (Some s) joined [] k = absurd (cc (sym (ap rows_in joined) ∙ sym (k.known x.dpid k.declared.0)))
 faces-first f least x xs rest (Some s) joined (v ∷ vs) k =
     let same = here-joined f least x xs v vs s k joined in
     ap₂ (λ (face : Face) (more : List Face). face ∷ more) (face-joined f least x xs v vs s k joined same) (rest vs (knows-joined f least x xs v vs s k same))

@@ -1,17 +1,15 @@
 -- The reference controller of a session: its switches, what its lines say of the applications, and its stimuli. All of this is our own.
-use Rattle.std.specs.Prelude.{◌≡◌, ℕ, ◌≤◌, ◌⊎◌, Bool, false, List, [], ◌∷◌, map, Option, Some, None}
+use Rattle.std.specs.Prelude.{◌≡◌, ℕ, ◌≤◌, ◌⊎◌, Bool, false, List, [], ◌∷◌, Option, Some, None}
 use Rattle.std.specs.List.{flat_map}
-use Rattle.flow_table.specs.declared.entry.Entry.{Entry}
-use Rattle.flow_table.specs.declared.view.ViewRow.{ViewRow}
 use Rattle.flow_table.specs.View.{TableView}
 use Rattle.flow_table.specs.Switch.{SwitchState}
 use Rattle.net_guard.specs.declared.quota.ChosenJudge.{ChosenJudge}
-use Rattle.net_guard.specs.Judging.{is_allowed}
+use Rattle.net_guard.specs.Judging.{table_with, is_allowed}
 use Rattle.legosdn.specs.Input.{ProgramValue}
 use Rattle.outside.specs.Seen.{Given, Seen}
 use Rattle.sim_world.specs.Told.{without_links}
 use Rattle.sim_world.specs.Scripts.{Scripts, starts_of, replies_of}
-use Rattle.lego_model.specs.Places.{Place}
+use Rattle.lego_model.specs.Places.{Place, table_rows}
 use Rattle.lego_model.specs.Losses.{Losses}
 use Rattle.lego_model.specs.Controller.{Run, reference}
 use Rattle.lego_model.specs.Scripted.{starts_said, replies_said}
@@ -24,15 +22,12 @@ use Rattle.lego_model.specs.CutRun.{start_said, Progress, WroteSoFar, WasWriting
 
 -- ---- The judge
 
--- the row of an entry, as its owner asked for it
-abbrev pub row_of : Entry → ViewRow
-row_of e = record { key = e.key; actions = e.actions; cookie = e.cookie; idle = e.idle; hard = e.hard; flags = e.flags }
-
+-- the table of a switch, while it is joined: a judge looks at its keys and actions alone
 abbrev pub table_of : ℕ → Option SwitchState → List TableView
 table_of d None = []
-table_of d (Some s) = record { dpid = d; rows = map row_of s.table.entries } ∷ []
+table_of d (Some s) = table_with (d, table_rows s) ∷ []
 
--- the tables of the joined switches, by switch ascending, as the declared ones stand
+-- the tables of the joined switches, in the order of the declared ones
 abbrev pub tables_of : List Place → List TableView
 tables_of places = flat_map (λ p. table_of p.declared.dpid p.switch) places
 
