@@ -172,7 +172,8 @@ pub fn halt<K: Sink>(sink: &mut K, stop: Stop) -> u8
 /// of the program: 0 where the whole report was written, 2 where
 /// the words are no command, 3 where the input is refused, 4 where the source failed, 5 where the sink failed, 6 where
 /// the world stays shut or fails, 8 where a switch broke, 9 where it diverged, 10 where events were left, 12 where memory
-/// ran out. A switch whose link fails is lost, and the run goes on; so it is with a switch at fault, where the world can part with it. At any status but 0 and 5 the last line that is written says why.
+/// ran out. A switch whose link fails is lost, and the run goes on;
+/// so it is with a switch at fault, where the world can part with it. At any status but 0 and 5 the last line that is written says why.
 pub fn legosdn<S: Source, K: Sink, E: Sink + Drop, W: World>(
     alloc: Global,
     words: &[String],
@@ -186,16 +187,14 @@ pub fn legosdn<S: Source, K: Sink, E: Sink + Drop, W: World>(
     // The five sentences of the README and what statuses say, of `replay`, and of `run` over any world. A command leaves the world of the other one.
     ensures replay { IsReplay (map string_bytes words.now) → ReplayPromise result (streams (S.remaining source.old) (K.contents sink.old) (S.faults source.old) (K.faults sink.old))
         (streams (S.remaining source.new) (K.contents sink.new) (S.faults source.new) (K.faults sink.new)) sim.old sim.new }
-    ensures replay_leaves_live { IsReplay (map string_bytes words.now) → live.new ≡ live.old }
     ensures run { (port rounds : ℕ) → IsRun (map string_bytes words.now) port rounds
         → RunPromise W.Tells rounds result (streams (S.remaining source.old) (K.contents sink.old) (S.faults source.old) (K.faults sink.old))
         (streams (S.remaining source.new) (K.contents sink.new) (S.faults source.new) (K.faults sink.new)) (W.seen live.old) (W.seen live.new) (live.new ≡ live.old) }
-    ensures run_leaves_sim { (port rounds : ℕ) → IsRun (map string_bytes words.now) port rounds → sim.new ≡ sim.old }
+    ensures leaves_other_world { (IsReplay (map string_bytes words.now) → live.new ≡ live.old) × ((port rounds : ℕ) → IsRun (map string_bytes words.now) port rounds → sim.new ≡ sim.old) }
     // Where the switches of the other world can be parted with, none ends a `run`: statuses 8 and 9 never come.
     ensures no_switch_ends_the_run { (port rounds : ℕ) → IsRun (map string_bytes words.now) port rounds → W.CanPart → NoSwitchEnds result }
     // At every status, of each world.
-    ensures at_every_status { AtEveryStatus (S.remaining source.old) (S.remaining source.new) (seen_of sim.new) }
-    ensures simulated_world_tells_as_told { TellsAsTold (seen_of sim.new) }
+    ensures at_every_status { AtEveryStatus (S.remaining source.old) (S.remaining source.new) (seen_of sim.new) × TellsAsTold (seen_of sim.new) }
     ensures live_at_every_status { LiveAtEveryStatus W.Tells (W.seen live.old) (W.seen live.new) }
 
     // Status 2 comes only where the words are no command. Then it is 2, or memory is wanting for them; one line is written, and nothing runs.
