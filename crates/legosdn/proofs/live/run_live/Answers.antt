@@ -30,7 +30,7 @@ returns-clause-always g c = record {
   own_ids_ascend = λ tells. c.run_world.ensures.ids tells.told tells.untouched tells.order;
 }
 
-pub returns-in_err-apps-clause-no_switch : goal.returns-in_err-apps-clause-no_switch
-returns-in_err-apps-clause-no_switch g c =
+pub returns-in_err-program-clause-no_switch : goal.returns-in_err-program-clause-no_switch
+returns-in_err-program-clause-no_switch g c =
     let p = err_from_is_err_and c.from_residual.result c.from_residual.ensures.1 in
-    λ can. rw (p.1, p.2) (read_of_no_switch _ _ _ _ c.in_err-apps.field-0.0 c.in_err-apps.ensures.why)
+    λ can. rw (p.1, p.2) (read_of_no_switch _ _ _ _ c.in_err-program.field-0.0 c.in_err-program.ensures.why)

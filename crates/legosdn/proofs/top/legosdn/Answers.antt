@@ -1,4 +1,4 @@
-use Rattle.std.proofs.Common.{◌≡◌, ℕ, [], ◌∷◌, Contains, map, string_bytes, sym, subst, ap, ◌∙◌}
+use Rattle.std.proofs.Common.{◌≡◌, ℕ, [], ◌∷◌, Contains, map, string_bytes, sym, subst, ap, ◌∙◌, arith}
 use Rattle.lego_io.specs.Count.{Rose}
 use Rattle.lego_io.specs.laws.CountLaws.{Rose-before}
 use Rattle.sim_world.specs.World.{seen_of}

@@ -3,6 +3,7 @@ use Rattle.legosdn.specs.declared.stop.Stop.TheVariants.{NoMemory}
 use Rattle.legosdn.proofs.CommandEnds.{replays_unread, serves_unread}
 use Rattle.legosdn.proofs.Runs.{untouched}
 use Rattle.legosdn.proofs.Promises.{new_always, idle_always}
+use Rattle.std.proofs.lemmas.Result.{err_from_is_err_and}
 use Rattle.legosdn.proofs.top.run.Goals as goal
 
 pub returns-in_err-read_words-clause-replays : goal.returns-in_err-read_words-clause-replays
@@ -37,3 +38,11 @@ returns-in-Some-Replay-clause-live_always g c = idle_always g.W.World.Tells (g.W
 
 pub returns-in-None-clause-live_always : goal.returns-in-None-clause-live_always
 returns-in-None-clause-live_always g c = idle_always g.W.World.Tells (g.W.World.seen c.args.live.now)
+
+pub returns-in_err-read_words-clause-no_switch : goal.returns-in_err-read_words-clause-no_switch
+returns-in_err-read_words-clause-no_switch g c =
+    let p = err_from_is_err_and c.from_residual.result c.from_residual.ensures.1 in
+    λ port rounds is can. rw (p.1, p.2) tt
+
+pub returns-in-Some-Run-clause-no_switch : goal.returns-in-Some-Run-clause-no_switch
+returns-in-Some-Run-clause-no_switch g c = λ port rounds is can. c.run_live.ensures.no_switch can
