@@ -7,7 +7,7 @@ use crate::deadline::Deadline;
 use crate::life::Stage;
 use crate::moments::Moments;
 use crate::notes::{Closing, Note};
-use crate::places::{count_of, vacant_place, vacant_places};
+use crate::places::{count_of, vacant_place};
 use crate::readiness::Readiness;
 use crate::start_times::StartTimes;
 use mio::net::{TcpListener, TcpStream};
@@ -78,7 +78,7 @@ pub(crate) struct EventLoop {
     pub(crate) is_stopped: bool,
     /// Whether connections may wait at the listener.
     is_called: bool,
-    /// A place for each connection.
+    /// A place for each connection, as many as there were at once so far.
     pub(crate) connections: Vec<Option<Connection>>,
     pub(crate) apps: Vec<App>,
     pub(crate) start_times: StartTimes,
@@ -107,7 +107,7 @@ impl EventLoop {
             stopper: None,
             is_stopped: false,
             is_called: false,
-            connections: vacant_places(alloc, MOST_CONNECTIONS)?,
+            connections: Vec::new(alloc),
             apps: Vec::new(alloc),
             start_times: StartTimes::new(alloc),
             turn: 0,
@@ -264,7 +264,7 @@ impl EventLoop {
     /// are answered, and what is overdue ends. A connection that ends before its switch joined is closed.
     pub(crate) fn serve(&mut self, now: u64) {
         self.accept(now);
-        for place in 0..MOST_CONNECTIONS {
+        for place in 0..self.connections.len() {
             if let Some(why) = self.serve_at(place, now) {
                 self.refuse(place, why);
             }
@@ -292,7 +292,7 @@ impl EventLoop {
             if !self.is_called || count_of(&self.connections, false) >= MOST_OF_A_STAGE {
                 return;
             }
-            let Some(place) = vacant_place(&self.connections) else {
+            let Some(place) = vacant_place(&mut self.connections, MOST_CONNECTIONS) else {
                 return;
             };
             let accepted = match &self.listener {

@@ -8,10 +8,15 @@ ghost use Rattle.live_world.specs.Connection.{IsAnswerIn};
 use crate::clock::Clock;
 use crate::connection::Answer;
 use crate::deadline::Deadline;
-use crate::event_loop::{EventLoop, MOST_CONNECTIONS, Until};
+use crate::event_loop::{EventLoop, Until};
 use crate::places::{deadline_at, has_ended, place_of};
-use of_types::Dpid;
+use of_types::{Dpid, kinds};
 use outside::LinkFault;
+
+/// Tells whether a message is a BARRIER_REPLY, of which its caller keeps nothing to be told later.
+fn is_barrier_reply(message: &[u8]) -> bool {
+    message.get(1) == Some(&kinds::BARRIER_REPLY)
+}
 
 impl EventLoop {
     /// Takes the message to be sent to the switch over. It goes out at the next call that depends on it, or now where much waits, within
@@ -63,7 +68,7 @@ impl EventLoop {
 
     /// Writes what is to be sent to switches, as far as it is taken at once.
     pub(crate) fn write_out(&mut self) {
-        for place in 0..MOST_CONNECTIONS {
+        for place in 0..self.connections.len() {
             if let Some(Some(connection)) = self.connections.get_mut(place) {
                 connection.write_out();
             }
@@ -89,7 +94,7 @@ impl EventLoop {
         };
         let received = self.receive(clock, place, deadline, buf);
         match received {
-            Ok(_) => self.has_told = true,
+            Ok(_) => self.has_told = self.has_told || !is_barrier_reply(buf),
             Err(LinkFault::Failed) => {
                 self.close(place);
             }

@@ -4,19 +4,6 @@ use crate::connection::Connection;
 use crate::deadline::Deadline;
 use crate::life::Stage;
 use of_types::Dpid;
-use std::alloc::{AllocError, Global};
-
-/// So many places without a connection.
-pub(crate) fn vacant_places(
-    alloc: Global,
-    count: usize,
-) -> Result<Vec<Option<Connection>>, AllocError> {
-    let mut places = Vec::with_capacity(alloc, count)?;
-    for _ in 0..count {
-        places.push(None).map_err(AllocError::from)?;
-    }
-    Ok(places)
-}
 
 /// Who is at the other end of the connection at this place.
 fn stage_at(places: &[Option<Connection>], place: usize) -> Option<Stage> {
@@ -36,14 +23,19 @@ pub(crate) fn place_of(places: &[Option<Connection>], dpid: Dpid) -> Option<usiz
     None
 }
 
-/// A place without a connection.
-pub(crate) fn vacant_place(places: &[Option<Connection>]) -> Option<usize> {
-    for place in 0..places.len() {
-        if places[place].is_none() {
+/// A place without a connection: the lowest one, or one more where there are fewer than so many. Where memory runs out there is none.
+pub(crate) fn vacant_place(places: &mut Vec<Option<Connection>>, most: usize) -> Option<usize> {
+    let count = places.len();
+    for place in 0..count {
+        if let Some(None) = places.get(place) {
             return Some(place);
         }
     }
-    None
+    if count < most && places.push(None).is_ok() {
+        Some(count)
+    } else {
+        None
+    }
 }
 
 /// How many connections joined, or how many did not.
@@ -68,6 +60,16 @@ pub(crate) fn has_news(places: &[Option<Connection>], place: usize) -> bool {
         Some(Some(connection)) => connection.has_news(),
         _ => false,
     }
+}
+
+/// Whether some connection has something to be told.
+pub(crate) fn any_news(places: &[Option<Connection>]) -> bool {
+    for place in 0..places.len() {
+        if has_news(places, place) {
+            return true;
+        }
+    }
+    false
 }
 
 /// Whether the connection at this place has ended.

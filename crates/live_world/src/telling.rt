@@ -9,10 +9,10 @@ ghost use Rattle.live_world.specs.Telling.{IsStepIn};
 
 use crate::clock::Clock;
 use crate::connection::Heard;
-use crate::event_loop::{Deaf, EventLoop, MOST_CONNECTIONS, MOST_OF_A_STAGE};
+use crate::event_loop::{Deaf, EventLoop, MOST_OF_A_STAGE};
 use crate::life::Stage;
 use crate::notes::Closing;
-use crate::places::{count_of, has_ended, has_news, place_of};
+use crate::places::{any_news, count_of, has_ended, has_news, place_of};
 use of_types::Dpid;
 use outside::{Item, LinkFault, NextFault};
 
@@ -70,7 +70,9 @@ impl EventLoop {
         requires { most_message ≤ length buf.old }
         ensures { IfOk result (λ item. IsItemIn ⊥ item buf.new × IsItemReadIn buf.new item) }
     {
-        if self.batch == 0 {
+        let begins = self.batch == 0;
+        // Where nothing waits, the look below is the first one.
+        if begins && any_news(&self.connections) {
             self.hear(clock, 0)?;
         }
         let mut may_rest = !self.has_told;
@@ -86,6 +88,8 @@ impl EventLoop {
                 },
                 TellingStep::Passed => self.batch = self.batch.saturating_add(1),
                 TellingStep::More => {}
+                // What comes meanwhile is heard when the next batch begins.
+                TellingStep::Nothing if !begins => break,
                 TellingStep::Nothing => {
                     let wait = if may_rest { REST_MILLISECONDS } else { 0 };
                     may_rest = false;
@@ -150,10 +154,11 @@ impl EventLoop {
     /// The place of the next connection that has news; its turn is over then. One that says that it is a switch whose earlier
     /// connection has ended is behind that one.
     fn next_place(&mut self) -> Option<usize> {
-        for step in 0..MOST_CONNECTIONS {
-            let place = (self.turn % MOST_CONNECTIONS + step) % MOST_CONNECTIONS;
+        let count = self.connections.len();
+        for step in 0..count {
+            let place = (self.turn % count).saturating_add(step) % count;
             if has_news(&self.connections, place) {
-                self.turn = place + 1;
+                self.turn = place.saturating_add(1);
                 return Some(self.before(place));
             }
         }
