@@ -78,10 +78,14 @@ program_in (Err fault) = Err (policy_line (fault_words fault))
 
 -- ---- `run`
 
--- a command starts it
+-- a command starts it: its first word names a program
+abbrev pub is_program : List ℕ → Bool
+is_program [] = false
+is_program (byte ∷ bytes) = true
+
 abbrev pub are_words : List (List ℕ) → Bool
 are_words [] = false
-are_words (word ∷ words) = true
+are_words (word ∷ words) = is_program word
 
 unfoldable pub has_words : AppValue → Bool
 has_words app = are_words app.command

@@ -11,7 +11,9 @@ ghost use Rattle.std.specs.Prelude.{◌≡◌};
 ghost use Rattle.sim_world.specs.World.{given_of};
 ghost use Rattle.sim_world.specs.Building.{nothing_given, IsNew};
 
+mod explaining;
 mod input;
+mod kept_source;
 mod live;
 mod policy;
 mod recording;
@@ -20,7 +22,9 @@ mod stop;
 mod top;
 mod world;
 
-use crate::recording::{KeptSource, write_recording};
+use crate::explaining::explain;
+use crate::kept_source::{KeptSource, MOST_EXPLAINED};
+use crate::recording::write_recording;
 use crate::settings::{SettingFault, Settings, SystemClock};
 use crate::top::legosdn;
 use lego_io::{Sink, Source, StdSink, StdSource, write_all};
@@ -37,6 +41,9 @@ use trace_world::Traced;
 
 /// The status where a setting of the environment is none, as where the words are no command.
 const NO_SETTING: u8 = 2;
+
+/// The status where an input is refused.
+const BAD_INPUT: u8 = 3;
 
 /// The status where memory runs out before anything could be made.
 const NO_MEMORY: u8 = 12;
@@ -197,13 +204,22 @@ fn run_in_worlds<
     run_beside(rt, clock, settings, console, &mut sim, live_errors)
 }
 
+/// How many bytes of the input are kept: all where a recording is to hold the policy, else enough to explain what is wrong.
+fn most_kept(settings: &Settings) -> usize {
+    if settings.is_recorded {
+        usize::MAX
+    } else {
+        MOST_EXPLAINED
+    }
+}
+
 /// Runs the command of the words over the standard streams, and answers the status. What is told of the worlds goes to
 /// standard error.
 fn run(rt: &HostRuntime, settings: &Settings) -> Result<u8, AllocError> {
     let alloc = rt.alloc();
     let mut console = Console {
         words: words_of(rt)?,
-        source: KeptSource::new(alloc, StdSource::new(rt, alloc)?, settings.is_recorded),
+        source: KeptSource::new(alloc, StdSource::new(rt, alloc)?, most_kept(settings)),
         sink: StdSink::new(rt, alloc)?,
     };
     let errors = StdSink::new(rt.stderr(), alloc)?;
@@ -212,14 +228,46 @@ fn run(rt: &HostRuntime, settings: &Settings) -> Result<u8, AllocError> {
         notes: StdSink::new(rt.stderr(), alloc)?,
     };
     let clock = SystemClock::new(rt);
-    run_in_worlds(rt, clock, settings, &mut console, errors, live_errors)
+    let status = run_in_worlds(rt, clock, settings, &mut console, errors, live_errors)?;
+    if status == BAD_INPUT {
+        explain_input(rt, &console)?;
+    }
+    Ok(status)
 }
 
-/// Writes what is wrong with a setting of the environment, and answers the status.
+/// Writes to standard error what the line of a refused input does not say of its policy.
+fn explain_input<S, K>(
+    rt: &HostRuntime,
+    console: &Console<S, K>,
+) -> Result<(), AllocError> {
+    let is_run = match console.words.first() {
+        Some(word) => word.as_str() == "run",
+        None => false,
+    };
+    let Some(input) = console.source.kept() else {
+        return Ok(());
+    };
+    if let Some(text) = explain(rt.alloc(), input, is_run)? {
+        tell(rt, text.as_str())?;
+    }
+    Ok(())
+}
+
+/// Writes a text to standard error.
+fn tell(rt: &HostRuntime, text: &str) -> Result<(), AllocError> {
+    let mut errors = StdSink::new(rt.stderr(), rt.alloc())?;
+    let _ = write_all(&mut errors, text.as_bytes());
+    Ok(())
+}
+
+/// Writes what is wrong with a setting of the environment, and to standard error which value it has; answers the status.
 fn refuse(rt: &HostRuntime, fault: SettingFault) -> Result<u8, AllocError> {
     let line = format!(in rt.alloc(); "{fault}\n")?;
     let mut sink = StdSink::new(rt, rt.alloc())?;
     let _ = write_all(&mut sink, line.as_bytes());
+    if let Some(text) = fault.explain(rt)? {
+        tell(rt, text.as_str())?;
+    }
     Ok(NO_SETTING)
 }
 

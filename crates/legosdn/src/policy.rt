@@ -100,7 +100,10 @@ pub fn program_in(alloc: Global, text: &[u8]) -> Result<Program, Stop>
 fn is_startable(app: &AppRule) -> bool
     ensures { result ≡ has_words (app_value app.now) }
 {
-    !app.command.is_empty()
+    match app.command.first() {
+        Some(program) => !program.is_empty(),
+        None => false,
+    }
 }
 
 /// Tells whether a command starts each of these.

@@ -1,10 +1,9 @@
 //! A run, written down where the environment asks for it: its policy, the line `---`, and the session that does it again.
 
-ghost use Rattle.std.specs.Prelude.{◌≡◌, ◌<◌, length};
-
+use crate::kept_source::KeptSource;
 use command_words::{Command, read_words};
 use crash_policy::read_policy;
-use lego_io::{ReadFault, Sink, Source, write_all};
+use lego_io::{Sink, write_all};
 use outside::Told;
 use session_record::Recorder;
 use std::alloc::{AllocError, Global};
@@ -14,49 +13,6 @@ const FIRST_LINE: &[u8] = b"# recording: a policy, and a session that does the r
 
 /// What is written in place of a recording that memory is short for.
 const NO_MEMORY: &[u8] = b"# no recording: no memory\n";
-
-/// A source of which what was read is kept, where that is asked for. Once memory for it is refused nothing is kept.
-#[derive(Drop)]
-pub struct KeptSource<S> {
-    source: S,
-    /// What was read so far, if it is kept.
-    bytes: Option<Vec<u8>>,
-}
-
-impl<S> KeptSource<S> {
-    /// Keeps what is read of this source, if `is_kept`.
-    pub fn new(alloc: Global, source: S, is_kept: bool) -> KeptSource<S> {
-        KeptSource {
-            source,
-            bytes: if is_kept { Some(Vec::new(alloc)) } else { None },
-        }
-    }
-
-    /// Keeps these bytes too.
-    fn keep(&mut self, bytes: &[u8])
-        ensures { self.new.source ≡ self.old.source }
-    {
-        if let Some(kept) = &mut self.bytes {
-            if kept.extend_from_slice(bytes).is_err() {
-                self.bytes = None;
-            }
-        }
-    }
-}
-
-impl<S: Source + Drop> Source for KeptSource<S> {
-    ghost remaining = { λ s. S.remaining s.source };
-
-    ghost faults = { λ s. S.faults s.source };
-
-    fn read(&mut self, buf: &mut [u8]) -> Result<usize, ReadFault> {
-        let answer = self.source.read(buf);
-        if let Ok(count) = answer {
-            self.keep(&buf[..count]);
-        }
-        answer
-    }
-}
 
 /// The recording of a run under a policy of this text, or nothing where it is none.
 fn recording_of<W: Told + Drop>(
@@ -100,7 +56,7 @@ pub fn write_recording<S, W: Told + Drop, K: Sink>(
     if !is_run(alloc, words) {
         return;
     }
-    let recording = match &source.bytes {
+    let recording = match source.kept() {
         Some(policy) => recording_of(alloc, recorder, policy),
         None => Err(AllocError),
     };

@@ -1,6 +1,7 @@
 //! What an operator sets in the environment, and the clock.
 
 use live_world::{Clock, milliseconds_of};
+use std::alloc::AllocError;
 use std::env;
 use std::env::{Env, VarError};
 use std::net::Ipv4Addr;
@@ -22,7 +23,7 @@ const RECORD: &str = "LEGOSDN_RECORD";
 /// Why a setting is none. It shows as the line that the program writes.
 #[derive(Clone, Copy, Debug, PartialEq, Eq, Error)]
 pub enum SettingFault {
-    /// What is set as the address is no IPv4 address.
+    /// What is set as the address is no IPv4 address of one machine.
     #[error("bad address")]
     Address,
     /// What is set as the port at which a run is ended is none: 1 to 65,535.
@@ -49,6 +50,32 @@ pub struct Settings {
     pub stop_port: Option<u16>,
 }
 
+impl SettingFault {
+    /// The variable at fault, and what it has to be; none where memory ran out.
+    pub fn wanted(self) -> Option<(&'static str, &'static str)> {
+        match self {
+            SettingFault::Address => Some((
+                LISTEN,
+                "the IPv4 address of one machine, as 192.0.2.1",
+            )),
+            SettingFault::Stop => Some((STOP, "a port, 1 to 65535")),
+            SettingFault::NoMemory => None,
+        }
+    }
+
+    /// Says which variable has which value, and what it has to be; nothing where memory ran out.
+    pub fn explain<R: Env + AllocGlobal>(self, rt: &R) -> Result<Option<String>, AllocError> {
+        let Some((name, wanted)) = self.wanted() else {
+            return Ok(None);
+        };
+        let line = match env::var(rt, name) {
+            Ok(value) => format!(in rt.alloc(); "{name} is \"{value}\", and has to be {wanted}\n")?,
+            Err(_) => format!(in rt.alloc(); "{name} is no text, and has to be {wanted}\n")?,
+        };
+        Ok(Some(line))
+    }
+}
+
 impl Settings {
     /// Reads the settings of this process.
     pub fn read<R: Env + AllocGlobal>(rt: &R) -> Result<Settings, SettingFault> {
@@ -68,8 +95,8 @@ impl Settings {
 fn address_of<R: Env + AllocGlobal>(rt: &R) -> Result<Ipv4Addr, SettingFault> {
     match env::var(rt, LISTEN) {
         Ok(text) => match text.as_str().parse::<Ipv4Addr>() {
-            Ok(address) => Ok(address),
-            Err(_) => Err(SettingFault::Address),
+            Ok(address) if !address.is_multicast() && !address.is_broadcast() => Ok(address),
+            _ => Err(SettingFault::Address),
         },
         Err(VarError::NotPresent) => Ok(Ipv4Addr::LOCALHOST),
         Err(VarError::OutOfMemory) => Err(SettingFault::NoMemory),

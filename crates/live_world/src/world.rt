@@ -64,11 +64,13 @@ fn variable<R: Env + AllocGlobal>(rt: &R, name: &str) -> Result<Option<String>, 
     }
 }
 
-fn open_fault(error: io::Error) -> OpenFault {
-    if error.kind() == ErrorKind::OutOfMemory {
-        OpenFault::Short
-    } else {
-        OpenFault::Shut
+/// Why a port cannot be opened, in words.
+fn reason_of(kind: ErrorKind) -> &'static str {
+    match kind {
+        ErrorKind::AddrInUse => "the port is taken",
+        ErrorKind::AddrNotAvailable => "the address is none of this machine",
+        ErrorKind::PermissionDenied => "there is no permission",
+        _ => "it cannot be opened",
     }
 }
 
@@ -78,7 +80,8 @@ impl<
     K: Sink + Drop,
 > LiveWorld<R, C, K> {
     /// Makes a world that opens nothing yet. It is to listen at 127.0.0.1, and its applications are to have the
-    /// variables PATH and HOME of this process. Why an application cannot be started is written to `errors`, as a line.
+    /// variables PATH and HOME of this process. Why an application cannot be started, or a port not be opened, is written
+    /// to `errors`, as a line.
     /// `AllocError` where there is no memory for these.
     pub fn new(
         rt: R,
@@ -178,21 +181,58 @@ impl<
     fn try_open(&mut self, port: u16) -> Result<(), OpenFault>
         ensures { self.new.counts ≡ self.old.counts }
     {
-        self.make_sources().map_err(open_fault)?;
+        let address = self.address;
+        if let Some(stop_port) = self.stop_port {
+            let opened = self.listen_for_stop(stop_port);
+            self.judge_opening(Ipv4Addr::LOCALHOST, stop_port, opened)?;
+        }
+        let opened = self.listen(port);
+        self.judge_opening(address, port, opened)
+    }
+
+    fn listen_for_stop(&mut self, port: u16) -> io::Result<()>
+        ensures { self.new.counts ≡ self.old.counts }
+    {
+        self.make_sources()?;
+        match &mut self.sources {
+            Some(sources) if !sources.listens() => sources.listen_for_stop(&self.rt, port),
+            _ => Err(io::Error::from(ErrorKind::AddrInUse)),
+        }
+    }
+
+    fn listen(&mut self, port: u16) -> io::Result<()>
+        ensures { self.new.counts ≡ self.old.counts }
+    {
+        self.make_sources()?;
         let now = self.clock.seconds();
         match &mut self.sources {
             Some(sources) if !sources.listens() => {
-                if let Some(stop_port) = self.stop_port {
-                    sources
-                        .listen_for_stop(&self.rt, stop_port)
-                        .map_err(open_fault)?;
-                }
-                sources
-                    .listen(&self.rt, self.address, port, now)
-                    .map_err(open_fault)
+                sources.listen(&self.rt, self.address, port, now)
             }
-            _ => Err(OpenFault::Shut),
+            _ => Err(io::Error::from(ErrorKind::AddrInUse)),
         }
+    }
+
+    /// Writes why a port cannot be opened, and tells which fault that is.
+    fn judge_opening(
+        &mut self,
+        address: Ipv4Addr,
+        port: u16,
+        opened: io::Result<()>,
+    ) -> Result<(), OpenFault>
+        ensures { self.new.counts ≡ self.old.counts }
+    {
+        let Err(error) = opened else {
+            return Ok(());
+        };
+        if error.kind() == ErrorKind::OutOfMemory {
+            return Err(OpenFault::Short);
+        }
+        let reason = reason_of(error.kind());
+        if let Ok(line) = format!(in self.alloc; "cannot listen at {address}:{port}: {reason}\n") {
+            let _ = write_all(&mut self.errors, line.as_bytes());
+        }
+        Err(OpenFault::Shut)
     }
 
     fn try_start(&mut self, app: u32, words: &[String]) -> Result<(), StartFault>
