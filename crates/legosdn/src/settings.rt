@@ -59,6 +59,7 @@ impl SettingFault {
                 "the IPv4 address of one machine, as 192.0.2.1",
             )),
             SettingFault::Stop => Some((STOP, "a port, 1 to 65535")),
+            SettingFault::Record => Some((RECORD, "unset where LEGOSDN_TRACE is 1")),
             SettingFault::NoMemory => None,
         }
     }
