@@ -41,8 +41,8 @@ pub spelled_behind : (program : ProgramValue) (input policy text : List ℕ) (be
     → program_in (policy_of text) ≡ Ok program → session_of input ≡ or_refused program (session_lines program.apps n lines)
 spelled_behind program input policy text behind n lines c found read =
     c.spelled ∙ ap (session_behind policy) found
-    ∙ ap (λ (bytes : List ℕ). with_read (program_in (policy_of bytes)) (λ x. or_refused x (session_lines x n lines))) (sym c.policy_is)
-    ∙ ap (λ (r : Read ProgramValue). with_read r (λ x. or_refused x (session_lines x n lines))) read
+    ∙ ap (λ (bytes : List ℕ). with_read (program_in (policy_of bytes)) (λ x. or_refused x (session_lines x.apps n lines))) (sym c.policy_is)
+    ∙ ap (λ (r : Read ProgramValue). with_read r (λ x. or_refused x (session_lines x.apps n lines))) read
 
 pub loads : (told left : Option (List ℕ)) (seen : Seen Scripts) (program : ProgramValue) (input : List ℕ) (n : ℕ) (bytes : List ℕ) (names : List (List ℕ)) → Behind told program input n bytes names → left ≡ ended told
     → (s : SessionValue) × (session_text names n bytes ≡ Ok s) × Begins (given_by s) seen → Loaded program told left seen

@@ -191,19 +191,19 @@ none_of_applications session = fails_of_links session.faults
 same_spelled : (a b : ProgramValue × SessionValue) (r : Read (ProgramValue × SessionValue)) → r ≡ Ok a → r ≡ Ok b → a ≡ b
 same_spelled a b r one other = cc
 
--- the applications and the session that were loaded are those that the input spells
-loaded_is : (program program : ProgramValue) (told left : Option (List ℕ)) (seen : Seen Scripts) (input : List ℕ) (session : SessionValue) → (loaded : Loaded program told left seen) → told ≡ Some input → session_of input ≡ Ok (program, session)
-    → ◌≡◌ {A = ProgramValue × SessionValue} (program, loaded.session) (program, session)
-loaded_is program program told left seen input session loaded whole spelled =
+-- the program and the session that were loaded are those that the input spells
+loaded_is : (ran program : ProgramValue) (told left : Option (List ℕ)) (seen : Seen Scripts) (input : List ℕ) (session : SessionValue) → (loaded : Loaded ran told left seen) → told ≡ Some input → session_of input ≡ Ok (program, session)
+    → ◌≡◌ {A = ProgramValue × SessionValue} (ran, loaded.session) (program, session)
+loaded_is ran program told left seen input session loaded whole spelled =
     let same : loaded.input ≡ input = subst (λ (t : Option (List ℕ)). IfSome t (λ bytes. loaded.input ≡ bytes)) whole loaded.whole in
-    same_spelled (program, loaded.session) (program, session) (session_of input) (ap session_of (sym same) ∙ loaded.spelled) spelled
+    same_spelled (ran, loaded.session) (program, session) (session_of input) (ap session_of (sym same) ∙ loaded.spelled) spelled
 
-pub app_is : (program program : ProgramValue) (told left : Option (List ℕ)) (seen : Seen Scripts) (input : List ℕ) (session : SessionValue) → Loaded program told left seen → told ≡ Some input → session_of input ≡ Ok (program, session) → program ≡ program
-app_is program program told left seen input session loaded whole spelled = ap (λ (p : ProgramValue × SessionValue). p.0) (loaded_is program program told left seen input session loaded whole spelled)
+pub app_is : (ran program : ProgramValue) (told left : Option (List ℕ)) (seen : Seen Scripts) (input : List ℕ) (session : SessionValue) → Loaded ran told left seen → told ≡ Some input → session_of input ≡ Ok (program, session) → ran ≡ program
+app_is ran program told left seen input session loaded whole spelled = ap (λ (p : ProgramValue × SessionValue). p.0) (loaded_is ran program told left seen input session loaded whole spelled)
 
-pub given_session : (program program : ProgramValue) (told left : Option (List ℕ)) (seen : Seen Scripts) (input : List ℕ) (session : SessionValue) → Loaded program told left seen → told ≡ Some input → session_of input ≡ Ok (program, session) → seen.given ≡ given_by session
-given_session program program told left seen input session loaded whole spelled =
-    loaded.given ∙ ap (λ (p : ProgramValue × SessionValue). given_by p.1) (loaded_is program program told left seen input session loaded whole spelled)
+pub given_session : (ran program : ProgramValue) (told left : Option (List ℕ)) (seen : Seen Scripts) (input : List ℕ) (session : SessionValue) → Loaded ran told left seen → told ≡ Some input → session_of input ≡ Ok (program, session) → seen.given ≡ given_by session
+given_session ran program told left seen input session loaded whole spelled =
+    loaded.given ∙ ap (λ (p : ProgramValue × SessionValue). given_by p.1) (loaded_is ran program told left seen input session loaded whole spelled)
 
 -- the whole report is that of the reference controller of the session
 session_report : (program : ProgramValue) (seen : Seen Scripts) (contents now_contents : Option (List ℕ)) (session : SessionValue) → seen.given ≡ given_by session → (runs : RunsWhole program seen contents now_contents)
@@ -216,8 +216,8 @@ session_report program seen contents now_contents session given runs =
     }
 
 pub reports : (program : ProgramValue) (told left : Option (List ℕ)) (seen : Seen Scripts) (contents now_contents : Option (List ℕ)) (input : List ℕ) (session : SessionValue)
-    → (program : ProgramValue) × Loaded program told left seen × RunsWhole program seen contents now_contents → told ≡ Some input → session_of input ≡ Ok (program, session)
+    → (other : ProgramValue) × Loaded other told left seen × RunsWhole other seen contents now_contents → told ≡ Some input → session_of input ≡ Ok (program, session)
     → (runs : RunsWhole program seen contents now_contents) × WithEnough (λ more. now_contents ≡ append_known contents (run_report (names program.apps) (reference_of_session program more runs.alike.losses session)))
 reports program told left seen contents now_contents input session ran whole spelled =
-    let runs = subst (λ (program : ProgramValue). RunsWhole program seen contents now_contents) (app_is ran.0 program told left seen input session ran.1 whole spelled) ran.2 in
+    let runs = subst (λ (other : ProgramValue). RunsWhole other seen contents now_contents) (app_is ran.0 program told left seen input session ran.1 whole spelled) ran.2 in
     (runs, session_report program seen contents now_contents session (given_session ran.0 program told left seen input session ran.1 whole spelled) runs)
