@@ -1,6 +1,6 @@
 //! What is wrong with an input, in words for an operator, where the line of its refusal does not say it.
 
-use crate::input::cut;
+use crate::input::{MOST_INPUT, cut};
 use crash_policy::{AppRule, Policy, PolicyFile, read_policy};
 use std::alloc::{AllocError, Global};
 
@@ -9,6 +9,10 @@ use std::alloc::{AllocError, Global};
 pub fn explain(alloc: Global, input: &[u8], is_run: bool) -> Result<Option<String>, AllocError> {
     if is_run {
         return explain_policy(alloc, input, true);
+    }
+    // A larger one was refused for its size, which its line says.
+    if input.len() > MOST_INPUT {
+        return Ok(None);
     }
     match cut(input) {
         Ok(parts) => explain_policy(alloc, parts.policy, false),

@@ -13,7 +13,7 @@ use lego_io::{Lines, Source, read_all};
 use std::alloc::Global;
 
 /// How many bytes an input has at most (64 MiB).
-const MOST_INPUT: usize = 67_108_864;
+pub const MOST_INPUT: usize = 67_108_864;
 
 /// An input, cut at its first line `---`.
 #[derive(Clone, Copy, Debug, PartialEq, Eq)]

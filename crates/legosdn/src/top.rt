@@ -17,6 +17,7 @@ ghost use Rattle.legosdn.specs.Input.{program_of, program_value};
 ghost use Rattle.legosdn.specs.Stops.{stop_status, stop_line};
 ghost use Rattle.legosdn.specs.Headline.{IsReplay, IsRun, IsNoSession, streams, IsReadCause, IsRunCause, IsEarly, Loaded, LosesByFaults, RunsAs, KeepsLines, Wrote, Replays};
 ghost use Rattle.legosdn.specs.Live.{Serves, IsOfNoSwitch};
+ghost use Rattle.legosdn.specs.LinkFaults.{LosesAsTold, TellsAsTold};
 ghost use Rattle.legosdn.specs.Promise.{ReplayPromise, RunPromise, NoSwitchEnds, AtEveryStatus, LiveAtEveryStatus};
 
 use crate::input::{cut, read_input};
