@@ -1,6 +1,6 @@
 use Rattle.legosdn.specs.Input.{program_of}
 use Rattle.std.proofs.Common.{refl, sym, subst}
-use Rattle.legosdn.specs.Headline.{streams}
+use Rattle.legosdn.specs.Headline.{streams, IsNoPolicy}
 use Rattle.legosdn.specs.Live.{Taken}
 use Rattle.legosdn.proofs.CommandEnds.{serves_unread, serves_taken}
 use Rattle.legosdn.proofs.Promises.{idle_always}
@@ -33,4 +33,4 @@ returns-clause-always g c = record {
 pub returns-in_err-program-clause-no_switch : goal.returns-in_err-program-clause-no_switch
 returns-in_err-program-clause-no_switch g c =
     let p = err_from_is_err_and c.from_residual.result c.from_residual.ensures.1 in
-    λ can. rw (p.1, p.2) (read_of_no_switch _ _ _ _ c.in_err-program.field-0.0 c.in_err-program.ensures.why)
+    λ can. rw (p.1, p.2) (read_of_no_switch IsNoPolicy (g.S.Source.remaining c.args.source.now) (g.S.Source.faults c.args.source.now) (g.S.Source.faults c.read_program.new.source) c.in_err-program.field-0.0 c.in_err-program.ensures.why)
