@@ -236,10 +236,7 @@ fn run(rt: &HostRuntime, settings: &Settings) -> Result<u8, AllocError> {
 }
 
 /// Writes to standard error what the line of a refused input does not say of its policy.
-fn explain_input<S, K>(
-    rt: &HostRuntime,
-    console: &Console<S, K>,
-) -> Result<(), AllocError> {
+fn explain_input<S, K>(rt: &HostRuntime, console: &Console<S, K>) -> Result<(), AllocError> {
     let is_run = match console.words.first() {
         Some(word) => word.as_str() == "run",
         None => false,

@@ -120,7 +120,7 @@ at_end Tells accepts allows event old mid e mid_net end unread told keeps judges
     let rests = chain_rests Tells e.index whole old mid e.net mid_net told t.chain in
     let judged : (lost : List ℕ) → Goes (length e.net.log) lost old mid e.net mid_net → allows (places_at old mid mid_net) ≡ accepts mid_net.views =
     λ lost goes. subst (λ (g : Given _). allows (shown_places g.declared (shown_by mid_net) (state mid)) ≡ accepts mid_net.views) given_is
-        (judges.alike mid mid_net keeps goes.ready (turn_stays (length e.net.log) lost old mid e.net mid_net goes rests calm).order) in
+    (judges.alike mid mid_net keeps goes.ready (turn_stays (length e.net.log) lost old mid e.net mid_net goes rests calm).order) in
     let shown = turn-shown Tells accepts allows e.index e.rule.budget e.rest frame old mid e.net mid_net end unread told keeps calm.ready t judged in
     record {
       messages = shown.messages;
