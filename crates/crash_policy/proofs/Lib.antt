@@ -3,3 +3,5 @@ pub mod Least
 pub mod Names
 pub mod Items
 pub mod Ports
+mod Values
+mod Cuts

@@ -29,7 +29,9 @@ is_event_name word =
     || bytes_eq word (codes "flow_removed")) || bytes_eq word (codes "port_status")) || bytes_eq word (codes "error")
 
 unfoldable pub is_top_key : List ℕ → Bool
-is_top_key key = (bytes_eq key (codes "judge") || bytes_eq key (codes "quota")) || bytes_eq key (codes "app")
+is_top_key key =
+    (((bytes_eq key (codes "judge") || bytes_eq key (codes "quota")) || bytes_eq key (codes "field")) || bytes_eq key (codes "links"))
+    || bytes_eq key (codes "app")
 
 unfoldable pub is_app_key : List ℕ → Bool
 is_app_key key =
@@ -209,7 +211,8 @@ unfoldable pub judge_named : List ℕ → Option Judge
 judge_named word =
     if bytes_eq word (codes "all") then Some judge.All
     else (if bytes_eq word (codes "quota") then Some judge.Quota
-    else None)
+    else (if bytes_eq word (codes "guard") then Some judge.Guard
+    else None))
 
 abbrev pub judge_in : Data → Option Judge
 judge_in d = option_and_then judge_named (as_str d)
@@ -222,6 +225,8 @@ judge_answer ms = ranged (codes "judge") (or_default judge.All judge_in (get_mem
 abbrev pub quota_for : Judge → Option Data → Result (Option ℕ) Fault
 quota_for judge.All None = Ok None
 quota_for judge.All (Some d) = Err (out_of_range (codes "quota"))
+quota_for judge.Guard None = Ok None
+quota_for judge.Guard (Some d) = Err (out_of_range (codes "quota"))
 quota_for judge.Quota None = Err (missing (codes "quota"))
 quota_for judge.Quota (Some d) = ranged (codes "quota") (option_map (λ n. Some n) (number_in 0 4294967295 d))
 

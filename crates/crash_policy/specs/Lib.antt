@@ -1,6 +1,8 @@
 pub mod Policies
 pub mod Faults
 pub mod Keys
+pub mod LinkText
+pub mod GuardKeys
 pub mod Ascending
 pub mod Order
 pub mod Steps

@@ -13,6 +13,7 @@ use Rattle.crash_policy.specs.declared.policy_file.Judge.TheVariants as judge
 use Rattle.crash_policy.specs.Policies.{AppValue, PolicyValue, default_policy}
 use Rattle.crash_policy.specs.Faults.{Fault, no_text, double, ◌>>=◌}
 use Rattle.crash_policy.specs.Keys.{known_keys, budget_answer, command_answer, events_answer, needed_name, name_answer, policy_answer, rules_answer, rules_keys, judge_answer, quota_answer, needed_apps, apps_answer}
+use Rattle.crash_policy.specs.GuardKeys.{field_answer, links_answer, guard_of}
 
 -- ---- tests
 
@@ -94,10 +95,16 @@ document_tests ms =
     ∷ fault_in (apps_answer ms)
     ∷ fault_in (judge_answer ms)
     ∷ fault_in (quota_answer (judge_given ms) ms)
+    ∷ fault_in (field_answer (judge_given ms) ms)
+    ∷ fault_in (links_answer (judge_given ms) ms)
     ∷ apps_tests [] (tables_given ms)
 
 unfoldable pub document_given : Members → PolicyValue
-document_given ms = record { quota = given None (quota_answer (judge_given ms) ms); apps = map app_given (tables_given ms) }
+document_given ms = record {
+  quota = given None (quota_answer (judge_given ms) ms);
+  guard = guard_of (given None (field_answer (judge_given ms) ms)) (given None (links_answer (judge_given ms) ms));
+  apps = map app_given (tables_given ms);
+}
 
 unfoldable pub document_policy : Members → Result PolicyValue Fault
 document_policy ms = unless_fault (first_of (document_tests ms)) (document_given ms)

@@ -1,12 +1,14 @@
 -- A policy read step by step, as the parts of the reader do it. `OrderLaws` has that this is the first fault of the list of
 -- tests, or the value. All of this is our own.
-use Rattle.std.specs.Prelude.{if◌then◌else◌, List, [], ◌∷◌, ◌++◌, Result, Ok, Err}
+use Rattle.std.specs.Prelude.{if◌then◌else◌, List, [], ◌∷◌, ◌++◌, Option, Result, Ok, Err}
 use Rattle.toml.specs.Data.{Members}
 use Rattle.crash_policy.specs.declared.words.Level.TheVariants as place
-use Rattle.crash_policy.specs.Policies.{AppValue, PolicyValue}
+use Rattle.crash_policy.specs.declared.policy_file.Judge.{Judge}
+use Rattle.crash_policy.specs.Policies.{AppValue, GuardValue, PolicyValue}
 use Rattle.crash_policy.specs.Faults.{Fault, double, ◌>>=◌}
 use Rattle.crash_policy.specs.Order.{is_taken}
 use Rattle.crash_policy.specs.Keys.{known_keys, budget_answer, command_answer, events_answer, needed_name, name_answer, policy_answer, rules_answer, rules_keys, judge_answer, quota_answer, needed_apps, apps_answer}
+use Rattle.crash_policy.specs.GuardKeys.{field_answer, links_answer, guard_of}
 
 -- the keys of an application, and that it has a name
 unfoldable pub app_keys : Members → Result (Unit {0}) Fault
@@ -45,11 +47,19 @@ top_keys ms = do
   known ← known_keys place.Top ms
   needed_apps ms
 
+-- what the judge looks at that looks for loops
+unfoldable pub guard_answer : Judge → Members → Result (Option GuardValue) Fault
+guard_answer judge ms = do
+  field ← field_answer judge ms
+  links ← links_answer judge ms
+  Ok (guard_of field links)
+
 unfoldable pub document_answer : Members → Result PolicyValue Fault
 document_answer ms = do
   keys ← top_keys ms
   tables ← apps_answer ms
   judge ← judge_answer ms
   quota ← quota_answer judge ms
+  guard ← guard_answer judge ms
   apps ← apps_after [] tables
-  Ok (record { quota = quota; apps = apps })
+  Ok (record { quota = quota; guard = guard; apps = apps })

@@ -12,6 +12,7 @@ ghost use Rattle.crash_policy.specs.Named.{values_in, AreNamed};
 use crate::app_keys::{
     budget, command, events, known_in_rules, name, needed_name, policy, rule_list,
 };
+use crate::guard_keys::guard;
 use crate::members::known_keys;
 use crate::policy_fault::PolicyFault;
 use crate::policy_file::{AppRule, PolicyFile};
@@ -113,8 +114,9 @@ fn by_steps(alloc: Global, table: &Table) -> Result<PolicyFile, PolicyFault>
     let tables = app_tables(alloc, table)?;
     let judge = judge(alloc, table)?;
     let quota = quota(alloc, judge, table)?;
+    let guard = guard(alloc, judge, table)?;
     let apps = apps(alloc, &tables)?;
-    Ok(PolicyFile { quota, apps })
+    Ok(PolicyFile { quota, guard, apps })
 }
 
 /// Reads the policy of a document: the first fault of the tests, or the value.

@@ -5,7 +5,9 @@
 mod app_keys;
 mod asking;
 mod document;
+mod guard_keys;
 mod limits;
+mod link_text;
 mod members;
 mod policy_fault;
 mod policy_file;
@@ -15,7 +17,11 @@ mod top_keys;
 mod words;
 
 pub use asking::{listens, rule};
-pub use limits::{DEFAULT_BUDGET, MOST_APPS, MOST_BUDGET, MOST_COMMAND_WORDS, MOST_NAME_BYTES};
+pub use guard_rule::{GuardField, GuardRule, Link};
+pub use limits::{
+    DEFAULT_BUDGET, MOST_APPS, MOST_BUDGET, MOST_COMMAND_WORDS, MOST_LINKS, MOST_NAME_BYTES,
+    MOST_PORT,
+};
 pub use policy_fault::PolicyFault;
 pub use policy_file::{AppRule, Policy, PolicyFile};
 pub use reading::read_policy;

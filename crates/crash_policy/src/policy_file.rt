@@ -1,5 +1,7 @@
 //! What a policy says.
 
+use guard_rule::GuardRule;
+
 /// What follows a failed turn. The turn itself is always undone.
 #[derive(Clone, Copy, Debug, PartialEq, Eq)]
 pub enum Policy {
@@ -18,6 +20,8 @@ pub(crate) enum Judge {
     All,
     /// That each has at most so many entries.
     Quota,
+    /// That they send no packet back to a place where it was.
+    Guard,
 }
 
 /// What a policy says of one application.
@@ -41,6 +45,8 @@ pub struct AppRule {
 pub struct PolicyFile {
     /// The most entries of a flow table, where the judge counts them.
     pub quota: Option<u32>,
+    /// The links, and the field by which rows send packets over them, where the judge looks for loops.
+    pub guard: Option<GuardRule>,
     /// 1 to 32 applications, with different names.
     pub apps: Vec<AppRule>,
 }

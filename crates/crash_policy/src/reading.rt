@@ -28,7 +28,11 @@ fn default_file(alloc: Global) -> Result<PolicyFile, AllocError>
         events: [true; 6],
         budget: DEFAULT_BUDGET,
     })?;
-    Ok(PolicyFile { quota: None, apps })
+    Ok(PolicyFile {
+        quota: None,
+        guard: None,
+        apps,
+    })
 }
 
 /// Reads the document that the bytes are.

@@ -86,8 +86,8 @@ pub(crate) fn quota(alloc: Global, judge: Judge, table: &Table) -> Result<Option
     ensures { Gives (λ q. q) result (spec.quota_answer judge (table_view table.now)) }
 {
     match (judge, member(table, "quota")) {
-        (Judge::All, None) => Ok(None),
-        (Judge::All, Some(_)) => Err(out_of_range(alloc, "quota")),
+        (Judge::All | Judge::Guard, None) => Ok(None),
+        (Judge::All | Judge::Guard, Some(_)) => Err(out_of_range(alloc, "quota")),
         (Judge::Quota, None) => Err(PolicyFault::Missing(String::from_str(alloc, "quota")?)),
         (Judge::Quota, Some(value)) => match number_in(0, u32::MAX, value) {
             Some(most) => Ok(Some(most)),

@@ -39,6 +39,7 @@ pub(crate) fn judge_named(word: &str) -> Option<Judge>
     match word {
         "all" => Some(Judge::All),
         "quota" => Some(Judge::Quota),
+        "guard" => Some(Judge::Guard),
         _ => None,
     }
 }
@@ -59,7 +60,7 @@ pub(crate) fn is_event_name(word: &str) -> bool
 fn is_top_key(key: &str) -> bool
     ensures { result ≡ spec.is_top_key key.now }
 {
-    matches!(key, "judge" | "quota" | "app")
+    matches!(key, "judge" | "quota" | "field" | "links" | "app")
 }
 
 /// Tells whether an application may have the key.

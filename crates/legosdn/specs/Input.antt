@@ -4,11 +4,12 @@ use Rattle.std.specs.List.{list_all}
 use Rattle.crash_policy.specs.declared.policy_file.Policy.{Policy}
 use Rattle.crash_policy.specs.declared.policy_file.Policy.TheVariants.{Absolute, Equivalence, None as NoRestart}
 use Rattle.crash_policy.specs.declared.policy_file.AppRule.{AppRule}
-use Rattle.crash_policy.specs.Policies.{AppValue, PolicyValue, app_value}
+use Rattle.crash_policy.specs.Policies.{AppValue, GuardValue, PolicyValue, app_value}
 use Rattle.crash_policy.specs.Faults.{Fault}
 use Rattle.crash_policy.specs.Order.{policy_of}
 use Rattle.net_guard.specs.declared.quota.ChosenJudge.{ChosenJudge}
-use Rattle.net_guard.specs.declared.quota.ChosenJudge.TheVariants.{All, Quota}
+use Rattle.net_guard.specs.declared.quota.ChosenJudge.TheVariants.{All, Quota, Guard}
+use Rattle.net_guard.specs.Links.{hops_of}
 use Rattle.lego_io.specs.Lines.{cut_at_lf, without_cr, lines_of}
 use Rattle.lego_model.specs.declared.session.SessionFault.{SessionFault}
 use Rattle.lego_model.specs.Words.{is_word}
@@ -58,10 +59,11 @@ program_of apps judge = record { apps = map app_value apps; judge = judge }
 abbrev pub program_value : Program → ProgramValue
 program_value program = program_of program.apps.items program.judge
 
--- where a quota is given the judge counts entries, else it lets all tables stand
-abbrev pub judge_of : Option ℕ → ChosenJudge
-judge_of None = All
-judge_of (Some most) = Quota (record { most = most })
+-- where links are given the judge looks for loops, where a quota is it counts entries, else it lets all tables stand
+abbrev pub judge_of : Option ℕ → Option GuardValue → ChosenJudge
+judge_of quota (Some rule) = Guard (record { field = rule.field; hops = hops_of rule.links })
+judge_of (Some most) None = Quota (record { most = most })
+judge_of None None = All
 
 abbrev pub or_later : ProgramValue → Bool → Read ProgramValue
 or_later program true = Ok program
@@ -69,7 +71,7 @@ or_later program false = Err (refusal_line PolicyLater)
 
 -- it can run all of them
 abbrev pub taken_program : PolicyValue → Read ProgramValue
-taken_program policy = or_later (record { apps = policy.apps; judge = judge_of policy.quota }) (list_all is_taken policy.apps)
+taken_program policy = or_later (record { apps = policy.apps; judge = judge_of policy.quota policy.guard }) (list_all is_taken policy.apps)
 
 -- the program of a policy text
 abbrev pub program_in : Result PolicyValue Fault → Read ProgramValue

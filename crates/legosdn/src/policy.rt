@@ -1,11 +1,11 @@
 //! The policy, and the applications that it names.
 
-ghost use Rattle.std.specs.Prelude.{◌≡◌, ◌≤◌, Ok, Err, length, IfOk, IfErr};
+ghost use Rattle.std.specs.Prelude.{◌≡◌, ◌≤◌, Ok, Err, length, map, option_map, vec_len, IfSome, IfOk, IfErr};
 ghost use Rattle.std.specs.List.{list_all};
 ghost use Rattle.lego_io.specs.Count.{NeverFell};
-ghost use Rattle.crash_policy.specs.Policies.{app_value, policy_value};
+ghost use Rattle.crash_policy.specs.Policies.{app_value, guard_value};
 ghost use Rattle.crash_policy.specs.Order.{policy_of};
-ghost use Rattle.legosdn.specs.Input.{is_built as is_built_in, is_taken as is_taken_in, has_words, with_words, judge_of as judge_by, program_value, program_in as program_of_policy};
+ghost use Rattle.legosdn.specs.Input.{is_built as is_built_in, is_taken as is_taken_in, has_words, with_words, judge_of as judge_by, or_later, program_of, program_value, program_in as program_of_policy};
 ghost use Rattle.legosdn.specs.Stops.{refusal_line};
 ghost use Rattle.legosdn.specs.Headline.{IsReadCause, IsNoPolicy, IsPolicyCause};
 ghost use Rattle.legosdn.specs.Live.{Taken};
@@ -14,8 +14,8 @@ use crate::input::read_input;
 use crate::stop::{InputRefusal, Stop};
 use crash_policy::{AppRule, Policy, PolicyFile, read_policy};
 use lego_io::Source;
-use net_guard::{ChosenJudge, Quota};
-use std::alloc::Global;
+use net_guard::{ChosenJudge, Guard, GuardRule, Quota};
+use std::alloc::{AllocError, Global};
 
 /// What runs: applications, and the judge of the tables that their turns leave.
 #[derive(Drop, Debug)]
@@ -59,28 +59,30 @@ fn are_taken(apps: &[AppRule]) -> bool
 }
 
 /// Makes the judge of a policy.
-fn judge_of(quota: Option<u32>) -> ChosenJudge
-    ensures { result ≡ judge_by quota }
+fn judge_of(
+    alloc: Global,
+    quota: Option<u32>,
+    guard: Option<GuardRule>,
+) -> Result<ChosenJudge, AllocError>
+    requires { IfSome guard (λ rule. vec_len rule.links ≤ 64) }
+    ensures { IfOk result (λ judge. judge ≡ judge_by quota (option_map guard_value guard)) }
 {
-    match quota {
-        None => ChosenJudge::All,
-        Some(most) => ChosenJudge::Quota(Quota { most }),
+    match (quota, guard) {
+        (_, Some(rule)) => Ok(ChosenJudge::Guard(Guard::new(alloc, &rule)?)),
+        (Some(most), None) => Ok(ChosenJudge::Quota(Quota { most })),
+        (None, None) => Ok(ChosenJudge::All),
     }
 }
 
-/// Gives the program of a policy, where the engine can run all of its applications so far.
+/// Gives the program of applications and a judge, where the engine can run all of them so far.
 #[tactic(auto, using(crate::proofs::Policies::all_taken))]
-fn taken_program(policy: PolicyFile) -> Result<Program, InputRefusal>
-    ensures taken { IfOk result (λ program. program_of_policy (Ok (policy_value policy)) ≡ Ok (program_value program)) }
-    ensures same { IfOk result (λ program. program.apps ≡ policy.apps) }
-    ensures refused { IfErr result (λ refusal. program_of_policy (Ok (policy_value policy)) ≡ Err (refusal_line refusal)) }
+fn taken_program(apps: Vec<AppRule>, judge: ChosenJudge) -> Result<Program, InputRefusal>
+    ensures taken { IfOk result (λ program. or_later (program_of apps.items judge) (list_all is_taken_in (map app_value apps.items)) ≡ Ok (program_value program)) }
+    ensures same { IfOk result (λ program. program.apps ≡ apps) }
+    ensures refused { IfErr result (λ refusal. or_later (program_of apps.items judge) (list_all is_taken_in (map app_value apps.items)) ≡ Err (refusal_line refusal)) }
 {
-    let PolicyFile { quota, apps } = policy;
     if are_taken(&apps) {
-        return Ok(Program {
-            apps,
-            judge: judge_of(quota),
-        });
+        return Ok(Program { apps, judge });
     }
     Err(InputRefusal::PolicyLater)
 }
@@ -92,7 +94,9 @@ pub fn program_in(alloc: Global, text: &[u8]) -> Result<Program, Stop>
     ensures why { IfErr result (IsPolicyCause text.now) }
 {
     let policy = read_policy(alloc, text)?;
-    Ok(taken_program(policy)?)
+    let PolicyFile { quota, guard, apps } = policy;
+    let judge = judge_of(alloc, quota, guard)?;
+    Ok(taken_program(apps, judge)?)
 }
 
 /// Tells whether a command starts an application.

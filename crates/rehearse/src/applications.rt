@@ -16,7 +16,10 @@ pub(crate) fn read_apps(alloc: Global, text: &[u8]) -> Result<Vec<AppRule>, Stop
     ensures { IfOk result (λ apps. length apps.items ≤ 32) }
 {
     let policy = read_policy(alloc, text)?;
-    if policy.quota.is_some() || !policy.apps.iter().all(|app| is_taken(app)) {
+    if policy.quota.is_some()
+        || policy.guard.is_some()
+        || !policy.apps.iter().all(|app| is_taken(app))
+    {
         return Err(Stop::PolicyLater);
     }
     if policy.apps.iter().any(|app| app.command.is_empty()) {

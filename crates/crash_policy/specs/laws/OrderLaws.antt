@@ -6,11 +6,13 @@ use Rattle.toml.specs.Data.{Members}
 use Rattle.crash_policy.specs.declared.words.Level.TheVariants as place
 use Rattle.crash_policy.specs.declared.policy_file.Policy.TheVariants as policy
 use Rattle.crash_policy.specs.declared.policy_file.Judge.TheVariants as judge
-use Rattle.crash_policy.specs.Policies.{AppValue, PolicyValue}
+use Rattle.crash_policy.specs.declared.policy_file.Judge.{Judge}
+use Rattle.crash_policy.specs.Policies.{AppValue, GuardValue, PolicyValue}
+use Rattle.crash_policy.specs.GuardKeys.{field_answer, links_answer, guard_of}
 use Rattle.crash_policy.specs.Faults.{Fault, double, ◌>>=◌}
 use Rattle.crash_policy.specs.Keys.{known_keys, budget_answer, command_answer, events_answer, needed_name, name_answer, policy_answer, rules_answer, rules_keys, judge_answer, quota_answer, needed_apps, apps_answer}
 use Rattle.crash_policy.specs.Order.{fault_in, given, first_of, unless_fault, policy_given, app_given, app_tests, is_taken, double_test, apps_tests, tables_given, judge_given, document_tests, document_given, document_policy}
-use Rattle.crash_policy.specs.Steps.{app_keys, app_values, app_answer, added, apps_after, top_keys, document_answer}
+use Rattle.crash_policy.specs.Steps.{app_keys, app_values, app_answer, added, apps_after, top_keys, guard_answer, document_answer}
 
 -- one step more in front
 bind_first : {A B : Type 0} (a : Result A Fault) (f : A → Result B Fault) (tests : List (Option Fault)) (v : B)
@@ -100,14 +102,29 @@ top_keys-tests : (ms : Members) → top_keys ms ≡ unless_fault (first_of (faul
 unfolding top_keys
 top_keys-tests ms = bind_first (known_keys place.Top ms) _ _ _ (λ u is. alone (needed_apps ms))
 
+-- what the judge looks at that looks for loops
+abbrev guard_tests : Judge → Members → List (Option Fault)
+guard_tests j ms = fault_in (field_answer j ms) ∷ fault_in (links_answer j ms) ∷ []
+
+abbrev guard_given : Judge → Members → Option GuardValue
+guard_given j ms = guard_of (given None (field_answer j ms)) (given None (links_answer j ms))
+
+guard_answer-tests : (j : Judge) (ms : Members) → guard_answer j ms ≡ unless_fault (first_of (guard_tests j ms)) (guard_given j ms)
+unfolding guard_answer
+guard_answer-tests j ms =
+    bind_first (field_answer j ms) _ _ _ (λ field is_field.
+    bind_first (links_answer j ms) _ _ _ (λ links is_links.
+    rw (is_field, is_links) refl))
+
 abbrev rest_tests : Members → List (Option Fault)
 rest_tests ms =
-    fault_in (apps_answer ms) ∷ fault_in (judge_answer ms) ∷ fault_in (quota_answer (judge_given ms) ms) ∷ apps_tests [] (tables_given ms)
+    fault_in (apps_answer ms) ∷ fault_in (judge_answer ms) ∷ fault_in (quota_answer (judge_given ms) ms) ∷ fault_in (field_answer (judge_given ms) ms) ∷ fault_in (links_answer (judge_given ms) ms)
+    ∷ apps_tests [] (tables_given ms)
 
 abbrev rest_answer : Members → Result PolicyValue Fault
 rest_answer ms =
-    apps_answer ms >>= (λ tables. judge_answer ms >>= (λ j. quota_answer j ms >>= (λ quota. apps_after [] tables >>= (λ apps.
-    Ok (record { quota = quota; apps = apps })))))
+    apps_answer ms >>= (λ tables. judge_answer ms >>= (λ j. quota_answer j ms >>= (λ quota. guard_answer j ms >>= (λ guard. apps_after [] tables >>= (λ apps.
+    Ok (record { quota = quota; guard = guard; apps = apps }))))))
 
 rest_answer-tests : (ms : Members) → rest_answer ms ≡ unless_fault (first_of (rest_tests ms)) (document_given ms)
 unfolding document_given
@@ -118,8 +135,12 @@ rest_answer-tests ms =
     rw named (bind_first (quota_answer (judge_given ms) ms) _ _ _ (λ quota is_quota.
     let all : tables ≡ tables_given ms = sym (ap (given []) are_tables) in
     let most : quota ≡ given None (quota_answer (judge_given ms) ms) = sym (ap (given None) is_quota) in
-    rw (all, most) (ap (λ (r : Result (List AppValue) Fault). r >>= (λ apps. Ok (record { quota = given None (quota_answer (judge_given ms) ms); apps = apps }))) (apps_after-tests [] (tables_given ms))
-    ∙ bind_last (first_of (apps_tests [] (tables_given ms))) (map app_given (tables_given ms)) (λ apps. record { quota = given None (quota_answer (judge_given ms) ms); apps = apps }))))))
+    let whole : Option GuardValue → List AppValue → PolicyValue = λ guard apps. record { quota = given None (quota_answer (judge_given ms) ms); guard = guard; apps = apps } in
+    rw (all, most) (ap (λ (r : Result (Option GuardValue) Fault). r >>= (λ guard. apps_after [] (tables_given ms) >>= (λ apps. Ok (whole guard apps)))) (guard_answer-tests (judge_given ms) ms)
+    ∙ bind_after (guard_tests (judge_given ms) ms) (apps_tests [] (tables_given ms)) (guard_given (judge_given ms) ms) (whole (guard_given (judge_given ms) ms) (map app_given (tables_given ms)))
+    (λ guard. apps_after [] (tables_given ms) >>= (λ apps. Ok (whole guard apps)))
+    (ap (λ (r : Result (List AppValue) Fault). r >>= (λ apps. Ok (whole (guard_given (judge_given ms) ms) apps))) (apps_after-tests [] (tables_given ms))
+    ∙ bind_last (first_of (apps_tests [] (tables_given ms))) (map app_given (tables_given ms)) (whole (guard_given (judge_given ms) ms))))))))
 
 pub document_answer-tests : (ms : Members) → document_answer ms ≡ document_policy ms
 unfolding document_answer document_policy document_tests
