@@ -1,0 +1,4 @@
+pub mod OrderLaws
+pub mod IndexLaws
+pub mod MaskedLaws
+pub mod TakenLaws
