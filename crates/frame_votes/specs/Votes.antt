@@ -1,5 +1,5 @@
 -- Three copies of an application: the frame that two of them gave. All of this is our own choice.
-use Rattle.std.specs.Prelude.{ℕ, Bool, true, false, List, [], length, take, drop, Option, Some, None, Ok, Err, nat_eq, if◌then◌else◌}
+use Rattle.std.specs.Prelude.{ℕ, Bool, true, false, List, [], length, take, drop, Option, Some, None, Ok, Err, nat_eq, ◌&&◌, if◌then◌else◌}
 use Rattle.std.specs.Cmp.Lexicographic.{pointwise}
 use Rattle.app_frames.specs.declared.frame.AppFrame.{AppFrame}
 use Rattle.frame_votes.specs.declared.ballot.Place.{Place}
@@ -26,6 +26,15 @@ front_of bytes = whole bytes (app_reading bytes)
 -- the next frame of a copy that is in
 abbrev pub front_in : Given → Option (List ℕ)
 front_in copy = if copy.is_in then front_of copy.held else None
+
+-- Its next frame is not whole, and nothing refuses it so far: more of it may come.
+abbrev pub is_open : Reading (AppFrame × ℕ) → Bool
+is_open (Ok (Some found)) = false
+is_open (Ok None) = true
+is_open (Err fault) = false
+
+unfoldable pub awaits : Given → Bool
+awaits copy = copy.is_in && is_open (app_reading copy.held)
 
 -- ---- The vote
 

@@ -1,7 +1,7 @@
 //! The vote of three copies.
 
 ghost use Rattle.std.specs.Prelude.{◌≡◌, ◌++◌, [], IfOk, OnOk, OnErr, true, false, Option};
-ghost use Rattle.frame_votes.specs.Votes.{agreed, of_two, voted, after_vote, out, copy_at, with_copy};
+ghost use Rattle.frame_votes.specs.Votes.{awaits, agreed, of_two, voted, after_vote, out, copy_at, with_copy};
 
 use crate::given::Given;
 use of_types::ByteList;
@@ -92,6 +92,17 @@ impl Ballot {
             Place::First => self.first.is_in(),
             Place::Second => self.second.is_in(),
             Place::Third => self.third.is_in(),
+        }
+    }
+
+    /// Tells whether the copy is in and more of its next frame may come: that is neither whole nor refused so far.
+    pub fn awaits(&self, place: Place) -> Result<bool, AllocError>
+        ensures { IfOk result (λ awaited. awaited ≡ awaits (copy_at place self.now)) }
+    {
+        match place {
+            Place::First => self.first.awaits(self.alloc),
+            Place::Second => self.second.awaits(self.alloc),
+            Place::Third => self.third.awaits(self.alloc),
         }
     }
 

@@ -1,7 +1,7 @@
 //! What a copy of an application gave.
 
 ghost use Rattle.std.specs.Prelude.{◌≡◌, ◌++◌, [], IfOk, OnOk, OnErr, true, false};
-ghost use Rattle.frame_votes.specs.Votes.{front_of, front_in, agreed, out, settled_if};
+ghost use Rattle.frame_votes.specs.Votes.{awaits, front_of, front_in, agreed, out, settled_if};
 
 use app_frames::{AppFrameError, decode_app};
 use bytes::BytesMut;
@@ -90,6 +90,21 @@ impl Given {
             front_of(alloc, self.held.as_slice())
         } else {
             Ok(None)
+        }
+    }
+
+    /// Tells whether more of its next frame may come.
+    #[tactic(auto, unfolding(crate::specs::Votes::awaits))]
+    pub(crate) fn awaits(&self, alloc: Global) -> Result<bool, AllocError>
+        ensures { IfOk result (λ awaited. awaited ≡ awaits self.now) }
+    {
+        if !self.is_in {
+            return Ok(false);
+        }
+        match decode_app(alloc, self.held.as_slice()) {
+            Ok(None) => Ok(true),
+            Ok(Some(_)) | Err(AppFrameError::Refused(_)) => Ok(false),
+            Err(AppFrameError::NoMemory) => Err(AllocError),
         }
     }
 

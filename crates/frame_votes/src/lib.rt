@@ -10,4 +10,4 @@ mod given;
 mod laws;
 
 pub use ballot::{Ballot, Place};
-pub use laws::two_gave_it;
+pub use laws::{two_are_followed, two_gave_it};

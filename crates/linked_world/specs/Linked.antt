@@ -1,6 +1,6 @@
 -- A world whose switches are those of another world, and whose applications are its own: what is seen of it is woven of the history of
 -- the other world and of notes, each the step of an application and the other world as it stood then. All of this is our own choice.
-use Rattle.std.specs.Prelude.{◌≡◌, ◌==◌, ℕ, ◌+◌, ◌-◌, ◌^◌, ◌≤◌, Bool, true, false, not, List, [], ◌∷◌, ◌++◌, map, filter, drop, length, min, Result, Ok, Err, IsTrue, if◌then◌else◌}
+use Rattle.std.specs.Prelude.{◌≡◌, ◌==◌, ℕ, ◌+◌, ◌-◌, ◌^◌, ◌≤◌, Bool, true, false, not, List, [], ◌∷◌, ◌++◌, map, filter, drop, length, min, Option, Some, Result, Ok, Err, IsTrue, slice_get, if◌then◌else◌}
 use Rattle.lego_io.specs.Count.{raised}
 use Rattle.of_types.specs.declared.journal.Act.{Act}
 use Rattle.of_types.specs.declared.journal.Act.TheVariants.{Started, Gave, Gone, Took, Ended}
@@ -16,7 +16,7 @@ use Rattle.outside.specs.declared.item.Taken.TheVariants as gave
 use Rattle.outside.specs.declared.step.WorldStep.{WorldStep}
 use Rattle.outside.specs.declared.step.WorldStep.TheVariants.{Acted, TookInto}
 use Rattle.outside.specs.Seen.{Counts, Seen, Longer}
-use Rattle.outside.specs.State.{state}
+use Rattle.outside.specs.State.{state, is_running}
 
 -- ---- Steps of applications
 
@@ -108,24 +108,27 @@ seen_with notes apps inner = record {
   counts = with_apps apps inner.counts;
 }
 
--- the world as data: the other world, the notes, the applications that were started and not ended, and counts
+-- the world as data: the other world, the notes, the applications that were started and not ended, counts, and for each application of
+-- the other world whether it was started from here and not ended
 pub record Linkage (W : Type 0) : Type 0 where
   pub links : W
   pub notes : List (W × WorldStep)
   pub running : List ℕ
   pub counts : AppCounts
+  pub inside : List Bool
 
 unfoldable pub seen_of : {Own W : Type 0} → (W → Seen Own) → Linkage W → Seen Own
 seen_of see d = seen_with (noted see d.notes) d.counts (see d.links)
 
 -- What holds of it over all calls, where the other world tells.
-pub record Stands {Own : Type 0} (Tells : Type 0) (notes : List Note) (running : List ℕ) (apps : AppCounts) (inner : Seen Own) : Type 0 where
+pub record Stands {Own : Type 0} (Tells : Type 0) (notes : List Note) (running : List ℕ) (apps : AppCounts) (inside : List Bool) (inner : Seen Own) : Type 0 where
   pub grows : Tells → Grows [] notes inner.history
   pub run : Tells → (state (seen_with notes apps inner)).running ≡ running
   pub fit : AreAppCounts apps
+  pub runs : Tells → (app : ℕ) → slice_get inside app ≡ Some true → is_running app (state inner) ≡ true
 
 abbrev pub IsLinkage : {Own W : Type 0} → Type 0 → (W → Seen Own) → Linkage W → Type 0
-IsLinkage Tells see d = Stands Tells (noted see d.notes) d.running d.counts (see d.links)
+IsLinkage Tells see d = Stands Tells (noted see d.notes) d.running d.counts d.inside (see d.links)
 
 -- ---- Calls of applications
 
@@ -164,6 +167,7 @@ pub record Notes {Own W : Type 0} (see : W → Seen Own) (steps : List WorldStep
   pub notes : noted see new.notes ≡ noted see old.notes ++ map (λ step. ((see old.links).history, step)) steps
   pub running : new.running ≡ running_then
   pub counts : new.counts ≡ counts_then
+  pub inside : new.inside ≡ old.inside
 
 -- so much room takes it
 abbrev pub IsTakeable : TookWhat → ℕ → Type 0

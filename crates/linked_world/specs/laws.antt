@@ -4,3 +4,5 @@ pub mod CountLaws
 pub mod LinkCallLaws
 pub mod AppCallLaws
 pub mod WordLaws
+pub mod StillLaws
+pub mod ThereLaws

@@ -1,20 +1,22 @@
 //! A world whose switches are those of another world.
 
-ghost use Rattle.std.specs.Prelude.{◌≡◌, ◌≤◌, ◌&&◌, [], ◌∷◌, ◌++◌, ℕ, List, true, false, not, length, Ok, Err, IsOk, IsErrOf};
+ghost use Rattle.std.specs.Prelude.{◌≡◌, ◌<◌, ◌≤◌, ◌&&◌, [], ◌∷◌, ◌++◌, ℕ, List, true, false, not, length, Some, Ok, Err, IsOk, IfOk, IsErrOf, slice_get};
 ghost use Rattle.of_types.specs.Membership.{is_among};
 ghost use Rattle.of_wire.specs.Reading.{reading_of};
 ghost use Rattle.outside.specs.declared.step.WorldStep.TheVariants.{TookInto};
 ghost use Rattle.outside.specs.InOrder.{InOrder, BringMessages};
 ghost use Rattle.outside.specs.Conforming.{Conforming};
 ghost use Rattle.outside.specs.Calls.{most_message, Opens, Nexts, Starts, Gives, Takes, Ends, Sends, Receives, take_steps};
+ghost use Rattle.outside.specs.State.{state, is_running};
+ghost use Rattle.linked_world.specs.Still.{Still, Shorted, Tried, give_answer};
 ghost use Rattle.linked_world.specs.Linked.{seen_of, running_after, running_without, IsTakeable, in_place};
 
 use crate::counts::CallCounts;
-use crate::parts::Parts;
+use crate::parts::{Parts, none_inside};
 use http_server::Log;
 use of_types::{Dpid, TookWhat};
 use outside::{GiveFault, Item, LinkFault, NextFault, OpenFault, Short, StartFault, Taken, World};
-use std::alloc::Global;
+use std::alloc::{AllocError, Global};
 use std::marker::Model;
 
 /// A world whose switches are those of another world, and whose applications are the caller's own. Contracts see it as
@@ -48,8 +50,30 @@ impl<W: World> Linked<W> {
                 notes: Log::new(),
                 running: Vec::new(alloc),
                 counts: CallCounts::new(),
+                inside: Vec::new(alloc),
             },
         }
+    }
+
+    /// Takes the switches of this world, and room for so many of its applications; no application was started.
+    pub fn with_inside(alloc: Global, links: W, number: u32) -> Result<Linked<W>, AllocError>
+    where
+        W: Drop,
+        ensures links { IfOk result (λ l. l.links ≡ links) }
+        ensures notes { IfOk result (λ l. l.notes ≡ []) }
+        ensures running { IfOk result (λ l. l.running ≡ []) }
+    {
+        let inside = none_inside(alloc, number)?;
+        Ok(Linked {
+            parts: Parts {
+                alloc,
+                links,
+                notes: Log::new(),
+                running: Vec::new(alloc),
+                counts: CallCounts::new(),
+                inside,
+            },
+        })
     }
 
     /// Lends the other world.
@@ -105,9 +129,67 @@ impl<W: World> Linked<W> {
 
     /// Tells whether the application was started and not ended.
     pub fn runs(&self, app: u32) -> bool
-        ensures { result ≡ is_among app self.now.running }
+        ensures list { result ≡ is_among app self.now.running }
+        ensures seen { W.Tells → is_running app (state (seen_of W.seen self.now)) ≡ result }
     {
         self.parts.runs(app)
+    }
+
+    /// Counts want of memory in a call of an application.
+    pub fn want_memory(&mut self) -> Short
+        ensures { Shorted W.Tells (seen_of W.seen self.old) (seen_of W.seen self.new) }
+    {
+        self.parts.want_memory(false);
+        Short
+    }
+
+    /// Tells whether an application of the other world was started from here and not ended.
+    pub fn runs_there(&self, app: u32) -> bool
+        ensures { result ≡ true → slice_get self.now.inside app ≡ Some true }
+    {
+        self.parts.runs_there(app)
+    }
+
+    /// Tells whether an application of the other world may be started from here.
+    pub fn has_place(&self, app: u32) -> bool
+        ensures { result ≡ true → app < length self.now.inside }
+    {
+        self.parts.has_place(app)
+    }
+
+    /// Starts an application of the other world, and tells whether it was started; one that runs is ended before. Nothing is
+    /// seen of it here.
+    pub fn start_there(&mut self, app: u32, words: &[String]) -> Result<bool, Short>
+        requires { app < length self.old.inside }
+        ensures { Tried W.Tells result (seen_of W.seen self.old) (seen_of W.seen self.new) }
+    {
+        self.parts.start_there(app, words)
+    }
+
+    /// Gives bytes to an application of the other world, and tells whether it was given them. Nothing is seen of it here.
+    pub fn give_there(&mut self, app: u32, bytes: &[u8]) -> Result<bool, Short>
+        requires { slice_get self.old.inside app ≡ Some true }
+        ensures seen { Tried W.Tells result (seen_of W.seen self.old) (seen_of W.seen self.new) }
+        ensures call { Gives W.Tells app bytes.now (W.seen self.old.links) (W.seen self.new.links) (give_answer result) }
+    {
+        self.parts.give_there(app, bytes)
+    }
+
+    /// Takes bytes from an application of the other world into the front of the buffer. Nothing is seen of it here.
+    pub fn take_there(&mut self, app: u32, buf: &mut [u8]) -> Result<Taken, Short>
+        requires runs { slice_get self.old.inside app ≡ Some true }
+        requires room { 0 < length buf.old }
+        ensures seen { Tried W.Tells result (seen_of W.seen self.old) (seen_of W.seen self.new) }
+        ensures call { Takes W.Tells app (W.seen self.old.links) (W.seen self.new.links) result buf.new }
+    {
+        self.parts.take_there(app, buf)
+    }
+
+    /// Ends an application of the other world, if it runs. Nothing is seen of it here.
+    pub fn end_there(&mut self, app: u32)
+        ensures { Still W.Tells (seen_of W.seen self.old) (seen_of W.seen self.new) }
+    {
+        self.parts.end_there(app);
     }
 
     /// Starts an application, if it is ready and does not run.

@@ -1,14 +1,16 @@
 //! The other world, and what is noted of applications.
 
-ghost use Rattle.std.specs.Prelude.{◌≡◌, ◌==◌, ◌≤◌, ◌&&◌, filter, [], ◌∷◌, ◌++◌, ℕ, List, true, false, not, length, Ok, Err, IsTrue, IsOk, IsErr, IsErrOf, OnOk, OnErr};
+ghost use Rattle.std.specs.Prelude.{◌≡◌, ◌≢◌, ◌==◌, ◌<◌, ◌≤◌, ◌&&◌, filter, [], ◌∷◌, ◌++◌, ℕ, List, true, false, not, length, Ok, Err, IsTrue, IsOk, IfOk, IsErr, IsErrOf, OnOk, OnErr, Some, slice_get};
 ghost use Rattle.lego_io.specs.Count.{raised};
 ghost use Rattle.of_types.specs.declared.journal.Act.TheVariants.{Started, Gave, Gone, Ended};
 ghost use Rattle.outside.specs.declared.step.WorldStep.TheVariants.{Acted, TookInto};
 ghost use Rattle.of_types.specs.Membership.{is_among};
 ghost use Rattle.of_wire.specs.Reading.{reading_of};
-ghost use Rattle.outside.specs.Calls.{most_message, Opens, Nexts, Sends, Receives, start_steps, give_steps, take_steps, end_steps, IsTakenIn};
+ghost use Rattle.outside.specs.Calls.{most_message, Opens, Nexts, Gives, Takes, Ends, Sends, Receives, start_steps, give_steps, take_steps, end_steps, IsTakenIn};
 ghost use Rattle.linked_world.specs.Linked.{running_after, running_without, take_count, stray_count, short_count, Notes, IsTakeable, in_place};
+ghost use Rattle.linked_world.specs.Still.{start_answer, give_answer};
 ghost use Rattle.linked_world.specs.laws.LinkCallLaws.{LinksMoved};
+ghost use Rattle.linked_world.specs.laws.ThereLaws.{MovedThere, Restarts, was_started};
 ghost use Rattle.linked_world.specs.laws.AppCallLaws.{started_counts, gave_counts, taken_counts};
 
 use crate::counts::CallCounts;
@@ -29,6 +31,7 @@ pub(crate) struct Parts<W> {
     pub(crate) notes: Log<W, WorldStep>,
     pub(crate) running: Vec<u32>,
     pub(crate) counts: CallCounts,
+    pub(crate) inside: Vec<bool>,
 }
 
 impl<W> Model for Parts<W> {
@@ -36,7 +39,13 @@ impl<W> Model for Parts<W> {
 
     ghost Value = { Linkage W };
 
-    ghost view = { λ p. record { links = p.links; notes = p.notes.items; running = p.running.items; counts = p.counts } };
+    ghost view = { λ p. record {
+      links = p.links;
+      notes = p.notes.items;
+      running = p.running.items;
+      counts = p.counts;
+      inside = p.inside.items;
+    } };
 }
 
 /// Takes an application out.
@@ -44,6 +53,66 @@ fn remove(running: &mut Vec<u32>, app: u32)
     ensures { running.new.items ≡ filter (λ a. not (a == app)) running.old.items }
 {
     running.retain(|running| *running != app);
+}
+
+/// Room for so many applications of the other world, none of which runs.
+#[tactic(auto, using(crate::specs::laws::AppCallLaws::none_there, crate::specs::laws::AppCallLaws::none_more))]
+pub(crate) fn none_inside(alloc: Global, number: u32) -> Result<Vec<bool>, AllocError>
+    ensures { IfOk result (λ all. (i : ℕ) → slice_get all.items i ≢ Some true) }
+{
+    let mut inside = Vec::new(alloc);
+    for _ in 0..number {
+        inside.push(false)?;
+    }
+    Ok(inside)
+}
+
+/// Says of an application of the other world that it does not run.
+fn leave_out(inside: &mut [bool], app: u32)
+    ensures here { slice_get inside.new app ≢ Some true }
+    ensures others { (i : ℕ) → i ≢ app → slice_get inside.new i ≡ slice_get inside.old i }
+{
+    let place = app as usize;
+    if place < inside.len() {
+        inside[place] = false;
+    }
+}
+
+/// What a start answered.
+fn start_answer(started: Result<(), StartFault>) -> Result<bool, Short>
+    ensures { start_answer result ≡ started }
+{
+    match started {
+        Ok(()) => Ok(true),
+        Err(StartFault::NotStarted) => Ok(false),
+        Err(StartFault::Short) => Err(Short),
+    }
+}
+
+/// Whether an application was started.
+fn was_started(started: &Result<bool, Short>) -> bool
+    ensures { result ≡ was_started started.now }
+{
+    matches!(started, Ok(true))
+}
+
+/// What a give answered.
+fn give_answer(given: Result<(), GiveFault>) -> Result<bool, Short>
+    ensures { give_answer result ≡ given }
+{
+    match given {
+        Ok(()) => Ok(true),
+        Err(GiveFault::Gone) => Ok(false),
+        Err(GiveFault::Short) => Err(Short),
+    }
+}
+
+/// Ends an application of a world, if it runs, and starts it.
+fn restart<W: World>(world: &mut W, app: u32, words: &[String]) -> Result<bool, Short>
+    ensures { Restarts W.Tells app (W.seen world.old) (W.seen world.new) result }
+{
+    world.end(app);
+    start_answer(world.start(app, words))
 }
 
 /// Whether an application is among those that run.
@@ -96,6 +165,62 @@ impl<W: World> Parts<W> {
         self.links.recv(dpid, buf)
     }
 
+    /// Tells whether an application of the other world was started from here and not ended.
+    pub(crate) fn runs_there(&self, app: u32) -> bool
+        ensures { result ≡ true → slice_get self.now.inside app ≡ Some true }
+    {
+        let place = app as usize;
+        place < self.inside.len() && self.inside[place]
+    }
+
+    /// Tells whether an application of the other world may be started from here.
+    pub(crate) fn has_place(&self, app: u32) -> bool
+        ensures { result ≡ true → app < length self.now.inside }
+    {
+        (app as usize) < self.inside.len()
+    }
+
+    /// Starts an application of the other world; one that runs is ended before.
+    pub(crate) fn start_there(&mut self, app: u32, words: &[String]) -> Result<bool, Short>
+        requires { app < length self.old.inside }
+        ensures moved { MovedThere self.old self.new }
+        ensures here { slice_get self.new.inside app ≡ Some (was_started result) }
+        ensures others { (i : ℕ) → i ≢ app → slice_get self.new.inside i ≡ slice_get self.old.inside i }
+        ensures call { Restarts W.Tells app (W.seen self.old.links) (W.seen self.new.links) result }
+    {
+        let started = restart(&mut self.links, app, words);
+        self.inside[app as usize] = was_started(&started);
+        started
+    }
+
+    /// Gives bytes to an application of the other world.
+    pub(crate) fn give_there(&mut self, app: u32, bytes: &[u8]) -> Result<bool, Short>
+        ensures moved { LinksMoved self.old self.new }
+        ensures call { Gives W.Tells app bytes.now (W.seen self.old.links) (W.seen self.new.links) (give_answer result) }
+    {
+        give_answer(self.links.give(app, bytes))
+    }
+
+    /// Takes bytes from an application of the other world.
+    pub(crate) fn take_there(&mut self, app: u32, buf: &mut [u8]) -> Result<Taken, Short>
+        requires { 0 < length buf.old }
+        ensures moved { LinksMoved self.old self.new }
+        ensures call { Takes W.Tells app (W.seen self.old.links) (W.seen self.new.links) result buf.new }
+    {
+        self.links.take(app, buf)
+    }
+
+    /// Ends an application of the other world, if it runs.
+    pub(crate) fn end_there(&mut self, app: u32)
+        ensures moved { MovedThere self.old self.new }
+        ensures here { slice_get self.new.inside app ≢ Some true }
+        ensures others { (i : ℕ) → i ≢ app → slice_get self.new.inside i ≡ slice_get self.old.inside i }
+        ensures call { Ends W.Tells app (W.seen self.old.links) (W.seen self.new.links) }
+    {
+        self.links.end(app);
+        leave_out(&mut self.inside, app);
+    }
+
     /// Notes a step.
     fn note(&mut self, step: &WorldStep)
         ensures { self.new ≡ record self.old { notes = self.old.notes ++ (self.old.links, step.now) ∷ [] } }
@@ -117,7 +242,7 @@ impl<W: World> Parts<W> {
     }
 
     /// Counts want of memory, and whether the call is out of place.
-    fn want_memory(&mut self, stray: bool)
+    pub(crate) fn want_memory(&mut self, stray: bool)
         ensures { self.new ≡ record self.old { counts = stray_count stray (short_count self.old.counts) } }
     {
         self.counts.raise_shorts();

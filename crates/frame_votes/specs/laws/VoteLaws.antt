@@ -10,7 +10,7 @@ use Rattle.std.proofs.lemmas.Bool.Decides.{Decides-eqb}
 use Rattle.app_frames.specs.declared.frame.AppFrame.{AppFrame}
 use Rattle.app_frames.specs.Reading.{Reading}
 use Rattle.app_frames.specs.Frames.{app_reading}
-use Rattle.frame_votes.specs.Votes.{Given, whole, front_of, front_in, Polled, agreed, first_some, voted, settled_if, settled, after_vote}
+use Rattle.frame_votes.specs.Votes.{Given, whole, front_of, front_in, Polled, agreed, first_some, of_two, voted, settled_if, settled, after_vote}
 
 -- ---- A vote is of two
 
@@ -50,6 +50,56 @@ two_have p frame e =
       | inr more ↦ elim (first_some_is (agreed (front_in p.first) (front_in p.third)) (agreed (front_in p.second) (front_in p.third)) frame more) [
         | inl two ↦ inr (inl (agreed_is (front_in p.first) (front_in p.third) frame two))
         | inr three ↦ inr (inr (agreed_is (front_in p.second) (front_in p.third) frame three))
+      ]
+    ]
+
+-- and a frame that two have is voted
+agreed_same : (frame : List ℕ) → agreed (Some frame) (Some frame) ≡ Some frame
+agreed_same frame = rw ((slice_eq-Decides Decides-eqb frame frame (pointwise nat_eq frame frame) refl).1 refl) refl
+
+agreed_left : (frame : List ℕ) (y : Option (List ℕ)) → (agreed (Some frame) y ≡ Some frame) ⊎ (agreed (Some frame) y ≡ None)
+agreed_left frame (Some y) =
+    elim (cases_Bool (pointwise nat_eq frame y)) [
+      | inl same ↦ inl (rw same refl)
+      | inr other ↦ inr (rw other refl)
+    ]
+agreed_left frame None = inr refl
+
+agreed_right : (x : Option (List ℕ)) (frame : List ℕ) → (agreed x (Some frame) ≡ Some frame) ⊎ (agreed x (Some frame) ≡ None)
+agreed_right (Some x) frame =
+    elim (cases_Bool (pointwise nat_eq x frame)) [
+      | inl same ↦ inl (rw same (ap (λ (b : List ℕ). Some b) (same_bytes x frame same)))
+      | inr other ↦ inr (rw other refl)
+    ]
+agreed_right None frame = inr refl
+
+of_first_two : (x y z : Option (List ℕ)) (frame : List ℕ) → x ≡ Some frame → y ≡ Some frame → of_two x y z ≡ Some frame
+of_first_two x y z frame one two = rw (one, two, agreed_same frame) refl
+
+of_outer_two : (x y z : Option (List ℕ)) (frame : List ℕ) → x ≡ Some frame → z ≡ Some frame → of_two x y z ≡ Some frame
+of_outer_two x y z frame one three =
+    rw (one, three) (elim (agreed_left frame y) [
+      | inl is ↦ rw is refl
+      | inr none ↦ rw (none, agreed_same frame) refl
+    ])
+
+of_last_two : (x y z : Option (List ℕ)) (frame : List ℕ) → y ≡ Some frame → z ≡ Some frame → of_two x y z ≡ Some frame
+of_last_two x y z frame two three =
+    rw (two, three) (elim (agreed_right x frame) [
+      | inl is ↦ rw is refl
+      | inr none ↦ rw (none, agreed_same frame) refl
+    ])
+
+pub two_are_voted : (frame : List ℕ) (p : Polled) → TwoHave frame p → voted p ≡ Some frame
+two_are_voted frame p two =
+    let x = front_in p.first in
+    let y = front_in p.second in
+    let z = front_in p.third in
+    elim two [
+      | inl has ↦ of_first_two x y z frame has.0 has.1
+      | inr more ↦ elim more [
+        | inl has ↦ of_outer_two x y z frame has.0 has.1
+        | inr has ↦ of_last_two x y z frame has.0 has.1
       ]
     ]
 

@@ -1,6 +1,6 @@
 -- A call of an application that is noted is such a call of this world.
-use Rattle.std.specs.Prelude.{◌≡◌, ◌==◌, ℕ, ◌-◌, ◌^◌, ◌≤◌, Bool, true, false, not, List, [], ◌∷◌, ◌++◌, map, filter, length, Result, Ok, Err, IsTrue, IsErr, IsErrOf, IfOk, if◌then◌else◌, refl}
-use Rattle.std.proofs.Common.{sym, ap, ◌∙◌, subst, arith, append_assoc, inl, inr}
+use Rattle.std.specs.Prelude.{◌≡◌, ◌==◌, ℕ, ◌-◌, ◌^◌, ◌≤◌, Bool, true, false, not, List, [], ◌∷◌, ◌++◌, map, filter, length, Some, Result, Ok, Err, IsTrue, IsErr, IsErrOf, IfOk, slice_get, if◌then◌else◌, refl}
+use Rattle.std.proofs.Common.{zero, suc, sym, ap, ◌∙◌, subst, arith, append_assoc, inl, inr}
 use Rattle.std.proofs.lemmas.Bool.{cases_Bool, false≢true}
 use Rattle.std.proofs.lemmas.List.{append-nil, map-append}
 use Rattle.of_types.specs.declared.journal.Act.TheVariants.{Started, Gave, Gone, Ended}
@@ -28,7 +28,7 @@ use Rattle.linked_world.specs.laws.CountLaws.{NoAppFell, NoneFell-own, total-rai
 
 -- ---- Notes of some steps
 
-AreApps : List WorldStep → Type 0
+unfoldable pub AreApps : List WorldStep → Type 0
 AreApps [] = Unit {0}
 AreApps (step ∷ steps) = IsTrue (is_app_step step) × AreApps steps
 
@@ -69,7 +69,7 @@ unfolding seen_of seen_with
 counts_by see steps running counts old new by =
     ap (λ (w : _). with_apps new.counts (see w).counts) by.links ∙ ap (λ (c : AppCounts). with_apps c (see old.links).counts) by.counts
 
-runs_by : {Own W : Type 0} {Tells : Type 0} (see : W → Seen Own) (app : ℕ) (d : Linkage W) → IsLinkage Tells see d → Tells → is_running app (state (seen_of see d)) ≡ is_among app d.running
+pub runs_by : {Own W : Type 0} {Tells : Type 0} (see : W → Seen Own) (app : ℕ) (d : Linkage W) → IsLinkage Tells see d → Tells → is_running app (state (seen_of see d)) ≡ is_among app d.running
 unfolding seen_of
 runs_by see app d is told = ap (is_among app) (is.run told)
 
@@ -92,6 +92,9 @@ stands_by see steps running counts old new by are fit moved is = record {
       (subst (λ (xs : List Note). Grows [] xs (see old.links).history) (sym by.notes) (grows_all (noted see old.notes) (see old.links).history steps are (is.grows told)));
   run = λ told. running_by see steps running counts old new by moved (is.run told) ∙ sym by.running;
   fit = subst AreAppCounts (sym by.counts) fit;
+  runs = λ told app in_then.
+      subst (λ (w : _). is_running app (state (see w)) ≡ true) (sym by.links)
+      (is.runs told app (subst (λ (xs : List Bool). slice_get xs app ≡ Some true) by.inside in_then));
 }
 
 -- ---- Counts
@@ -100,7 +103,7 @@ stray_fit : (stray : Bool) (c : AppCounts) → AreAppCounts c → AreAppCounts (
 stray_fit true c fit = record { starts_failed = fit.starts_failed; closings = fit.closings; silences = fit.silences; shorts = fit.shorts; strays = omega arith }
 stray_fit false c fit = fit
 
-short_fit : (c : AppCounts) → AreAppCounts c → AreAppCounts (short_count c)
+pub short_fit : (c : AppCounts) → AreAppCounts c → AreAppCounts (short_count c)
 short_fit c fit = record { starts_failed = fit.starts_failed; closings = fit.closings; silences = fit.silences; shorts = omega arith; strays = fit.strays }
 
 none_fell : (c : AppCounts) → NoAppFell c c
@@ -119,17 +122,17 @@ stray_fell : (stray : Bool) (c : AppCounts) → AreAppCounts c → NoAppFell c (
 stray_fell true c fit = record { starts_failed = omega arith; closings = omega arith; silences = omega arith; shorts = omega arith; strays = omega (arith, fit.strays) }
 stray_fell false c fit = none_fell c
 
-short_fell : (c : AppCounts) → AreAppCounts c → NoAppFell c (short_count c)
+pub short_fell : (c : AppCounts) → AreAppCounts c → NoAppFell c (short_count c)
 short_fell c fit = record { starts_failed = omega arith; closings = omega arith; silences = omega arith; shorts = omega (arith, fit.shorts); strays = omega arith }
 
 stray_seen : (stray : Bool) (a : AppCounts) (c : Counts) → with_apps (stray_count stray a) c ≡ with_stray stray (with_apps a c)
 stray_seen true a c = ap (λ (n : ℕ). record (with_apps a c) { strays = n }) (total-raised_own c.strays a.strays)
 stray_seen false a c = refl
 
-short_seen : (a : AppCounts) (c : Counts) → with_apps (short_count a) c ≡ with_short (with_apps a c)
+pub short_seen : (a : AppCounts) (c : Counts) → with_apps (short_count a) c ≡ with_short (with_apps a c)
 short_seen a c = ap (λ (n : ℕ). record (with_apps a c) { shorts = n }) (total-raised_own c.shorts a.shorts)
 
-rises : (n : ℕ) → n ≤ 2 ^ 64 - 1 → Rose n (raised n)
+pub rises : (n : ℕ) → n ≤ 2 ^ 64 - 1 → Rose n (raised n)
 rises n fits = Rose-raised n (omega arith)
 
 -- ---- start
@@ -160,13 +163,13 @@ start_short : {T : Type 0} (stray : Bool) (result : Result T StartFault) (c : Ap
 unfolding start_count
 start_short stray result c fit is = subst (λ r. Rose c.shorts (stray_count stray (start_count r c)).shorts) (sym is) (rises c.shorts fit.shorts)
 
-start_apps : {T : Type 0} (app : ℕ) (result : Result T StartFault) → AreApps (start_steps app result)
+pub start_apps : {T : Type 0} (app : ℕ) (result : Result T StartFault) → AreApps (start_steps app result)
 unfolding AreApps start_steps
 start_apps app (Ok x) = (refl, tt)
 start_apps app (Err starting.NotStarted) = (refl, tt)
 start_apps app (Err starting.Short) = tt
 
-start_runs : {T : Type 0} (app : ℕ) (result : Result T StartFault) (running : List ℕ) (s : State) → s.running ≡ running → (after_steps (start_steps app result) s).running ≡ running_after app result running
+pub start_runs : {T : Type 0} (app : ℕ) (result : Result T StartFault) (running : List ℕ) (s : State) → s.running ≡ running → (after_steps (start_steps app result) s).running ≡ running_after app result running
 unfolding start_steps after_step after_act
 start_runs app (Ok x) running s same = ap (λ (xs : List ℕ). xs ++ app ∷ []) same
 start_runs app (Err starting.NotStarted) running s same = same
@@ -231,13 +234,13 @@ give_short : {T : Type 0} (stray : Bool) (result : Result T GiveFault) (c : AppC
 unfolding give_count
 give_short stray result c fit is = subst (λ r. Rose c.shorts (stray_count stray (give_count r c)).shorts) (sym is) (rises c.shorts fit.shorts)
 
-give_apps : {T : Type 0} (app : ℕ) (bytes : List ℕ) (result : Result T GiveFault) → AreApps (give_steps app bytes result)
+pub give_apps : {T : Type 0} (app : ℕ) (bytes : List ℕ) (result : Result T GiveFault) → AreApps (give_steps app bytes result)
 unfolding AreApps give_steps
 give_apps app bytes (Ok x) = (refl, tt)
 give_apps app bytes (Err giving.Gone) = (refl, tt)
 give_apps app bytes (Err giving.Short) = tt
 
-give_runs : {T : Type 0} (app : ℕ) (bytes : List ℕ) (result : Result T GiveFault) (running : List ℕ) (s : State) → s.running ≡ running → (after_steps (give_steps app bytes result) s).running ≡ running
+pub give_runs : {T : Type 0} (app : ℕ) (bytes : List ℕ) (result : Result T GiveFault) (running : List ℕ) (s : State) → s.running ≡ running → (after_steps (give_steps app bytes result) s).running ≡ running
 unfolding give_steps after_step after_act
 give_runs app bytes (Ok x) running s same = same
 give_runs app bytes (Err giving.Gone) running s same = same
@@ -309,14 +312,14 @@ unfolding take_count
 take_short stray (Ok what) c fit is = absurd (false≢true is)
 take_short stray (Err short) c fit is = rises c.shorts fit.shorts
 
-take_apps : (app : ℕ) (result : Result Taken Short) (buf : List ℕ) → AreApps (take_steps app result buf)
+pub take_apps : (app : ℕ) (result : Result Taken Short) (buf : List ℕ) → AreApps (take_steps app result buf)
 unfolding AreApps take_steps
 take_apps app (Ok (gave.Some n)) buf = (refl, tt)
 take_apps app (Ok gave.Closed) buf = (refl, tt)
 take_apps app (Ok gave.Silent) buf = (refl, tt)
 take_apps app (Err short) buf = tt
 
-take_runs : (app : ℕ) (result : Result Taken Short) (buf : List ℕ) (running : List ℕ) (s : State) → s.running ≡ running → (after_steps (take_steps app result buf) s).running ≡ running
+pub take_runs : (app : ℕ) (result : Result Taken Short) (buf : List ℕ) (running : List ℕ) (s : State) → s.running ≡ running → (after_steps (take_steps app result buf) s).running ≡ running
 unfolding take_steps after_step
 take_runs app (Ok (gave.Some n)) buf running s same = same
 take_runs app (Ok gave.Closed) buf running s same = same
@@ -357,7 +360,7 @@ takes_stands see app old new result buf is by =
 
 -- ---- end
 
-end_apps : (app : ℕ) (running : Bool) → AreApps (end_steps app running)
+pub end_apps : (app : ℕ) (running : Bool) → AreApps (end_steps app running)
 unfolding AreApps end_steps
 end_apps app true = (refl, tt)
 end_apps app false = tt
@@ -370,7 +373,7 @@ without_absent app (a ∷ others) is =
       | inr other ↦ rw other (ap (λ (xs : List ℕ). a ∷ xs) (without_absent app others (rw other at is)))
     ]
 
-end_runs : (app : ℕ) (running : List ℕ) (s : State) → s.running ≡ running → (after_steps (end_steps app (is_among app running)) s).running ≡ running_without app running
+pub end_runs : (app : ℕ) (running : List ℕ) (s : State) → s.running ≡ running → (after_steps (end_steps app (is_among app running)) s).running ≡ running_without app running
 unfolding end_steps after_step after_act
 end_runs app running s same =
     elim (cases_Bool (is_among app running)) [
@@ -401,21 +404,23 @@ ends_stands see app old new is by =
 -- ---- One note, or none
 
 pub noted_one : {Own W : Type 0} (see : W → Seen Own) (step : WorldStep) (running : List ℕ) (counts : AppCounts) (old new : Linkage W)
-    → new ≡ (record { links = old.links; notes = old.notes ++ (old.links, step) ∷ []; running = running; counts = counts }) → Notes see (step ∷ []) running counts old new
+    → new ≡ (record { links = old.links; notes = old.notes ++ (old.links, step) ∷ []; running = running; counts = counts; inside = old.inside }) → Notes see (step ∷ []) running counts old new
 noted_one see step running counts old new is = record {
   links = ap (λ (d : Linkage _). d.links) is;
   notes = ap (λ (d : Linkage _). noted see d.notes) is ∙ map-append (λ note. ((see note.0).history, note.1)) old.notes ((old.links, step) ∷ []);
   running = ap (λ (d : Linkage _). d.running) is;
   counts = ap (λ (d : Linkage _). d.counts) is;
+  inside = ap (λ (d : Linkage _). d.inside) is;
 }
 
 pub noted_none : {Own W : Type 0} (see : W → Seen Own) (running : List ℕ) (counts : AppCounts) (old new : Linkage W)
-    → new ≡ (record { links = old.links; notes = old.notes; running = running; counts = counts }) → Notes see [] running counts old new
+    → new ≡ (record { links = old.links; notes = old.notes; running = running; counts = counts; inside = old.inside }) → Notes see [] running counts old new
 noted_none see running counts old new is = record {
   links = ap (λ (d : Linkage _). d.links) is;
   notes = ap (λ (d : Linkage _). noted see d.notes) is ∙ sym (append-nil (noted see old.notes));
   running = ap (λ (d : Linkage _). d.running) is;
   counts = ap (λ (d : Linkage _). d.counts) is;
+  inside = ap (λ (d : Linkage _). d.inside) is;
 }
 
 -- an end that is none
@@ -429,11 +434,26 @@ first_runs : {Own W : Type 0} (see : W → Seen Own) (d : Linkage W) → (state 
 unfolding state seen_with at_first
 first_runs see d = runs-link_steps (see d.links).history (at_first (see d.links).given)
 
-pub first_stands : {Own W : Type 0} {Tells : Type 0} (see : W → Seen Own) (d : Linkage W) → d.notes ≡ [] → d.running ≡ [] → AreAppCounts d.counts → IsLinkage Tells see d
-first_stands see d notes running fit = record {
+-- none runs in the other world where no place is said to
+pub none_there : (inside : List Bool) → inside ≡ [] → (app : ℕ) → ¬ (slice_get inside app ≡ Some true)
+none_there inside none app is = none_at app (subst (λ (xs : List Bool). slice_get xs app ≡ Some true) none is)
+  where
+    none_at : (app : ℕ) → ¬ (slice_get {X = Bool} [] app ≡ Some true)
+    none_at app is = absurd cc
+
+-- one place more
+pub none_more : (inside : List Bool) → ((app : ℕ) → ¬ (slice_get inside app ≡ Some true)) → (app : ℕ) → ¬ (slice_get (inside ++ false ∷ []) app ≡ Some true)
+none_more [] none zero is = absurd cc
+none_more [] none (suc app) is = absurd cc
+none_more (x ∷ rest) none zero is = none 0 is
+none_more (x ∷ rest) none (suc app) is = none_more rest (λ place. none (suc place)) app is
+
+pub first_stands : {Own W : Type 0} {Tells : Type 0} (see : W → Seen Own) (d : Linkage W) → d.notes ≡ [] → d.running ≡ [] → AreAppCounts d.counts → ((app : ℕ) → ¬ (slice_get d.inside app ≡ Some true)) → IsLinkage Tells see d
+first_stands see d notes running fit none = record {
   grows = λ told. subst (λ (xs : _). Grows [] (noted see xs) (see d.links).history) (sym notes) ((see d.links).history, refl);
   run = λ told. ap (λ (xs : _). (state (seen_with (noted see xs) d.counts (see d.links))).running) notes ∙ first_runs see d ∙ sym running;
   fit = fit;
+  runs = λ told app is. absurd (none app is);
 }
 
 pub short_stands : {Own W : Type 0} {Tells : Type 0} (see : W → Seen Own) (app : ℕ) (old new : Linkage W) (short : Short) → IsLinkage Tells see old

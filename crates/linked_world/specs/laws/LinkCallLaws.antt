@@ -3,6 +3,7 @@ use Rattle.std.specs.Prelude.{◌≡◌, ◌↔◌, ℕ, Bool, true, false, not,
 use Rattle.std.proofs.Common.{sym, ap, ◌∙◌, subst}
 use Rattle.of_types.specs.declared.journal.WorldStim.{WorldStim}
 use Rattle.flow_table.specs.Switch.{Declared}
+use Rattle.of_types.specs.Membership.{is_among}
 use Rattle.outside.specs.declared.faults.OpenFault.{OpenFault}
 use Rattle.outside.specs.declared.faults.OpenFault.TheVariants as opening
 use Rattle.outside.specs.declared.faults.NextFault.{NextFault}
@@ -13,8 +14,8 @@ use Rattle.outside.specs.declared.item.Item.{Item}
 use Rattle.outside.specs.declared.item.Item.TheVariants as items
 use Rattle.outside.specs.declared.step.WorldStep.{WorldStep}
 use Rattle.outside.specs.Seen.{Counts, Seen, AreCounts, with_stray}
-use Rattle.outside.specs.State.{State, at_first, after_steps, state, is_joined}
-use Rattle.outside.specs.laws.StateLaws.{after_steps-append}
+use Rattle.outside.specs.State.{State, at_first, after_steps, state, is_running, is_joined}
+use Rattle.outside.specs.laws.StateLaws.{after_steps-append, state-append}
 use Rattle.outside.specs.Calls.{Opens, ToldOpen, open_steps, open_counts, Nexts, ToldNext, next_steps, stim_steps, item_step, next_counts, Sends, ToldSend, send_steps, link_counts, Receives, ToldReceive, receive_steps, can_receive, IsIdle, IsOver}
 use Rattle.linked_world.specs.Linked.{link_steps, Note, woven, Grows, AppCounts, with_apps, seen_with, seen_of, Linkage, Stands, IsLinkage}
 use Rattle.linked_world.specs.laws.SideLaws.{link_side, side-steps, runs-link_steps, opened-side, to_come-side, joined-side, receive-side, idle-side, over-side}
@@ -84,10 +85,10 @@ goes_on notes apps old new steps grows longer links =
     ap (λ (xs : List WorldStep). woven [] notes xs) longer ∙ woven-more [] notes old.history steps grows ∙ ap (λ (xs : List WorldStep). woven [] notes old.history ++ xs) links
 
 -- it stands as before, with the same applications
-pub Stands-on : {Own : Type 0} {Tells : Type 0} (notes : List Note) (running : List ℕ) (apps : AppCounts) (old new : Seen Own) → Stands Tells notes running apps old → new.given ≡ old.given
-    → (Tells → (steps : List WorldStep) × (new.history ≡ old.history ++ steps)) → Stands Tells notes running apps new
+pub Stands-on : {Own : Type 0} {Tells : Type 0} (notes : List Note) (running : List ℕ) (apps : AppCounts) (inside : List Bool) (old new : Seen Own) → Stands Tells notes running apps inside old → new.given ≡ old.given
+    → (Tells → (steps : List WorldStep) × (new.history ≡ old.history ++ steps) × (link_steps steps ≡ steps)) → Stands Tells notes running apps inside new
 unfolding state seen_with
-Stands-on notes running apps old new stands given more = record {
+Stands-on notes running apps inside old new stands given more = record {
   grows = λ told. subst (Grows [] notes) (sym (more told).1) (Grows-more [] notes old.history (more told).0 (stands.grows told));
   run = λ told.
       ap (λ (xs : List WorldStep). (after_steps (woven [] notes xs) (at_first new.given)).running) (more told).1
@@ -97,6 +98,11 @@ Stands-on notes running apps old new stands given more = record {
       ∙ runs-link_steps (more told).0 (after_steps (woven [] notes old.history) (at_first old.given))
       ∙ stands.run told;
   fit = stands.fit;
+  runs = λ told app is.
+      ap (is_running app) (state-append old new (more told).0 given (more told).1)
+      ∙ ap (λ (xs : List WorldStep). is_running app (after_steps xs (state old))) (sym (more told).2)
+      ∙ ap (is_among app) (runs-link_steps (more told).0 (state old))
+      ∙ stands.runs told app is;
 }
 
 -- ---- open
@@ -107,7 +113,7 @@ open_counts-apps (Ok x) apps c = refl
 open_counts-apps (Err opening.Shut) apps c = refl
 open_counts-apps (Err opening.Short) apps c = short-apps apps c
 
-pub Opens-linked : {Own T : Type 0} {Tells : Type 0} {notes : List Note} {running : List ℕ} {apps : AppCounts} {old new : Seen Own} {result : Result T OpenFault} → Stands Tells notes running apps old
+pub Opens-linked : {Own T : Type 0} {Tells : Type 0} {notes : List Note} {running : List ℕ} {apps : AppCounts} {inside : List Bool} {old new : Seen Own} {result : Result T OpenFault} → Stands Tells notes running apps inside old
     → Opens Tells old new result → Opens Tells (seen_with notes apps old) (seen_with notes apps new) result
 unfolding seen_with
 Opens-linked {notes = notes} {apps = apps} {old = old} {new = new} {result = result} stands call = record {
@@ -127,10 +133,10 @@ Opens-linked {notes = notes} {apps = apps} {old = old} {new = new} {result = res
       };
 }
 
-pub Opens-stands : {Own T : Type 0} {Tells : Type 0} {notes : List Note} {running : List ℕ} {apps : AppCounts} {old new : Seen Own} {result : Result T OpenFault} → Stands Tells notes running apps old
-    → Opens Tells old new result → Stands Tells notes running apps new
-Opens-stands {notes = notes} {running = running} {apps = apps} {old = old} {new = new} {result = result} stands call =
-    Stands-on notes running apps old new stands call.given (λ told. (open_steps result, (call.told told).history))
+pub Opens-stands : {Own T : Type 0} {Tells : Type 0} {notes : List Note} {running : List ℕ} {apps : AppCounts} {inside : List Bool} {old new : Seen Own} {result : Result T OpenFault} → Stands Tells notes running apps inside old
+    → Opens Tells old new result → Stands Tells notes running apps inside new
+Opens-stands {notes = notes} {running = running} {apps = apps} {inside = inside} {old = old} {new = new} {result = result} stands call =
+    Stands-on notes running apps inside old new stands call.given (λ told. (open_steps result, (call.told told).history, open_links result))
 
 -- ---- next
 
@@ -140,7 +146,7 @@ next_counts-apps (Ok item) apps c = refl
 next_counts-apps (Err coming.Failed) apps c = refl
 next_counts-apps (Err coming.Short) apps c = short-apps apps c
 
-pub Nexts-linked : {Own : Type 0} {Tells : Type 0} {notes : List Note} {running : List ℕ} {apps : AppCounts} {old new : Seen Own} {result : Result Item NextFault} {buf : List ℕ} → Stands Tells notes running apps old
+pub Nexts-linked : {Own : Type 0} {Tells : Type 0} {notes : List Note} {running : List ℕ} {apps : AppCounts} {inside : List Bool} {old new : Seen Own} {result : Result Item NextFault} {buf : List ℕ} → Stands Tells notes running apps inside old
     → Nexts Tells old new result buf → Nexts Tells (seen_with notes apps old) (seen_with notes apps new) result buf
 unfolding seen_with
 Nexts-linked {notes = notes} {apps = apps} {old = old} {new = new} {result = result} {buf = buf} stands call = record {
@@ -166,10 +172,10 @@ Nexts-linked {notes = notes} {apps = apps} {old = old} {new = new} {result = res
       };
 }
 
-pub Nexts-stands : {Own : Type 0} {Tells : Type 0} {notes : List Note} {running : List ℕ} {apps : AppCounts} {old new : Seen Own} {result : Result Item NextFault} {buf : List ℕ} → Stands Tells notes running apps old
-    → Nexts Tells old new result buf → Stands Tells notes running apps new
-Nexts-stands {notes = notes} {running = running} {apps = apps} {old = old} {new = new} {result = result} {buf = buf} stands call =
-    Stands-on notes running apps old new stands call.given (λ told. (next_steps (call.told told).begun result buf, (call.told told).history))
+pub Nexts-stands : {Own : Type 0} {Tells : Type 0} {notes : List Note} {running : List ℕ} {apps : AppCounts} {inside : List Bool} {old new : Seen Own} {result : Result Item NextFault} {buf : List ℕ} → Stands Tells notes running apps inside old
+    → Nexts Tells old new result buf → Stands Tells notes running apps inside new
+Nexts-stands {notes = notes} {running = running} {apps = apps} {inside = inside} {old = old} {new = new} {result = result} {buf = buf} stands call =
+    Stands-on notes running apps inside old new stands call.given (λ told. (next_steps (call.told told).begun result buf, (call.told told).history, next_links (call.told told).begun result buf))
 
 -- ---- send
 
@@ -179,7 +185,7 @@ link_counts-apps d (Ok x) apps c = refl
 link_counts-apps d (Err linking.Failed) apps c = refl
 link_counts-apps d (Err linking.Short) apps c = short_of-apps d apps c
 
-pub Sends-linked : {Own T : Type 0} {Tells : Type 0} {notes : List Note} {running : List ℕ} {apps : AppCounts} {d : ℕ} {frame : List ℕ} {old new : Seen Own} {result : Result T LinkFault} → Stands Tells notes running apps old
+pub Sends-linked : {Own T : Type 0} {Tells : Type 0} {notes : List Note} {running : List ℕ} {apps : AppCounts} {inside : List Bool} {d : ℕ} {frame : List ℕ} {old new : Seen Own} {result : Result T LinkFault} → Stands Tells notes running apps inside old
     → Sends Tells d frame old new result → Sends Tells d frame (seen_with notes apps old) (seen_with notes apps new) result
 unfolding seen_with
 Sends-linked {notes = notes} {apps = apps} {d = d} {frame = frame} {old = old} {new = new} {result = result} stands call = record {
@@ -200,14 +206,15 @@ Sends-linked {notes = notes} {apps = apps} {d = d} {frame = frame} {old = old} {
       };
 }
 
-pub Sends-stands : {Own T : Type 0} {Tells : Type 0} {notes : List Note} {running : List ℕ} {apps : AppCounts} {d : ℕ} {frame : List ℕ} {old new : Seen Own} {result : Result T LinkFault} → Stands Tells notes running apps old
-    → Sends Tells d frame old new result → Stands Tells notes running apps new
-Sends-stands {notes = notes} {running = running} {apps = apps} {d = d} {frame = frame} {old = old} {new = new} {result = result} stands call =
-    Stands-on notes running apps old new stands call.given (λ told. (send_steps d frame (is_joined d (state old)) result, (call.told told).history))
+pub Sends-stands : {Own T : Type 0} {Tells : Type 0} {notes : List Note} {running : List ℕ} {apps : AppCounts} {inside : List Bool} {d : ℕ} {frame : List ℕ} {old new : Seen Own} {result : Result T LinkFault} → Stands Tells notes running apps inside old
+    → Sends Tells d frame old new result → Stands Tells notes running apps inside new
+Sends-stands {notes = notes} {running = running} {apps = apps} {inside = inside} {d = d} {frame = frame} {old = old} {new = new} {result = result} stands call =
+    Stands-on notes running apps inside old new stands call.given
+    (λ told. (send_steps d frame (is_joined d (state old)) result, (call.told told).history, send_links d frame (is_joined d (state old)) result))
 
 -- ---- recv
 
-pub Receives-linked : {Own : Type 0} {Tells : Type 0} {notes : List Note} {running : List ℕ} {apps : AppCounts} {d : ℕ} {old new : Seen Own} {result : Result ℕ LinkFault} {buf : List ℕ} → Stands Tells notes running apps old
+pub Receives-linked : {Own : Type 0} {Tells : Type 0} {notes : List Note} {running : List ℕ} {apps : AppCounts} {inside : List Bool} {d : ℕ} {old new : Seen Own} {result : Result ℕ LinkFault} {buf : List ℕ} → Stands Tells notes running apps inside old
     → Receives Tells d old new result buf → Receives Tells d (seen_with notes apps old) (seen_with notes apps new) result buf
 unfolding seen_with
 Receives-linked {notes = notes} {apps = apps} {d = d} {old = old} {new = new} {result = result} {buf = buf} stands call = record {
@@ -231,10 +238,11 @@ Receives-linked {notes = notes} {apps = apps} {d = d} {old = old} {new = new} {r
       };
 }
 
-pub Receives-stands : {Own : Type 0} {Tells : Type 0} {notes : List Note} {running : List ℕ} {apps : AppCounts} {d : ℕ} {old new : Seen Own} {result : Result ℕ LinkFault} {buf : List ℕ} → Stands Tells notes running apps old
-    → Receives Tells d old new result buf → Stands Tells notes running apps new
-Receives-stands {notes = notes} {running = running} {apps = apps} {d = d} {old = old} {new = new} {result = result} {buf = buf} stands call =
-    Stands-on notes running apps old new stands call.given (λ told. (receive_steps d (is_joined d (state old)) result buf, (call.told told).history))
+pub Receives-stands : {Own : Type 0} {Tells : Type 0} {notes : List Note} {running : List ℕ} {apps : AppCounts} {inside : List Bool} {d : ℕ} {old new : Seen Own} {result : Result ℕ LinkFault} {buf : List ℕ} → Stands Tells notes running apps inside old
+    → Receives Tells d old new result buf → Stands Tells notes running apps inside new
+Receives-stands {notes = notes} {running = running} {apps = apps} {inside = inside} {d = d} {old = old} {new = new} {result = result} {buf = buf} stands call =
+    Stands-on notes running apps inside old new stands call.given
+    (λ told. (receive_steps d (is_joined d (state old)) result buf, (call.told told).history, receive_links d (is_joined d (state old)) result buf))
 
 -- ---- The world as data, with the other one moved
 

@@ -1,0 +1,6 @@
+use Rattle.std.proofs.Common.{rules}
+use Rattle.linked_world.specs.laws.AppCallLaws.{first_stands}
+use Rattle.linked_world.proofs.linked.Linked.with_inside.Goals as goal
+
+pub invariant_of-result : goal.invariant_of-result
+invariant_of-result g c = first_stands g.W.World.seen _ (search rules) (search rules) (search rules) c.in_ok-inside.ensures
