@@ -1,6 +1,7 @@
 -- What reading a session makes of lines as a recording writes them: each adds to the session so far what it was written for. This text
 -- form is our own.
-use Rattle.std.specs.Prelude.{◌≡◌, ℕ, ◌≤◌, true, false, List, ◌++◌, length, codes, Ok, nat_le}
+use Rattle.std.specs.Prelude.{◌≡◌, ℕ, ◌≤◌, true, false, List, [], ◌∷◌, ◌++◌, length, codes, Ok, nat_le}
+use Rattle.std.specs.List.{list_all}
 use Rattle.std.specs.Fmt.{decimal}
 use Rattle.hex.specs.Hex.{encode_lower, IsBytes}
 use Rattle.of_types.specs.declared.journal.Stimulus.TheVariants.{Frame, Raw}
@@ -9,7 +10,10 @@ use Rattle.of_wire.specs.Reading.{reading_of}
 use Rattle.outside.specs.Conforming.{may_be_raw}
 use Rattle.lego_model.specs.Words.{words_of}
 use Rattle.lego_model.specs.SessionWords.{last_number}
-use Rattle.lego_model.specs.SessionLines.{SoFar, is_declared, with_stimulus, with_fault, most_stimuli, line_of}
+use Rattle.lego_io.specs.Lines.{most_line}
+use Rattle.lego_model.specs.SessionLines.{SoFar, no_session, is_declared, with_stimulus, with_fault, most_stimuli, line_of}
+use Rattle.lego_model.specs.SessionText.{is_skipped, is_printable, is_opening, session_text}
+use Rattle.session_record.specs.Lines.{SessionLine, line_text, session_spelled}
 
 -- one more stimulus may come
 abbrev pub HasRoom : SoFar → Type 0
@@ -46,3 +50,33 @@ RawIsRead = (names : List (List ℕ)) (s : SoFar) (d : ℕ) (bytes : List ℕ) �
 abbrev pub LossIsRead : Type 0
 LossIsRead = (names : List (List ℕ)) (s : SoFar) (d call : ℕ) → 1 ≤ d → d ≤ last_number → is_declared s d ≡ true → 1 ≤ call → call ≤ last_number
     → line_of names s (words_of (codes "fault link " ++ decimal d ++ codes " " ++ decimal call)) ≡ Ok (with_fault s (d, call))
+
+-- ---- A whole text
+
+-- nothing was read but the line `session 1`
+abbrev pub nothing_read : SoFar
+nothing_read = record { session = no_session; moment = 0 }
+
+-- a line that is neither passed over, nor too long, nor `session 1` once more
+pub record IsPlain (line : List ℕ) : Type 0 where
+  pub few : length line ≤ most_line
+  pub seen : is_skipped line ≡ false
+  pub printable : list_all is_printable line ≡ true
+  pub other : is_opening line ≡ false
+
+-- a line of a recording is written as one line, whose words make this of the session so far
+pub record IsReadAs (names : List (List ℕ)) (s : SoFar) (l : SessionLine) (t : SoFar) : Type 0 where
+  pub line : List ℕ
+  pub spelled : line_text l ≡ line ++ 10 ∷ []
+  pub plain : IsPlain line
+  pub read : line_of names s (words_of line) ≡ Ok t
+
+-- one after the other they make this of it
+abbrev pub AreRead : List (List ℕ) → SoFar → List SessionLine → SoFar → Type 0
+AreRead names s [] t = s ≡ t
+AreRead names s (l ∷ lines) t = (next : SoFar) × IsReadAs names s l next × AreRead names next lines t
+
+-- then the text of all of them is read as the session that they make
+abbrev pub TextIsRead : Type 0
+TextIsRead = (names : List (List ℕ)) (n : ℕ) (lines : List SessionLine) (t : SoFar) → AreRead names nothing_read lines t
+    → session_text names n (session_spelled lines) ≡ Ok t.session

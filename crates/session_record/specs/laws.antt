@@ -4,3 +4,4 @@ pub mod SpelledLaws
 pub mod PushLaws
 pub mod NumberLaws
 pub mod ReadLaws
+pub mod TextLaws

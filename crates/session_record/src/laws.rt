@@ -1,6 +1,6 @@
 //! Laws of recordings, each the contract of a function that does nothing.
 
-ghost use Rattle.session_record.specs.Readings.{JoinIsRead, LeaveIsRead, MomentIsRead, FrameIsRead, RawIsRead, LossIsRead};
+ghost use Rattle.session_record.specs.Readings.{JoinIsRead, LeaveIsRead, MomentIsRead, FrameIsRead, RawIsRead, LossIsRead, TextIsRead};
 
 /// Lines as a recording writes them are read as what they were written for.
 pub fn lines_are_read()
@@ -10,4 +10,9 @@ pub fn lines_are_read()
     ensures frame { FrameIsRead }
     ensures raw { RawIsRead }
     ensures loss { LossIsRead }
+{}
+
+/// A text of lines that are read one after the other is read as the session that they make.
+pub fn texts_are_read()
+    ensures { TextIsRead }
 {}

@@ -3,7 +3,7 @@
 //! `Recorder` is a world that passes each call on to another one, and keeps what became of the calls for applications and of those
 //! on links. `Recorder::text` spells that as a session: the switches and stimuli of the inner world, how each start ended, what was
 //! given in each turn, and the calls at which switches were lost; `Recorder::remarks` counts what no line says. Its clauses: `spelled` here, and `noted` on each
-//! call. Law: `lines_are_read`.
+//! call. Laws: `lines_are_read`, `texts_are_read`.
 #![tactic(auto)]
 
 mod app_lines;
@@ -20,5 +20,5 @@ mod stimulus_lines;
 mod whole_text;
 
 pub use deed::DeedKind;
-pub use laws::lines_are_read;
+pub use laws::{lines_are_read, texts_are_read};
 pub use recorder::Recorder;
