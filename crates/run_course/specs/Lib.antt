@@ -1,6 +1,7 @@
 pub mod Tables
 pub mod Messages
-pub mod Moves
 pub mod Asked
+pub mod Applications
+pub mod Moves
 pub mod Turns
 pub mod Parts

@@ -4,14 +4,17 @@
 use Rattle.std.specs.Prelude.{◌≡◌, ◌⊎◌, ℕ, Bool, true, false, not, List, [], ◌∷◌, ◌++◌, map, filter, Option, Result, Ok, Err, if◌then◌else◌}
 use Rattle.std.specs.List.{list_any}
 use Rattle.of_types.specs.declared.journal.Act.TheVariants.{Sent}
+use Rattle.of_match.specs.Fields.{bytes_of, any_fields}
+use Rattle.of_match.specs.Match.{match_of}
+use Rattle.of_wire.specs.declared.bodies.FlowMod.{FlowMod as Change}
 use Rattle.of_wire.specs.declared.message.Message.{Message}
-use Rattle.of_wire.specs.declared.message.Message.TheVariants.{FlowRemoved}
+use Rattle.of_wire.specs.declared.message.Message.TheVariants.{EchoReply, EchoRequest, FlowRemoved}
 use Rattle.of_wire.specs.declared.message.Envelope.{Envelope}
 use Rattle.of_wire.specs.declared.fault.WireFault.{WireFault}
 use Rattle.of_wire.specs.Reading.{reading_of}
+use Rattle.of_wire.specs.Spelling.{message_bytes}
 use Rattle.flow_table.specs.declared.view.ViewRow.{ViewRow}
 use Rattle.app_frames.specs.declared.frame.Event.{Event}
-use Rattle.app_frames.specs.declared.frame.EventKind.TheVariants as kinds
 use Rattle.outside.specs.declared.step.WorldStep.{WorldStep}
 use Rattle.outside.specs.declared.step.WorldStep.TheVariants.{Acted}
 use Rattle.lego_model.specs.declared.wait.Awaited.{Awaited}
@@ -55,6 +58,23 @@ all_events (m ∷ more) tables = events_read m.0 (tables m.0) (reading_of m.1) +
 abbrev pub tables_behind : List (ℕ × List ℕ) → Tables → Tables
 tables_behind [] tables = tables
 tables_behind (m ∷ more) tables = tables_behind more (tables_read m.0 (reading_of m.1) tables)
+
+-- ---- What a controller says by itself
+
+-- an ECHO_REQUEST is answered with its transaction id and what it carries, and no other message (5.5.2 Echo Request)
+abbrev pub replies_to : Message → List Message
+replies_to (EchoRequest payload) = EchoReply payload ∷ []
+replies_to m = []
+
+abbrev pub replies_read : Result Envelope WireFault → List (List ℕ)
+replies_read (Ok e) = map (message_bytes e.xid) (replies_to e.message)
+replies_read (Err fault) = []
+
+-- it deletes all entries of a table, whatever they match and wherever they send packets: DELETE is 3, OFPP_NONE 0xffff (5.3.3 Modify State Messages)
+pub record EmptiesTable (m : Change) : Type 0 where
+  pub deletes : m.command ≡ 3
+  pub any_match : m.matching ≡ match_of (bytes_of any_fields)
+  pub any_output : m.out_port ≡ 0xffff
 
 -- ---- Steps of a history
 

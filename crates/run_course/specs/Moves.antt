@@ -1,6 +1,6 @@
 -- What a run holds between two of its calls, and the moves by which it goes on: what each makes of the tables of the switches that are joined, of
 -- the messages that are kept, and of the events that wait (OpenFlow 1.0.0, 4.2 Message Handling and 5.3.7 Barrier Message). All of this is our own.
-use Rattle.std.specs.Prelude.{◌≡◌, ◌==◌, ◌⊎◌, ℕ, Bool, true, false, not, List, [], ◌∷◌, ◌++◌, filter, Option, Some, None, Result, Ok, Err, if◌then◌else◌}
+use Rattle.std.specs.Prelude.{◌≡◌, ◌==◌, ◌⊎◌, ℕ, Bool, true, false, not, List, [], ◌∷◌, ◌++◌, map, filter, Option, Some, None, Result, Ok, Err, if◌then◌else◌}
 use Rattle.std.specs.List.{AllByRecursion}
 use Rattle.std.specs.Option.{option_map}
 use Rattle.lego_io.specs.Count.{Rose}
@@ -8,8 +8,9 @@ use Rattle.of_types.specs.declared.journal.WorldStim.{WorldStim}
 use Rattle.of_match.specs.declared.key.Key.{Key}
 use Rattle.of_wire.specs.declared.bodies.FeaturesReply.{FeaturesReply as Features}
 use Rattle.of_wire.specs.declared.bodies.FlowMod.{FlowMod as Change}
+use Rattle.of_wire.specs.declared.bodies.PacketOut.{PacketOut as Packet}
 use Rattle.of_wire.specs.declared.message.Message.{Message}
-use Rattle.of_wire.specs.declared.message.Message.TheVariants.{FlowMod, FeaturesReply}
+use Rattle.of_wire.specs.declared.message.Message.TheVariants.{FlowMod, FeaturesReply, PacketOut, SetConfig}
 use Rattle.of_wire.specs.declared.message.Envelope.{Envelope}
 use Rattle.of_wire.specs.declared.fault.WireFault.{WireFault}
 use Rattle.of_wire.specs.Grammar.{enveloped}
@@ -31,7 +32,9 @@ use Rattle.lego_model.specs.Echoes.{IsEchoRead}
 use Rattle.lego_model.specs.KeptMessages.{got_in}
 use Rattle.lego_model.specs.ViewRows.{rows_without}
 use Rattle.run_course.specs.Tables.{Tables, is_in, SameTables, SameBut, with_table, rows_with}
-use Rattle.run_course.specs.Messages.{GotNone, is_refused, Waited, events_read, tables_read, all_events, tables_behind, but_of, AreStored}
+use Rattle.run_course.specs.Messages.{is_refused, sent_steps, Waited, EmptiesTable, replies_read, events_read, tables_read, all_events, tables_behind, but_of, AreStored}
+use Rattle.run_course.specs.Asked.{CallsOf}
+use Rattle.flow_table.specs.Switch.{first_config}
 use Rattle.of_types.specs.Membership.{is_among}
 
 pub record Holding (Own : Type 0) : Type 0 where
@@ -59,9 +62,14 @@ pub record HoldsStill {Own : Type 0} (from to : Holding Own) : Type 0 where
 
 -- ---- Calls that are no waits
 
--- Calls were made, for an application or for none, by which nothing came that was awaited.
-pub record Calls {Own : Type 0} (from to : Holding Own) : Type 0 where
-  pub got_none : GotNone from.seen.history to.seen.history
+-- nothing was called
+pub record Rests {Own : Type 0} (from to : Holding Own) : Type 0 where
+  pub history : to.seen.history ≡ from.seen.history
+  pub still : HoldsStill from to
+
+-- calls were made for this application alone
+pub record Calls {Own : Type 0} (app : ℕ) (from to : Holding Own) : Type 0 where
+  pub own : CallsOf app from.seen.history to.seen.history
   pub still : HoldsStill from to
 
 -- Behind a turn, with no call: the notices that it held become events, and switches that were lost are told.
@@ -96,7 +104,10 @@ pub record Changes {Own : Type 0} (asked : ℕ × List ℕ) (from to : Holding O
 
 -- A packet was released to a switch that is joined: what came becomes events at once, an ERROR or a notice as any other message.
 pub record Releases {Own : Type 0} (from to : Holding Own) : Type 0 where
+  pub xid : ℕ
+  pub packet : Packet
   pub waited : Waited from.seen.history to.seen.history
+  pub sent : waited.sent ≡ message_bytes xid (PacketOut packet) ∷ []
   pub no_refusal : waited.awaited.first ≡ waited.awaited.barrier
   pub notices : waited.awaited.notices ≡ notices.Kept
   pub was_in : is_in waited.awaited.dpid from.tables ≡ true
@@ -129,22 +140,25 @@ pub record Loses {Own : Type 0} (from to : Holding Own) : Type 0 where
 abbrev pub AreJoined : {Own : Type 0} → Holding Own → Type 0
 AreJoined from = (d : ℕ) → is_in d from.tables ≡ true → is_joined d (state from.seen) ≡ true
 
+-- the keys of one switch
+abbrev pub keys_at : ℕ → List (ℕ × Key) → List Key
+keys_at d added = map (λ a. a.1) (filter (λ a. a.0 == d) added)
+
 -- the inverse for the key was sent to the switch by these steps
 abbrev pub HasInverse : ℕ → List WorldStep → Key → Type 0
 HasInverse d steps key = (xid : ℕ) × WasSent d xid key steps
 
--- The changes of a turn were undone: of each switch that stays these keys are gone, for each of which the inverse was sent. Switches may be lost in
--- it, which the history tells, where it tells of each joined switch that it joined. What came is of switches that were joined, and is kept where
--- there is room; then those of the switches that are lost go.
-pub record TakesBack {Own : Type 0} (from to : Holding Own) : Type 0 where
+-- The changes of a turn were undone, which had added entries with these keys, each with its switch: of each switch that stays the keys are gone, for
+-- each of which the inverse was sent. Switches may be lost in it, which the history tells, where it tells of each joined switch that it joined. What
+-- came is of switches that were joined, and is kept where there is room; then those of the switches that are lost go.
+pub record TakesBack {Own : Type 0} (added : List (ℕ × Key)) (from to : Holding Own) : Type 0 where
   pub lost : List ℕ
   pub told : AreJoined from → lost_of to.seen ≡ lost_of from.seen ++ lost
   pub steps : List WorldStep
   pub history : to.seen.history ≡ from.seen.history ++ steps
-  pub keys : ℕ → List Key
-  pub inverses : (d : ℕ) → is_among d lost ≡ false → is_in d from.tables ≡ true → AllByRecursion (HasInverse d steps) (keys d)
+  pub inverses : (d : ℕ) → is_among d lost ≡ false → is_in d from.tables ≡ true → AllByRecursion (HasInverse d steps) (keys_at d added)
   pub out : (d : ℕ) → is_among d lost ≡ true → to.tables d ≡ None
-  pub tables : (d : ℕ) → is_among d lost ≡ false → to.tables d ≡ option_map (rows_without (keys d)) (from.tables d)
+  pub tables : (d : ℕ) → is_among d lost ≡ false → to.tables d ≡ option_map (rows_without (keys_at d added)) (from.tables d)
   pub were_in : OfJoined from (got_in steps)
   pub stored : List (ℕ × List ℕ)
   pub came : AreStored (got_in steps) from.kept stored
@@ -183,19 +197,19 @@ pub record Ignores {Own : Type 0} (from to : Holding Own) : Type 0 where
   pub ignored : IsIgnored from.tables item
   pub still : HoldsStill from to
 
--- A message of a switch that is joined is taken; an ECHO_REQUEST is answered. What it makes waits behind the others.
+-- A message of a switch that is joined is taken; an ECHO_REQUEST is answered, and nothing else. What it makes waits behind the others.
 pub record Takes {Own : Type 0} (from to : Holding Own) : Type 0 where
   pub dpid : ℕ
   pub bytes : List ℕ
   pub mid : List WorldStep
   pub told : IsTold (From dpid bytes) from.seen.history mid
-  pub answered : GotNone mid to.seen.history
+  pub answered : to.seen.history ≡ mid ++ sent_steps dpid (replies_read (reading_of bytes))
   pub was_in : is_in dpid from.tables ≡ true
   pub tables : SameTables (tables_read dpid (reading_of bytes) from.tables) to.tables
   pub kept : to.kept ≡ from.kept
   pub queued : AreQueued (events_read dpid (from.tables dpid) (reading_of bytes)) from to
 
--- A switch joins, by its FEATURES_REPLY. It is greeted by messages and a barrier, its table is empty, and its event waits behind the others.
+-- A switch joins, by its FEATURES_REPLY. Its table is emptied and its configuration is set, behind a barrier, and its event waits behind the others.
 pub record Joins {Own : Type 0} (from to : Holding Own) : Type 0 where
   pub dpid : ℕ
   pub bytes : List ℕ
@@ -206,6 +220,11 @@ pub record Joins {Own : Type 0} (from to : Holding Own) : Type 0 where
   pub read : reading_of bytes ≡ Ok (enveloped xid (FeaturesReply features))
   pub waited : Waited mid to.seen.history
   pub of_switch : waited.awaited.dpid ≡ dpid
+  pub first : ℕ
+  pub emptying : Change
+  pub empties : EmptiesTable emptying
+  pub sent : waited.sent ≡ message_bytes first (FlowMod emptying) ∷ message_bytes (next_xid first) (SetConfig first_config) ∷ []
+  pub barrier : waited.awaited.barrier ≡ next_xid (next_xid first)
   pub no_refusal : waited.awaited.first ≡ waited.awaited.barrier
   pub notices : waited.awaited.notices ≡ notices.Dropped
   pub was_out : is_in dpid from.tables ≡ false
@@ -254,6 +273,6 @@ pub record OneByOne {Own : Type 0} (Move : Holding Own → Holding Own → Type 
 abbrev pub ItemMove : {Own : Type 0} → Holding Own → Holding Own → Type 0
 ItemMove from to = Ignores from to ⊎ Takes from to ⊎ Joins from to ⊎ Leaves from to ⊎ LosesTold from to
 
--- what the end of a turn makes
+-- what the end of a turn makes that was completed
 abbrev pub EndMove : {Own : Type 0} → Holding Own → Holding Own → Type 0
-EndMove from to = Calls from to ⊎ Notes from to ⊎ Releases from to ⊎ Loses from to ⊎ TakesBack from to
+EndMove from to = Rests from to ⊎ Notes from to ⊎ Releases from to ⊎ Loses from to

@@ -1,22 +1,23 @@
 -- The course of a run, in any world that tells: it goes from part to part. In a batch the messages that were kept come first, oldest first,
 -- before all that is told in it; then the oldest of the events that wait is given to applications, one event after the other. So what was kept
 -- is handled in the next batch, and what comes of it is given in its turn, and printed. All of this is our own.
-use Rattle.std.specs.Prelude.{◌≡◌, ◌⊎◌, ℕ, ◌+◌, ◌≤◌, List, [], ◌∷◌, ◌++◌, length, Option, None}
+use Rattle.std.specs.Prelude.{◌≡◌, ◌⊎◌, ℕ, ◌+◌, ◌≤◌, List, [], ◌∷◌, ◌++◌, length, map, Option, None}
 use Rattle.std.specs.Io.KnownBytes.{append_known}
 use Rattle.lego_io.specs.Sink.{TookPart}
 use Rattle.app_frames.specs.declared.frame.Event.{Event}
 use Rattle.outside.specs.Seen.{Seen, Longer}
 use Rattle.lego_model.specs.RunReport.{event_line}
 use Rattle.run_course.specs.Tables.{SameTables}
+use Rattle.crash_policy.specs.Policies.{AppValue}
 use Rattle.run_course.specs.Messages.{GotNone, all_events, tables_behind}
-use Rattle.run_course.specs.Asked.{HasGiven}
+use Rattle.run_course.specs.Applications.{Application, at_first, StartsAll}
 use Rattle.run_course.specs.Moves.{Holding, HoldsStill, AreQueued, OneByOne, ItemMove}
-use Rattle.run_course.specs.Turns.{HaveTurns}
+use Rattle.run_course.specs.Turns.{Offers}
 
--- how a run stands: what it holds, which bytes of each application were taken and not read, how many events were given, and what was written
+-- how a run stands: what it holds, its applications in the order of the policy, how many events were given, and what was written
 pub record Standing (Own : Type 0) : Type 0 where
   pub holding : Holding Own
-  pub unread : ℕ → List ℕ
+  pub apps : List Application
   pub events : ℕ
   pub written : Option (List ℕ)
 
@@ -37,31 +38,29 @@ pub record TakesBatch {Own : Type 0} (from to : Standing Own) : Type 0 where
   pub mid : Holding Own
   pub first : KeptComeFirst from.holding mid
   pub items : OneByOne ItemMove mid to.holding
-  pub unread : (app : ℕ) → to.unread app ≡ from.unread app
+  pub apps : to.apps ≡ from.apps
   pub events : to.events ≡ from.events
   pub noted : List ℕ
   pub written : to.written ≡ append_known from.written noted
 
 -- ---- An event
 
--- the oldest is given to applications, each of which has its turn, and written with its number and what came of it
+-- the oldest is given to the applications that listen to it, in their order, each of which has its turn, and written with its number and what came of it
 pub record GivesOldest {Own : Type 0} (from to : Standing Own) : Type 0 where
   pub event : Event
   pub later : List Event
   pub waits : from.holding.queue ≡ event ∷ later
-  pub apps : List ℕ
-  pub turns : HaveTurns (from.events + 1) event apps from.unread to.unread (record from.holding { queue = later }) to.holding
+  pub offers : Offers (from.events + 1) event 0 from.apps to.apps (record from.holding { queue = later }) to.holding
   pub events : to.events ≡ from.events + 1
   pub turn_text : List ℕ
   pub written : to.written ≡ append_known from.written (event_line (from.events + 1) event.kind event.dpid ++ turn_text)
 
 -- ---- The start
 
--- The applications were started, and their lines written. Unread are then some of the bytes that each gave meanwhile, or none.
+-- the applications were started, in their order, and their lines written
 pub record Starts {Own : Type 0} (from to : Standing Own) : Type 0 where
-  pub got_none : GotNone from.holding.seen.history to.holding.seen.history
+  pub all : StartsAll 0 from.apps to.apps from.holding.seen to.holding.seen
   pub still : HoldsStill from.holding to.holding
-  pub unread : (app : ℕ) → HasGiven app (to.unread app) from.holding.seen.history to.holding.seen.history
   pub events : to.events ≡ from.events
   pub text : List ℕ
   pub written : to.written ≡ append_known from.written text
@@ -76,13 +75,13 @@ abbrev pub Goes : {Own : Type 0} → List (Standing Own) → Standing Own → St
 Goes [] from to = to ≡ from
 Goes (mid ∷ more) from to = Part from mid × Goes more mid to
 
--- no switch is joined, nothing is kept or unread yet, no event waits, and none was given
-pub record Begins {Own : Type 0} (seen : Seen Own) (written : Option (List ℕ)) (at : Standing Own) : Type 0 where
+-- no switch is joined, nothing is kept, no event waits, and none was given; the applications are those of these rules, and none was started
+pub record Begins {Own : Type 0} (rules : List AppValue) (seen : Seen Own) (written : Option (List ℕ)) (at : Standing Own) : Type 0 where
   pub seen_is : at.holding.seen ≡ seen
   pub none_joined : (d : ℕ) → at.holding.tables d ≡ None
   pub none_kept : at.holding.kept ≡ []
   pub none_waits : at.holding.queue ≡ []
-  pub none_unread : (app : ℕ) → at.unread app ≡ []
+  pub apps_are : at.apps ≡ map at_first rules
   pub none_given : at.events ≡ 0
   pub written_is : at.written ≡ written
 
@@ -92,12 +91,13 @@ pub record WritesPart {Own : Type 0} (last : Standing Own) (written : Option (Li
   pub whole : ((behind : Standing Own) × Part last behind × (behind.written ≡ append_known last.written text)) ⊎ (last.holding.queue ≡ [])
   pub part : TookPart last.written written text
 
--- The run goes its course, up to its last whole part, behind which it stands so. Before it the world was opened, or nothing was done.
-pub record TakesCourse {Own : Type 0} (old new : Seen Own) (contents : Option (List ℕ)) (Stands : Standing Own → Type 0) : Type 0 where
+-- The run of applications of these rules goes its course, up to its last whole part, behind which it stands so. Before it the world was opened, or
+-- nothing was done.
+pub record TakesCourse {Own : Type 0} (rules : List AppValue) (old new : Seen Own) (contents : Option (List ℕ)) (Stands : Standing Own → Type 0) : Type 0 where
   pub opened : Seen Own
   pub opening : GotNone old.history opened.history
   pub first : Standing Own
-  pub begins : Begins opened contents first
+  pub begins : Begins rules opened contents first
   pub stops : List (Standing Own)
   pub last : Standing Own
   pub parts : Goes stops first last

@@ -1,54 +1,121 @@
--- A turn of an application, in the course of a run: it is given an event, its messages are answered, one after the other, and its turn is ended
--- (OpenFlow 1.0.0, 4.2 Message Handling). All of this is our own.
-use Rattle.std.specs.Prelude.{◌≡◌, ◌≢◌, ◌⊎◌, ℕ, List, [], ◌∷◌, ◌++◌, filter_map, Option, Some, None}
+-- A turn of an application, in the course of a run: it is given an event, its messages are answered, one after the other, and its turn is ended: what it
+-- did stays where it is done, and is undone where it failed (OpenFlow 1.0.0, 4.2 Message Handling). All of this is our own.
+use Rattle.std.specs.Prelude.{◌≡◌, ◌⊎◌, ℕ, ◌+◌, Bool, true, false, List, [], ◌∷◌, ◌++◌, filter_map, Option, Some, None, if◌then◌else◌}
+use Rattle.std.specs.Option.{unwrap_or}
+use Rattle.std.proofs.Common.{inl, inr}
 use Rattle.of_types.specs.declared.journal.Act.TheVariants.{Gave, Gone}
+use Rattle.of_match.specs.declared.key.Key.{Key}
+use Rattle.of_wire.specs.declared.bodies.FlowMod.{FlowMod as Change}
+use Rattle.flow_table.specs.Change.{is_delete, key_in}
 use Rattle.app_frames.specs.declared.frame.Event.{Event}
+use Rattle.app_frames.specs.declared.frame.EventKind.{EventKind}
+use Rattle.crash_policy.specs.Asking.{rule_at}
 use Rattle.outside.specs.declared.step.WorldStep.{WorldStep}
 use Rattle.outside.specs.declared.step.WorldStep.TheVariants.{Acted}
-use Rattle.lego_model.specs.Controller.{event_frame}
-use Rattle.lego_model.specs.Turns.{next_of}
-use Rattle.run_course.specs.Asked.{pieces_of, AreAsked, HasGiven}
-use Rattle.run_course.specs.Moves.{Holding, HoldsStill, Calls, Changes, Loses, OneByOne, EndMove}
+use Rattle.lego_model.specs.Controller.{event_frame, says_stop}
+use Rattle.lego_model.specs.Turns.{Outcome, Completed, Failed, next_of}
+use Rattle.run_course.specs.Messages.{is_refused}
+use Rattle.run_course.specs.Asked.{pieces_of, AreAsked}
+use Rattle.run_course.specs.Applications.{Application, listens, Follows}
+use Rattle.run_course.specs.Moves.{Holding, HoldsStill, Rests, Calls, Notes, Changes, Loses, TakesBack, OneByOne, EndMove}
 
 -- the application is given the frame, or is gone by then
-pub record IsGiven {Own : Type 0} (app : ℕ) (frame : List ℕ) (from to : Holding Own) : Type 0 where
-  pub history : (to.seen.history ≡ from.seen.history ++ Acted (Gave app frame) ∷ []) ⊎ (to.seen.history ≡ from.seen.history ++ Acted (Gone app frame) ∷ [])
+pub record IsGiven {Own : Type 0} (i : ℕ) (frame : List ℕ) (from to : Holding Own) : Type 0 where
+  pub history : (to.seen.history ≡ from.seen.history ++ Acted (Gave i frame) ∷ []) ⊎ (to.seen.history ≡ from.seen.history ++ Acted (Gone i frame) ∷ [])
   pub still : HoldsStill from to
 
+-- ---- What it asks
+
 -- A call for the application; or what becomes of a message that it asked: the host answers, or it is a change and its switch does, or that is lost.
-abbrev pub TalkMove : {Own : Type 0} → Option (ℕ × List ℕ) → Holding Own → Holding Own → Type 0
-TalkMove None from to = Calls from to
-TalkMove (Some asked) from to = Calls from to ⊎ Changes asked from to ⊎ Loses from to
+abbrev pub TalkMove : {Own : Type 0} → ℕ → Option (ℕ × List ℕ) → Holding Own → Holding Own → Type 0
+TalkMove i None from to = Calls i from to
+TalkMove i (Some asked) from to = Rests from to ⊎ Changes asked from to ⊎ Loses from to
 
 -- such moves one after the other, each with what is held behind it
-abbrev pub Talk : {Own : Type 0} → List (Option (ℕ × List ℕ) × Holding Own) → Holding Own → Holding Own → Type 0
-Talk [] from to = to ≡ from
-Talk (move ∷ more) from to = TalkMove move.0 from move.1 × Talk more move.1 to
+abbrev pub Talk : {Own : Type 0} → ℕ → List (Option (ℕ × List ℕ) × Holding Own) → Holding Own → Holding Own → Type 0
+Talk i [] from to = to ≡ from
+Talk i (move ∷ more) from to = TalkMove i move.0 from move.1 × Talk i more move.1 to
 
 -- the messages that were asked, in order
 abbrev pub asked_in : {Own : Type 0} → List (Option (ℕ × List ℕ) × Holding Own) → List (ℕ × List ℕ)
 asked_in moves = filter_map (λ move. move.0) moves
 
--- Of each application some of its bytes are unread; so they are before the turn, and then. The application is given the event, with its number. The
--- messages that it asks are those that stand in its unread bytes, with those that it gives meanwhile. Then its turn is ended. Unread are then those that
--- are left behind the messages, or some that it gave as it was started again.
-pub record HasTurn {Own : Type 0} (number : ℕ) (event : Event) (app : ℕ) (unread now_unread : ℕ → List ℕ) (from to : Holding Own) : Type 0 where
+-- the key of the entry that a change added, with its switch, where it was not refused
+abbrev pub added_key : Bool → ℕ → Change → List (ℕ × Key)
+added_key refused d m = if refused then [] else if is_delete m then [] else (d, key_in m) ∷ []
+
+abbrev pub added_by : {Own : Type 0} (i : ℕ) (asked : Option (ℕ × List ℕ)) (from to : Holding Own) → TalkMove i asked from to → List (ℕ × Key)
+added_by i None from to calls = []
+added_by i (Some asked) from to (inl rests) = []
+added_by i (Some asked) from to (inr (inl changes)) = added_key (is_refused changes.waited.awaited changes.waited.got) asked.0 changes.change
+added_by i (Some asked) from to (inr (inr loses)) = []
+
+-- the keys of all entries that were added
+abbrev pub added_in : {Own : Type 0} (i : ℕ) (moves : List (Option (ℕ × List ℕ) × Holding Own)) (from to : Holding Own) → Talk i moves from to → List (ℕ × Key)
+added_in i [] from to talk = []
+added_in i (move ∷ more) from to talk = added_by i move.0 from move.1 talk.0 ++ added_in i more move.1 to talk.1
+
+-- ---- How it ends
+
+-- What it did stays: the notices that were held become events, its packets are released, and the checkpoint that it handed over is the kept one.
+pub record Stays {Own : Type 0} (handed : Option (List ℕ)) (left : List ℕ) (app now_app : Application) (from to : Holding Own) : Type 0 where
+  pub moves : OneByOne EndMove from to
+  pub kept : now_app ≡ record app { unread = left; checkpoint = unwrap_or handed app.checkpoint }
+
+-- The entries that it added are taken back; the switches that were lost meanwhile are told; and the application goes by its policy for such events, with
+-- the checkpoint that was kept before.
+pub record IsUndone {Own : Type 0} (kind : EventKind) (added : List (ℕ × Key)) (i : ℕ) (app now_app : Application) (from to : Holding Own) : Type 0 where
+  pub undone : Holding Own
+  pub takes_back : TakesBack added from undone
+  pub noted : Holding Own
+  pub notes : Notes undone noted
+  pub follows : Follows (rule_at app.rule kind) i (record app { unread = [] }) now_app noted.seen to.seen
+  pub still : HoldsStill noted to
+
+abbrev pub Closes : {Own : Type 0} → EventKind → Outcome → List (ℕ × Key) → ℕ → Application → Application → Holding Own → Holding Own → Type 0
+Closes kind (Completed stop handed left) added i app now_app from to = Stays handed left app now_app from to
+Closes kind (Failed cause) added i app now_app from to = IsUndone kind added i app now_app from to
+
+-- ---- The whole turn
+
+-- The application is given the event, with its number. The messages that it asks are those that stand in its unread bytes, with those that it gives
+-- meanwhile, and behind them its turn ends.
+pub record HasTurn {Own : Type 0} (number : ℕ) (event : Event) (i : ℕ) (app now_app : Application) (from to : Holding Own) : Type 0 where
   pub moment : ℕ
   pub begun : Holding Own
-  pub given : IsGiven app (event_frame number moment event) from begun
+  pub given : IsGiven i (event_frame number moment event) from begun
   pub talk : List (Option (ℕ × List ℕ) × Holding Own)
   pub talked : Holding Own
-  pub talks : Talk talk begun talked
+  pub talks : Talk i talk begun talked
   pub steps : List WorldStep
   pub history : talked.seen.history ≡ begun.seen.history ++ steps
-  pub left : List ℕ
-  pub asked : AreAsked (asked_in talk) left (next_of (unread app) (pieces_of app steps))
-  pub ends : OneByOne EndMove talked to
-  pub unread_is : (now_unread app ≡ left) ⊎ HasGiven app (now_unread app) talked.seen.history to.seen.history
-  pub others : (i : ℕ) → i ≢ app → now_unread i ≡ unread i
+  pub outcome : Outcome
+  pub asked : AreAsked (asked_in talk) outcome (next_of app.unread (pieces_of i steps))
+  pub closes : Closes event.kind outcome (added_in i talk begun talked talks) i app now_app talked to
 
--- these applications have their turns, one after the other
-abbrev pub HaveTurns : {Own : Type 0} → ℕ → Event → List ℕ → (ℕ → List ℕ) → (ℕ → List ℕ) → Holding Own → Holding Own → Type 0
-HaveTurns number event [] unread now_unread from to = (to ≡ from) × ((app : ℕ) → now_unread app ≡ unread app)
-HaveTurns number event (app ∷ more) unread now_unread from to =
-    (mid : Holding _) × ((then_unread : ℕ → List ℕ) × (HasTurn number event app unread then_unread from mid × HaveTurns number event more then_unread now_unread mid to))
+-- ---- One application after the other
+
+-- one that listens has its turn, and may stop the event there; another one is passed over
+abbrev pub IsOffered : {Own : Type 0} → ℕ → Event → ℕ → Bool → Application × Application → Bool → Holding Own → Holding Own → Type 0
+IsOffered number event i true apps stops from to = (turn : HasTurn number event i apps.0 apps.1 from to) × (stops ≡ says_stop turn.outcome)
+IsOffered number event i false apps stops from to = (to ≡ from) × (apps.1 ≡ apps.0) × (stops ≡ false)
+
+pub record OffersOne {Own : Type 0} (number : ℕ) (event : Event) (i : ℕ) (app : Application) (now_apps : List Application) (from : Holding Own) : Type 0 where
+  pub mid : Holding Own
+  pub stops : Bool
+  pub now_app : Application
+  pub later : List Application
+  pub apps_are : now_apps ≡ now_app ∷ later
+  pub offered : IsOffered number event i (listens event.kind app) (app, now_app) stops from mid
+
+-- where the event was stopped, the others are given nothing
+abbrev pub unless_stopped : Bool → Type 0 → Type 0 → Type 0
+unless_stopped true Out Goes = Out
+unless_stopped false Out Goes = Goes
+
+-- The applications from an index on, in the order of the policy: each that listens to such events has its turn, until one says stop.
+abbrev pub Offers : {Own : Type 0} → ℕ → Event → ℕ → List Application → List Application → Holding Own → Holding Own → Type 0
+Offers number event i [] now_apps from to = (now_apps ≡ []) × (to ≡ from)
+Offers number event i (app ∷ more) now_apps from to =
+    (one : OffersOne number event i app now_apps from)
+    × unless_stopped one.stops ((one.later ≡ more) × (to ≡ one.mid)) (Offers number event (i + 1) more one.later one.mid to)

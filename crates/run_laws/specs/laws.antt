@@ -38,6 +38,7 @@ pub mod ItemHoldingLaws
 pub mod AskedMessageLaws
 pub mod TurnCallLaws
 pub mod UnreadLaws
+pub mod StartHoldingLaws
 pub mod TurnHoldingLaws
 pub mod KeptJoinedLaws
 pub mod PartHoldingLaws

@@ -1,10 +1,11 @@
 -- Moves of the network, as the course of a run says them: messages of applications for switches, and packets that are released.
-use Rattle.std.specs.Prelude.{◌==◌, ◌||◌, if◌then◌else◌}
+use Rattle.std.specs.Prelude.{◌==◌, ◌||◌, map, if◌then◌else◌}
 use Rattle.std.specs.List.{AllByRecursion}
 use Rattle.std.specs.Option.{is_some, option_map}
 use Rattle.std.proofs.Common.{◌≡◌, ℕ, Bool, true, false, List, [], ◌∷◌, ◌++◌, Option, Some, None, Result, Ok, Err, refl, sym, ap, ◌∙◌, subst, inl, inr, append_assoc}
 use Rattle.std.proofs.lemmas.List.{append-nil}
 use Rattle.std.proofs.lemmas.Bool.{cases_Bool, eqb-true}
+use Rattle.of_match.specs.declared.key.Key.{Key}
 use Rattle.of_wire.specs.declared.bodies.FlowMod.{FlowMod as Change}
 use Rattle.of_wire.specs.declared.message.Message.TheVariants.{FlowMod, PacketOut}
 use Rattle.of_wire.specs.declared.message.Envelope.{Envelope}
@@ -13,7 +14,7 @@ use Rattle.of_wire.specs.Reading.{reading_of}
 use Rattle.of_wire.specs.Spelling.{message_bytes}
 use Rattle.flow_table.specs.declared.view.ViewRow.{ViewRow}
 use Rattle.flow_table.specs.View.{TableView}
-use Rattle.flow_table.specs.Change.{is_delete}
+use Rattle.flow_table.specs.Change.{is_delete, key_in}
 use Rattle.flow_table.specs.Sorted.{with_row}
 use Rattle.app_frames.specs.declared.frame.Answer.{Answer}
 use Rattle.app_frames.specs.declared.frame.Event.{Event}
@@ -27,7 +28,8 @@ use Rattle.lego_model.specs.Answers.{as_sent}
 use Rattle.lego_model.specs.Packets.{Held}
 use Rattle.lego_model.specs.BarrierWaits.{heard, barrier_sent, wait_steps, reply_got}
 use Rattle.net_txn.specs.declared.ports.KnownPorts.{KnownPorts}
-use Rattle.net_txn.specs.Net.{NetState, awaited_from}
+use Rattle.net_txn.specs.declared.logged.Logged.{Logged}
+use Rattle.net_txn.specs.Net.{NetState, awaited_from, logged_at, with_logged}
 use Rattle.net_txn.specs.Views.{rows_at, is_viewed, with_added, rows_after}
 use Rattle.net_txn.specs.laws.ViewLaws.{viewed}
 use Rattle.net_txn.specs.laws.ChangeLaws.{host_unknown}
@@ -35,7 +37,7 @@ use Rattle.net_txn.specs.Waits.{refusal_in, first_of, first_refusal, Brought, an
 use Rattle.net_txn.specs.Losing.{lost_net, IsLost}
 use Rattle.net_txn.specs.laws.ArrivalLaws.{net_after_kept}
 use Rattle.net_txn.specs.Changes.{answer_of_host, views_by, Changes, ChangesJoined}
-use Rattle.net_txn.specs.Answering.{known_rows}
+use Rattle.net_txn.specs.Answering.{known_rows, log_by}
 use Rattle.net_txn.specs.Releases.{Knows, takes_read, takes_all, SendsPacket, LosesPacket, ReleasesOne, ReleasesAll, committed, Commits}
 use Rattle.switch_laws.specs.laws.AskedLaws.{asked}
 use Rattle.switch_laws.specs.laws.LossLaws.{rows-gone, rows-stay}
@@ -43,11 +45,10 @@ use Rattle.batch_laws.specs.Knowledge.{left_events, ports_lost}
 use Rattle.run_course.specs.Tables.{rows_with}
 use Rattle.lego_model.specs.ViewRows.{row_in}
 use Rattle.lego_model.specs.KeptMessages.{got_in}
-use Rattle.lego_model.specs.laws.KeptMessageLaws.{got_append}
 use Rattle.run_course.specs.Messages.{GotNone, is_refusal, is_refused, all_events, tables_behind, sent_steps, Waited}
 use Rattle.run_course.specs.Moves as course
-use Rattle.run_course.specs.Moves.{Holding, HoldsStill, Calls, tables_by, Releases, IsLeaveOf, Loses, Go, OneByOne, EndMove}
-use Rattle.run_course.specs.Turns.{TalkMove}
+use Rattle.run_course.specs.Moves.{Holding, HoldsStill, Rests, tables_by, Releases, IsLeaveOf, Loses, Go, OneByOne, EndMove}
+use Rattle.run_course.specs.Turns.{TalkMove, added_key, added_by}
 use Rattle.run_laws.specs.laws.TableHoldingLaws.{tables_of, table_changed}
 use Rattle.run_laws.specs.laws.MadeEventLaws.{came_events, came_tables}
 
@@ -65,13 +66,6 @@ none_got_as a b same = subst (GotNone a) (sym same) (none_got a)
 
 pub none_got_by : (a b steps : List WorldStep) → b ≡ a ++ steps → got_in steps ≡ [] → GotNone a b
 none_got_by a b steps history none = record { steps = steps; history = history; none = none }
-
-pub none_got_then : (a b c : List WorldStep) → GotNone a b → GotNone b c → GotNone a c
-none_got_then a b c first second = record {
-  steps = first.steps ++ second.steps;
-  history = second.history ∙ ap (λ (h : List WorldStep). h ++ second.steps) first.history ∙ append_assoc a first.steps second.steps;
-  none = got_append first.steps second.steps ∙ ap (λ (ms : List (ℕ × List ℕ)). ms ++ got_in second.steps) first.none ∙ second.none;
-}
 
 -- ---- Moves
 
@@ -141,12 +135,9 @@ loses_quietly d old new net now_net queue told lost views kept =
 pub holds_still : {Own : Type 0} (old new : Seen Own) (net now_net : NetState) (queue now_queue : List Event) → now_net.views ≡ net.views → now_net.kept ≡ net.kept → now_queue ≡ queue → HoldsStill (holding_of old net queue) (holding_of new now_net now_queue)
 holds_still old new net now_net queue now_queue views kept same = record { tables = λ e. ap (rows_at e) views; kept = kept; queue = same }
 
-pub calls_still : {Own : Type 0} (old new : Seen Own) (net now_net : NetState) (queue now_queue : List Event) → GotNone old.history new.history → now_net.views ≡ net.views → now_net.kept ≡ net.kept → now_queue ≡ queue → Calls (holding_of old net queue) (holding_of new now_net now_queue)
-calls_still old new net now_net queue now_queue got_none views kept same = record { got_none = got_none; still = holds_still old new net now_net queue now_queue views kept same }
-
--- nothing was done, and this is kept
-calls_same : {Own : Type 0} (old new : Seen Own) (net now_net : NetState) (queue now_queue : List Event) → new ≡ old → now_net.views ≡ net.views → now_net.kept ≡ net.kept → now_queue ≡ queue → Calls (holding_of old net queue) (holding_of new now_net now_queue)
-calls_same old new net now_net queue now_queue seen views kept same = calls_still old new net now_net queue now_queue (none_got_as old.history new.history (ap (λ (s : Seen _). s.history) seen)) views kept same
+-- nothing was called, and this is kept
+pub rests_so : {Own : Type 0} (old new : Seen Own) (net now_net : NetState) (queue now_queue : List Event) → new ≡ old → now_net.views ≡ net.views → now_net.kept ≡ net.kept → now_queue ≡ queue → Rests (holding_of old net queue) (holding_of new now_net now_queue)
+rests_so old new net now_net queue now_queue seen views kept same = record { history = ap (λ (s : Seen _). s.history) seen; still = holds_still old new net now_net queue now_queue views kept same }
 
 -- ---- A message of an application
 
@@ -209,17 +200,56 @@ change_asked {d = d} bytes net now_net queue answer told changes host =
       queue = refl;
     }
 
-change_stays : {Own Tells : Type 0} {d : ℕ} {old new : Seen Own} (bytes : List ℕ) (net now_net : NetState) (queue : List Event) (answer : Answer) (host : Option Answer) → Tells → ChangesJoined Tells d bytes old new net now_net (Ok answer) → answer_of_host d bytes net ≡ host → TalkMove (Some (d, bytes)) (holding_of old net queue) (holding_of new now_net queue)
-change_stays {old = old} {new = new} bytes net now_net queue answer (Some said) told changes host =
-    let same = changes.by_host said host in
-    inl (calls_same old new net now_net queue queue same.world (ap (λ (n : NetState). n.views) same.stays) (ap (λ (n : NetState). n.kept) same.stays) refl)
-change_stays bytes net now_net queue answer None told changes host = inr (inl (change_asked bytes net now_net queue answer told changes host))
+-- ---- What is logged of it: the key that it added, where it was not refused
 
-pub change_moves : {Own Tells : Type 0} {d : ℕ} {bytes : List ℕ} {old new : Seen Own} (net now_net : NetState) (queue : List Event) (answer : Answer) → Tells → Changes Tells d bytes old new net now_net (Ok answer) → TalkMove (Some (d, bytes)) (holding_of old net queue) (holding_of new now_net queue)
-change_moves {d = d} {bytes = bytes} {old = old} {new = new} net now_net queue answer told changes =
+abbrev pub logged_of : ℕ × Key → Logged
+logged_of a = logged_at a.0 a.1
+
+-- what becomes of a message, with what it logs
+pub record ChangeMove {Own : Type 0} (i d : ℕ) (bytes : List ℕ) (log now_log : List Logged) (from to : Holding Own) : Type 0 where
+  pub move : TalkMove i (Some (d, bytes)) from to
+  pub logged : now_log ≡ log ++ map logged_of (added_by i (Some (d, bytes)) from to move)
+
+nothing_logged : (log now_log : List Logged) → now_log ≡ log → now_log ≡ log ++ []
+nothing_logged log now_log same = same ∙ sym (append-nil log)
+
+key_added : (delete : Bool) (d : ℕ) (m : Change) (log : List Logged) → with_logged (if delete then None else Some (logged_at d (key_in m))) log ≡ log ++ map logged_of (if delete then [] else (d, key_in m) ∷ [])
+key_added true d m log = sym (append-nil log)
+key_added false d m log = refl
+
+logged_as : (refusal : Option Refusal) (d : ℕ) (m : Change) (log : List Logged) → log_by refusal d m log ≡ log ++ map logged_of (added_key (is_some refusal) d m)
+logged_as (Some refusal) d m log = sym (append-nil log)
+logged_as None d m log = key_added (is_delete m) d m log
+
+asked_logged : {Own Tells : Type 0} {d : ℕ} {old new : Seen Own} (bytes : List ℕ) (net now_net : NetState) (queue : List Event) (answer : Answer) (told : Tells) (changes : ChangesJoined Tells d bytes old new net now_net (Ok answer)) (host : answer_of_host d bytes net ≡ None)
+    → now_net.log ≡ net.log ++ map logged_of (added_by 0 (Some (d, bytes)) (holding_of old net queue) (holding_of new now_net queue) (inr (inl (change_asked bytes net now_net queue answer told changes host))))
+unfolding change_asked
+asked_logged {d = d} bytes net now_net queue answer told changes host =
+    let change = asked (known_rows d net.views) bytes host in
+    let asks = changes.by_switch change.xid change.change host change.read in
+    asks.log ∙ (logged_as asks.refusal d change.change net.log
+    ∙ ap (λ (refused : Bool). net.log ++ map logged_of (added_key refused d change.change)) (refusal_told (awaited_from d net.xid) asks.waits.got asks.refusal asks.notices asks.waits.hears.answer_is))
+
+change_stays : {Own Tells : Type 0} {d : ℕ} {old new : Seen Own} (i : ℕ) (bytes : List ℕ) (net now_net : NetState) (queue : List Event) (answer : Answer) (host : Option Answer) → Tells → ChangesJoined Tells d bytes old new net now_net (Ok answer) → answer_of_host d bytes net ≡ host
+    → ChangeMove i d bytes net.log now_net.log (holding_of old net queue) (holding_of new now_net queue)
+change_stays {old = old} {new = new} i bytes net now_net queue answer (Some said) told changes host =
+    let same = changes.by_host said host in
+    record {
+      move = inl (rests_so old new net now_net queue queue same.world (ap (λ (n : NetState). n.views) same.stays) (ap (λ (n : NetState). n.kept) same.stays) refl);
+      logged = nothing_logged net.log now_net.log (ap (λ (n : NetState). n.log) same.stays);
+    }
+change_stays i bytes net now_net queue answer None told changes host =
+    record { move = inr (inl (change_asked bytes net now_net queue answer told changes host)); logged = asked_logged bytes net now_net queue answer told changes host }
+
+pub change_moves : {Own Tells : Type 0} {d : ℕ} {bytes : List ℕ} {old new : Seen Own} (i : ℕ) (net now_net : NetState) (queue : List Event) (answer : Answer) → Tells → Changes Tells d bytes old new net now_net (Ok answer)
+    → ChangeMove i d bytes net.log now_net.log (holding_of old net queue) (holding_of new now_net queue)
+change_moves {d = d} {bytes = bytes} {old = old} {new = new} i net now_net queue answer told changes =
     elim changes.answered [
-      | inl joined ↦ change_stays bytes net now_net queue answer (answer_of_host d bytes net) told joined refl
-      | inr lost ↦ inr (inr (loses_quietly d old new net now_net queue told lost.2.is_lost (ap (λ (n : NetState). n.views) lost.2.net_is) (ap (λ (n : NetState). n.kept) lost.2.net_is)))
+      | inl joined ↦ change_stays i bytes net now_net queue answer (answer_of_host d bytes net) told joined refl
+      | inr lost ↦ record {
+        move = inr (inr (loses_quietly d old new net now_net queue told lost.2.is_lost (ap (λ (n : NetState). n.views) lost.2.net_is) (ap (λ (n : NetState). n.kept) lost.2.net_is)));
+        logged = nothing_logged net.log now_net.log (ap (λ (n : NetState). n.log) lost.2.net_is);
+      }
     ]
 
 -- ---- A packet that is released
@@ -237,7 +267,10 @@ packet_sent held old new net now_net queue now_queue told joined sends =
     let first : Knows = (record net { xid = _ }, queue) in
     let came_is = sends.waits.hears.kept_is in
     record {
+      xid = net.xid;
+      packet = held.1;
       waited = waited_by (message_bytes net.xid (PacketOut held.1) ∷ []) told sends.waits;
+      sent = refl;
       no_refusal = refl;
       notices = refl;
       was_in = sym (viewed held.0 net.views) ∙ joined;
@@ -248,13 +281,13 @@ packet_sent held old new net now_net queue now_queue told joined sends =
 
 packet_lost : {Own Tells : Type 0} {packets : List Held} (held : Held) (old new : Seen Own) (net now_net : NetState) (queue now_queue : List Event) → Tells → LosesPacket Tells packets held old new net now_net queue now_queue → EndMove (holding_of old net queue) (holding_of new now_net now_queue)
 packet_lost held old new net now_net queue now_queue told is =
-    inr (inr (inr (inl (subst (λ (q : List Event). Loses (holding_of old net queue) (holding_of new now_net q)) (sym is.queue_is)
-    (loses_quietly held.0 old new net now_net queue told is.is_lost (ap (λ (n : NetState). n.views) is.net_is) (ap (λ (n : NetState). n.kept) is.net_is))))))
+    inr (inr (inr (subst (λ (q : List Event). Loses (holding_of old net queue) (holding_of new now_net q)) (sym is.queue_is)
+    (loses_quietly held.0 old new net now_net queue told is.is_lost (ap (λ (n : NetState). n.views) is.net_is) (ap (λ (n : NetState). n.kept) is.net_is)))))
 
 packet_moves : {Own Tells : Type 0} (held : Held) (sent : List Held) (old new : Seen Own) (net now_net : NetState) (queue now_queue : List Event) → Tells → ReleasesOne Tells held sent old new net now_net queue now_queue → EndMove (holding_of old net queue) (holding_of new now_net now_queue)
 packet_moves held sent old new net now_net queue now_queue told (inl sends) = inr (inr (inl (packet_sent held old new net now_net queue now_queue told sends.1 sends.2)))
 packet_moves held sent old new net now_net queue now_queue told (inr (inl over)) =
-    inl (calls_same old new net now_net queue now_queue over.1.seen (ap (λ (n : NetState). n.views) over.1.net_is) (ap (λ (n : NetState). n.kept) over.1.net_is) over.1.queue_is)
+    inl (rests_so old new net now_net queue now_queue over.1.seen (ap (λ (n : NetState). n.views) over.1.net_is) (ap (λ (n : NetState). n.kept) over.1.net_is) over.1.queue_is)
 packet_moves held sent old new net now_net queue now_queue told (inr (inr (inl lost))) = packet_lost held old new net now_net queue now_queue told lost.1
 packet_moves held sent old new net now_net queue now_queue told (inr (inr (inr lost))) = packet_lost held old new net now_net queue now_queue told lost.1
 

@@ -1,6 +1,6 @@
 -- What is told next, item by item, as the course of a run says it.
-use Rattle.std.specs.Prelude.{take, is_some, if◌then◌else◌}
-use Rattle.std.proofs.Common.{◌≡◌, ℕ, Bool, true, false, List, [], ◌∷◌, Result, Ok, Err, refl, sym, ap, ◌∙◌, subst, inl, inr}
+use Rattle.std.specs.Prelude.{take, map, is_some, if◌then◌else◌}
+use Rattle.std.proofs.Common.{◌≡◌, ℕ, Bool, true, false, List, [], ◌∷◌, ◌++◌, Result, Ok, Err, refl, sym, ap, ◌∙◌, subst, inl, inr}
 use Rattle.std.proofs.lemmas.List.{append-nil}
 use Rattle.of_wire.specs.declared.bodies.FeaturesReply.{FeaturesReply as Features}
 use Rattle.of_wire.specs.declared.message.Message.{Message}
@@ -29,13 +29,13 @@ use Rattle.net_txn.specs.laws.JoiningLaws.{rows_at-with_view, rows_at-with_view-
 use Rattle.switch_laws.specs.laws.LossLaws.{rows-gone, rows-stay}
 use Rattle.batch_laws.specs.Knowledge.{Knowledge, knowledge_of, is_known, left_by, joined_by, joined_read, handled}
 use Rattle.batch_laws.specs.Items.{Untouched, TakesMessage, TakesIn, TakesInBy, TakesInAs, DoesFrom, DoesJoined, DoesLeft, answers, HandlesStill, HandlesLost, Handles, TakesNext}
-use Rattle.lego_model.specs.KeptMessages.{got_in}
+use Rattle.run_course.specs.Messages.{sent_steps, replies_to, replies_read}
 use Rattle.run_course.specs.Moves.{IsTold, is_features, IsNoJoin, IsIgnored, Takes, Joins, LosesTold, OneByOne, ItemMove}
 use Rattle.run_laws.specs.Facts.{Between}
 use Rattle.run_laws.specs.Course.{TakesItems}
 use Rattle.run_laws.specs.laws.TableHoldingLaws.{tables_of}
 use Rattle.run_laws.specs.laws.MadeEventLaws.{from_makes}
-use Rattle.run_laws.specs.laws.HoldingLaws.{holding_of, none_got_by, no_move, one_move, moves_then, waited_by, loses_told, holds_still}
+use Rattle.run_laws.specs.laws.HoldingLaws.{holding_of, no_move, one_move, moves_then, waited_by, loses_told, holds_still}
 
 -- ---- What is told next
 
@@ -52,33 +52,33 @@ ignores step old mid new net now_net queue now_queue told seen views kept same i
 
 -- ---- A message of a switch
 
-answer_none : (d xid : ℕ) (m : Message) → got_in (arrival_steps d xid m) ≡ []
-answer_none d xid (messages.EchoRequest payload) = refl
-answer_none d xid (messages.Hello payload) = refl
-answer_none d xid (messages.Error kind code payload) = refl
-answer_none d xid (messages.EchoReply payload) = refl
-answer_none d xid (messages.Vendor payload) = refl
-answer_none d xid messages.FeaturesRequest = refl
-answer_none d xid (messages.FeaturesReply features) = refl
-answer_none d xid messages.GetConfigRequest = refl
-answer_none d xid (messages.GetConfigReply config) = refl
-answer_none d xid (messages.SetConfig config) = refl
-answer_none d xid (messages.PacketIn packet) = refl
-answer_none d xid (messages.FlowRemoved flow) = refl
-answer_none d xid (messages.PortStatus status) = refl
-answer_none d xid (messages.PacketOut packet) = refl
-answer_none d xid (messages.FlowMod m) = refl
-answer_none d xid (messages.PortMod port) = refl
-answer_none d xid (messages.StatsRequest m) = refl
-answer_none d xid (messages.StatsReply m) = refl
-answer_none d xid messages.BarrierRequest = refl
-answer_none d xid messages.BarrierReply = refl
-answer_none d xid (messages.QueueGetConfigRequest payload) = refl
-answer_none d xid (messages.QueueGetConfigReply payload) = refl
+answer_is : (d xid : ℕ) (m : Message) → arrival_steps d xid m ≡ sent_steps d (map (message_bytes xid) (replies_to m))
+answer_is d xid (messages.EchoRequest payload) = refl
+answer_is d xid (messages.Hello payload) = refl
+answer_is d xid (messages.Error kind code payload) = refl
+answer_is d xid (messages.EchoReply payload) = refl
+answer_is d xid (messages.Vendor payload) = refl
+answer_is d xid messages.FeaturesRequest = refl
+answer_is d xid (messages.FeaturesReply features) = refl
+answer_is d xid messages.GetConfigRequest = refl
+answer_is d xid (messages.GetConfigReply config) = refl
+answer_is d xid (messages.SetConfig config) = refl
+answer_is d xid (messages.PacketIn packet) = refl
+answer_is d xid (messages.FlowRemoved flow) = refl
+answer_is d xid (messages.PortStatus status) = refl
+answer_is d xid (messages.PacketOut packet) = refl
+answer_is d xid (messages.FlowMod m) = refl
+answer_is d xid (messages.PortMod port) = refl
+answer_is d xid (messages.StatsRequest m) = refl
+answer_is d xid (messages.StatsReply m) = refl
+answer_is d xid messages.BarrierRequest = refl
+answer_is d xid messages.BarrierReply = refl
+answer_is d xid (messages.QueueGetConfigRequest payload) = refl
+answer_is d xid (messages.QueueGetConfigReply payload) = refl
 
-answers_none : (d : ℕ) (r : Result Envelope WireFault) → got_in (answers d r) ≡ []
-answers_none d (Ok e) = answer_none d e.xid e.message
-answers_none d (Err fault) = refl
+answers_are : (d : ℕ) (r : Result Envelope WireFault) → answers d r ≡ sent_steps d (replies_read r)
+answers_are d (Ok e) = answer_is d e.xid e.message
+answers_are d (Err fault) = refl
 
 takes_so : {Own Tells : Type 0} (d : ℕ) (bytes : List ℕ) (old mid new : Seen Own) (net now_net : NetState) (queue now_queue : List Event) → Tells → IsTold (From d bytes) old.history mid.history → is_known d (knowledge_of net queue) ≡ true
     → knowledge_of now_net now_queue ≡ handled (From d bytes) (knowledge_of net queue) → TakesMessage Tells d bytes mid new net now_net → Takes (holding_of old net queue) (holding_of new now_net now_queue)
@@ -89,7 +89,7 @@ takes_so d bytes old mid new net now_net queue now_queue told item known knowled
       bytes = bytes;
       mid = mid.history;
       told = item;
-      answered = none_got_by mid.history new.history (answers d (reading_of bytes)) (does.told told) (answers_none d (reading_of bytes));
+      answered = does.told told ∙ ap (λ (steps : List WorldStep). mid.history ++ steps) (answers_are d (reading_of bytes));
       was_in = known;
       tables = λ e. ap (λ (x : Knowledge). rows_at e x.views) knowledge ∙ makes.tables e;
       kept = does.kept;
@@ -137,6 +137,11 @@ joins_so d xid bytes features old mid new net now_net queue now_queue told item 
       read = read;
       waited = waited_by (message_bytes net.xid (messages.FlowMod delete_all) ∷ message_bytes (next_xid net.xid) (messages.SetConfig first_config) ∷ []) told joins.waits;
       of_switch = refl;
+      first = net.xid;
+      emptying = delete_all;
+      empties = record { deletes = refl; any_match = refl; any_output = refl };
+      sent = refl;
+      barrier = refl;
       no_refusal = refl;
       notices = refl;
       was_out = out;

@@ -11,7 +11,10 @@ use Rattle.of_wire.specs.declared.message.Envelope.{Envelope}
 use Rattle.of_wire.specs.declared.fault.WireFault.{WireFault}
 use Rattle.of_wire.specs.Reading.{reading_of}
 use Rattle.flow_table.specs.declared.view.ViewRow.{ViewRow}
+use Rattle.of_match.specs.declared.key.Key.{Key}
 use Rattle.app_frames.specs.declared.frame.Event.{Event}
+use Rattle.app_frames.specs.declared.frame.EventKind.{EventKind}
+use Rattle.lego_model.specs.Turns.{Outcome, Completed, Failed}
 use Rattle.lego_model.specs.declared.wait.Awaited.{Awaited}
 use Rattle.lego_model.specs.declared.wait.Heard.{Heard}
 use Rattle.lego_model.specs.declared.wait.Heard.TheVariants.{Reply, Refused, Notice, Echo, Other}
@@ -22,8 +25,9 @@ use Rattle.lego_model.specs.ViewRows.{rows_without}
 use Rattle.run_course.specs.Tables.{Tables, is_in, with_table, rows_with}
 use Rattle.run_course.specs.Messages.{is_refused, tables_left, tables_read, tables_behind, but_of, AreStored}
 use Rattle.of_types.specs.Membership.{is_among}
-use Rattle.run_course.specs.Moves.{Holding, OfJoined, HoldsStill, Notes, tables_by, Changes, Releases, Loses, TakesBack, Takes, Joins, Leaves, Go, OneByOne, ItemMove, EndMove}
-use Rattle.run_course.specs.Turns.{TalkMove, Talk, HaveTurns}
+use Rattle.run_course.specs.Moves.{Holding, OfJoined, HoldsStill, Notes, tables_by, Changes, Releases, Loses, TakesBack, Takes, Joins, Leaves, Go, OneByOne, ItemMove, EndMove, keys_at}
+use Rattle.run_course.specs.Applications.{Application, listens}
+use Rattle.run_course.specs.Turns.{TalkMove, Talk, added_in, Closes, HasTurn, IsOffered, unless_stopped, Offers}
 use Rattle.run_course.specs.Parts.{Standing, KeptComeFirst, Part, Goes}
 
 -- ---- Messages of some switches
@@ -168,9 +172,9 @@ joins_keep from to joins all =
 -- ---- An undo
 
 -- one that is not lost is joined still
-stays_joined : {Own : Type 0} (from to : Holding Own) (takes : TakesBack from to) (d : ℕ) → is_among d takes.lost ≡ false → is_in d from.tables ≡ true → is_in d to.tables ≡ true
-stays_joined from to takes d stays is =
-    same_in (λ e. option_map (rows_without (takes.keys e)) (from.tables e)) to.tables d (takes.tables d stays) ∙ (mapped_in (rows_without (takes.keys d)) (from.tables d) ∙ is)
+stays_joined : {Own : Type 0} (added : List (ℕ × Key)) (from to : Holding Own) (takes : TakesBack added from to) (d : ℕ) → is_among d takes.lost ≡ false → is_in d from.tables ≡ true → is_in d to.tables ≡ true
+stays_joined added from to takes d stays is =
+    same_in (λ e. option_map (rows_without (keys_at e added)) (from.tables e)) to.tables d (takes.tables d stays) ∙ (mapped_in (rows_without (keys_at d added)) (from.tables d) ∙ is)
 
 stay_of : (a b : ℕ → Bool) (lost : List ℕ) (ms : List (ℕ × List ℕ)) → ((d : ℕ) → is_among d lost ≡ false → a d ≡ true → b d ≡ true) → Of a ms → Of b (but_of lost ms)
 stay_of a b lost [] stays all = tt
@@ -183,11 +187,11 @@ stored_of a (m ∷ more) stored now_stored of_came all (inl one) = stored_of a m
 stored_of a (m ∷ more) stored now_stored of_came all (inr (inl none)) = stored_of a more stored now_stored of_came.1 all none.1
 stored_of a (m ∷ more) stored now_stored of_came all (inr (inr full)) = stored_of a more stored now_stored of_came.1 all full.1
 
-takes_back_keep : {Own : Type 0} (from to : Holding Own) → TakesBack from to → OfJoined from from.kept → OfJoined to to.kept
-takes_back_keep from to takes all =
+takes_back_keep : {Own : Type 0} (added : List (ℕ × Key)) (from to : Holding Own) → TakesBack added from to → OfJoined from from.kept → OfJoined to to.kept
+takes_back_keep added from to takes all =
     let was = joined_in from.tables in
     let now = joined_in to.tables in
-    subst (Of now) (sym takes.kept) (stay_of was now takes.lost takes.stored (stays_joined from to takes) (stored_of was (got_in takes.steps) from.kept takes.stored takes.were_in all takes.came))
+    subst (Of now) (sym takes.kept) (stay_of was now takes.lost takes.stored (stays_joined added from to takes) (stored_of was (got_in takes.steps) from.kept takes.stored takes.were_in all takes.came))
 
 -- ---- Moves
 
@@ -199,17 +203,16 @@ item_keeps from to (inr (inr (inr (inl leaves)))) all = leaves_keep from to leav
 item_keeps from to (inr (inr (inr (inr loses)))) all = loses_keep loses.mid to loses.loses (still_keep from loses.mid loses.still all)
 
 end_keeps : {Own : Type 0} (from to : Holding Own) → EndMove from to → OfJoined from from.kept → OfJoined to to.kept
-end_keeps from to (inl calls) all = still_keep from to calls.still all
+end_keeps from to (inl rests) all = still_keep from to rests.still all
 end_keeps from to (inr (inl notes)) all = notes_keep from to notes all
 end_keeps from to (inr (inr (inl releases))) all = releases_keep from to releases all
-end_keeps from to (inr (inr (inr (inl loses)))) all = loses_keep from to loses all
-end_keeps from to (inr (inr (inr (inr takes)))) all = takes_back_keep from to takes all
+end_keeps from to (inr (inr (inr loses))) all = loses_keep from to loses all
 
-talk_keeps : {Own : Type 0} (asked : Option (ℕ × List ℕ)) (from to : Holding Own) → TalkMove asked from to → OfJoined from from.kept → OfJoined to to.kept
-talk_keeps None from to calls all = still_keep from to calls.still all
-talk_keeps (Some asked) from to (inl calls) all = still_keep from to calls.still all
-talk_keeps (Some asked) from to (inr (inl changes)) all = changes_keep asked from to changes all
-talk_keeps (Some asked) from to (inr (inr loses)) all = loses_keep from to loses all
+talk_keeps : {Own : Type 0} (i : ℕ) (asked : Option (ℕ × List ℕ)) (from to : Holding Own) → TalkMove i asked from to → OfJoined from from.kept → OfJoined to to.kept
+talk_keeps i None from to calls all = still_keep from to calls.still all
+talk_keeps i (Some asked) from to (inl rests) all = still_keep from to rests.still all
+talk_keeps i (Some asked) from to (inr (inl changes)) all = changes_keep asked from to changes all
+talk_keeps i (Some asked) from to (inr (inr loses)) all = loses_keep from to loses all
 
 go_keeps : {Own : Type 0} (Move : Holding Own → Holding Own → Type 0) → ((a b : Holding Own) → Move a b → OfJoined a a.kept → OfJoined b b.kept) → (stops : List (Holding Own)) (from to : Holding Own) → Go Move stops from to → OfJoined from from.kept → OfJoined to to.kept
 go_keeps Move keeps [] from to go all = subst (λ (h : Holding _). OfJoined h h.kept) (sym go) all
@@ -220,15 +223,34 @@ moves_keep Move keeps from to moves all = go_keeps Move keeps moves.stops from t
 
 -- ---- Parts
 
-talks_keep : {Own : Type 0} (moves : List (Option (ℕ × List ℕ) × Holding Own)) (from to : Holding Own) → Talk moves from to → OfJoined from from.kept → OfJoined to to.kept
-talks_keep [] from to talk all = subst (λ (h : Holding _). OfJoined h h.kept) (sym talk) all
-talks_keep (move ∷ more) from to talk all = talks_keep more move.1 to talk.1 (talk_keeps move.0 from move.1 talk.0 all)
+talks_keep : {Own : Type 0} (i : ℕ) (moves : List (Option (ℕ × List ℕ) × Holding Own)) (from to : Holding Own) → Talk i moves from to → OfJoined from from.kept → OfJoined to to.kept
+talks_keep i [] from to talk all = subst (λ (h : Holding _). OfJoined h h.kept) (sym talk) all
+talks_keep i (move ∷ more) from to talk all = talks_keep i more move.1 to talk.1 (talk_keeps i move.0 from move.1 talk.0 all)
 
-turns_keep : {Own : Type 0} (number : ℕ) (event : Event) (apps : List ℕ) (unread now_unread : ℕ → List ℕ) (from to : Holding Own) → HaveTurns number event apps unread now_unread from to → OfJoined from from.kept → OfJoined to to.kept
-turns_keep number event [] unread now_unread from to turns all = subst (λ (h : Holding _). OfJoined h h.kept) (sym turns.0) all
-turns_keep number event (app ∷ more) unread now_unread from to turns all =
-    let turn = turns.1.1.0 in
-    turns_keep number event more turns.1.0 now_unread turns.0 to turns.1.1.1 (moves_keep EndMove end_keeps turn.talked turns.0 turn.ends (talks_keep turn.talk turn.begun turn.talked turn.talks (still_keep from turn.begun turn.given.still all)))
+closed_keeps : {Own : Type 0} (kind : EventKind) (outcome : Outcome) (added : List (ℕ × Key)) (i : ℕ) (app now_app : Application) (from to : Holding Own) → Closes kind outcome added i app now_app from to → OfJoined from from.kept → OfJoined to to.kept
+closed_keeps kind (Completed stop handed left) added i app now_app from to stays all = moves_keep EndMove end_keeps from to stays.moves all
+closed_keeps kind (Failed cause) added i app now_app from to undone all =
+    still_keep undone.noted to undone.still (notes_keep undone.undone undone.noted undone.notes (takes_back_keep added from undone.undone undone.takes_back all))
+
+turn_keeps : {Own : Type 0} (number : ℕ) (event : Event) (i : ℕ) (app now_app : Application) (from to : Holding Own) → HasTurn number event i app now_app from to → OfJoined from from.kept → OfJoined to to.kept
+turn_keeps number event i app now_app from to turn all =
+    closed_keeps event.kind turn.outcome (added_in i turn.talk turn.begun turn.talked turn.talks) i app now_app turn.talked to turn.closes (talks_keep i turn.talk turn.begun turn.talked turn.talks (still_keep from turn.begun turn.given.still all))
+
+offered_keeps : {Own : Type 0} (number : ℕ) (event : Event) (i : ℕ) (listens : Bool) (apps : Application × Application) (stops : Bool) (from to : Holding Own) → IsOffered number event i listens apps stops from to → OfJoined from from.kept → OfJoined to to.kept
+offered_keeps number event i true apps stops from to offered all = turn_keeps number event i apps.0 apps.1 from to offered.0 all
+offered_keeps number event i false apps stops from to offered all = subst (λ (h : Holding _). OfJoined h h.kept) (sym offered.0) all
+
+unless_keeps : (stops : Bool) (Out Goes Keeps : Type 0) → unless_stopped stops Out Goes → (Out → Keeps) → (Goes → Keeps) → Keeps
+unless_keeps true Out Goes Keeps is out goes = out is
+unless_keeps false Out Goes Keeps is out goes = goes is
+
+offers_keep : {Own : Type 0} (number : ℕ) (event : Event) (i : ℕ) (apps now_apps : List Application) (from to : Holding Own) → Offers number event i apps now_apps from to → OfJoined from from.kept → OfJoined to to.kept
+offers_keep number event i [] now_apps from to offers all = subst (λ (h : Holding _). OfJoined h h.kept) (sym offers.1) all
+offers_keep number event i (app ∷ more) now_apps from to offers all =
+    let one = offers.0 in
+    let mid = offered_keeps number event i (listens event.kind app) (app, one.now_app) one.stops from one.mid one.offered all in
+    unless_keeps one.stops ((one.later ≡ more) × (to ≡ one.mid)) (Offers number event (i + 1) more one.later one.mid to) (OfJoined to to.kept) offers.1
+    (λ out. subst (λ (h : Holding _). OfJoined h h.kept) (sym out.1) mid) (λ goes. offers_keep number event (i + 1) more one.later one.mid to goes mid)
 
 -- those that are not taken yet
 first_keeps : {Own : Type 0} (from to : Holding Own) → KeptComeFirst from to → OfJoined from from.kept → OfJoined to to.kept
@@ -246,7 +268,7 @@ KeepsOfJoined at = OfJoined at.holding at.holding.kept
 
 pub part_keeps : {Own : Type 0} (from to : Standing Own) → Part from to → KeepsOfJoined from → KeepsOfJoined to
 part_keeps from to (inl batch) all = moves_keep ItemMove item_keeps batch.mid to.holding batch.items (first_keeps from.holding batch.mid batch.first all)
-part_keeps from to (inr (inl gives)) all = turns_keep (from.events + 1) gives.event gives.apps from.unread to.unread (record from.holding { queue = gives.later }) to.holding gives.turns all
+part_keeps from to (inr (inl gives)) all = offers_keep (from.events + 1) gives.event 0 from.apps to.apps (record from.holding { queue = gives.later }) to.holding gives.offers all
 part_keeps from to (inr (inr starts)) all = still_keep from.holding to.holding starts.still all
 
 pub goes_keeps : {Own : Type 0} (stops : List (Standing Own)) (from to : Standing Own) → Goes stops from to → KeepsOfJoined from → KeepsOfJoined to

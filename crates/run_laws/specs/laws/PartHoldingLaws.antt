@@ -1,7 +1,7 @@
 -- The parts of a run of the engine are those of the course of a run.
-use Rattle.std.specs.Prelude.{◌==◌, map, is_some, if◌then◌else◌}
+use Rattle.std.specs.Prelude.{map, is_some}
 use Rattle.std.specs.List.{AllByRecursion}
-use Rattle.std.proofs.Common.{◌≡◌, ℕ, ◌+◌, Bool, true, false, List, [], ◌∷◌, Option, refl, ap, ◌∙◌, inl, inr}
+use Rattle.std.proofs.Common.{◌≡◌, ℕ, ◌+◌, Bool, true, List, [], ◌∷◌, Option, refl, ap, ◌∙◌, inl, inr}
 use Rattle.std.specs.Io.KnownBytes.{append_known}
 use Rattle.flow_table.specs.View.{TableView}
 use Rattle.crash_policy.specs.Policies.{AppValue}
@@ -13,7 +13,7 @@ use Rattle.batch_laws.specs.Knowledge.{Knowledge, knowledge_of, is_known}
 use Rattle.run_course.specs.Messages.{GotNone}
 use Rattle.run_course.specs.Parts as course
 use Rattle.run_course.specs.Parts.{Standing, TakesCourse}
-use Rattle.run_laws.specs.Engine.{Application}
+use Rattle.run_course.specs.Applications.{Application as course_app, at_first}
 use Rattle.run_laws.specs.Facts.{between}
 use Rattle.run_laws.specs.First.{app_at_first}
 use Rattle.run_laws.specs.Course.{KeptComesFirst, Stage, TakesBatch, GivesOldest, Starts, IsPart, Course, WritesPart, RunsOn, first_stage}
@@ -21,17 +21,12 @@ use Rattle.run_laws.specs.laws.MadeEventLaws.{kept_events, kept_tables}
 use Rattle.run_laws.specs.laws.HoldingLaws.{holding_of, holds_still}
 use Rattle.run_laws.specs.laws.ItemHoldingLaws.{items_move}
 use Rattle.run_laws.specs.laws.KeptJoinedLaws.{taken_joined, KeepsOfJoined, part_keeps, goes_keeps}
-use Rattle.run_laws.specs.laws.UnreadLaws.{unread_over}
-use Rattle.run_laws.specs.laws.TurnCallLaws.{starts_none}
-use Rattle.run_laws.specs.laws.TurnHoldingLaws.{starts_given, offers_turns}
-
--- which bytes of each application were taken and not read: none of one that there is not
-abbrev pub unread_of : List Application → ℕ → List ℕ
-unread_of apps = unread_over 0 apps (λ app. [])
+use Rattle.run_laws.specs.laws.StartHoldingLaws.{application_of, starts_all}
+use Rattle.run_laws.specs.laws.TurnHoldingLaws.{offers_so}
 
 -- how the run stands, by what the engine keeps
 abbrev pub standing_of : {Own : Type 0} → Stage Own → Standing Own
-standing_of s = record { holding = holding_of s.seen s.engine.net s.engine.queue; unread = unread_of s.engine.apps; events = s.engine.events; written = s.written }
+standing_of s = record { holding = holding_of s.seen s.engine.net s.engine.queue; apps = map application_of s.engine.apps; events = s.engine.events; written = s.written }
 
 -- ---- A batch
 
@@ -55,7 +50,7 @@ batch_part from to told joined batch =
       mid = holding_of taken.mid.seen taken.mid.net taken.mid.queue;
       first = kept_first from.seen taken.mid.seen from.engine.net taken.mid.net from.engine.queue taken.mid.queue told joined taken.first;
       items = items_move taken.items taken.mid (between to.seen to.engine) told taken.told;
-      unread = λ app. ap (λ (apps : List Application). unread_of apps app) batch.apps;
+      apps = ap (map application_of) batch.apps;
       events = batch.events;
       noted = batch.noted;
       written = batch.written;
@@ -67,13 +62,11 @@ event_part : {Own Tells : Type 0} {accepts : List TableView → Bool} (from to :
 event_part {Tells = Tells} {accepts = accepts} from to told gives =
     let d = gives.dispatches in
     let e = record from.engine { queue = gives.later } in
-    let turned = offers_turns Tells accepts gives.event (from.engine.events + 1) 0 from.engine.apps d.turn_text (between from.seen e) (between to.seen to.engine) to.engine.apps d.stopped (λ app. []) told d.offers in
     record {
       event = gives.event;
       later = gives.later;
       waits = gives.waits;
-      apps = turned.apps;
-      turns = turned.turns;
+      offers = offers_so Tells accepts gives.event (from.engine.events + 1) 0 from.engine.apps d.turn_text (between from.seen e) (between to.seen to.engine) to.engine.apps d.stopped told d.offers;
       events = d.events_is;
       turn_text = d.turn_text;
       written = gives.written ∙ ap (append_known from.written) d.text_is;
@@ -85,9 +78,8 @@ start_part : {Own Tells : Type 0} (from to : Stage Own) → Tells → Starts Tel
 start_part {Tells = Tells} from to told starts =
     let all = starts.all in
     record {
-      got_none = starts_none Tells 0 from.engine.apps starts.text from.seen to.seen from.engine.net from.engine.queue from.engine.events to.engine.apps told all.all;
+      all = starts_all Tells 0 from.engine.apps starts.text from.seen to.seen from.engine.net from.engine.queue from.engine.events to.engine.apps told all.all;
       still = holds_still from.seen to.seen from.engine.net to.engine.net from.engine.queue to.engine.queue (ap (λ (n : NetState). n.views) all.net) (ap (λ (n : NetState). n.kept) all.net) all.queue;
-      unread = λ app. starts_given Tells 0 from.engine.apps starts.text from.seen to.seen from.engine.net from.engine.queue from.engine.events to.engine.apps app told all.all;
       events = all.events;
       text = starts.text;
       written = starts.written;
@@ -95,13 +87,9 @@ start_part {Tells = Tells} from to told starts =
 
 -- ---- The course
 
-none_unread : (i : ℕ) (rules : List AppValue) (j : ℕ) → unread_over i (map app_at_first rules) (λ app. []) j ≡ []
-none_unread i [] j = refl
-none_unread i (rule ∷ rules) j = if_none (j == i) (unread_over (i + 1) (map app_at_first rules) (λ app. []) j) (none_unread (i + 1) rules j)
-  where
-    if_none : (here : Bool) (rest : List ℕ) → rest ≡ [] → (if here then [] else rest) ≡ []
-    if_none true rest none = refl
-    if_none false rest none = none
+apps_first : (rules : List AppValue) → map application_of (map app_at_first rules) ≡ map at_first rules
+apps_first [] = refl
+apps_first (rule ∷ rules) = ap (λ (apps : List course_app). at_first rule ∷ apps) (apps_first rules)
 
 part_is : {Own Tells : Type 0} (accepts : List TableView → Bool) (from to : Stage Own) → Tells → KeepsOfJoined (standing_of from) → IsPart Tells accepts from to → course.Part (standing_of from) (standing_of to)
 part_is accepts from to told joined (inl batch) = inl (batch_part from to told joined batch)
@@ -132,12 +120,12 @@ module _ {Own Tells : Type 0} (accepts : List TableView → Bool) (rules : List 
   }
 
   -- the run takes its course, up to where it stands so
-  pub takes_course : (old : Seen Own) (Stands : Standing Own → Type 0) → GotNone old.history opened.history → Stands (standing_of last) → TakesCourse old new contents Stands
+  pub takes_course : (old : Seen Own) (Stands : Standing Own → Type 0) → GotNone old.history opened.history → Stands (standing_of last) → TakesCourse rules old new contents Stands
   takes_course old Stands opening stands = record {
     opened = opened;
     opening = opening;
     first = standing_of (first_stage rules opened contents);
-    begins = record { seen_is = refl; none_joined = λ d. refl; none_kept = refl; none_waits = refl; none_unread = none_unread 0 rules; none_given = refl; written_is = refl };
+    begins = record { seen_is = refl; none_joined = λ d. refl; none_kept = refl; none_waits = refl; apps_are = apps_first rules; none_given = refl; written_is = refl };
     stops = map standing_of runs.course.stages;
     last = standing_of last;
     parts = goes_on;

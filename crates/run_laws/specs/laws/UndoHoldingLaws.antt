@@ -1,7 +1,8 @@
 -- An undo in which no switch failed but by its loss, as the course of a run says it: what came is kept where there was room.
 use Rattle.std.specs.Prelude.{◌==◌, map, is_some, if◌then◌else◌}
-use Rattle.std.proofs.Common.{◌≡◌, ℕ, ◌+◌, Bool, true, false, List, [], ◌∷◌, ◌++◌, drop, Option, None, Ok, refl, sym, ap, ◌∙◌, subst, inl, inr, true≢false}
+use Rattle.std.proofs.Common.{◌≡◌, ℕ, Bool, true, false, List, [], ◌∷◌, ◌++◌, drop, Option, None, Ok, refl, sym, ap, ◌∙◌, subst, inl, inr, true≢false}
 use Rattle.std.specs.List.{AllByRecursion}
+use Rattle.std.specs.Option.{option_map}
 use Rattle.std.specs.List.Sorted.{IsPermutation}
 use Rattle.std.proofs.lemmas.List.Elements.{All-from_recursion, recursion_from_All}
 use Rattle.std.proofs.lemmas.List.Sorted.{IsPermutation-sym, All-permutation}
@@ -35,7 +36,8 @@ use Rattle.net_txn.specs.laws.SaidLaws.{all_two}
 use Rattle.net_txn.specs.laws.RestoreLaws.{part_of, AllRun, runs_here, runs_older}
 use Rattle.run_course.specs.Messages.{HeardInUndo, AreStored}
 use Rattle.switch_laws.specs.laws.LossLaws.{lose_all-rows, lose_all-rows_gone}
-use Rattle.run_course.specs.Moves.{HasInverse, TakesBack}
+use Rattle.lego_model.specs.ViewRows.{rows_without}
+use Rattle.run_course.specs.Moves.{keys_at, HasInverse, TakesBack}
 use Rattle.run_laws.specs.laws.HoldingLaws.{holding_of}
 
 -- ---- Some messages and then others
@@ -185,27 +187,36 @@ keys_moved : (d : ℕ) (P : Key → Type 0) (logged keys : List (ℕ × Key)) �
 keys_moved d P logged keys moved all =
     all_keys d P logged (recursion_from_All (IfOf d P) logged (All-permutation (IfOf d P) keys logged (IsPermutation-sym logged keys moved) (All-from_recursion (IfOf d P) keys (keys_all d P keys all))))
 
+-- the keys of one switch are those of the entries that are its own
+at_is : (d : ℕ) (ps : List (ℕ × Key)) → keys_of d ps ≡ keys_at d ps
+at_is d [] = refl
+at_is d (p ∷ ps) = elim (cases_Bool (p.0 == d)) [
+  | inl here ↦ rw here (ap (λ (ks : List Key). p.1 ∷ ks) (at_is d ps))
+  | inr other ↦ rw other (at_is d ps)
+]
+
 -- ---- The whole
 
-pub undo_moves : {Own Tells : Type 0} {start : ℕ} (old new : Seen Own) (net now_net : NetState) (queue : List Event) → Tells → Undoes Tells start old new net now_net (Ok tt) → TakesBack (holding_of old net queue) (holding_of new now_net queue)
-undo_moves {start = start} old new net now_net queue told u =
+pub undo_moves : {Own Tells : Type 0} {start : ℕ} (old new : Seen Own) (net now_net : NetState) (queue : List Event) (added : List (ℕ × Key)) → Tells → map key_logged (drop start net.log) ≡ added → Undoes Tells start old new net now_net (Ok tt)
+    → TakesBack added (holding_of old net queue) (holding_of new now_net queue)
+undo_moves {start = start} old new net now_net queue added told added_is u =
     let lost = lost_parts u.parts in
     let runs : AllRun old.counts new.counts u.parts = λ d. (u.each d).run in
     let left = record (undone_net start net) { xid = next_free net.xid u.parts; kept = u.kept; room = now_net.room } in
     let logged = map key_logged (drop start net.log) in
-    record {
+    subst (λ (keys : List (ℕ × Key)). TakesBack keys (holding_of old net queue) (holding_of new now_net queue)) added_is (record {
       lost = lost;
       told = λ joined. u.losses told (λ d is. joined d (sym (viewed d net.views) ∙ is));
       steps = steps_of u.parts;
       history = u.told told;
-      keys = λ d. keys_of d logged;
-      inverses = λ d stays is. keys_moved d (HasInverse d (steps_of u.parts)) logged u.keys u.ordered.same
-          (subst (AllByRecursion (HasInverse d (steps_of u.parts))) ((u.each d).keys_is (viewed d net.views ∙ is) (u.none_failed refl d ∙ stays)) (have_inverses d (steps_of u.parts) (inverses_of (parts_of d u.parts)) (were_sent d u.parts)));
+      inverses = λ d stays is.
+          subst (AllByRecursion (HasInverse d (steps_of u.parts))) (at_is d logged) (keys_moved d (HasInverse d (steps_of u.parts)) logged u.keys u.ordered.same
+          (subst (AllByRecursion (HasInverse d (steps_of u.parts))) ((u.each d).keys_is (viewed d net.views ∙ is) (u.none_failed refl d ∙ stays)) (have_inverses d (steps_of u.parts) (inverses_of (parts_of d u.parts)) (were_sent d u.parts))));
       out = λ d goes. ap (λ (n : NetState). rows_at d n.views) u.net_is ∙ lose_all-rows_gone lost d left goes;
-      tables = λ d stays. ap (λ (n : NetState). rows_at d n.views) u.net_is ∙ (lose_all-rows lost d left stays ∙ rows_left d logged net.views);
+      tables = λ d stays. ap (λ (n : NetState). rows_at d n.views) u.net_is ∙ (lose_all-rows lost d left stays ∙ (rows_left d logged net.views ∙ ap (λ (keys : List Key). option_map (rows_without keys) (rows_at d net.views)) (at_is d logged)));
       were_in = parts_joined old.counts new.counts (λ e. is_some (rows_at e net.views)) u.parts runs (λ d out. (u.each d).unknown (viewed d net.views ∙ out));
       stored = u.kept;
       came = parts_stored u.parts net.kept u.kept (ended_none (first_fault u.parts) u.result_is) u.keeps;
       kept = ap (λ (n : NetState). n.kept) u.net_is ∙ ap (λ (n : NetState). n.kept) (lose_all-so lost left);
       queue = refl;
-    }
+    })

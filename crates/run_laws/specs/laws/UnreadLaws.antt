@@ -1,13 +1,11 @@
--- Which bytes of each application are unread: behind a start some that it gave in it, or none; and how they stand to the applications that the engine
--- keeps.
-use Rattle.std.specs.Prelude.{◌==◌, ◌<◌, take, filter, if◌then◌else◌}
+-- Which bytes of an application are unread behind a start: some that it gave in it, or none.
+use Rattle.std.specs.Prelude.{take, filter, if◌then◌else◌}
 use Rattle.std.specs.List.{AllByRecursion, flat_map}
-use Rattle.std.proofs.Common.{◌≡◌, ◌≢◌, ℕ, ◌+◌, zero, suc, Bool, true, false, List, [], ◌∷◌, ◌++◌, map, drop, Option, Some, None, Ok, Err, refl, sym, ap, ◌∙◌, subst, inl, inr, append_assoc, arith, true≢false}
+use Rattle.std.proofs.Common.{◌≡◌, ℕ, zero, suc, Bool, true, false, List, [], ◌∷◌, ◌++◌, map, drop, Option, Some, None, Ok, Err, refl, sym, ap, ◌∙◌, subst, inl, inr, append_assoc, true≢false}
 use Rattle.std.specs.Option.{unwrap_or}
 use Rattle.std.proofs.lemmas.List.{append-nil, take-append-drop}
 use Rattle.std.proofs.lemmas.List.Concat.{flat_map-append}
 use Rattle.std.proofs.lemmas.List.Elements.{filter-append, filter_map-append}
-use Rattle.std.proofs.lemmas.Bool.{cases_eq, eq-eqb, ne_eqb}
 use Rattle.of_types.specs.declared.journal.Act.{Act}
 use Rattle.of_types.specs.declared.journal.Act.TheVariants.{Started}
 use Rattle.app_frames.specs.declared.frame.AppFrame.{AppFrame}
@@ -29,7 +27,6 @@ use Rattle.app_visor.specs.Talks.{step_of}
 use Rattle.app_visor.specs.Attempts.{OneTry, IsTry, AreTries, ready_rest}
 use Rattle.app_visor.specs.laws.TellingLaws.{journal_steps}
 use Rattle.run_course.specs.Asked.{pieces_of, HasGiven}
-use Rattle.run_laws.specs.Engine.{Application}
 use Rattle.run_laws.specs.laws.TurnCallLaws.{try_all}
 
 -- ---- Pieces
@@ -53,16 +50,6 @@ given_later app bytes a b c steps before has = record {
   front = joined (pieces_of app steps) ++ has.front;
   behind = has.behind;
   given = pieces_two app steps has.steps ∙ (ap (λ (given : List ℕ). joined (pieces_of app steps) ++ given) has.given ∙ sym (append_assoc (joined (pieces_of app steps)) has.front (bytes ++ has.behind)));
-}
-
-pub given_before : (app : ℕ) (bytes : List ℕ) (a b c steps : List WorldStep) → c ≡ b ++ steps → HasGiven app bytes a b → HasGiven app bytes a c
-given_before app bytes a b c steps behind has = record {
-  steps = has.steps ++ steps;
-  history = behind ∙ (ap (λ (h : List WorldStep). h ++ steps) has.history ∙ append_assoc a has.steps steps);
-  front = has.front;
-  behind = has.behind ++ joined (pieces_of app steps);
-  given = pieces_two app has.steps steps ∙ (ap (λ (given : List ℕ). given ++ joined (pieces_of app steps)) has.given
-      ∙ (append_assoc has.front (bytes ++ has.behind) (joined (pieces_of app steps)) ∙ ap (λ (rest : List ℕ). has.front ++ rest) (append_assoc bytes has.behind (joined (pieces_of app steps)))));
 }
 
 pub none_given : (app : ℕ) (a b steps : List WorldStep) → b ≡ a ++ steps → HasGiven app [] a b
@@ -174,40 +161,3 @@ tries_given Tells app kept (suc n) (t ∷ ts) old new told are =
           ready_given app t.rest (ready_rest ts) old.history new.history (is_ready t.tried)
           (λ is. absurd (true≢false (sym is ∙ more.0))) (λ not. given_later app (unwrap_or (ready_rest ts) []) old.history t.after.history new.history one.steps one.history rest)
     ]
-
--- ---- Of each application that the engine keeps, from an index on, its unread bytes; of the others these
-
-abbrev pub unread_over : ℕ → List Application → (ℕ → List ℕ) → ℕ → List ℕ
-unread_over i [] u j = u j
-unread_over i (a ∷ more) u j = if j == i then a.rest else unread_over (i + 1) more u j
-
--- the unread bytes of one application
-abbrev pub with_unread : ℕ → List ℕ → (ℕ → List ℕ) → ℕ → List ℕ
-with_unread i rest u = λ j. if j == i then rest else u j
-
-over_below : (i : ℕ) (apps : List Application) (u : ℕ → List ℕ) (j : ℕ) → j < i → unread_over i apps u j ≡ u j
-over_below i [] u j below = refl
-over_below i (a ∷ more) u j below = let other : (j == i) ≡ false = ne_eqb j i (λ same. absurd (omega (arith, below, same))) in rw other (over_below (i + 1) more u j (omega (arith, below)))
-
-over_same : (i : ℕ) (apps : List Application) (u v : ℕ → List ℕ) (j : ℕ) → u j ≡ v j → unread_over i apps u j ≡ unread_over i apps v j
-over_same i [] u v j same = same
-over_same i (a ∷ more) u v j same = ap (λ (r : List ℕ). if j == i then a.rest else r) (over_same (i + 1) more u v j same)
-
--- the first of them apart
-pub over_first : (i : ℕ) (a : Application) (more : List Application) (u : ℕ → List ℕ) (j : ℕ) → unread_over i (a ∷ more) u j ≡ unread_over (i + 1) more (with_unread i a.rest u) j
-over_first i a more u j = elim (cases_eq j i) [
-  | inl same ↦
-      let here = eq-eqb j i same in
-      let there : with_unread i a.rest u j ≡ a.rest = rw here refl in
-      rw here (sym (over_below (i + 1) more (with_unread i a.rest u) j (omega (arith, same)) ∙ there))
-  | inr other ↦
-      let apart = ne_eqb j i other in
-      let there : u j ≡ with_unread i a.rest u j = rw apart refl in
-      rw apart (over_same (i + 1) more u (with_unread i a.rest u) j there)
-]
-
-pub over_here : (i : ℕ) (a : Application) (more : List Application) (u : ℕ → List ℕ) → unread_over i (a ∷ more) u i ≡ a.rest
-over_here i a more u = rw (eq-eqb i i refl) refl
-
-pub over_others : (i : ℕ) (a b : Application) (more : List Application) (u : ℕ → List ℕ) (j : ℕ) → j ≢ i → unread_over i (b ∷ more) u j ≡ unread_over i (a ∷ more) u j
-over_others i a b more u j other = rw (ne_eqb j i other) refl
