@@ -7,7 +7,8 @@ application, and COUNT rounds. With PROGRAM (as ./legosdn) it replays that input
     gen START COUNT events E done D failed F flows N packets P
 
 E events were dispatched, D turns were done and F failed, and N flows stand at the end, which P packets hit. Ends with the status of
-the program where that is not 0.
+the program where that is not 0. With --compare N it looks at N starts, from START on: the program's own `gen` has to print the line
+that is made here of the session that is drawn here. The status is then 1 where a line differs.
 """
 
 import argparse
@@ -86,24 +87,47 @@ def summary(report):
     return "events %s done %s failed %s flows %d packets %d" % (events, done, failed, len(flows), sum(map(int, flows)) % WORD)
 
 
+def run(program, words, text=b""):
+    """What the program writes, and its status."""
+    done = subprocess.run([program] + words, input=text, stdout=subprocess.PIPE)
+    return done.stdout.decode(), done.returncode
+
+
+def summed(program, start, count):
+    """The line of a session that is drawn here, as the program replays it; else what the program writes, and its status."""
+    report, status = run(program, ["replay"], ("---\n" + "\n".join(session(start, count)) + "\n").encode())
+    return ("gen %d %d %s\n" % (start, count, summary(report)) if status == 0 else report), status
+
+
+def compare(program, start, count, starts):
+    """Compares the program's own lines; the number of those that differ."""
+    wrong = 0
+    for at in range(start, start + starts):
+        due, own = summed(program, at % WORD, count), run(program, ["gen", str(at % WORD), str(count)])
+        if own != due:
+            wrong += 1
+            print("gen %d %d: wrote %r, status %d; due %r, status %d" % (at % WORD, count, *own, *due))
+    print("starts compared: %d, of %d rounds each, differing: %d" % (starts, count, wrong))
+    return wrong
+
+
 def main():
     parser = argparse.ArgumentParser(description=__doc__, formatter_class=argparse.RawDescriptionHelpFormatter)
     parser.add_argument("start", type=int, metavar="START")
     parser.add_argument("count", type=int, metavar="COUNT")
     parser.add_argument("program", nargs="?", metavar="PROGRAM")
+    parser.add_argument("--compare", type=int, metavar="N", help="compare the program's own lines for N starts")
     words = parser.parse_args()
     if not 0 <= words.start < WORD or not 0 <= words.count <= 100_000:
         parser.error("START is below 2^64, and COUNT at most 100,000")
-    text = "---\n" + "\n".join(session(words.start, words.count)) + "\n"
     if words.program is None:
-        sys.stdout.write(text)
+        sys.stdout.write("---\n" + "\n".join(session(words.start, words.count)) + "\n")
         return 0
-    done = subprocess.run([words.program, "replay"], input=text.encode(), stdout=subprocess.PIPE)
-    if done.returncode != 0:
-        sys.stdout.write(done.stdout.decode())
-        return done.returncode
-    print("gen %d %d %s" % (words.start, words.count, summary(done.stdout.decode())))
-    return 0
+    if words.compare is not None:
+        return 1 if compare(words.program, words.start, words.count, words.compare) else 0
+    line, status = summed(words.program, words.start, words.count)
+    sys.stdout.write(line)
+    return status
 
 
 sys.exit(main())

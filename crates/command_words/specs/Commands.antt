@@ -2,7 +2,7 @@
 use Rattle.std.specs.Prelude.{ℕ, ◌≤◌, List, [], ◌∷◌, Option, Some, None, option_map, option_and_then, codes, if◌then◌else◌}
 use Rattle.std.specs.Str.{bytes_eq}
 use Rattle.command_words.specs.declared.command.Command.{Command}
-use Rattle.command_words.specs.declared.command.Command.TheVariants.{Replay, Run}
+use Rattle.command_words.specs.declared.command.Command.TheVariants.{Replay, Run, Gen}
 use Rattle.command_words.specs.Numbers.{number}
 use Rattle.command_words.specs.Plain.{plain_words}
 
@@ -10,6 +10,7 @@ use Rattle.command_words.specs.Plain.{plain_words}
 abbrev pub IsWithin : Command → Type 0
 IsWithin Replay = Unit {0}
 IsWithin (Run port rounds) = (1 ≤ port) × (port ≤ 65535) × (1 ≤ rounds) × (rounds ≤ 1000000000)
+IsWithin (Gen start count) = count ≤ 100000
 
 -- `replay`
 abbrev pub replay_with : List (List ℕ) → Option Command
@@ -22,11 +23,18 @@ run_with (port ∷ rounds ∷ []) =
     option_and_then (λ p. option_map (λ r. Run p r) (number 1 1000000000 rounds)) (number 1 65535 port)
 run_with arguments = None
 
+-- `gen START COUNT`: the number from which a session is drawn, and how many rounds it has
+unfoldable pub gen_with : List (List ℕ) → Option Command
+gen_with (start ∷ count ∷ []) =
+    option_and_then (λ s. option_map (λ n. Gen s n) (number 0 100000 count)) (number 0 18446744073709551615 start)
+gen_with arguments = None
+
 -- the command of a name with its arguments
 unfoldable pub command_with : List ℕ → List (List ℕ) → Option Command
 command_with name arguments =
     if bytes_eq name (codes "replay") then replay_with arguments
     else if bytes_eq name (codes "run") then run_with arguments
+    else if bytes_eq name (codes "gen") then gen_with arguments
     else None
 
 -- the command that plain words name
@@ -40,4 +48,4 @@ command_in words = option_and_then command_named (plain_words words)
 
 -- what is written where the words are no command
 abbrev pub usage_line : List ℕ
-usage_line = codes "usage: legosdn replay, run PORT ROUNDS"
+usage_line = codes "usage: legosdn replay, run PORT ROUNDS, gen START COUNT"

@@ -1,10 +1,13 @@
 //! The commands of the program.
 
 ghost use Rattle.std.specs.Prelude.{◌≡◌, map, IfSome};
-ghost use Rattle.command_words.specs.Commands.{replay_with, run_with, command_with, command_named, usage_line, IsWithin};
+ghost use Rattle.command_words.specs.Commands.{replay_with, run_with, gen_with, command_with, command_named, usage_line, IsWithin};
 
 use crate::numbers::number;
 use of_types::limits::MOST_ROUNDS;
+
+/// How many rounds a session that is drawn has at most.
+const MOST_DRAWN: u64 = 100_000;
 
 /// What the program is asked to do.
 #[derive(Drop, Debug, Clone, Copy, PartialEq, Eq)]
@@ -18,10 +21,17 @@ pub enum Command {
         /// How many stimuli are taken at most, from 1 to 1,000,000,000.
         rounds: u64,
     },
+    /// Draw a session, run it, and sum up its report.
+    Gen {
+        /// The number from which it is drawn.
+        start: u64,
+        /// How many rounds it has, at most 100,000.
+        count: u32,
+    },
 }
 
 /// What is written where the words are no command.
-const USAGE: &str = "usage: legosdn replay, run PORT ROUNDS";
+const USAGE: &str = "usage: legosdn replay, run PORT ROUNDS, gen START COUNT";
 
 /// Returns the line that says which words are commands, without its end.
 pub fn usage_line() -> &'static str
@@ -56,6 +66,21 @@ fn run_with(arguments: &[&str]) -> Option<Command>
     }
 }
 
+/// Returns the command `gen START COUNT`.
+#[tactic(auto, unfolding(crate::specs::Commands::gen_with))]
+fn gen_with(arguments: &[&str]) -> Option<Command>
+    ensures value { result ≡ gen_with (map (λ a. a.now) arguments.now) }
+    ensures within { IfSome result IsWithin }
+{
+    match arguments {
+        [start, count] => Some(Command::Gen {
+            start: number(start, 0, u64::MAX)?,
+            count: number(count, 0, MOST_DRAWN)? as u32,
+        }),
+        _ => None,
+    }
+}
+
 /// Returns the command of a name with its arguments.
 #[tactic(auto, unfolding(crate::specs::Commands::command_with))]
 fn command_with(name: &str, arguments: &[&str]) -> Option<Command>
@@ -65,6 +90,7 @@ fn command_with(name: &str, arguments: &[&str]) -> Option<Command>
     match name {
         "replay" => replay_with(arguments),
         "run" => run_with(arguments),
+        "gen" => gen_with(arguments),
         _ => None,
     }
 }

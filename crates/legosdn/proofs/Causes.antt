@@ -14,7 +14,7 @@ use Rattle.event_dispatch.specs.laws.WhyLaws.{IsWhyTxn-behind}
 use Rattle.legosdn.specs.declared.stop.InputRefusal.{InputRefusal}
 use Rattle.legosdn.specs.declared.stop.Stop.{Stop}
 use Rattle.legosdn.specs.declared.stop.Stop.TheVariants.{Usage, Refused, ReadFault, WriteFault, Shut, NextFault, SwitchBroke, Diverged, EventsLeft, NoMemory}
-use Rattle.legosdn.specs.Input.{session_of}
+use Rattle.legosdn.specs.Input.{Spelling}
 use Rattle.legosdn.specs.Stops.{stop_status, stop_of_switch}
 use Rattle.legosdn.specs.Headline.{faults_of, IsNoSession, IsReadCause, IsRunCause, IsCause, IsLoaded, LoadedAt, RunsNoOther, NeverRuns}
 use Rattle.legosdn.proofs.Statuses.{not_late}
@@ -56,17 +56,17 @@ fell : (a b : Seen Scripts) → AreNew a → AreNew b → NoneFell a.counts b.co
 fell a b first second = none_fell a.counts b.counts first.zero second.zero
 
 -- why a run stopped, with what was counted before it
-run_cause : (told : Option (List ℕ)) (i j k l : ℕ) (a b c : Seen Scripts) (stop : Stop) → AreNew a → AreNew b → IsRunCause (Unit {0}) k l b c stop → IsCause (Unit {0}) IsNoSession told (faults_of i k a) (faults_of j l c) stop
-run_cause told i j k l a b c Usage first second why = absurd why
-run_cause told i j k l a b c (Refused refusal) first second why = absurd why
-run_cause told i j k l a b c ReadFault first second why = absurd why
-run_cause told i j k l a b c WriteFault first second why = why
-run_cause told i j k l a b c Shut first second why = Rose-after a.counts.shuts b.counts.shuts c.counts.shuts (fell a b first second).shuts why
-run_cause told i j k l a b c NextFault first second why = Rose-after a.counts.next_faults b.counts.next_faults c.counts.next_faults (fell a b first second).next_faults why
-run_cause told i j k l a b c (SwitchBroke d) first second why = (why.0, why.1, why_behind a b c why.0 first second why.2)
-run_cause told i j k l a b c (Diverged d) first second why = (why.0, why.1, why_behind a b c why.0 first second why.2)
-run_cause told i j k l a b c (EventsLeft left) first second why = why
-run_cause told i j k l a b c NoMemory first second why = tt
+run_cause : (spells : Spelling) (told : Option (List ℕ)) (i j k l : ℕ) (a b c : Seen Scripts) (stop : Stop) → AreNew a → AreNew b → IsRunCause (Unit {0}) k l b c stop → IsCause (Unit {0}) (IsNoSession spells) told (faults_of i k a) (faults_of j l c) stop
+run_cause spells told i j k l a b c Usage first second why = absurd why
+run_cause spells told i j k l a b c (Refused refusal) first second why = absurd why
+run_cause spells told i j k l a b c ReadFault first second why = absurd why
+run_cause spells told i j k l a b c WriteFault first second why = why
+run_cause spells told i j k l a b c Shut first second why = Rose-after a.counts.shuts b.counts.shuts c.counts.shuts (fell a b first second).shuts why
+run_cause spells told i j k l a b c NextFault first second why = Rose-after a.counts.next_faults b.counts.next_faults c.counts.next_faults (fell a b first second).next_faults why
+run_cause spells told i j k l a b c (SwitchBroke d) first second why = (why.0, why.1, why_behind a b c why.0 first second why.2)
+run_cause spells told i j k l a b c (Diverged d) first second why = (why.0, why.1, why_behind a b c why.0 first second why.2)
+run_cause spells told i j k l a b c (EventsLeft left) first second why = why
+run_cause spells told i j k l a b c NoMemory first second why = tt
 
 -- with nothing before it
 ran_cause : {Own : Type 0} (Tells : Type 0) (IsRefused : InputRefusal → List ℕ → Type 0) (told : Option (List ℕ)) (i j k l : ℕ) (a c : Seen Own) (stop : Stop) → IsRunCause Tells k l a c stop → IsCause Tells IsRefused told (faults_of i k a) (faults_of j l c) stop
@@ -130,28 +130,28 @@ pub are_new : (w : WorldData) → IsNew w → AreNew (seen_of w)
 unfolding seen_of
 are_new w new = record { zero = new.counts; untouched = new.history }
 
-pub run_causes : {T : Type 0} (told : Option (List ℕ)) (i j k l : ℕ) (a b c : Seen Scripts) (result : Result T Stop) → AreNew a → AreNew b → IfErr result (IsRunCause (Unit {0}) k l b c)
-    → IfErr result (IsCause (Unit {0}) IsNoSession told (faults_of i k a) (faults_of j l c))
-run_causes told i j k l a b c (Ok x) first second why = tt
-run_causes told i j k l a b c (Err stop) first second why = run_cause told i j k l a b c stop first second why
+pub run_causes : (spells : Spelling) {T : Type 0} (told : Option (List ℕ)) (i j k l : ℕ) (a b c : Seen Scripts) (result : Result T Stop) → AreNew a → AreNew b → IfErr result (IsRunCause (Unit {0}) k l b c)
+    → IfErr result (IsCause (Unit {0}) (IsNoSession spells) told (faults_of i k a) (faults_of j l c))
+run_causes spells told i j k l a b c (Ok x) first second why = tt
+run_causes spells told i j k l a b c (Err stop) first second why = run_cause spells told i j k l a b c stop first second why
 
 -- ---- A refused input
 
 pub no_both : {A : Type 0} (x : A) (line : List ℕ) → Ok x ≡ Err line → ⊥
 no_both x line e = absurd cc
 
-refused_or_loaded : {left : Option (List ℕ)} {seen : Seen Scripts} {bytes line : List ℕ} → IsLoaded (Some bytes) left seen → session_of bytes ≡ Err line → ⊥
-refused_or_loaded loaded e = no_both _ _ (sym loaded.1.spelled ∙ ap session_of loaded.1.whole ∙ e)
+refused_or_loaded : (spells : Spelling) {left : Option (List ℕ)} {seen : Seen Scripts} {bytes line : List ℕ} → IsLoaded spells (Some bytes) left seen → spells bytes ≡ Err line → ⊥
+refused_or_loaded spells loaded e = no_both _ _ (sym loaded.1.spelled ∙ ap spells loaded.1.whole ∙ e)
 
-none_done : (bytes : List ℕ) (left : Option (List ℕ)) (seen : Seen Scripts) (line : List ℕ) → RunsNoOther (Some bytes) left seen → session_of bytes ≡ Err line → seen.history ≡ []
-none_done bytes left seen line (inl none) e = none
-none_done bytes left seen line (inr loaded) e = absurd (refused_or_loaded loaded e)
+none_done : (spells : Spelling) (bytes : List ℕ) (left : Option (List ℕ)) (seen : Seen Scripts) (line : List ℕ) → RunsNoOther spells (Some bytes) left seen → spells bytes ≡ Err line → seen.history ≡ []
+none_done spells bytes left seen line (inl none) e = none
+none_done spells bytes left seen line (inr loaded) e = absurd (refused_or_loaded spells loaded e)
 
 -- one that spells a session is none
-pub none_refused : (told left : Option (List ℕ)) (seen : Seen Scripts) (line : List ℕ) (status : ℕ) → IsLoaded told left seen → IfSome told (λ input. session_of input ≡ Err line → NeverRuns status seen)
-none_refused None left seen line status loaded = tt
-none_refused (Some bytes) left seen line status loaded = λ e. absurd (refused_or_loaded loaded e)
+pub none_refused : (spells : Spelling) (told left : Option (List ℕ)) (seen : Seen Scripts) (line : List ℕ) (status : ℕ) → IsLoaded spells told left seen → IfSome told (λ input. spells input ≡ Err line → NeverRuns status seen)
+none_refused spells None left seen line status loaded = tt
+none_refused spells (Some bytes) left seen line status loaded = λ e. absurd (refused_or_loaded spells loaded e)
 
-pub refuses : (told left : Option (List ℕ)) (seen : Seen Scripts) (stop : Stop) (line : List ℕ) → LoadedAt stop told left seen → IfSome told (λ input. session_of input ≡ Err line → NeverRuns (stop_status stop) seen)
-refuses None left seen stop line loaded = tt
-refuses (Some bytes) left seen stop line loaded = λ e. (not_late stop (λ late. refused_or_loaded (late_loaded (Some bytes) left seen stop late loaded) e), none_done bytes left seen line (no_other (Some bytes) left seen stop loaded) e)
+pub refuses : (spells : Spelling) (told left : Option (List ℕ)) (seen : Seen Scripts) (stop : Stop) (line : List ℕ) → LoadedAt spells stop told left seen → IfSome told (λ input. spells input ≡ Err line → NeverRuns (stop_status stop) seen)
+refuses spells None left seen stop line loaded = tt
+refuses spells (Some bytes) left seen stop line loaded = λ e. (not_late stop (λ late. refused_or_loaded spells (late_loaded spells (Some bytes) left seen stop late loaded) e), none_done spells bytes left seen line (no_other spells (Some bytes) left seen stop loaded) e)

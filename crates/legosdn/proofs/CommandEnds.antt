@@ -2,7 +2,7 @@
 use Rattle.std.proofs.Common.{◌≡◌, ◌⊎◌, ℕ, List, [], ◌∷◌, Option, Some, None, Result, Ok, Err, IfErr, OnOk, IfSome, Contains, refl, sym, subst, ◌∙◌, ap, inl, inr}
 use Rattle.std.specs.Result.{IsErrAnd}
 use Rattle.command_words.specs.declared.command.Command.{Command}
-use Rattle.command_words.specs.declared.command.Command.TheVariants.{Replay, Run}
+use Rattle.command_words.specs.declared.command.Command.TheVariants.{Replay, Run, Gen}
 use Rattle.command_words.specs.Commands.{command_in}
 use Rattle.lego_io.specs.Count.{NeverFell}
 use Rattle.outside.specs.Seen.{Seen}
@@ -11,27 +11,29 @@ use Rattle.sim_world.specs.World.{WorldData, seen_of}
 use Rattle.legosdn.specs.declared.stop.InputRefusal.{InputRefusal}
 use Rattle.legosdn.specs.declared.stop.Stop.{Stop}
 use Rattle.legosdn.specs.declared.stop.Stop.TheVariants.{Usage, Refused, ReadFault, WriteFault, Shut, NextFault, SwitchBroke, Diverged, EventsLeft, NoMemory}
-use Rattle.legosdn.specs.Input.{ProgramValue, run_policy}
+use Rattle.legosdn.specs.Input.{ProgramValue, run_policy, Spelling}
 use Rattle.legosdn.specs.Stops.{stop_status, stop_line, refusal_line}
-use Rattle.legosdn.specs.Headline.{NoneFloods, Streams, streams, IsReplay, IsRun, IsNoSession, IsNoPolicy, IsReadCause, IsRunCause, IsEarly, IsLate, SpellsPolicy, OfInput, Loaded, KeepsLines, RunsAs, Wrote, NotBegun, Replays}
-use Rattle.legosdn.specs.Live.{Taken, IsTaken, TellsInOrder, ServesWhole, ServesUntil, ServesAs, ServesCut, StandsAt, TakenAs, ServesTaken, Serves}
+use Rattle.legosdn.specs.Headline.{NoneFloods, Streams, streams, IsReplay, IsRun, IsGen, IsNoSession, IsNoPolicy, IsReadCause, IsRunCause, IsEarly, IsLate, SpellsPolicy, OfInput, Loaded, KeepsLines, RunsAs, Wrote, NotBegun, Replays}
+use Rattle.legosdn.specs.Live.{Taken, IsTaken, TellsInOrder, ServesWhole, ServesUntil, ServesAs, ServesCut, TakenAs, ServesTaken, Serves}
+use Rattle.legosdn.specs.Course.{StandsAt}
 use Rattle.legosdn.proofs.Causes.{are_new, run_causes, ran_causes, unread_causes, no_both}
 use Rattle.legosdn.proofs.Loads.{loaded_as, unread_as}
 use Rattle.sim_world.specs.Building.{IsNew}
 use Rattle.run_course.specs.Parts.{TakesCourse}
-use Rattle.legosdn.proofs.Courses.{unread_course}
-use Rattle.legosdn.proofs.Runs.{by_read, stops_by_read, runs_by_read, lines_by_read, not_begun}
+use Rattle.legosdn.proofs.Runs.{untouched, by_read, stops_by_read, runs_by_read, lines_by_read, not_begun}
 use Rattle.legosdn.proofs.Statuses.{is_broken, is_diverged, is_memory, not_late, not_before}
 
 -- ---- By the command
 
-command_is : (P : Type 0) (words : List (List ℕ)) (command : Option Command) → command_in words ≡ command → (IsReplay words → P) → ((port rounds : ℕ) → IsRun words port rounds → P) → (command_in words ≡ None → P) → P
-command_is P words None is replays runs none = none is
-command_is P words (Some Replay) is replays runs none = replays is
-command_is P words (Some (Run port rounds)) is replays runs none = runs port rounds is
+command_is : (P : Type 0) (words : List (List ℕ)) (command : Option Command) → command_in words ≡ command → (IsReplay words → P) → ((start count : ℕ) → IsGen words start count → P) → ((port rounds : ℕ) → IsRun words port rounds → P)
+    → (command_in words ≡ None → P) → P
+command_is P words None is replays draws runs none = none is
+command_is P words (Some Replay) is replays draws runs none = replays is
+command_is P words (Some (Gen start count)) is replays draws runs none = draws start count is
+command_is P words (Some (Run port rounds)) is replays draws runs none = runs port rounds is
 
-pub by_command : (P : Type 0) (words : List (List ℕ)) → (IsReplay words → P) → ((port rounds : ℕ) → IsRun words port rounds → P) → (command_in words ≡ None → P) → P
-by_command P words replays runs none = command_is P words (command_in words) refl replays runs none
+pub by_command : (P : Type 0) (words : List (List ℕ)) → (IsReplay words → P) → ((start count : ℕ) → IsGen words start count → P) → ((port rounds : ℕ) → IsRun words port rounds → P) → (command_in words ≡ None → P) → P
+by_command P words replays draws runs none = command_is P words (command_in words) refl replays draws runs none
 
 -- ---- Nothing ran
 
@@ -57,19 +59,20 @@ serves_unread Tells rounds told left i j k seen contents Stays stop result is ca
   taken = taken_by_read told left result (some_err stop result is) (by_read (IsTaken told left) IsNoPolicy told i j stop result is cause);
   no_other = inr stays;
   runs = λ tells. inr (stops_by_read IsNoPolicy told i j seen contents stop result is tells.untouched cause);
-  course = λ tells. unread_course IsNoPolicy told i j seen contents stop result is cause;
+  course = λ told_all. inr refl;
   why = unread_causes Tells IsNoPolicy told i j k k seen seen stop result is cause;
   early = stays_early Stays stop result is (λ early. stays);
 }
 
-pub replays_unread : {T : Type 0} (told left : Option (List ℕ)) (i j k : ℕ) (was now : WorldData) (contents : Option (List ℕ)) (Stays : Type 0) (stop : Stop) (result : Result T Stop) → IsErrAnd result (λ s. s ≡ stop) → (seen_of now).history ≡ []
-    → IsReadCause IsNoSession told i j stop → (IsEarly stop → Stays) → Replays result (streams told contents i k) (streams left contents j k) was now Stays
-replays_unread told left i j k was now contents Stays stop result is none cause stays = record {
-  loaded = unread_as told left (seen_of now) i j stop result is none cause;
-  runs = runs_by_read told left i j now contents stop result is none cause;
+pub replays_unread : (spells : Spelling) {T : Type 0} (told left : Option (List ℕ)) (i j k : ℕ) (was now : WorldData) (contents : Option (List ℕ)) (Stays : Type 0) (stop : Stop) (result : Result T Stop) → IsErrAnd result (λ s. s ≡ stop) → (seen_of now).history ≡ []
+    → IsReadCause (IsNoSession spells) told i j stop → (IsEarly stop → Stays) → Replays spells result (streams told contents i k) (streams left contents j k) was now Stays
+replays_unread spells told left i j k was now contents Stays stop result is none cause stays = record {
+  loaded = unread_as spells told left (seen_of now) i j stop result is none cause;
+  runs = runs_by_read spells told left i j now contents stop result is none cause;
+  course = (seen_of now, none, inr refl);
   lines = ok_none (KeepsLines now) stop result is;
-  late_lines = lines_by_read (KeepsLines now) told i j stop result is cause;
-  why = unread_causes (Unit {0}) IsNoSession told i j k k (seen_of was) (seen_of now) stop result is cause;
+  late_lines = lines_by_read spells (KeepsLines now) told i j stop result is cause;
+  why = unread_causes (Unit {0}) (IsNoSession spells) told i j k k (seen_of was) (seen_of now) stop result is cause;
   early = stays_early Stays stop result is stays;
 }
 
@@ -96,13 +99,13 @@ none_early Stays Tells k l old new (Ok x) cause = tt
 none_early Stays Tells k l old new (Err stop) cause = not_early Stays Tells k l old new stop cause
 
 pub serves_taken : {Own T : Type 0} (Tells : Type 0) (rounds : ℕ) (old new : Streams) (was now : Seen Own) (Stays : Type 0) (result : Result T Stop) (program : ProgramValue) → Taken program old.remaining new.remaining
-    → (TellsInOrder Tells was now → ServesAs program rounds result now old.contents new.contents) → (Tells → TakesCourse was now old.contents (StandsAt result new.contents)) → IfErr result (IsRunCause Tells old.sink_faults new.sink_faults was now)
+    → (TellsInOrder Tells was now → ServesAs program rounds result now old.contents new.contents) → (Tells → TakesCourse program.apps was now old.contents (StandsAt result new.contents)) → IfErr result (IsRunCause Tells old.sink_faults new.sink_faults was now)
     → Serves Tells rounds result old new was now Stays
 serves_taken Tells rounds old new was now Stays result program taken runs course why = record {
   taken = taken_as old.remaining new.remaining result (program, taken);
   no_other = inl (program, taken);
   runs = λ tells. inl (program, taken, runs tells);
-  course = course;
+  course = λ told. inl (program, taken, course told);
   why = ran_causes Tells IsNoPolicy old.remaining old.source_faults new.source_faults old.sink_faults new.sink_faults was now result why;
   early = none_early Stays Tells old.sink_faults new.sink_faults was now result why;
 }
@@ -116,15 +119,16 @@ when_late P (Ok x) holds = tt
 when_late P (Err stop) holds = λ late. holds
 
 -- a session was loaded into a new world, and run
-pub replays_loaded : {T : Type 0} (old new : Streams) (was begun now : WorldData) (Stays : Type 0) (result : Result T Stop) (program : ProgramValue) → Loaded program old.remaining new.remaining (seen_of now)
-    → RunsAs program result now old.contents new.contents → KeepsLines now → IsNew was → IsNew begun → IfErr result (IsRunCause (Unit {0}) old.sink_faults new.sink_faults (seen_of begun) (seen_of now))
-    → Replays result old new was now Stays
-replays_loaded old new was begun now Stays result program loaded runs lines first second why = record {
-  loaded = loaded_as old.remaining new.remaining (seen_of now) (seen_of begun) old.sink_faults new.sink_faults result why (program, loaded);
+pub replays_loaded : (spells : Spelling) {T : Type 0} (old new : Streams) (was begun now : WorldData) (Stays : Type 0) (result : Result T Stop) (program : ProgramValue) → Loaded spells program old.remaining new.remaining (seen_of now)
+    → RunsAs program result now old.contents new.contents → TakesCourse program.apps (seen_of begun) (seen_of now) old.contents (StandsAt result new.contents) → KeepsLines now → IsNew was → IsNew begun → IfErr result (IsRunCause (Unit {0}) old.sink_faults new.sink_faults (seen_of begun) (seen_of now))
+    → Replays spells result old new was now Stays
+replays_loaded spells old new was begun now Stays result program loaded runs course lines first second why = record {
+  loaded = loaded_as spells old.remaining new.remaining (seen_of now) (seen_of begun) old.sink_faults new.sink_faults result why (program, loaded);
   runs = inl (program, loaded, runs);
+  course = (seen_of begun, untouched begun second, inl (program, loaded, course));
   lines = on_ok (KeepsLines now) result lines;
   late_lines = when_late (KeepsLines now) result lines;
-  why = run_causes old.remaining old.source_faults new.source_faults old.sink_faults new.sink_faults (seen_of was) (seen_of begun) (seen_of now) result (are_new was first) (are_new begun second) why;
+  why = run_causes spells old.remaining old.source_faults new.source_faults old.sink_faults new.sink_faults (seen_of was) (seen_of begun) (seen_of now) result (are_new was first) (are_new begun second) why;
   early = none_early Stays (Unit {0}) old.sink_faults new.sink_faults (seen_of begun) (seen_of now) result why;
 }
 

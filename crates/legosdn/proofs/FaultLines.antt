@@ -1,8 +1,8 @@
 -- Each loss of a switch in the simulated world stands at a call of its link that is to fail.
-use Rattle.std.specs.Prelude.{◌≡◌, ◌≢◌, ◌==◌, ℕ, ◌+◌, Bool, true, false, not, ◌&&◌, ◌||◌, List, [], ◌∷◌, ◌++◌, length, filter, map, Option, Some, None, Ok, IsTrue, if◌then◌else◌, refl}
+use Rattle.std.specs.Prelude.{◌≡◌, ◌==◌, ℕ, ◌+◌, Bool, true, false, not, ◌&&◌, ◌||◌, List, [], ◌∷◌, ◌++◌, map, Option, Some, None, Ok, IsTrue, if◌then◌else◌, refl}
 use Rattle.std.specs.List.{list_any}
 use Rattle.std.specs.Option.{option_map}
-use Rattle.std.proofs.Common.{sym, ap, ap₂, ◌∙◌, subst, arith, inl, inr}
+use Rattle.std.proofs.Common.{sym, ap, ◌∙◌, subst, arith, inl, inr}
 use Rattle.std.proofs.lemmas.Bool.{cases_Bool, eqb-true, eqb-false, eq-eqb, false≢true}
 use Rattle.of_types.specs.declared.journal.Act.{Act}
 use Rattle.of_types.specs.declared.journal.Act.TheVariants.{Stim, Started, Gave, Gone, Took, Ended, Sent, Got, Lost}
@@ -25,7 +25,7 @@ use Rattle.sim_world.specs.Told.{without_links}
 use Rattle.sim_world.specs.Scripts.{Scripts, KeepsScripts}
 use Rattle.sim_world.specs.World.{WorldData, AreAsTold, given_of, seen_of}
 use Rattle.sim_world.specs.Places.{IsExpected, AreExpected}
-use Rattle.legosdn.specs.Input.{ProgramValue, session_of}
+use Rattle.legosdn.specs.Input.{ProgramValue, Spelling}
 use Rattle.legosdn.specs.Headline.{IsLoaded}
 use Rattle.legosdn.specs.Live.{NoneStray}
 use Rattle.legosdn.specs.LinkFaults.{is_call_of, calls_of, LostAtFaults, LosesAsTold, TellsAsTold}
@@ -238,11 +238,11 @@ pub loses_as_told : (seen : Seen Scripts) → InOrder seen → NoneStray seen �
 loses_as_told seen order none = λ faults fails. lost_at_faults seen faults order none fails
 
 -- of the session that the input spells
-pub lost_by_lines : (program : ProgramValue) (told left : Option (List ℕ)) (seen : Seen Scripts) (input : List ℕ) (session : SessionValue) → IsLoaded told left seen → LosesAsTold seen
-    → told ≡ Some input → session_of input ≡ Ok (program, session) → LostAtFaults session.faults seen.history
+pub lost_by_lines : (spells : Spelling) (program : ProgramValue) (told left : Option (List ℕ)) (seen : Seen Scripts) (input : List ℕ) (session : SessionValue) → IsLoaded spells told left seen → LosesAsTold seen
+    → told ≡ Some input → spells input ≡ Ok (program, session) → LostAtFaults session.faults seen.history
 unfolding given_by
-lost_by_lines program told left seen input session loaded lost whole spelled =
-    lost session.faults (ap (λ (g : Given Scripts). g.fails) (given_session loaded.0 program told left seen input session loaded.1 whole spelled))
+lost_by_lines spells program told left seen input session loaded lost whole spelled =
+    lost session.faults (ap (λ (g : Given Scripts). g.fails) (given_session spells loaded.0 program told left seen input session loaded.1 whole spelled))
 
 -- where nothing was done
 pub lost_nowhere : {Own : Type 0} (faults : List (ℕ × ℕ)) (seen : Seen Own) → seen.history ≡ [] → LostAtFaults faults seen.history

@@ -16,3 +16,4 @@ mod Runs
 mod Courses
 mod CommandEnds
 mod Promises
+mod Generated

@@ -18,7 +18,7 @@ use Rattle.legosdn.specs.declared.stop.InputRefusal.TheVariants.{Session}
 use Rattle.legosdn.specs.declared.stop.Stop.{Stop}
 use Rattle.legosdn.specs.declared.stop.Stop.TheVariants.{Usage, Refused, ReadFault, WriteFault, Shut, NextFault, SwitchBroke, Diverged, EventsLeft, NoMemory}
 use Rattle.lego_model.specs.Application.{names as app_names}
-use Rattle.legosdn.specs.Input.{ProgramValue, Read, with_read, program_in, or_refused, session_lines, session_behind, session_of}
+use Rattle.legosdn.specs.Input.{ProgramValue, Read, with_read, program_in, or_refused, session_lines, session_behind, session_of, Spelling}
 use Rattle.legosdn.specs.Stops.{stop_of_session}
 use Rattle.legosdn.specs.Headline.{IsNoSession, IsReadCause, IsRunCause, IsEarly, IsLate, Loaded, IsLoaded, LoadedAt, LoadedAs, RunsNoOther}
 
@@ -45,7 +45,7 @@ spelled_behind program input policy text behind n lines c found read =
     ∙ ap (λ (r : Read ProgramValue). with_read r (λ x. or_refused x (session_lines x.apps n lines))) read
 
 pub loads : (told left : Option (List ℕ)) (seen : Seen Scripts) (program : ProgramValue) (input : List ℕ) (n : ℕ) (bytes : List ℕ) (names : List (List ℕ)) → Behind told program input n bytes names → left ≡ ended told
-    → (s : SessionValue) × (session_text names n bytes ≡ Ok s) × Begins (given_by s) seen → Loaded program told left seen
+    → (s : SessionValue) × (session_text names n bytes ≡ Ok s) × Begins (given_by s) seen → Loaded session_of program told left seen
 loads told left seen program input n bytes names behind end read = record {
   input = input;
   session = read.0;
@@ -57,97 +57,97 @@ loads told left seen program input n bytes names behind end read = record {
 
 -- ---- Why it is none
 
-told_refused : (told : Option (List ℕ)) (input : List ℕ) (refusal : InputRefusal) → IfSome told (λ left. input ≡ left) → IsNoSession refusal input → IfSome told (IsNoSession refusal)
+told_refused : (told : Option (List ℕ)) (input : List ℕ) (refusal : InputRefusal) → IfSome told (λ left. input ≡ left) → IsNoSession session_of refusal input → IfSome told (IsNoSession session_of refusal)
 told_refused None input refusal whole e = tt
-told_refused (Some left) input refusal whole e = subst (IsNoSession refusal) whole e
+told_refused (Some left) input refusal whole e = subst (IsNoSession session_of refusal) whole e
 
 -- the text behind is no session of it
 session_cause : (told : Option (List ℕ)) (old new : ℕ) (program : ProgramValue) (input : List ℕ) (n : ℕ) (bytes : List ℕ) (names : List (List ℕ)) (w v : WorldData) (error : SessionError) → Behind told program input n bytes names
-    → LoadFails error w v (session_text names n bytes) → IsReadCause IsNoSession told old new (stop_of_session error)
+    → LoadFails error w v (session_text names n bytes) → IsReadCause (IsNoSession session_of) told old new (stop_of_session error)
 session_cause told old new program input n bytes names w v text.NoMemory behind fails = tt
 session_cause told old new program input n bytes names w v (text.Bad fault) behind fails =
     told_refused told input (Session fault) behind.whole (behind.spelled ∙ ap (or_refused program) (sym (session_text-lines program names n bytes behind.named) ∙ fails.0))
 
 pub session_causes : {T : Type 0} (told : Option (List ℕ)) (old new : ℕ) (program : ProgramValue) (input : List ℕ) (n : ℕ) (bytes : List ℕ) (names : List (List ℕ)) (w v : WorldData) (error : SessionError) (result : Result T Stop)
-    → IsErrAnd result (λ stop. stop ≡ stop_of_session error) → Behind told program input n bytes names → LoadFails error w v (session_text names n bytes) → IfErr result (IsReadCause IsNoSession told old new)
+    → IsErrAnd result (λ stop. stop ≡ stop_of_session error) → Behind told program input n bytes names → LoadFails error w v (session_text names n bytes) → IfErr result (IsReadCause (IsNoSession session_of) told old new)
 session_causes told old new program input n bytes names w v error (Ok x) is behind fails = tt
 session_causes told old new program input n bytes names w v error (Err stop) is behind fails = rw is (session_cause told old new program input n bytes names w v error behind fails)
 
 -- ---- What the world was given, however a command ended
 
 -- it may have been read before what was done
-pub loaded_on : {program : ProgramValue} {told left : Option (List ℕ)} (old new : Seen Scripts) → Continues (Unit {0}) old new → Loaded program told left old → Loaded program told left new
-loaded_on old new on loaded = record { input = loaded.input; session = loaded.session; whole = loaded.whole; end = loaded.end; spelled = loaded.spelled; given = on.given ∙ loaded.given }
+pub loaded_on : (spells : Spelling) {program : ProgramValue} {told left : Option (List ℕ)} (old new : Seen Scripts) → Continues (Unit {0}) old new → Loaded spells program told left old → Loaded spells program told left new
+loaded_on spells old new on loaded = record { input = loaded.input; session = loaded.session; whole = loaded.whole; end = loaded.end; spelled = loaded.spelled; given = on.given ∙ loaded.given }
 
 -- the world was run
-loaded_at : (told left : Option (List ℕ)) (seen old : Seen Scripts) (k l : ℕ) (stop : Stop) → IsRunCause (Unit {0}) k l old seen stop → IsLoaded told left seen → LoadedAt stop told left seen
-loaded_at told left seen old k l Usage cause loaded = absurd cause
-loaded_at told left seen old k l (Refused refusal) cause loaded = absurd cause
-loaded_at told left seen old k l ReadFault cause loaded = absurd cause
-loaded_at told left seen old k l WriteFault cause loaded = loaded
-loaded_at told left seen old k l Shut cause loaded = loaded
-loaded_at told left seen old k l NextFault cause loaded = loaded
-loaded_at told left seen old k l (SwitchBroke d) cause loaded = loaded
-loaded_at told left seen old k l (Diverged d) cause loaded = loaded
-loaded_at told left seen old k l (EventsLeft n) cause loaded = loaded
-loaded_at told left seen old k l NoMemory cause loaded = inr loaded
+loaded_at : (spells : Spelling) (told left : Option (List ℕ)) (seen old : Seen Scripts) (k l : ℕ) (stop : Stop) → IsRunCause (Unit {0}) k l old seen stop → IsLoaded spells told left seen → LoadedAt spells stop told left seen
+loaded_at spells told left seen old k l Usage cause loaded = absurd cause
+loaded_at spells told left seen old k l (Refused refusal) cause loaded = absurd cause
+loaded_at spells told left seen old k l ReadFault cause loaded = absurd cause
+loaded_at spells told left seen old k l WriteFault cause loaded = loaded
+loaded_at spells told left seen old k l Shut cause loaded = loaded
+loaded_at spells told left seen old k l NextFault cause loaded = loaded
+loaded_at spells told left seen old k l (SwitchBroke d) cause loaded = loaded
+loaded_at spells told left seen old k l (Diverged d) cause loaded = loaded
+loaded_at spells told left seen old k l (EventsLeft n) cause loaded = loaded
+loaded_at spells told left seen old k l NoMemory cause loaded = inr loaded
 
-pub loaded_as : {T : Type 0} (told left : Option (List ℕ)) (seen old : Seen Scripts) (k l : ℕ) (result : Result T Stop) → IfErr result (IsRunCause (Unit {0}) k l old seen) → IsLoaded told left seen → LoadedAs result told left seen
-loaded_as told left seen old k l (Ok x) cause loaded = loaded
-loaded_as told left seen old k l (Err stop) cause loaded = loaded_at told left seen old k l stop cause loaded
+pub loaded_as : (spells : Spelling) {T : Type 0} (told left : Option (List ℕ)) (seen old : Seen Scripts) (k l : ℕ) (result : Result T Stop) → IfErr result (IsRunCause (Unit {0}) k l old seen) → IsLoaded spells told left seen → LoadedAs spells result told left seen
+loaded_as spells told left seen old k l (Ok x) cause loaded = loaded
+loaded_as spells told left seen old k l (Err stop) cause loaded = loaded_at spells told left seen old k l stop cause loaded
 
 -- the input was not read
-unread_at : (told left : Option (List ℕ)) (seen : Seen Scripts) (k l : ℕ) (stop : Stop) → seen.history ≡ [] → IsReadCause IsNoSession told k l stop → LoadedAt stop told left seen
-unread_at told left seen k l Usage none cause = absurd cause
-unread_at told left seen k l (Refused refusal) none cause = none
-unread_at told left seen k l ReadFault none cause = none
-unread_at told left seen k l WriteFault none cause = absurd cause
-unread_at told left seen k l Shut none cause = absurd cause
-unread_at told left seen k l NextFault none cause = absurd cause
-unread_at told left seen k l (SwitchBroke d) none cause = absurd cause
-unread_at told left seen k l (Diverged d) none cause = absurd cause
-unread_at told left seen k l (EventsLeft n) none cause = absurd cause
-unread_at told left seen k l NoMemory none cause = inl none
+unread_at : (spells : Spelling) (told left : Option (List ℕ)) (seen : Seen Scripts) (k l : ℕ) (stop : Stop) → seen.history ≡ [] → IsReadCause (IsNoSession spells) told k l stop → LoadedAt spells stop told left seen
+unread_at spells told left seen k l Usage none cause = absurd cause
+unread_at spells told left seen k l (Refused refusal) none cause = none
+unread_at spells told left seen k l ReadFault none cause = none
+unread_at spells told left seen k l WriteFault none cause = absurd cause
+unread_at spells told left seen k l Shut none cause = absurd cause
+unread_at spells told left seen k l NextFault none cause = absurd cause
+unread_at spells told left seen k l (SwitchBroke d) none cause = absurd cause
+unread_at spells told left seen k l (Diverged d) none cause = absurd cause
+unread_at spells told left seen k l (EventsLeft n) none cause = absurd cause
+unread_at spells told left seen k l NoMemory none cause = inl none
 
-pub unread_as : {T : Type 0} (told left : Option (List ℕ)) (seen : Seen Scripts) (k l : ℕ) (stop : Stop) (result : Result T Stop) → IsErrAnd result (λ s. s ≡ stop) → seen.history ≡ [] → IsReadCause IsNoSession told k l stop → LoadedAs result told left seen
-unread_as told left seen k l stop (Ok x) is none cause = absurd is
-unread_as told left seen k l stop (Err s) is none cause = subst (λ (t : Stop). LoadedAt t told left seen) (sym is) (unread_at told left seen k l stop none cause)
+pub unread_as : (spells : Spelling) {T : Type 0} (told left : Option (List ℕ)) (seen : Seen Scripts) (k l : ℕ) (stop : Stop) (result : Result T Stop) → IsErrAnd result (λ s. s ≡ stop) → seen.history ≡ [] → IsReadCause (IsNoSession spells) told k l stop → LoadedAs spells result told left seen
+unread_as spells told left seen k l stop (Ok x) is none cause = absurd is
+unread_as spells told left seen k l stop (Err s) is none cause = subst (λ (t : Stop). LoadedAt spells t told left seen) (sym is) (unread_at spells told left seen k l stop none cause)
 
 -- ---- What follows
 
-pub late_loaded : (told left : Option (List ℕ)) (seen : Seen Scripts) (stop : Stop) → IsLate stop → LoadedAt stop told left seen → IsLoaded told left seen
-late_loaded told left seen Usage late loaded = absurd late
-late_loaded told left seen (Refused refusal) late loaded = absurd late
-late_loaded told left seen ReadFault late loaded = absurd late
-late_loaded told left seen WriteFault late loaded = loaded
-late_loaded told left seen Shut late loaded = loaded
-late_loaded told left seen NextFault late loaded = loaded
-late_loaded told left seen (SwitchBroke d) late loaded = loaded
-late_loaded told left seen (Diverged d) late loaded = loaded
-late_loaded told left seen (EventsLeft n) late loaded = loaded
-late_loaded told left seen NoMemory late loaded = absurd late
+pub late_loaded : (spells : Spelling) (told left : Option (List ℕ)) (seen : Seen Scripts) (stop : Stop) → IsLate stop → LoadedAt spells stop told left seen → IsLoaded spells told left seen
+late_loaded spells told left seen Usage late loaded = absurd late
+late_loaded spells told left seen (Refused refusal) late loaded = absurd late
+late_loaded spells told left seen ReadFault late loaded = absurd late
+late_loaded spells told left seen WriteFault late loaded = loaded
+late_loaded spells told left seen Shut late loaded = loaded
+late_loaded spells told left seen NextFault late loaded = loaded
+late_loaded spells told left seen (SwitchBroke d) late loaded = loaded
+late_loaded spells told left seen (Diverged d) late loaded = loaded
+late_loaded spells told left seen (EventsLeft n) late loaded = loaded
+late_loaded spells told left seen NoMemory late loaded = absurd late
 
-pub no_other : (told left : Option (List ℕ)) (seen : Seen Scripts) (stop : Stop) → LoadedAt stop told left seen → RunsNoOther told left seen
-no_other told left seen Usage loaded = inl loaded
-no_other told left seen (Refused refusal) loaded = inl loaded
-no_other told left seen ReadFault loaded = inl loaded
-no_other told left seen WriteFault loaded = inr loaded
-no_other told left seen Shut loaded = inr loaded
-no_other told left seen NextFault loaded = inr loaded
-no_other told left seen (SwitchBroke d) loaded = inr loaded
-no_other told left seen (Diverged d) loaded = inr loaded
-no_other told left seen (EventsLeft n) loaded = inr loaded
-no_other told left seen NoMemory loaded = loaded
+pub no_other : (spells : Spelling) (told left : Option (List ℕ)) (seen : Seen Scripts) (stop : Stop) → LoadedAt spells stop told left seen → RunsNoOther spells told left seen
+no_other spells told left seen Usage loaded = inl loaded
+no_other spells told left seen (Refused refusal) loaded = inl loaded
+no_other spells told left seen ReadFault loaded = inl loaded
+no_other spells told left seen WriteFault loaded = inr loaded
+no_other spells told left seen Shut loaded = inr loaded
+no_other spells told left seen NextFault loaded = inr loaded
+no_other spells told left seen (SwitchBroke d) loaded = inr loaded
+no_other spells told left seen (Diverged d) loaded = inr loaded
+no_other spells told left seen (EventsLeft n) loaded = inr loaded
+no_other spells told left seen NoMemory loaded = loaded
 
 -- nothing was done at a stop that comes before anything runs
-pub none_done_early : (told left : Option (List ℕ)) (seen : Seen Scripts) (stop : Stop) → IsEarly stop → LoadedAt stop told left seen → seen.history ≡ []
-none_done_early told left seen Usage early loaded = loaded
-none_done_early told left seen (Refused refusal) early loaded = loaded
-none_done_early told left seen ReadFault early loaded = loaded
-none_done_early told left seen WriteFault early loaded = absurd early
-none_done_early told left seen Shut early loaded = absurd early
-none_done_early told left seen NextFault early loaded = absurd early
-none_done_early told left seen (SwitchBroke d) early loaded = absurd early
-none_done_early told left seen (Diverged d) early loaded = absurd early
-none_done_early told left seen (EventsLeft n) early loaded = absurd early
-none_done_early told left seen NoMemory early loaded = absurd early
+pub none_done_early : (spells : Spelling) (told left : Option (List ℕ)) (seen : Seen Scripts) (stop : Stop) → IsEarly stop → LoadedAt spells stop told left seen → seen.history ≡ []
+none_done_early spells told left seen Usage early loaded = loaded
+none_done_early spells told left seen (Refused refusal) early loaded = loaded
+none_done_early spells told left seen ReadFault early loaded = loaded
+none_done_early spells told left seen WriteFault early loaded = absurd early
+none_done_early spells told left seen Shut early loaded = absurd early
+none_done_early spells told left seen NextFault early loaded = absurd early
+none_done_early spells told left seen (SwitchBroke d) early loaded = absurd early
+none_done_early spells told left seen (Diverged d) early loaded = absurd early
+none_done_early spells told left seen (EventsLeft n) early loaded = absurd early
+none_done_early spells told left seen NoMemory early loaded = absurd early

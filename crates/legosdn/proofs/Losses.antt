@@ -21,7 +21,7 @@ use Rattle.lego_model.specs.History.{lost_of}
 use Rattle.lego_model.specs.SessionLines.{SessionValue}
 use Rattle.session_text.specs.Loading.{fail_of, given_by}
 use Rattle.switch_laws.specs.laws.LossLaws.{losses-nil}
-use Rattle.legosdn.specs.Input.{ProgramValue, session_of}
+use Rattle.legosdn.specs.Input.{ProgramValue, Spelling}
 use Rattle.legosdn.specs.Live.{NoneStray}
 use Rattle.legosdn.specs.Headline.{RunsNoOther}
 use Rattle.legosdn.proofs.Said.{given_session}
@@ -113,9 +113,9 @@ unfolding at_first
 none_is_lost seen order none fails = steps_lose seen.given.declared seen.history (at_first seen.given) (first_none seen.given.fails seen.given.declared fails) order.steps none
 
 -- of the session that the input spells
-pub none_lost_by : (program : ProgramValue) (told left : Option (List ℕ)) (seen : Seen Scripts) (input : List ℕ) (session : SessionValue) → RunsNoOther told left seen → (seen.given.fails ≡ [] → lost_of seen ≡ [])
-    → told ≡ Some input → session_of input ≡ Ok (program, session) → session.faults ≡ [] → lost_of seen ≡ []
+pub none_lost_by : (spells : Spelling) (program : ProgramValue) (told left : Option (List ℕ)) (seen : Seen Scripts) (input : List ℕ) (session : SessionValue) → RunsNoOther spells told left seen → (seen.given.fails ≡ [] → lost_of seen ≡ [])
+    → told ≡ Some input → spells input ≡ Ok (program, session) → session.faults ≡ [] → lost_of seen ≡ []
 unfolding given_by
-none_lost_by program told left seen input session (inl none) lost whole spelled faults = nothing_lost seen none
-none_lost_by program told left seen input session (inr loaded) lost whole spelled faults =
-    lost (ap (λ (g : Given Scripts). g.fails) (given_session loaded.0 program told left seen input session loaded.1 whole spelled) ∙ ap (map fail_of) faults)
+none_lost_by spells program told left seen input session (inl none) lost whole spelled faults = nothing_lost seen none
+none_lost_by spells program told left seen input session (inr loaded) lost whole spelled faults =
+    lost (ap (λ (g : Given Scripts). g.fails) (given_session spells loaded.0 program told left seen input session loaded.1 whole spelled) ∙ ap (map fail_of) faults)

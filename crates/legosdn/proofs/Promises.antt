@@ -13,9 +13,12 @@ use Rattle.lego_model.specs.OwnIds.{IsShortRun, OwnIdsAscend}
 use Rattle.legosdn.specs.declared.stop.InputRefusal.{InputRefusal}
 use Rattle.legosdn.specs.declared.stop.Stop.{Stop}
 use Rattle.legosdn.specs.declared.stop.Stop.TheVariants.{Usage, Refused, ReadFault, WriteFault, Shut, NextFault, SwitchBroke, Diverged, EventsLeft, NoMemory}
-use Rattle.legosdn.specs.Input.{ProgramValue, session_of, run_policy}
+use Rattle.legosdn.specs.Input.{ProgramValue, run_policy, Spelling}
 use Rattle.legosdn.specs.Stops.{stop_status, stop_line, refusal_line}
 use Rattle.legosdn.specs.Headline.{IsNoSession, IsNoPolicy, Streams, faults_at, IsCause, NoneFailed, IsEarly, SpellsSession, SpellsPolicy, IsLoaded, LosesByFaults, UpToPoint, NeverRuns, StopsAs, RunsLoaded, Wrote, Replays}
+use Rattle.crash_policy.specs.Policies.{AppValue}
+use Rattle.run_course.specs.Parts.{TakesCourse}
+use Rattle.legosdn.specs.Course.{StandsAt, CourseTo}
 use Rattle.legosdn.specs.LinkFaults.{LosesAsTold}
 use Rattle.legosdn.specs.Live.{ServesUntil, ServesTaken, Serves}
 use Rattle.legosdn.specs.Promise.{IsAnswered, HasCause, HasRun, RefusedBy, AreDialogues, AnswersMeanDone, ReplayPromise, ReportsTold, RunPromise, AtEveryStatus, LiveAtEveryStatus}
@@ -32,7 +35,7 @@ use Rattle.legosdn.proofs.CommandEnds.{of_policy, served_whole, served_of_policy
 -- ---- The last line
 
 -- what stands behind it: more was written, and no more was read
-abbrev behind : Streams → Option (List ℕ) → ℕ → Streams
+abbrev pub behind : Streams → Option (List ℕ) → ℕ → Streams
 behind mid contents faults = record mid { contents = contents; sink_faults = faults }
 
 -- A stop ended the command with this status, and its line was written behind what was written up to there. A stop that comes before anything runs has
@@ -124,66 +127,82 @@ run_dialogues : {Own : Type 0} (rounds : ℕ) (told left : Option (List ℕ)) (s
 run_dialogues rounds told left seen a b stop early (inl served) = those (of_policy (λ program. AreDialogues program seen) told left served.0 served.1) (serves_dialogues served.0 rounds stop seen a b early served.2)
 run_dialogues rounds told left seen a b stop early (inr before) = inr (nothing_done seen before.1)
 
-replay_dialogues : (told left : Option (List ℕ)) (now : WorldData) (a b : Option (List ℕ)) (stop : Stop) → (IsEarly stop → (seen_of now).history ≡ []) → RunsLoaded {T = Unit {0}} (Err stop) told left now a b → AnswersMeanDone SpellsSession told (seen_of now)
-replay_dialogues told left now a b stop early (inl ran) = those (of_session (λ program. AreDialogues program (seen_of now)) told left (seen_of now) ran.0 ran.1) (stops_dialogues ran.0 stop now a b early ran.2)
-replay_dialogues told left now a b stop early (inr before) = inr (nothing_done (seen_of now) before.1)
+replay_dialogues : (spells : Spelling) (told left : Option (List ℕ)) (now : WorldData) (a b : Option (List ℕ)) (stop : Stop) → (IsEarly stop → (seen_of now).history ≡ []) → RunsLoaded {T = Unit {0}} spells (Err stop) told left now a b → AnswersMeanDone (SpellsSession spells) told (seen_of now)
+replay_dialogues spells told left now a b stop early (inl ran) = those (of_session spells (λ program. AreDialogues program (seen_of now)) told left (seen_of now) ran.0 ran.1) (stops_dialogues ran.0 stop now a b early ran.2)
+replay_dialogues spells told left now a b stop early (inr before) = inr (nothing_done (seen_of now) before.1)
+
+-- the course up to a stop
+stops_course : {Own : Type 0} (rules : List AppValue) (stop : Stop) (status : ℕ) (old mid : Streams) (contents : Option (List ℕ)) (faults : ℕ) (was now : Seen Own) → Halts stop status old mid contents faults
+    → TakesCourse rules was now old.contents (StandsAt {T = Unit {0}} (Err stop) mid.contents) → CourseTo rules status was now old (behind mid contents faults)
+stops_course rules stop status old mid contents faults was now halts course =
+    inr (record { stop = stop; status_is = halts.status_is; before = mid.contents; faults = mid.sink_faults; never_fell = halts.never_fell; course = course; written = halts.line })
 
 -- ---- `replay`
 
-messages_of : (sim : WorldData) → BringMessages (seen_of sim).history → BringMessages sim.history
+pub messages_of : (sim : WorldData) → BringMessages (seen_of sim).history → BringMessages sim.history
 unfolding seen_of
 messages_of sim messages = messages
 
-pub replay_ok : (old new : Streams) (was now : WorldData) (Stays : Type 0) → Replays {T = Unit {0}} (Ok tt) old new was now Stays → ReplayPromise 0 old new was now
-replay_ok old new was now Stays ends =
-    let ran = ran_whole old.remaining new.remaining now old.contents new.contents ends.runs in
+pub replay_ok : (spells : Spelling) (old new : Streams) (was now : WorldData) (Stays : Type 0) → Replays {T = Unit {0}} spells (Ok tt) old new was now Stays → ReplayPromise spells 0 old new was now
+replay_ok spells old new was now Stays ends =
+    let ran = ran_whole spells old.remaining new.remaining now old.contents new.contents ends.runs in
     record {
       failed_turn_leaves_nothing_behind = record {
-        whole_run = λ zero. whole_of_input old.remaining new.remaining now old.contents new.contents ends.runs;
+        whole_run = λ zero. whole_of_input spells old.remaining new.remaining now old.contents new.contents ends.runs;
         events_left = λ ten. absurd (omega (arith, ten));
       };
-      report_is_exact = λ program session is zero. reports program old.remaining new.remaining (seen_of now) old.contents new.contents is.input session ran is.whole is.spelled;
-      answer_means_that_it_is_done = inl (of_session (λ program. AreDialogues program (seen_of now)) old.remaining new.remaining (seen_of now) ran.0 ran.1 ran.2.alike.at_once);
+      report_is_exact = λ program session is zero. reports spells program old.remaining new.remaining (seen_of now) old.contents new.contents is.input session ran is.whole is.spelled;
+      answer_means_that_it_is_done = inl (of_session spells (λ program. AreDialogues program (seen_of now)) old.remaining new.remaining (seen_of now) ran.0 ran.1 ran.2.alike.at_once);
       stop_has_its_cause = record { status_has_cause = inl refl; run_until_fault = λ within. absurd (grind (arith, within)) };
       good_input_is_answered = λ program session is none. (0, omega arith, refl);
       statuses = record {
         input_refused = λ three. absurd (omega (arith, three));
-        refused_input_never_runs = λ line. none_refused old.remaining new.remaining (seen_of now) line 0 ends.loaded;
+        refused_input_never_runs = λ line. none_refused spells old.remaining new.remaining (seen_of now) line 0 ends.loaded;
         input_loaded = λ has_run. ends.loaded;
         application_keeps_script = λ has_run. ends.lines;
         breaks_only_on_bad_bytes = λ quiet eight. absurd (omega (arith, eight));
         diverges_only_on_bad_bytes = λ nine. absurd (omega (arith, nine));
       };
+      takes_its_course =
+          let course = ends.course in
+          (course.0, course.1, those (λ c. of_session spells (λ program. CourseTo program.apps 0 course.0 (seen_of now) old new) old.remaining new.remaining (seen_of now) c.0 c.1 (inl (refl, c.2))) course.2);
     }
 
-pub replay_err : (old mid : Streams) (contents : Option (List ℕ)) (faults : ℕ) (was now : WorldData) (Stays : Type 0) (stop : Stop) (status : ℕ) → Halts stop status old mid contents faults → Replays {T = Unit {0}} (Err stop) old mid was now Stays
-    → ReplayPromise status old (behind mid contents faults) was now
-replay_err old mid contents faults was now Stays stop status halts ends = record {
+pub replay_err : (spells : Spelling) (old mid : Streams) (contents : Option (List ℕ)) (faults : ℕ) (was now : WorldData) (Stays : Type 0) (stop : Stop) (status : ℕ) → Halts stop status old mid contents faults → Replays {T = Unit {0}} spells (Err stop) old mid was now Stays
+    → ReplayPromise spells status old (behind mid contents faults) was now
+replay_err spells old mid contents faults was now Stays stop status halts ends = record {
   failed_turn_leaves_nothing_behind = record {
     whole_run = λ zero. absurd (not_zero stop (sym halts.status_is ∙ zero));
     events_left = λ ten.
-        left_of_input mid.remaining now stop old.contents mid.contents contents old.sink_faults mid.sink_faults faults old.remaining (faults_at old (seen_of was)) (faults_at mid (seen_of now)) (sym halts.status_is ∙ ten) halts.never_fell ends.runs ends.why halts.line;
+        left_of_input spells mid.remaining now stop old.contents mid.contents contents old.sink_faults mid.sink_faults faults old.remaining (faults_at old (seen_of was)) (faults_at mid (seen_of now)) (sym halts.status_is ∙ ten) halts.never_fell ends.runs ends.why halts.line;
   };
   report_is_exact = λ program session is zero. absurd (not_zero stop (sym halts.status_is ∙ zero));
-  answer_means_that_it_is_done = replay_dialogues old.remaining mid.remaining now old.contents mid.contents stop (λ early. none_done_early old.remaining mid.remaining (seen_of now) stop early ends.loaded) ends.runs;
+  answer_means_that_it_is_done = replay_dialogues spells old.remaining mid.remaining now old.contents mid.contents stop (λ early. none_done_early spells old.remaining mid.remaining (seen_of now) stop early ends.loaded) ends.runs;
   stop_has_its_cause = record {
-    status_has_cause = has_cause (Unit {0}) IsNoSession stop status old mid contents faults (seen_of was) (seen_of now) halts ends.why;
+    status_has_cause = has_cause (Unit {0}) (IsNoSession spells) stop status old mid contents faults (seen_of was) (seen_of now) halts ends.why;
     run_until_fault = λ within.
-        cut_or_not_begun old.remaining mid.remaining status now stop old.contents mid.contents contents old.sink_faults mid.sink_faults faults halts.status_is
+        cut_or_not_begun spells old.remaining mid.remaining status now stop old.contents mid.contents contents old.sink_faults mid.sink_faults faults halts.status_is
         (fault_or_left stop (subst (λ (s : ℕ). Contains (5 ∷ 6 ∷ 8 ∷ 9 ∷ 12 ∷ []) s) halts.status_is within)) halts.never_fell ends.runs halts.line;
   };
   good_input_is_answered = λ program session is none.
-      answers (Unit {0}) IsNoSession stop status old mid contents faults (seen_of was) (seen_of now) halts ends.why (good_session old.remaining is.input program session is.whole is.spelled)
-      (λ eight. broke_as old.remaining mid.remaining now stop old.contents mid.contents ends.runs none.no_flood eight (messages_of now none.messages))
-      (λ nine. diverged_as old.remaining mid.remaining now stop old.contents mid.contents ends.runs nine (messages_of now none.messages)) none.none_failed;
+      answers (Unit {0}) (IsNoSession spells) stop status old mid contents faults (seen_of was) (seen_of now) halts ends.why (good_session spells old.remaining is.input program session is.whole is.spelled)
+      (λ eight. broke_as spells old.remaining mid.remaining now stop old.contents mid.contents ends.runs none.no_flood eight (messages_of now none.messages))
+      (λ nine. diverged_as spells old.remaining mid.remaining now stop old.contents mid.contents ends.runs nine (messages_of now none.messages)) none.none_failed;
   statuses = record {
-    input_refused = refused_by (Unit {0}) IsNoSession stop status old mid contents faults (seen_of was) (seen_of now) halts ends.why;
-    refused_input_never_runs = λ line. subst (λ (s : ℕ). IfSome old.remaining (λ input. session_of input ≡ Err line → NeverRuns s (seen_of now))) (sym halts.status_is) (refuses old.remaining mid.remaining (seen_of now) stop line ends.loaded);
-    input_loaded = λ has_run. late_loaded old.remaining mid.remaining (seen_of now) stop (is_late stop (subst HasRun halts.status_is has_run)) ends.loaded;
+    input_refused = refused_by (Unit {0}) (IsNoSession spells) stop status old mid contents faults (seen_of was) (seen_of now) halts ends.why;
+    refused_input_never_runs = λ line. subst (λ (s : ℕ). IfSome old.remaining (λ input. spells input ≡ Err line → NeverRuns s (seen_of now))) (sym halts.status_is) (refuses spells old.remaining mid.remaining (seen_of now) stop line ends.loaded);
+    input_loaded = λ has_run. late_loaded spells old.remaining mid.remaining (seen_of now) stop (is_late stop (subst HasRun halts.status_is has_run)) ends.loaded;
     application_keeps_script = λ has_run. ends.late_lines (is_late stop (subst HasRun halts.status_is has_run));
-    breaks_only_on_bad_bytes = λ quiet eight. broke_as old.remaining mid.remaining now stop old.contents mid.contents ends.runs quiet (sym halts.status_is ∙ eight);
-    diverges_only_on_bad_bytes = λ nine. diverged_as old.remaining mid.remaining now stop old.contents mid.contents ends.runs (sym halts.status_is ∙ nine);
+    breaks_only_on_bad_bytes = λ quiet eight. broke_as spells old.remaining mid.remaining now stop old.contents mid.contents ends.runs quiet (sym halts.status_is ∙ eight);
+    diverges_only_on_bad_bytes = λ nine. diverged_as spells old.remaining mid.remaining now stop old.contents mid.contents ends.runs (sym halts.status_is ∙ nine);
   };
+  takes_its_course =
+      let course = ends.course in (
+        course.0,
+        course.1,
+        those (λ c. of_session spells (λ program. CourseTo program.apps status course.0 (seen_of now) old (behind mid contents faults)) old.remaining mid.remaining (seen_of now) c.0 c.1
+            (stops_course c.0.apps stop status old mid contents faults course.0 (seen_of now) halts c.2)) course.2,
+      );
 }
 
 -- ---- `run`
@@ -204,7 +223,8 @@ run_ok Tells rounds old new was now World Sink ends = record {
     refused_policy_never_runs = λ line. none_refused_policy old.remaining new.remaining _ line ends.taken;
     policy_taken = λ has_run. ends.taken;
   };
-  kept_messages_come_first = λ told. inl (refl, ends.course told);
+  takes_its_course = λ told.
+      those (λ c. of_policy (λ program. CourseTo program.apps 0 was now old new) old.remaining new.remaining c.0 c.1 (inl (refl, c.2))) (ends.course told);
 }
 
 pub run_err : {Own : Type 0} (Tells : Type 0) (rounds : ℕ) (old mid : Streams) (contents : Option (List ℕ)) (faults : ℕ) (was now : Seen Own) (World Sink : Type 0) (stop : Stop) (status : ℕ) → Halts stop status old mid contents faults → (World → now ≡ was)
@@ -230,21 +250,14 @@ run_err {Own = Own} Tells rounds old mid contents faults was now World Sink stop
         subst (λ (s : ℕ). IfSome old.remaining (λ input. run_policy input ≡ Err line → Contains (2 ∷ 3 ∷ 4 ∷ 12 ∷ []) s × World)) (sym halts.status_is) (refuses_policy old.remaining mid.remaining stop line World Sink ends.taken ends.no_other);
     policy_taken = λ has_run. ends.taken (is_late stop (subst HasRun halts.status_is has_run));
   };
-  kept_messages_come_first = λ told. inr (record {
-    stop = stop;
-    status_is = halts.status_is;
-    before = mid.contents;
-    faults = mid.sink_faults;
-    never_fell = halts.never_fell;
-    course = ends.course told;
-    written = halts.line;
-  });
+  takes_its_course = λ told.
+      those (λ c. of_policy (λ program. CourseTo program.apps status was now old (behind mid contents faults)) old.remaining mid.remaining c.0 c.1 (stops_course c.0.apps stop status old mid contents faults was now halts c.2)) (ends.course told);
 }
 
 -- ---- At every status
 
-pub new_always : (told left : Option (List ℕ)) (sim : WorldData) → IsNew sim → AtEveryStatus told left (seen_of sim)
-new_always told left sim new = record {
+pub new_always : (spells : Spelling) (told left : Option (List ℕ)) (sim : WorldData) → IsNew sim → AtEveryStatus spells told left (seen_of sim)
+new_always spells told left sim new = record {
   no_stray_call = new_strays sim new;
   lost_at_fault_lines = λ program session is. lost_nowhere session.faults (seen_of sim) (untouched sim new);
   none_lost_without_fault = λ program session is faults. nothing_lost (seen_of sim) (untouched sim new);
@@ -253,11 +266,11 @@ new_always told left sim new = record {
   own_ids_ascend = λ short. no_ids sim new;
 }
 
-pub loaded_always : (told left : Option (List ℕ)) (seen : Seen Scripts) → IsLoaded told left seen → seen.counts.strays ≤ seen.counts.shorts → LosesByFaults seen × LosesAsTold seen → (state seen).running ≡ [] → (IsShortRun seen → OwnIdsAscend seen) → AtEveryStatus told left seen
-loaded_always told left seen loaded strays lost ended ids = record {
+pub loaded_always : (spells : Spelling) (told left : Option (List ℕ)) (seen : Seen Scripts) → IsLoaded spells told left seen → seen.counts.strays ≤ seen.counts.shorts → LosesByFaults seen × LosesAsTold seen → (state seen).running ≡ [] → (IsShortRun seen → OwnIdsAscend seen) → AtEveryStatus spells told left seen
+loaded_always spells told left seen loaded strays lost ended ids = record {
   no_stray_call = strays;
-  lost_at_fault_lines = λ program session is. lost_by_lines program told left seen is.input session loaded lost.1 is.whole is.spelled;
-  none_lost_without_fault = λ program session is faults. none_lost_by program told left seen is.input session (inr loaded) lost.0 is.whole is.spelled faults;
+  lost_at_fault_lines = λ program session is. lost_by_lines spells program told left seen is.input session loaded lost.1 is.whole is.spelled;
+  none_lost_without_fault = λ program session is faults. none_lost_by spells program told left seen is.input session (inr loaded) lost.0 is.whole is.spelled faults;
   no_other_session = inr loaded;
   every_application_ended = ended;
   own_ids_ascend = ids;

@@ -16,7 +16,7 @@ use Rattle.legosdn.specs.Headline.{IsNoSession, IsNoPolicy, IsReadCause}
 abbrev pub RefusesLong : (InputRefusal → List ℕ → Type 0) → Type 0
 RefusesLong IsRefused = (input : List ℕ) → most_input < length input → IsRefused Size input
 
-pub no_session_long : RefusesLong IsNoSession
+pub no_session_long : RefusesLong (IsNoSession session_of)
 unfolding session_of
 no_session_long input long = rw (lt-ltb most_input (length input) long) refl
 

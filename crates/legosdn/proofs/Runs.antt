@@ -26,7 +26,7 @@ use Rattle.session_text.specs.Loading.{given_by}
 use Rattle.legosdn.specs.declared.stop.InputRefusal.{InputRefusal}
 use Rattle.legosdn.specs.declared.stop.Stop.{Stop}
 use Rattle.legosdn.specs.declared.stop.Stop.TheVariants.{Usage, Refused, ReadFault, WriteFault, Shut, NextFault, SwitchBroke, Diverged, EventsLeft, NoMemory}
-use Rattle.legosdn.specs.Input.{ProgramValue, session_of}
+use Rattle.legosdn.specs.Input.{ProgramValue, Spelling}
 use Rattle.legosdn.specs.Said.{allowed_by}
 use Rattle.legosdn.specs.Stops.{stop_status, stop_line, refusal_line}
 use Rattle.legosdn.specs.Headline.{Faults, IsNoSession, IsReadCause, IsCause, NoneFailed, IsEarly, IsLate, SpellsSession, OfInput, Loaded, KeepsLines, Wrote, RunsWhole, RunsPart, NoneFloods, SomeRefused, StopsAs, RunsAs, StopsBefore, RunsLoaded, LeftAs, CutShort, NotBegun}
@@ -130,33 +130,33 @@ still_few old new continues few = subst (λ g. length g.stimuli ≤ 1000000) (sy
 
 -- ---- The run of the applications that were loaded
 
-told_spelled : (told : Option (List ℕ)) (program : ProgramValue) (input : List ℕ) (session : SessionValue) → IfSome told (λ bytes. input ≡ bytes) → session_of input ≡ Ok (program, session) → IfSome told (λ bytes. SpellsSession bytes program)
-told_spelled None program input session whole spelled = tt
-told_spelled (Some bytes) program input session whole spelled = (session, subst (λ (b : List ℕ). session_of b ≡ Ok (program, session)) whole spelled)
+told_spelled : (spells : Spelling) (told : Option (List ℕ)) (program : ProgramValue) (input : List ℕ) (session : SessionValue) → IfSome told (λ bytes. input ≡ bytes) → spells input ≡ Ok (program, session) → IfSome told (λ bytes. SpellsSession spells bytes program)
+told_spelled spells None program input session whole spelled = tt
+told_spelled spells (Some bytes) program input session whole spelled = (session, subst (λ (b : List ℕ). spells b ≡ Ok (program, session)) whole spelled)
 
 -- it is that which the input spells
-pub of_session : (P : ProgramValue → Type 0) (told left : Option (List ℕ)) (seen : Seen Scripts) (program : ProgramValue) → Loaded program told left seen → P program → OfInput SpellsSession told P
-of_session P told left seen program loaded holds = record {
+pub of_session : (spells : Spelling) (P : ProgramValue → Type 0) (told left : Option (List ℕ)) (seen : Seen Scripts) (program : ProgramValue) → Loaded spells program told left seen → P program → OfInput (SpellsSession spells) told P
+of_session spells P told left seen program loaded holds = record {
   program = program;
-  spelled = told_spelled told program loaded.input loaded.session loaded.whole loaded.spelled;
+  spelled = told_spelled spells told program loaded.input loaded.session loaded.whole loaded.spelled;
   holds = holds;
 }
 
 -- a run that came to its end was one of such applications,
-pub ran_whole : (told left : Option (List ℕ)) (sim : WorldData) (a b : Option (List ℕ)) → RunsLoaded {T = Unit {0}} (Ok tt) told left sim a b → (program : ProgramValue) × Loaded program told left (seen_of sim) × RunsWhole program (seen_of sim) a b
-ran_whole told left sim a b (inl ran) = ran
-ran_whole told left sim a b (inr before) = absurd before
+pub ran_whole : (spells : Spelling) (told left : Option (List ℕ)) (sim : WorldData) (a b : Option (List ℕ)) → RunsLoaded {T = Unit {0}} spells (Ok tt) told left sim a b → (program : ProgramValue) × Loaded spells program told left (seen_of sim) × RunsWhole program (seen_of sim) a b
+ran_whole spells told left sim a b (inl ran) = ran
+ran_whole spells told left sim a b (inr before) = absurd before
 
-pub whole_of_input : (told left : Option (List ℕ)) (sim : WorldData) (a b : Option (List ℕ)) → RunsLoaded {T = Unit {0}} (Ok tt) told left sim a b → OfInput SpellsSession told (λ program. RunsWhole program (seen_of sim) a b)
-whole_of_input told left sim a b runs = let ran = ran_whole told left sim a b runs in of_session (λ program. RunsWhole program (seen_of sim) a b) told left (seen_of sim) ran.0 ran.1 ran.2
+pub whole_of_input : (spells : Spelling) (told left : Option (List ℕ)) (sim : WorldData) (a b : Option (List ℕ)) → RunsLoaded {T = Unit {0}} spells (Ok tt) told left sim a b → OfInput (SpellsSession spells) told (λ program. RunsWhole program (seen_of sim) a b)
+whole_of_input spells told left sim a b runs = let ran = ran_whole spells told left sim a b runs in of_session spells (λ program. RunsWhole program (seen_of sim) a b) told left (seen_of sim) ran.0 ran.1 ran.2
 
 -- and so was one that a stop ended that comes once the world runs
-abbrev RanUntil : Stop → Option (List ℕ) → Option (List ℕ) → WorldData → Option (List ℕ) → Option (List ℕ) → Type 0
-RanUntil stop told left sim a b = (program : ProgramValue) × Loaded program told left (seen_of sim) × StopsAs program stop sim a b
+abbrev RanUntil : Spelling → Stop → Option (List ℕ) → Option (List ℕ) → WorldData → Option (List ℕ) → Option (List ℕ) → Type 0
+RanUntil spells stop told left sim a b = (program : ProgramValue) × Loaded spells program told left (seen_of sim) × StopsAs program stop sim a b
 
-ran_late : (told left : Option (List ℕ)) (sim : WorldData) (a b : Option (List ℕ)) (stop : Stop) → IsLate stop → RunsLoaded {T = Unit {0}} (Err stop) told left sim a b → RanUntil stop told left sim a b
-ran_late told left sim a b stop late (inl ran) = ran
-ran_late told left sim a b stop late (inr before) = not_before _ stop before.0 late
+ran_late : (spells : Spelling) (told left : Option (List ℕ)) (sim : WorldData) (a b : Option (List ℕ)) (stop : Stop) → IsLate stop → RunsLoaded {T = Unit {0}} spells (Err stop) told left sim a b → RanUntil spells stop told left sim a b
+ran_late spells told left sim a b stop late (inl ran) = ran
+ran_late spells told left sim a b stop late (inr before) = not_before _ stop before.0 late
 
 -- how the run went up to a stop
 cut_short : (program : ProgramValue) (status : ℕ) (sim : WorldData) (stop : Stop) (contents before now_contents : Option (List ℕ)) (faults_old faults faults_new : ℕ) → status ≡ stop_status stop → NeverFell faults_old faults → StopsAs program stop sim contents before
@@ -189,21 +189,21 @@ not_begun status seen stop contents before now_contents faults_old faults faults
 }
 
 -- at such a status it went so far, or did not begin
-pub cut_or_not_begun : (told left : Option (List ℕ)) (status : ℕ) (sim : WorldData) (stop : Stop) (contents before now_contents : Option (List ℕ)) (faults_old faults faults_new : ℕ) → status ≡ stop_status stop
-    → Contains (5 ∷ 6 ∷ 8 ∷ 9 ∷ 10 ∷ 12 ∷ []) (stop_status stop) → NeverFell faults_old faults → RunsLoaded {T = Unit {0}} (Err stop) told left sim contents before → Wrote before now_contents faults faults_new (stop_line stop)
-    → OfInput SpellsSession told (λ program. CutShort program status sim contents now_contents faults_old faults_new) ⊎ NotBegun status (seen_of sim) contents now_contents faults_old faults_new
-cut_or_not_begun told left status sim stop contents before now_contents faults_old faults faults_new is within up (inl ran) written =
-    inl (of_session (λ program. CutShort program status sim contents now_contents faults_old faults_new) told left (seen_of sim) ran.0 ran.1
+pub cut_or_not_begun : (spells : Spelling) (told left : Option (List ℕ)) (status : ℕ) (sim : WorldData) (stop : Stop) (contents before now_contents : Option (List ℕ)) (faults_old faults faults_new : ℕ) → status ≡ stop_status stop
+    → Contains (5 ∷ 6 ∷ 8 ∷ 9 ∷ 10 ∷ 12 ∷ []) (stop_status stop) → NeverFell faults_old faults → RunsLoaded {T = Unit {0}} spells (Err stop) told left sim contents before → Wrote before now_contents faults faults_new (stop_line stop)
+    → OfInput (SpellsSession spells) told (λ program. CutShort program status sim contents now_contents faults_old faults_new) ⊎ NotBegun status (seen_of sim) contents now_contents faults_old faults_new
+cut_or_not_begun spells told left status sim stop contents before now_contents faults_old faults faults_new is within up (inl ran) written =
+    inl (of_session spells (λ program. CutShort program status sim contents now_contents faults_old faults_new) told left (seen_of sim) ran.0 ran.1
     (cut_short ran.0 status sim stop contents before now_contents faults_old faults faults_new is up ran.2 written))
-cut_or_not_begun told left status sim stop contents before now_contents faults_old faults faults_new is within up (inr before_all) written =
+cut_or_not_begun spells told left status sim stop contents before now_contents faults_old faults faults_new is within up (inr before_all) written =
     inr (not_begun status (seen_of sim) stop contents before now_contents faults_old faults faults_new is (is_memory stop before_all.0 within) up before_all.1 before_all.2 written)
 
 -- where events are left, the last line tells how many
-left_as : (program : ProgramValue) (sim : WorldData) (left : ℕ) (stop : Stop) (contents before now_contents : Option (List ℕ)) (faults_old faults faults_new : ℕ) (told : Option (List ℕ)) (old new : Faults Scripts) → stop ≡ EventsLeft left → NeverFell faults_old faults
-    → StopsAs program stop sim contents before → IsCause (Unit {0}) IsNoSession told old new stop → Wrote before now_contents faults faults_new (stop_line stop) → LeftAs program sim contents now_contents faults_old faults_new
-left_as program sim left stop contents before now_contents faults_old faults faults_new told old new is up runs cause written = record {
+left_as : (spells : Spelling) (program : ProgramValue) (sim : WorldData) (left : ℕ) (stop : Stop) (contents before now_contents : Option (List ℕ)) (faults_old faults faults_new : ℕ) (told : Option (List ℕ)) (old new : Faults Scripts) → stop ≡ EventsLeft left → NeverFell faults_old faults
+    → StopsAs program stop sim contents before → IsCause (Unit {0}) (IsNoSession spells) told old new stop → Wrote before now_contents faults faults_new (stop_line stop) → LeftAs program sim contents now_contents faults_old faults_new
+left_as spells program sim left stop contents before now_contents faults_old faults faults_new told old new is up runs cause written = record {
   left = left;
-  some = subst (IsCause (Unit {0}) IsNoSession told old new) is cause;
+  some = subst (IsCause (Unit {0}) (IsNoSession spells) told old new) is cause;
   before = before;
   faults = faults;
   never_fell = up;
@@ -214,14 +214,14 @@ left_as program sim left stop contents before now_contents faults_old faults fau
 late_at : (stop other : Stop) → stop ≡ other → IsLate other → IsLate stop
 late_at stop other is late = subst IsLate (sym is) late
 
-pub left_of_input : (rest : Option (List ℕ)) (sim : WorldData) (stop : Stop) (contents before now_contents : Option (List ℕ)) (faults_old faults faults_new : ℕ) (told : Option (List ℕ)) (old new : Faults Scripts) → stop_status stop ≡ 10 → NeverFell faults_old faults
-    → RunsLoaded {T = Unit {0}} (Err stop) told rest sim contents before → IsCause (Unit {0}) IsNoSession told old new stop → Wrote before now_contents faults faults_new (stop_line stop)
-    → OfInput SpellsSession told (λ program. LeftAs program sim contents now_contents faults_old faults_new)
-left_of_input rest sim stop contents before now_contents faults_old faults faults_new told old new ten up runs cause written =
+pub left_of_input : (spells : Spelling) (rest : Option (List ℕ)) (sim : WorldData) (stop : Stop) (contents before now_contents : Option (List ℕ)) (faults_old faults faults_new : ℕ) (told : Option (List ℕ)) (old new : Faults Scripts) → stop_status stop ≡ 10 → NeverFell faults_old faults
+    → RunsLoaded {T = Unit {0}} spells (Err stop) told rest sim contents before → IsCause (Unit {0}) (IsNoSession spells) told old new stop → Wrote before now_contents faults faults_new (stop_line stop)
+    → OfInput (SpellsSession spells) told (λ program. LeftAs program sim contents now_contents faults_old faults_new)
+left_of_input spells rest sim stop contents before now_contents faults_old faults faults_new told old new ten up runs cause written =
     let last = is_left stop ten in
-    let ran = ran_late told rest sim contents before stop (late_at stop (EventsLeft last.0) last.1 tt) runs in
-    of_session (λ program. LeftAs program sim contents now_contents faults_old faults_new) told rest (seen_of sim) ran.0 ran.1
-    (left_as ran.0 sim last.0 stop contents before now_contents faults_old faults faults_new told old new last.1 up ran.2 cause written)
+    let ran = ran_late spells told rest sim contents before stop (late_at stop (EventsLeft last.0) last.1 tt) runs in
+    of_session spells (λ program. LeftAs program sim contents now_contents faults_old faults_new) told rest (seen_of sim) ran.0 ran.1
+    (left_as spells ran.0 sim last.0 stop contents before now_contents faults_old faults faults_new told old new last.1 up ran.2 cause written)
 
 -- where an input is not read, nothing was done
 pub read_before : (IsRefused : InputRefusal → List ℕ → Type 0) (told : Option (List ℕ)) (k l : ℕ) (stop : Stop) → IsReadCause IsRefused told k l stop → IsEarly stop ⊎ (stop ≡ NoMemory)
@@ -242,9 +242,9 @@ stops_by_read IsRefused told k l seen contents stop (Ok x) is none cause = absur
 stops_by_read IsRefused told k l seen contents stop (Err s) is none cause =
     subst (λ (t : Stop). (IsEarly t ⊎ (t ≡ NoMemory)) × (seen.history ≡ []) × (contents ≡ contents)) (sym is) (read_before IsRefused told k l stop cause, none, refl)
 
-pub runs_by_read : {T : Type 0} (told left : Option (List ℕ)) (k l : ℕ) (sim : WorldData) (contents : Option (List ℕ)) (stop : Stop) (result : Result T Stop) → IsErrAnd result (λ s. s ≡ stop) → (seen_of sim).history ≡ [] → IsReadCause IsNoSession told k l stop
-    → RunsLoaded result told left sim contents contents
-runs_by_read told left k l sim contents stop result is none cause = inr (stops_by_read IsNoSession told k l (seen_of sim) contents stop result is none cause)
+pub runs_by_read : (spells : Spelling) {T : Type 0} (told left : Option (List ℕ)) (k l : ℕ) (sim : WorldData) (contents : Option (List ℕ)) (stop : Stop) (result : Result T Stop) → IsErrAnd result (λ s. s ≡ stop) → (seen_of sim).history ≡ [] → IsReadCause (IsNoSession spells) told k l stop
+    → RunsLoaded spells result told left sim contents contents
+runs_by_read spells told left k l sim contents stop result is none cause = inr (stops_by_read (IsNoSession spells) told k l (seen_of sim) contents stop result is none cause)
 
 -- and comes before anything runs
 read_not_late : (P : Type 0) (IsRefused : InputRefusal → List ℕ → Type 0) (told : Option (List ℕ)) (k l : ℕ) (stop : Stop) → IsReadCause IsRefused told k l stop → IsLate stop → P
@@ -263,20 +263,20 @@ pub by_read : {T : Type 0} (P : Type 0) (IsRefused : InputRefusal → List ℕ �
 by_read P IsRefused told k l stop (Ok x) is cause = tt
 by_read P IsRefused told k l stop (Err s) is cause = λ late. read_not_late P IsRefused told k l stop cause (subst IsLate is late)
 
-pub lines_by_read : {T : Type 0} (P : Type 0) (told : Option (List ℕ)) (k l : ℕ) (stop : Stop) (result : Result T Stop) → IsErrAnd result (λ s. s ≡ stop) → IsReadCause IsNoSession told k l stop → IfErr result (λ s. IsLate s → P)
-lines_by_read P told k l stop result is cause = by_read P IsNoSession told k l stop result is cause
+pub lines_by_read : (spells : Spelling) {T : Type 0} (P : Type 0) (told : Option (List ℕ)) (k l : ℕ) (stop : Stop) (result : Result T Stop) → IsErrAnd result (λ s. s ≡ stop) → IsReadCause (IsNoSession spells) told k l stop → IfErr result (λ s. IsLate s → P)
+lines_by_read spells P told k l stop result is cause = by_read P (IsNoSession spells) told k l stop result is cause
 
 -- what a stop of a switch says of the run
-pub broke_as : (told left : Option (List ℕ)) (sim : WorldData) (stop : Stop) (a b : Option (List ℕ)) → RunsLoaded {T = Unit {0}} (Err stop) told left sim a b → NoneFloods (seen_of sim) → stop_status stop ≡ 8 → SomeRefused sim
-broke_as told left sim stop a b runs none eight =
+pub broke_as : (spells : Spelling) (told left : Option (List ℕ)) (sim : WorldData) (stop : Stop) (a b : Option (List ℕ)) → RunsLoaded {T = Unit {0}} spells (Err stop) told left sim a b → NoneFloods (seen_of sim) → stop_status stop ≡ 8 → SomeRefused sim
+broke_as spells told left sim stop a b runs none eight =
     let is = is_broken stop eight in
-    let ran = ran_late told left sim a b stop (late_at stop (SwitchBroke is.0) is.1 tt) runs in
+    let ran = ran_late spells told left sim a b stop (late_at stop (SwitchBroke is.0) is.1 tt) runs in
     (subst (λ (s : Stop). StopsAs ran.0 s sim a b) is.1 ran.2).0 none
 
-pub diverged_as : (told left : Option (List ℕ)) (sim : WorldData) (stop : Stop) (a b : Option (List ℕ)) → RunsLoaded {T = Unit {0}} (Err stop) told left sim a b → stop_status stop ≡ 9 → SomeRefused sim
-diverged_as told left sim stop a b runs nine =
+pub diverged_as : (spells : Spelling) (told left : Option (List ℕ)) (sim : WorldData) (stop : Stop) (a b : Option (List ℕ)) → RunsLoaded {T = Unit {0}} spells (Err stop) told left sim a b → stop_status stop ≡ 9 → SomeRefused sim
+diverged_as spells told left sim stop a b runs nine =
     let is = is_diverged stop nine in
-    let ran = ran_late told left sim a b stop (late_at stop (Diverged is.0) is.1 tt) runs in
+    let ran = ran_late spells told left sim a b stop (late_at stop (Diverged is.0) is.1 tt) runs in
     (subst (λ (s : Stop). StopsAs ran.0 s sim a b) is.1 ran.2).0
 
 -- ---- A good input is answered
@@ -295,8 +295,8 @@ completes Tells IsRefused told old new (EventsLeft left) cause good broke diverg
 completes Tells IsRefused told old new NoMemory cause good broke diverged none = (2, omega arith, refl)
 
 -- an input that spells a session is not refused
-pub good_session : (told : Option (List ℕ)) (input : List ℕ) (program : ProgramValue) (session : SessionValue) → told ≡ Some input → session_of input ≡ Ok (program, session) → (refusal : InputRefusal) → IfSome told (IsNoSession refusal) → ⊥
-good_session told input program session whole spelled refusal cause = no_both (program, session) (refusal_line refusal) (sym spelled ∙ subst (λ (t : Option (List ℕ)). IfSome t (IsNoSession refusal)) whole cause)
+pub good_session : (spells : Spelling) (told : Option (List ℕ)) (input : List ℕ) (program : ProgramValue) (session : SessionValue) → told ≡ Some input → spells input ≡ Ok (program, session) → (refusal : InputRefusal) → IfSome told (IsNoSession spells refusal) → ⊥
+good_session spells told input program session whole spelled refusal cause = no_both (program, session) (refusal_line refusal) (sym spelled ∙ subst (λ (t : Option (List ℕ)). IfSome t (IsNoSession spells refusal)) whole cause)
 
 -- nothing was counted in a new world
 pub new_strays : (w : WorldData) → IsNew w → (seen_of w).counts.strays ≤ (seen_of w).counts.shorts

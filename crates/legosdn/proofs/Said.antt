@@ -26,7 +26,7 @@ use Rattle.lego_model.specs.Application.{names}
 use Rattle.lego_model.specs.ReferenceRun.{fresh_from, AreSaid}
 use Rattle.lego_model.specs.WholeRun.{EndsAs, EndsAlike, LeavesAs, LeavesAlike}
 use Rattle.session_text.specs.Loading.{fail_of, given_by}
-use Rattle.legosdn.specs.Input.{ProgramValue, Read, session_of}
+use Rattle.legosdn.specs.Input.{ProgramValue, Read, Spelling}
 use Rattle.legosdn.specs.Said.{allowed_by, said_by, reference_over, reference_of_session, WithEnough}
 use Rattle.legosdn.specs.Headline.{Loaded, RunsWhole}
 use Rattle.lego_model.specs.laws.JournalLaws.{acts-nil}
@@ -192,18 +192,18 @@ same_spelled : (a b : ProgramValue × SessionValue) (r : Read (ProgramValue × S
 same_spelled a b r one other = cc
 
 -- the program and the session that were loaded are those that the input spells
-loaded_is : (ran program : ProgramValue) (told left : Option (List ℕ)) (seen : Seen Scripts) (input : List ℕ) (session : SessionValue) → (loaded : Loaded ran told left seen) → told ≡ Some input → session_of input ≡ Ok (program, session)
+loaded_is : (spells : Spelling) (ran program : ProgramValue) (told left : Option (List ℕ)) (seen : Seen Scripts) (input : List ℕ) (session : SessionValue) → (loaded : Loaded spells ran told left seen) → told ≡ Some input → spells input ≡ Ok (program, session)
     → ◌≡◌ {A = ProgramValue × SessionValue} (ran, loaded.session) (program, session)
-loaded_is ran program told left seen input session loaded whole spelled =
+loaded_is spells ran program told left seen input session loaded whole spelled =
     let same : loaded.input ≡ input = subst (λ (t : Option (List ℕ)). IfSome t (λ bytes. loaded.input ≡ bytes)) whole loaded.whole in
-    same_spelled (ran, loaded.session) (program, session) (session_of input) (ap session_of (sym same) ∙ loaded.spelled) spelled
+    same_spelled (ran, loaded.session) (program, session) (spells input) (ap spells (sym same) ∙ loaded.spelled) spelled
 
-pub app_is : (ran program : ProgramValue) (told left : Option (List ℕ)) (seen : Seen Scripts) (input : List ℕ) (session : SessionValue) → Loaded ran told left seen → told ≡ Some input → session_of input ≡ Ok (program, session) → ran ≡ program
-app_is ran program told left seen input session loaded whole spelled = ap (λ (p : ProgramValue × SessionValue). p.0) (loaded_is ran program told left seen input session loaded whole spelled)
+pub app_is : (spells : Spelling) (ran program : ProgramValue) (told left : Option (List ℕ)) (seen : Seen Scripts) (input : List ℕ) (session : SessionValue) → Loaded spells ran told left seen → told ≡ Some input → spells input ≡ Ok (program, session) → ran ≡ program
+app_is spells ran program told left seen input session loaded whole spelled = ap (λ (p : ProgramValue × SessionValue). p.0) (loaded_is spells ran program told left seen input session loaded whole spelled)
 
-pub given_session : (ran program : ProgramValue) (told left : Option (List ℕ)) (seen : Seen Scripts) (input : List ℕ) (session : SessionValue) → Loaded ran told left seen → told ≡ Some input → session_of input ≡ Ok (program, session) → seen.given ≡ given_by session
-given_session ran program told left seen input session loaded whole spelled =
-    loaded.given ∙ ap (λ (p : ProgramValue × SessionValue). given_by p.1) (loaded_is ran program told left seen input session loaded whole spelled)
+pub given_session : (spells : Spelling) (ran program : ProgramValue) (told left : Option (List ℕ)) (seen : Seen Scripts) (input : List ℕ) (session : SessionValue) → Loaded spells ran told left seen → told ≡ Some input → spells input ≡ Ok (program, session) → seen.given ≡ given_by session
+given_session spells ran program told left seen input session loaded whole spelled =
+    loaded.given ∙ ap (λ (p : ProgramValue × SessionValue). given_by p.1) (loaded_is spells ran program told left seen input session loaded whole spelled)
 
 -- the whole report is that of the reference controller of the session
 session_report : (program : ProgramValue) (seen : Seen Scripts) (contents now_contents : Option (List ℕ)) (session : SessionValue) → seen.given ≡ given_by session → (runs : RunsWhole program seen contents now_contents)
@@ -215,9 +215,9 @@ session_report program seen contents now_contents session given runs =
       holds = λ more few. subst (λ (g : Given Scripts). now_contents ≡ append_known contents (run_report (names program.apps) (reference_over program more runs.alike.losses g))) given (said.holds more few).report;
     }
 
-pub reports : (program : ProgramValue) (told left : Option (List ℕ)) (seen : Seen Scripts) (contents now_contents : Option (List ℕ)) (input : List ℕ) (session : SessionValue)
-    → (other : ProgramValue) × Loaded other told left seen × RunsWhole other seen contents now_contents → told ≡ Some input → session_of input ≡ Ok (program, session)
+pub reports : (spells : Spelling) (program : ProgramValue) (told left : Option (List ℕ)) (seen : Seen Scripts) (contents now_contents : Option (List ℕ)) (input : List ℕ) (session : SessionValue)
+    → (other : ProgramValue) × Loaded spells other told left seen × RunsWhole other seen contents now_contents → told ≡ Some input → spells input ≡ Ok (program, session)
     → (runs : RunsWhole program seen contents now_contents) × WithEnough (λ more. now_contents ≡ append_known contents (run_report (names program.apps) (reference_of_session program more runs.alike.losses session)))
-reports program told left seen contents now_contents input session ran whole spelled =
-    let runs = subst (λ (other : ProgramValue). RunsWhole other seen contents now_contents) (app_is ran.0 program told left seen input session ran.1 whole spelled) ran.2 in
-    (runs, session_report program seen contents now_contents session (given_session ran.0 program told left seen input session ran.1 whole spelled) runs)
+reports spells program told left seen contents now_contents input session ran whole spelled =
+    let runs = subst (λ (other : ProgramValue). RunsWhole other seen contents now_contents) (app_is spells ran.0 program told left seen input session ran.1 whole spelled) ran.2 in
+    (runs, session_report program seen contents now_contents session (given_session spells ran.0 program told left seen input session ran.1 whole spelled) runs)

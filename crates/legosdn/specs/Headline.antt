@@ -1,9 +1,7 @@
 -- How a command ends, why, and what it wrote last: the words of both promises. All of this is our own choice.
 use Rattle.std.specs.Prelude.{◌≡◌, ◌⊎◌, ◌<◌, ◌≤◌, ℕ, false, List, [], ◌∷◌, length, Option, Some, IfSome, Result, Ok, Err, IfErr, OnOk, Contains}
-use Rattle.std.specs.Io.KnownBytes.{append_known}
 use Rattle.lego_io.specs.Count.{Rose, NeverFell}
 use Rattle.lego_io.specs.Source.{ended}
-use Rattle.lego_io.specs.Sink.{TookPart}
 use Rattle.outside.specs.declared.step.WorldStep.TheVariants.{NotOpened}
 use Rattle.outside.specs.Seen.{Seen, journal}
 use Rattle.outside.specs.InOrder.{BringMessages}
@@ -22,13 +20,15 @@ use Rattle.lego_model.specs.SessionLines.{SessionValue}
 use Rattle.session_text.specs.Loading.{given_by}
 use Rattle.crash_policy.specs.Order.{policy_of}
 use Rattle.command_words.specs.Commands.{command_in}
-use Rattle.command_words.specs.declared.command.Command.TheVariants.{Replay, Run}
+use Rattle.command_words.specs.declared.command.Command.TheVariants.{Replay, Run, Gen}
 use Rattle.legosdn.specs.declared.stop.InputRefusal.{InputRefusal}
-use Rattle.legosdn.specs.Input.{ProgramValue, program_in, session_of, run_policy}
+use Rattle.legosdn.specs.Input.{ProgramValue, Spelling, program_in, run_policy}
 use Rattle.legosdn.specs.Said.{allowed_by, reference_over, WithEnough, LinesRun, MemoryRun, WritingRun}
 use Rattle.legosdn.specs.declared.stop.Stop.{Stop}
 use Rattle.legosdn.specs.declared.stop.Stop.TheVariants.{Usage, Refused, ReadFault, WriteFault, Shut, NextFault, SwitchBroke, Diverged, EventsLeft, NoMemory}
 use Rattle.legosdn.specs.Stops.{stop_status, stop_line, refusal_line, stop_of_switch}
+pub use Rattle.legosdn.specs.Written.{Streams, streams, Wrote}
+use Rattle.legosdn.specs.Course.{CourseOf}
 
 -- the words are `replay`
 abbrev pub IsReplay : List (List ℕ) → Type 0
@@ -38,9 +38,13 @@ IsReplay words = command_in words ≡ Some Replay
 abbrev pub IsRun : List (List ℕ) → ℕ → ℕ → Type 0
 IsRun words port rounds = command_in words ≡ Some (Run port rounds)
 
--- why an input is refused: to `replay` it spells no session,
-abbrev pub IsNoSession : InputRefusal → List ℕ → Type 0
-IsNoSession refusal input = session_of input ≡ Err (refusal_line refusal)
+-- or `gen`, with a start and a count
+abbrev pub IsGen : List (List ℕ) → ℕ → ℕ → Type 0
+IsGen words start count = command_in words ≡ Some (Gen start count)
+
+-- why an input is refused: it spells no session to `replay`,
+abbrev pub IsNoSession : Spelling → InputRefusal → List ℕ → Type 0
+IsNoSession spells refusal input = spells input ≡ Err (refusal_line refusal)
 
 -- and to `run` no policy that it takes
 abbrev pub IsNoPolicy : InputRefusal → List ℕ → Type 0
@@ -54,16 +58,6 @@ pub record Faults (Own : Type 0) : Type 0 where
 
 abbrev pub faults_of : {Own : Type 0} → ℕ → ℕ → Seen Own → Faults Own
 faults_of source sink world = record { source = source; sink = sink; world = world }
-
--- What is seen of a source and a sink: what the source has still to tell, what the sink holds, and how often each failed.
-pub record Streams : Type 0 where
-  pub remaining : Option (List ℕ)
-  pub contents : Option (List ℕ)
-  pub source_faults : ℕ
-  pub sink_faults : ℕ
-
-abbrev pub streams : Option (List ℕ) → Option (List ℕ) → ℕ → ℕ → Streams
-streams remaining contents source_faults sink_faults = record { remaining = remaining; contents = contents; source_faults = source_faults; sink_faults = sink_faults }
 
 abbrev pub faults_at : {Own : Type 0} → Streams → Seen Own → Faults Own
 faults_at at seen = faults_of at.source_faults at.sink_faults seen
@@ -127,8 +121,8 @@ IsLate (EventsLeft left) = Unit {0}
 IsLate other = ⊥
 
 -- what an input spells to a command: its applications, with a session of it to `replay`
-abbrev pub SpellsSession : List ℕ → ProgramValue → Type 0
-SpellsSession input program = (session : SessionValue) × (session_of input ≡ Ok (program, session))
+abbrev pub SpellsSession : Spelling → List ℕ → ProgramValue → Type 0
+SpellsSession spells input program = (session : SessionValue) × (spells input ≡ Ok (program, session))
 
 abbrev pub SpellsPolicy : List ℕ → ProgramValue → Type 0
 SpellsPolicy input program = run_policy input ≡ Ok program
@@ -140,34 +134,34 @@ pub record OfInput (Spells : List ℕ → ProgramValue → Type 0) (told : Optio
   pub holds : P program
 
 -- The source was read to its end, what it told spells applications and a session, and the world was given that session.
-pub record Loaded (program : ProgramValue) (told left : Option (List ℕ)) (seen : Seen Scripts) : Type 0 where
+pub record Loaded (spells : Spelling) (program : ProgramValue) (told left : Option (List ℕ)) (seen : Seen Scripts) : Type 0 where
   pub input : List ℕ
   pub session : SessionValue
   pub whole : IfSome told (λ bytes. input ≡ bytes)
   pub end : left ≡ ended told
-  pub spelled : session_of input ≡ Ok (program, session)
+  pub spelled : spells input ≡ Ok (program, session)
   pub given : seen.given ≡ given_by session
 
 -- so it is for some applications
-abbrev pub IsLoaded : Option (List ℕ) → Option (List ℕ) → Seen Scripts → Type 0
-IsLoaded told left seen = (program : ProgramValue) × Loaded program told left seen
+abbrev pub IsLoaded : Spelling → Option (List ℕ) → Option (List ℕ) → Seen Scripts → Type 0
+IsLoaded spells told left seen = (program : ProgramValue) × Loaded spells program told left seen
 
 -- Nothing was done in the world, or the world was given that session.
-abbrev pub RunsNoOther : Option (List ℕ) → Option (List ℕ) → Seen Scripts → Type 0
-RunsNoOther told left seen = (seen.history ≡ []) ⊎ IsLoaded told left seen
+abbrev pub RunsNoOther : Spelling → Option (List ℕ) → Option (List ℕ) → Seen Scripts → Type 0
+RunsNoOther spells told left seen = (seen.history ≡ []) ⊎ IsLoaded spells told left seen
 
 -- So it is at each stop: nothing was done at those that come before anything runs; once the world runs, it was given that session; and memory
 -- may have been wanting before or then.
-abbrev pub LoadedAt : Stop → Option (List ℕ) → Option (List ℕ) → Seen Scripts → Type 0
-LoadedAt Usage told left seen = seen.history ≡ []
-LoadedAt (Refused refusal) told left seen = seen.history ≡ []
-LoadedAt ReadFault told left seen = seen.history ≡ []
-LoadedAt NoMemory told left seen = RunsNoOther told left seen
-LoadedAt other told left seen = IsLoaded told left seen
+abbrev pub LoadedAt : Spelling → Stop → Option (List ℕ) → Option (List ℕ) → Seen Scripts → Type 0
+LoadedAt spells Usage told left seen = seen.history ≡ []
+LoadedAt spells (Refused refusal) told left seen = seen.history ≡ []
+LoadedAt spells ReadFault told left seen = seen.history ≡ []
+LoadedAt spells NoMemory told left seen = RunsNoOther spells told left seen
+LoadedAt spells other told left seen = IsLoaded spells told left seen
 
-abbrev pub LoadedAs : {T : Type 0} → Result T Stop → Option (List ℕ) → Option (List ℕ) → Seen Scripts → Type 0
-LoadedAs (Ok x) told left seen = IsLoaded told left seen
-LoadedAs (Err stop) told left seen = LoadedAt stop told left seen
+abbrev pub LoadedAs : {T : Type 0} → Spelling → Result T Stop → Option (List ℕ) → Option (List ℕ) → Seen Scripts → Type 0
+LoadedAs spells (Ok x) told left seen = IsLoaded spells told left seen
+LoadedAs spells (Err stop) told left seen = LoadedAt spells stop told left seen
 
 -- A switch is lost only where a call of a link is to fail.
 abbrev pub LosesByFaults : {Own : Type 0} → Seen Own → Type 0
@@ -243,10 +237,6 @@ KeepsLines sim = KeepsScripts sim.scripts (without_links sim.fails) sim.history
 
 -- ---- What is written
 
--- the bytes were written, or the sink failed and a part of them was
-abbrev pub Wrote : Option (List ℕ) → Option (List ℕ) → ℕ → ℕ → List ℕ → Type 0
-Wrote old new faults_old faults_new bytes = (new ≡ append_known old bytes) ⊎ (Rose faults_old faults_new × TookPart old new bytes)
-
 -- the same behind what was written before
 pub record WroteLast (new : Option (List ℕ)) (faults_old faults_new : ℕ) (bytes : List ℕ) : Type 0 where
   pub before : Option (List ℕ)
@@ -295,13 +285,14 @@ StopsBefore (Ok x) seen contents now_contents = ⊥
 StopsBefore (Err stop) seen contents now_contents = (IsEarly stop ⊎ (stop ≡ NoMemory)) × (seen.history ≡ []) × (now_contents ≡ contents)
 
 -- how the run went of the applications that were loaded, if any were: they were, but where the stop comes before, or memory was wanting
-abbrev pub RunsLoaded : {T : Type 0} → Result T Stop → Option (List ℕ) → Option (List ℕ) → WorldData → Option (List ℕ) → Option (List ℕ) → Type 0
-RunsLoaded result told left sim contents now_contents = ((program : ProgramValue) × Loaded program told left (seen_of sim) × RunsAs program result sim contents now_contents) ⊎ StopsBefore result (seen_of sim) contents now_contents
+abbrev pub RunsLoaded : {T : Type 0} → Spelling → Result T Stop → Option (List ℕ) → Option (List ℕ) → WorldData → Option (List ℕ) → Option (List ℕ) → Type 0
+RunsLoaded spells result told left sim contents now_contents = ((program : ProgramValue) × Loaded spells program told left (seen_of sim) × RunsAs program result sim contents now_contents) ⊎ StopsBefore result (seen_of sim) contents now_contents
 
-pub record Replays {T : Type 0} (result : Result T Stop) (old new : Streams) (was now : WorldData) (Stays : Type 0) : Type 0 where
-  pub loaded : LoadedAs result old.remaining new.remaining (seen_of now)
-  pub runs : RunsLoaded result old.remaining new.remaining now old.contents new.contents
+pub record Replays {T : Type 0} (spells : Spelling) (result : Result T Stop) (old new : Streams) (was now : WorldData) (Stays : Type 0) : Type 0 where
+  pub loaded : LoadedAs spells result old.remaining new.remaining (seen_of now)
+  pub runs : RunsLoaded spells result old.remaining new.remaining now old.contents new.contents
+  pub course : (begun : Seen Scripts) × (begun.history ≡ []) × CourseOf (λ program. Loaded spells program old.remaining new.remaining (seen_of now)) result begun (seen_of now) old new
   pub lines : OnOk result (KeepsLines now)
   pub late_lines : IfErr result (λ stop. IsLate stop → KeepsLines now)
-  pub why : IfErr result (IsCause (Unit {0}) IsNoSession old.remaining (faults_at old (seen_of was)) (faults_at new (seen_of now)))
+  pub why : IfErr result (IsCause (Unit {0}) (IsNoSession spells) old.remaining (faults_at old (seen_of was)) (faults_at new (seen_of now)))
   pub early : IfErr result (λ stop. IsEarly stop → Stays)

@@ -1,4 +1,5 @@
--- What an input spells: to `replay` a policy, a line `---`, and a session; to `run` a policy alone. These text forms are our own.
+-- What an input spells: to `replay` a policy, a line `---`, and a session; to `run` a policy alone; to `gen` a session that is drawn, whatever it is.
+-- These text forms are our own.
 use Rattle.std.specs.Prelude.{ℕ, ◌+◌, ◌&&◌, Bool, true, false, List, [], ◌∷◌, ◌++◌, length, map, Option, Some, None, Result, Ok, Err, nat_lt, if◌then◌else◌, codes}
 use Rattle.std.specs.List.{list_all}
 use Rattle.crash_policy.specs.declared.policy_file.Policy.{Policy}
@@ -10,6 +11,9 @@ use Rattle.crash_policy.specs.Order.{policy_of}
 use Rattle.net_guard.specs.declared.quota.ChosenJudge.{ChosenJudge}
 use Rattle.net_guard.specs.declared.quota.ChosenJudge.TheVariants.{All, Quota, Guard}
 use Rattle.net_guard.specs.Links.{hops_of}
+use Rattle.command_words.specs.declared.command.Command.{Command}
+use Rattle.command_words.specs.declared.command.Command.TheVariants.{Gen}
+use Rattle.session_gen.specs.Sessions.{session_drawn}
 use Rattle.lego_io.specs.Lines.{cut_at_lf, without_cr, lines_of}
 use Rattle.lego_model.specs.declared.session.SessionFault.{SessionFault}
 use Rattle.lego_model.specs.Words.{is_word}
@@ -136,3 +140,24 @@ session_behind policy (Some (n, lines)) = with_read (program_in (policy_of polic
 -- the program and the session that an input spells, or the line by which it is refused
 unfoldable pub session_of : List ℕ → Read (ProgramValue × SessionValue)
 session_of input = if nat_lt most_input (length input) then Err (refusal_line Size) else session_behind (policy_text input) (behind_separator 1 (lines_of input))
+
+-- ---- `gen START COUNT`, which reads no input
+
+-- what inputs spell to a command: a program with a session of it, or the line by which they are refused
+abbrev pub Spelling : Type 0
+Spelling = List ℕ → Read (ProgramValue × SessionValue)
+
+-- the session that is drawn, with the program of an empty policy
+unfoldable pub drawn : ℕ → ℕ → Spelling
+drawn start count input = with_read (program_in (policy_of [])) (λ program. Ok (program, session_drawn start count))
+
+-- ---- By the command
+
+abbrev pub spelled_to : Option Command → Spelling
+spelled_to (Some (Gen start count)) = drawn start count
+spelled_to other = session_of
+
+-- what it reads of what the source tells
+abbrev pub read_by : Option Command → Option (List ℕ) → Option (List ℕ)
+read_by (Some (Gen start count)) told = Some []
+read_by other told = told

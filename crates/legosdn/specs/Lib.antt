@@ -1,7 +1,10 @@
 pub mod Stops
 pub mod Input
 pub mod Said
+pub mod Written
+pub mod Course
 pub mod Headline
 pub mod LinkFaults
 pub mod Live
+pub mod Drawn
 pub mod Promise

@@ -1,6 +1,5 @@
 -- What `run` promises: how it takes its policy, and how a run over any world goes, where that world tells. All of this is our own choice.
-use Rattle.std.specs.Prelude.{◌≡◌, ℕ, ◌⊎◌, List, [], ◌∷◌, length, Option, IfSome, Result, Ok, Err, IfErr}
-use Rattle.std.specs.Io.KnownBytes.{append_known}
+use Rattle.std.specs.Prelude.{◌≡◌, ℕ, ◌⊎◌, List, [], ◌∷◌, Option, IfSome, Result, Ok, Err, IfErr}
 use Rattle.lego_io.specs.Count.{NeverFell}
 use Rattle.lego_io.specs.Source.{ended}
 use Rattle.outside.specs.declared.step.WorldStep.TheVariants.{NotOpened}
@@ -11,12 +10,12 @@ use Rattle.sim_world.specs.Places.{AreExpected}
 use Rattle.lego_model.specs.WholeRun.{TookFirst, is_spent, EndsAlike, LeavesAlike}
 use Rattle.lego_model.specs.AllLines.{CutBehindLines, CutInLines, CutForMemory}
 use Rattle.lego_model.specs.CutRun.{NothingDone}
-use Rattle.run_course.specs.Parts.{Standing, WritesPart, TakesCourse}
 use Rattle.legosdn.specs.declared.stop.Stop.{Stop}
 use Rattle.legosdn.specs.declared.stop.Stop.TheVariants.{WriteFault, Shut, NextFault, SwitchBroke, Diverged, EventsLeft, NoMemory}
 use Rattle.legosdn.specs.Input.{ProgramValue, run_policy}
 use Rattle.legosdn.specs.Stops.{stop_status, stop_line}
 use Rattle.legosdn.specs.Said.{allowed_by}
+use Rattle.legosdn.specs.Course.{CourseOf}
 use Rattle.legosdn.specs.Headline.{NoneFloods, Streams, faults_at, IsNoPolicy, IsCause, IsEarly, IsLate, UpToPoint, Wrote, StopsBefore}
 
 -- ---- The policy
@@ -96,31 +95,6 @@ pub record ServesCut {Own : Type 0} (program : ProgramValue) (rounds status : �
   pub run : ServesUntil program rounds stop seen contents before
   pub written : Wrote before now_contents faults faults_new (stop_line stop)
 
--- ---- The course of a run, over any world that tells
-
--- How it stands behind its last whole part. Where all was done no event waits, and the end of the report was written; or as many events are left as
--- are said to be. Where the sink failed it took a part of what was done last. Behind any other stop nothing more was written.
-abbrev pub StandsAt : {Own T : Type 0} → Result T Stop → Option (List ℕ) → Standing Own → Type 0
-StandsAt (Ok x) written last = (last.holding.queue ≡ []) × ((text : List ℕ) × (written ≡ append_known last.written text))
-StandsAt (Err (EventsLeft left)) written last = (left ≡ length last.holding.queue) × (written ≡ last.written)
-StandsAt (Err WriteFault) written last = WritesPart last written
-StandsAt (Err stop) written last = written ≡ last.written
-
--- A stop of this status ended the run, and its line stands behind what was written up to there.
-pub record StopsCourse {Own : Type 0} (status : ℕ) (old new : Seen Own) (contents now_contents : Option (List ℕ)) (faults_old faults_new : ℕ) : Type 0 where
-  pub stop : Stop
-  pub status_is : status ≡ stop_status stop
-  pub before : Option (List ℕ)
-  pub faults : ℕ
-  pub never_fell : NeverFell faults_old faults
-  pub course : TakesCourse old new contents (StandsAt {T = Unit {0}} (Err stop) before)
-  pub written : Wrote before now_contents faults faults_new (stop_line stop)
-
--- or all was done
-abbrev pub CourseTo : {Own : Type 0} → ℕ → Seen Own → Seen Own → Option (List ℕ) → Option (List ℕ) → ℕ → ℕ → Type 0
-CourseTo status old new contents now_contents faults_old faults_new =
-    ((status ≡ 0) × TakesCourse old new contents (StandsAt {T = Unit {0}} (Ok tt) now_contents)) ⊎ StopsCourse status old new contents now_contents faults_old faults_new
-
 -- ---- Before `run` has its status: how it ends, which reads a policy to its end and then runs
 
 -- the policy was taken, wherever the world runs
@@ -136,6 +110,6 @@ pub record Serves {Own T : Type 0} (Tells : Type 0) (rounds : ℕ) (result : Res
   pub taken : TakenAs result old.remaining new.remaining
   pub no_other : IsTaken old.remaining new.remaining ⊎ Stays
   pub runs : TellsInOrder Tells was now → ServesTaken rounds result old.remaining new.remaining now old.contents new.contents
-  pub course : Tells → TakesCourse was now old.contents (StandsAt result new.contents)
+  pub course : Tells → CourseOf (λ program. Taken program old.remaining new.remaining) result was now old new
   pub why : IfErr result (IsCause Tells IsNoPolicy old.remaining (faults_at old was) (faults_at new now))
   pub early : IfErr result (λ stop. IsEarly stop → Stays)

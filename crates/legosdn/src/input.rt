@@ -31,7 +31,7 @@ pub fn read_input<S: Source>(alloc: Global, source: &mut S) -> Result<Vec<u8>, S
     ensures all { IfOk result (λ input. IfSome (S.remaining source.old) (λ left. input.items ≡ left)) }
     ensures end { OnOk result (S.remaining source.new ≡ ended (S.remaining source.old)) }
     ensures at_most { IfOk result (λ input. length input.items ≤ most_input) }
-    ensures why { IfErr result (IsReadCause IsNoSession (S.remaining source.old) (S.faults source.old) (S.faults source.new)) }
+    ensures why { IfErr result (IsReadCause (IsNoSession session_of) (S.remaining source.old) (S.faults source.old) (S.faults source.new)) }
     ensures why_no_policy { IfErr result (IsReadCause IsNoPolicy (S.remaining source.old) (S.faults source.old) (S.faults source.new)) }
     ensures never_fell { NeverFell (S.faults source.old) (S.faults source.new) }
 {

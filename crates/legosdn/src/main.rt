@@ -11,6 +11,7 @@ ghost use Rattle.std.specs.Prelude.{◌≡◌};
 ghost use Rattle.sim_world.specs.World.{given_of};
 ghost use Rattle.sim_world.specs.Building.{nothing_given, IsNew};
 
+mod drawn;
 mod explaining;
 mod input;
 mod kept_source;

@@ -13,13 +13,17 @@ ghost use Rattle.sim_world.specs.Building.{nothing_given, IsNew};
 ghost use Rattle.command_words.specs.Commands.{command_in};
 ghost use Rattle.lego_model.specs.OwnIds.{IsShortRun, OwnIdsAscend};
 ghost use Rattle.lego_model.specs.Application.{names};
-ghost use Rattle.legosdn.specs.Input.{program_of, program_value};
+ghost use Rattle.run_course.specs.Parts.{TakesCourse};
+ghost use Rattle.legosdn.specs.Course.{StandsAt};
+ghost use Rattle.legosdn.specs.Input.{program_of, program_value, session_of, spelled_to, read_by};
 ghost use Rattle.legosdn.specs.Stops.{stop_status, stop_line};
-ghost use Rattle.legosdn.specs.Headline.{IsReplay, IsRun, IsNoSession, streams, IsReadCause, IsRunCause, IsEarly, Loaded, LosesByFaults, RunsAs, KeepsLines, Wrote, Replays};
+ghost use Rattle.legosdn.specs.Headline.{IsReplay, IsRun, IsGen, IsNoSession, streams, IsReadCause, IsRunCause, IsEarly, Loaded, LosesByFaults, RunsAs, KeepsLines, Wrote, Replays};
 ghost use Rattle.legosdn.specs.Live.{Serves, IsOfNoSwitch};
+ghost use Rattle.legosdn.specs.Drawn.{Generates};
 ghost use Rattle.legosdn.specs.LinkFaults.{LosesAsTold, TellsAsTold};
-ghost use Rattle.legosdn.specs.Promise.{ReplayPromise, RunPromise, NoSwitchEnds, AtEveryStatus, LiveAtEveryStatus};
+ghost use Rattle.legosdn.specs.Promise.{ReplayPromise, GenPromise, RunPromise, NoSwitchEnds, AtEveryStatus, LiveAtEveryStatus};
 
+use crate::drawn::run_drawn;
 use crate::input::{cut, read_input};
 use crate::live::run_live;
 use crate::policy::{Program, program_in};
@@ -51,11 +55,11 @@ fn app_names(alloc: Global, apps: &[AppRule]) -> Result<Vec<String>, AllocError>
 fn load<S: Source>(alloc: Global, source: &mut S, sim: &mut SimWorld) -> Result<Program, Stop>
     requires new { IsNew sim.old }
     requires nothing { given_of sim.old ≡ nothing_given }
-    ensures loaded { IfOk result (λ program. Loaded (program_value program) (S.remaining source.old) (S.remaining source.new) (seen_of sim.new)) }
+    ensures loaded { IfOk result (λ program. Loaded session_of (program_value program) (S.remaining source.old) (S.remaining source.new) (seen_of sim.new)) }
     ensures new { IsNew sim.new }
     ensures few_apps { IfOk result (λ program. length program.apps.items ≤ 32) }
     ensures few { OnOk result (length (seen_of sim.new).given.stimuli ≤ 1000000) }
-    ensures why { IfErr result (IsReadCause IsNoSession (S.remaining source.old) (S.faults source.old) (S.faults source.new)) }
+    ensures why { IfErr result (IsReadCause (IsNoSession session_of) (S.remaining source.old) (S.faults source.old) (S.faults source.new)) }
     ensures early { IfErr result (λ stop. IsEarly stop → sim.new ≡ sim.old) }
     ensures never_fell { NeverFell (S.faults source.old) (S.faults source.new) }
 {
@@ -79,7 +83,7 @@ fn keeps_word<E: Sink + Drop>(sim: &Traced<SimWorld, E>)
 }
 
 /// Runs the applications in the simulated world to its end, and writes the report.
-fn simulate<K: Sink, E: Sink + Drop>(
+pub fn simulate<K: Sink, E: Sink + Drop>(
     alloc: Global,
     apps: &[AppRule],
     judge: &ChosenJudge,
@@ -89,6 +93,7 @@ fn simulate<K: Sink, E: Sink + Drop>(
     requires few { length apps.now ≤ 32 }
     ensures runs { (seen_of sim.old).history ≡ [] → length (seen_of sim.old).given.stimuli ≤ 1000000
         → RunsAs (program_of apps.now judge.now) result sim.new (K.contents sink.old) (K.contents sink.new) }
+    ensures course { TakesCourse (map app_value apps.now) (seen_of sim.old) (seen_of sim.new) (K.contents sink.old) (StandsAt result (K.contents sink.new)) }
     ensures lines { KeepsLines sim.new }
     ensures strays { (seen_of sim.old).history ≡ [] → (seen_of sim.new).counts.strays ≤ (seen_of sim.new).counts.shorts }
     ensures lost { (seen_of sim.old).history ≡ [] → LosesByFaults (seen_of sim.new) × LosesAsTold (seen_of sim.new) }
@@ -112,9 +117,9 @@ fn replay<S: Source, K: Sink, E: Sink + Drop>(
 ) -> Result<(), Stop>
     requires new { IsNew sim.old }
     requires nothing { given_of sim.old ≡ nothing_given }
-    ensures replays { Replays result (streams (S.remaining source.old) (K.contents sink.old) (S.faults source.old) (K.faults sink.old))
+    ensures replays { Replays session_of result (streams (S.remaining source.old) (K.contents sink.old) (S.faults source.old) (K.faults sink.old))
         (streams (S.remaining source.new) (K.contents sink.new) (S.faults source.new) (K.faults sink.new)) sim.old sim.new ((sim.new ≡ sim.old) × (sink.new ≡ sink.old)) }
-    ensures always { AtEveryStatus (S.remaining source.old) (S.remaining source.new) (seen_of sim.new) }
+    ensures always { AtEveryStatus session_of (S.remaining source.old) (S.remaining source.new) (seen_of sim.new) }
     ensures never_fell { NeverFell (K.faults sink.old) (K.faults sink.new) }
 {
     let program = load(alloc, source, sim.world_mut())?;
@@ -132,14 +137,17 @@ fn run<S: Source, K: Sink, E: Sink + Drop, W: World>(
 ) -> Result<(), Stop>
     requires new { IsNew sim.old }
     requires nothing { given_of sim.old ≡ nothing_given }
-    ensures replays { IsReplay (map string_bytes words.now) → Replays result (streams (S.remaining source.old) (K.contents sink.old) (S.faults source.old) (K.faults sink.old))
+    ensures replays { IsReplay (map string_bytes words.now) → Replays session_of result (streams (S.remaining source.old) (K.contents sink.old) (S.faults source.old) (K.faults sink.old))
         (streams (S.remaining source.new) (K.contents sink.new) (S.faults source.new) (K.faults sink.new)) sim.old sim.new ((sim.new ≡ sim.old) × (sink.new ≡ sink.old)) }
     ensures replay_leaves_live { IsReplay (map string_bytes words.now) → live.new ≡ live.old }
+    ensures generates { (start count : ℕ) → IsGen (map string_bytes words.now) start count → Generates start count result (streams (S.remaining source.old) (K.contents sink.old) (S.faults source.old) (K.faults sink.old))
+        (streams (S.remaining source.new) (K.contents sink.new) (S.faults source.new) (K.faults sink.new)) sim.old sim.new }
+    ensures gen_leaves_others { (start count : ℕ) → IsGen (map string_bytes words.now) start count → (live.new ≡ live.old) × (source.new ≡ source.old) }
     ensures serves { (port rounds : ℕ) → IsRun (map string_bytes words.now) port rounds
         → Serves W.Tells rounds result (streams (S.remaining source.old) (K.contents sink.old) (S.faults source.old) (K.faults sink.old))
         (streams (S.remaining source.new) (K.contents sink.new) (S.faults source.new) (K.faults sink.new)) (W.seen live.old) (W.seen live.new) ((live.new ≡ live.old) × (sink.new ≡ sink.old)) }
     ensures run_leaves_sim { (port rounds : ℕ) → IsRun (map string_bytes words.now) port rounds → sim.new ≡ sim.old }
-    ensures always { AtEveryStatus (S.remaining source.old) (S.remaining source.new) (seen_of sim.new) }
+    ensures always { AtEveryStatus (spelled_to (command_in (map string_bytes words.now))) (read_by (command_in (map string_bytes words.now)) (S.remaining source.old)) (read_by (command_in (map string_bytes words.now)) (S.remaining source.new)) (seen_of sim.new) }
     ensures live_always { LiveAtEveryStatus W.Tells (W.seen live.old) (W.seen live.new) }
     ensures early { IfErr result (λ stop. IsEarly stop → (sim.new ≡ sim.old) × (live.new ≡ live.old) × (sink.new ≡ sink.old)) }
     ensures usage { IfErr result (λ stop. stop ≡ Stop.Usage → command_in (map string_bytes words.now) ≡ None) }
@@ -151,6 +159,7 @@ fn run<S: Source, K: Sink, E: Sink + Drop, W: World>(
     match read_words(alloc, words)? {
         Some(Command::Replay) => replay(alloc, source, sink, sim),
         Some(Command::Run { port, rounds }) => run_live(alloc, source, sink, live, port, rounds),
+        Some(Command::Gen { start, count }) => run_drawn(alloc, start, count, sink, sim),
         None => Err(Stop::Usage),
     }
 }
@@ -169,7 +178,8 @@ pub fn halt<K: Sink>(sink: &mut K, stop: Stop) -> u8
 /// Runs one command: reads an input to its end, runs a world, and writes the report.
 ///
 /// `replay` runs the session of the input, with the applications of its policy, in the simulated world, and `run` the applications
-/// of a policy over the switches of the other world. The simulated world may tell its acts in words; contracts see it without them. The answer is the status
+/// of a policy over the switches of the other world. `gen` replays a session that it draws, and writes one line in place of the report.
+/// The simulated world may tell its acts in words; contracts see it without them. The answer is the status
 /// of the program: 0 where the whole report was written, 2 where
 /// the words are no command, 3 where the input is refused, 4 where the source failed, 5 where the sink failed, 6 where
 /// the world stays shut or fails, 8 where a switch broke, 9 where it diverged, 10 where events were left, 12 where memory
@@ -185,17 +195,20 @@ pub fn legosdn<S: Source, K: Sink, E: Sink + Drop, W: World>(
 ) -> u8
     requires new_world { IsNew sim.old }
     requires empty_world { given_of sim.old ≡ nothing_given }
-    // The five sentences of the README and what statuses say, of `replay`, and of `run` over any world. A command leaves the world of the other one.
-    ensures replay { IsReplay (map string_bytes words.now) → ReplayPromise result (streams (S.remaining source.old) (K.contents sink.old) (S.faults source.old) (K.faults sink.old))
-        (streams (S.remaining source.new) (K.contents sink.new) (S.faults source.new) (K.faults sink.new)) sim.old sim.new }
+    // The five sentences of the README and what statuses say, of `replay`, of `gen`, and of `run` over any world. A command leaves the world of the other one,
+    // and `gen` the input too.
+    ensures replay { (IsReplay (map string_bytes words.now) → ReplayPromise session_of result (streams (S.remaining source.old) (K.contents sink.old) (S.faults source.old) (K.faults sink.old))
+        (streams (S.remaining source.new) (K.contents sink.new) (S.faults source.new) (K.faults sink.new)) sim.old sim.new)
+        × ((start count : ℕ) → IsGen (map string_bytes words.now) start count → GenPromise start count result (streams (S.remaining source.old) (K.contents sink.old) (S.faults source.old) (K.faults sink.old))
+        (streams (S.remaining source.new) (K.contents sink.new) (S.faults source.new) (K.faults sink.new)) sim.old sim.new) }
     ensures run { (port rounds : ℕ) → IsRun (map string_bytes words.now) port rounds
         → RunPromise W.Tells rounds result (streams (S.remaining source.old) (K.contents sink.old) (S.faults source.old) (K.faults sink.old))
         (streams (S.remaining source.new) (K.contents sink.new) (S.faults source.new) (K.faults sink.new)) (W.seen live.old) (W.seen live.new) (live.new ≡ live.old) }
-    ensures leaves_other_world { (IsReplay (map string_bytes words.now) → live.new ≡ live.old) × ((port rounds : ℕ) → IsRun (map string_bytes words.now) port rounds → sim.new ≡ sim.old) }
+    ensures leaves_other_world { (IsReplay (map string_bytes words.now) → live.new ≡ live.old) × ((start count : ℕ) → IsGen (map string_bytes words.now) start count → (live.new ≡ live.old) × (source.new ≡ source.old)) × ((port rounds : ℕ) → IsRun (map string_bytes words.now) port rounds → sim.new ≡ sim.old) }
     // Where the switches of the other world can be parted with, none ends a `run`: statuses 8 and 9 never come.
     ensures no_switch_ends_the_run { (port rounds : ℕ) → IsRun (map string_bytes words.now) port rounds → W.CanPart → NoSwitchEnds result }
     // At every status, of each world.
-    ensures at_every_status { AtEveryStatus (S.remaining source.old) (S.remaining source.new) (seen_of sim.new) × TellsAsTold (seen_of sim.new) }
+    ensures at_every_status { AtEveryStatus (spelled_to (command_in (map string_bytes words.now))) (read_by (command_in (map string_bytes words.now)) (S.remaining source.old)) (read_by (command_in (map string_bytes words.now)) (S.remaining source.new)) (seen_of sim.new) × TellsAsTold (seen_of sim.new) }
     ensures live_at_every_status { LiveAtEveryStatus W.Tells (W.seen live.old) (W.seen live.new) }
 
     // Status 2 comes only where the words are no command. Then it is 2, or memory is wanting for them; one line is written, and nothing runs.

@@ -1,6 +1,7 @@
 //! The run of a world.
 
-ghost use Rattle.std.specs.Prelude.{◌≡◌, ◌≤◌, [], length, IfErr};
+ghost use Rattle.std.specs.Prelude.{◌≡◌, ◌≤◌, [], length, map, IfErr};
+ghost use Rattle.crash_policy.specs.Policies.{app_value};
 ghost use Rattle.lego_io.specs.Count.{NeverFell};
 ghost use Rattle.outside.specs.Seen.{Continues};
 ghost use Rattle.outside.specs.State.{state};
@@ -9,7 +10,8 @@ ghost use Rattle.lego_model.specs.OwnIds.{IsShortRun, OwnIdsAscend};
 ghost use Rattle.legosdn.specs.Input.{program_of};
 ghost use Rattle.legosdn.specs.Headline.{IsRunCause};
 ghost use Rattle.run_course.specs.Parts.{TakesCourse};
-ghost use Rattle.legosdn.specs.Live.{TellsInOrder, ServesAs, NoneStray, StandsAt, IsOfNoSwitch};
+ghost use Rattle.legosdn.specs.Course.{StandsAt};
+ghost use Rattle.legosdn.specs.Live.{TellsInOrder, ServesAs, NoneStray, IsOfNoSwitch};
 
 use crate::stop::Stop;
 use crash_policy::AppRule;
@@ -36,7 +38,7 @@ pub fn run_world<K: Sink, W: World>(
     ensures runs { TellsInOrder W.Tells (W.seen world.old) (W.seen world.new)
         → ServesAs (program_of apps.now judge.now) rounds result (W.seen world.new) (K.contents sink.old) (K.contents sink.new) }
     ensures strays { TellsInOrder W.Tells (W.seen world.old) (W.seen world.new) → NoneStray (W.seen world.new) }
-    ensures course { W.Tells → TakesCourse (W.seen world.old) (W.seen world.new) (K.contents sink.old) (StandsAt result (K.contents sink.new)) }
+    ensures course { W.Tells → TakesCourse (map app_value apps.now) (W.seen world.old) (W.seen world.new) (K.contents sink.old) (StandsAt result (K.contents sink.new)) }
     ensures why { IfErr result (IsRunCause W.Tells (K.faults sink.old) (K.faults sink.new) (W.seen world.old) (W.seen world.new)) }
     ensures continues { Continues W.Tells (W.seen world.old) (W.seen world.new) }
     ensures ended { W.Tells → (W.seen world.old).history ≡ [] → (state (W.seen world.new)).running ≡ [] }

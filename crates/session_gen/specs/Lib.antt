@@ -2,4 +2,5 @@ pub mod Draws
 pub mod Turns
 pub mod Rounds
 pub mod Sessions
+pub mod Summary
 pub mod laws

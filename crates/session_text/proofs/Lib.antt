@@ -4,3 +4,4 @@ pub mod Cuts
 pub mod LineCount
 pub mod Sound
 pub mod FixedLines
+pub mod Drawn

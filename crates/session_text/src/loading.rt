@@ -1,10 +1,11 @@
-//! A session text, read into a simulated world.
+//! A session text, and a session that is drawn, given to a simulated world.
 
-ghost use Rattle.std.specs.Prelude.{◌≡◌, ◌^◌, ◌<◌, map, string_bytes, OnOk};
+ghost use Rattle.std.specs.Prelude.{◌≡◌, ◌^◌, ◌<◌, ◌≤◌, map, string_bytes, OnOk};
 ghost use Rattle.lego_model.specs.SessionFacts.{IsSession};
 ghost use Rattle.lego_model.specs.SessionText.{session_text};
 ghost use Rattle.sim_world.specs.World.{given_of, seen_of};
 ghost use Rattle.sim_world.specs.Building.{nothing_given, IsNew, Begins};
+ghost use Rattle.session_gen.specs.Sessions.{session_drawn};
 ghost use Rattle.session_text.specs.SessionView.{view_session, view_declared};
 ghost use Rattle.session_text.specs.Loading.{given_by, with_switches, with_faults, with_starts, Loads};
 ghost use Rattle.session_text.specs.laws.LoadingLaws.{MayDeclare};
@@ -15,6 +16,7 @@ use app_frames::StartScript;
 use lego_model::Session;
 use of_types::Dpid;
 use outside::CallKind;
+use session_gen::draw_session;
 use sim_world::SimWorld;
 use std::alloc::{AllocError, Global};
 
@@ -94,4 +96,20 @@ pub fn read_session(
     let session = parse_session(alloc, text, first_line, names)?;
     give_session(sim, session)?;
     Ok(())
+}
+
+/// Gives a simulated world that was given nothing the session that a start and a count draw, with at most 100,000 rounds.
+///
+/// Want of memory may leave the world with a part of the session.
+pub fn generate(alloc: Global, start: u64, count: u32, sim: &mut SimWorld) -> Result<(), AllocError>
+    requires rounds { count ≤ 100000 }
+    requires new { IsNew sim.old }
+    requires nothing { given_of sim.old ≡ nothing_given }
+    // Nothing has happened in the world yet.
+    ensures new { IsNew sim.new }
+    // It was given the session, unless memory runs out.
+    ensures exact { OnOk result (Begins (given_by (session_drawn start count)) (seen_of sim.new)) }
+{
+    let session = draw_session(alloc, start, count)?;
+    give_session(sim, session)
 }

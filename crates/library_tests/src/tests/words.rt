@@ -9,16 +9,31 @@ const RUN: Command = Command::Run {
     rounds: 5,
 };
 
+const GEN: Command = Command::Gen { start: 7, count: 0 };
+
+/// The last numbers that are taken.
+const LAST: Command = Command::Gen {
+    start: u64::MAX,
+    count: 100_000,
+};
+
 /// Words, and the command that they are (docs/SESSION.md).
-const WORDS: [(&[&str], Option<Command>); 19] = [
+const WORDS: [(&[&str], Option<Command>); 26] = [
     (&["replay"], Some(Command::Replay)),
     (&["--", "replay"], Some(Command::Replay)),
     (&["replay", "--"], Some(Command::Replay)),
     (&["run", "6653", "5"], Some(RUN)),
     (&["run", "--", "6653", "5"], Some(RUN)),
+    (&["gen", "7", "0"], Some(GEN)),
+    (&["--", "gen", "7", "0"], Some(GEN)),
+    (&["gen", "18446744073709551615", "100000"], Some(LAST)),
     (&["replay", "x"], None),
     (&["run", "0", "5"], None),
     (&["gen", "07", "1"], None),
+    (&["gen", "18446744073709551616", "1"], None),
+    (&["gen", "7", "100001"], None),
+    (&["gen", "7"], None),
+    (&["gen", "7", "0", "0"], None),
     (&["--help"], None),
     (&["-h"], None),
     (&["run", "65536", "1"], None),
@@ -46,6 +61,6 @@ fn reads_commands_alone(rt: HostRuntime) -> Result<(), Fail> {
     for (words, command) in &WORDS {
         assert!(rt; is_read_as(rt.alloc(), words, *command)?, "{words:?}");
     }
-    assert!(rt; usage_line() == "usage: legosdn replay, run PORT ROUNDS");
+    assert!(rt; usage_line() == "usage: legosdn replay, run PORT ROUNDS, gen START COUNT");
     Ok(())
 }

@@ -1,4 +1,4 @@
-use Rattle.std.proofs.Common.{◌≡◌, ℕ, [], ◌∷◌, Contains, map, string_bytes, sym, subst, ap, ◌∙◌, arith}
+use Rattle.std.proofs.Common.{◌≡◌, ℕ, [], ◌∷◌, Some, Contains, map, string_bytes, sym, subst, ap, ◌∙◌, arith}
 use Rattle.lego_io.specs.Count.{Rose}
 use Rattle.lego_io.specs.laws.CountLaws.{Rose-before}
 use Rattle.sim_world.specs.World.{seen_of}
@@ -7,23 +7,39 @@ use Rattle.legosdn.specs.Stops.{stop_line}
 use Rattle.legosdn.proofs.CommandEnds.{by_command}
 use Rattle.legosdn.proofs.Statuses.{not_of_switch, is_early, is_usage, is_read_fault, is_write_fault, not_read, not_written}
 use Rattle.legosdn.proofs.Promises.{replay_ok, replay_err, run_ok, run_err}
+use Rattle.legosdn.proofs.Generated.{gen_ok, gen_err}
+use Rattle.legosdn.specs.Input.{session_of, drawn}
 use Rattle.legosdn.proofs.top.legosdn.Goals as goal
 
 pub returns-in-Ok-clause-replay : goal.returns-in-Ok-clause-replay
-returns-in-Ok-clause-replay g c = λ is. replay_ok _ _ c.args.sim.now c.run-ended.new.sim _ (c.in-Ok.ensures.replays is)
+returns-in-Ok-clause-replay g c = (
+  λ is. replay_ok session_of _ _ c.args.sim.now c.run-ended.new.sim _ (c.in-Ok.ensures.replays is),
+  λ start count is. gen_ok start count _ _ c.args.sim.now c.run-ended.new.sim (c.in-Ok.ensures.generates start count is),
+)
 
 pub returns-in-Err-clause-replay : goal.returns-in-Err-clause-replay
-returns-in-Err-clause-replay g c = λ is.
-    replay_err (streams (g.S.Source.remaining c.args.source.now) (g.K.Sink.contents c.args.sink.now) (g.S.Source.faults c.args.source.now) (g.K.Sink.faults c.args.sink.now))
-    (streams (g.S.Source.remaining c.run-ended.new.source) (g.K.Sink.contents c.run-ended.new.sink) (g.S.Source.faults c.run-ended.new.source) (g.K.Sink.faults c.run-ended.new.sink)) (g.K.Sink.contents c.halt.new.sink) (g.K.Sink.faults c.halt.new.sink) c.args.sim.now c.run-ended.new.sim _ c.in-Err.stop c.halt.result
-    (record {
-      status_is = c.halt.ensures.status;
-      never_fell = c.run-ended.ensures.never_fell;
-      never_fell_then = c.halt.ensures.never_fell;
-      line = c.halt.ensures.line;
-      still = λ early. let same = (c.in-Err.ensures.early early).2 in (ap g.K.Sink.contents same, ap g.K.Sink.faults same);
-    })
-    (c.in-Err.ensures.replays is)
+returns-in-Err-clause-replay g c = (
+  λ is.
+      replay_err session_of (streams (g.S.Source.remaining c.args.source.now) (g.K.Sink.contents c.args.sink.now) (g.S.Source.faults c.args.source.now) (g.K.Sink.faults c.args.sink.now))
+      (streams (g.S.Source.remaining c.run-ended.new.source) (g.K.Sink.contents c.run-ended.new.sink) (g.S.Source.faults c.run-ended.new.source) (g.K.Sink.faults c.run-ended.new.sink)) (g.K.Sink.contents c.halt.new.sink) (g.K.Sink.faults c.halt.new.sink) c.args.sim.now c.run-ended.new.sim _ c.in-Err.stop c.halt.result
+      (record {
+        status_is = c.halt.ensures.status;
+        never_fell = c.run-ended.ensures.never_fell;
+        never_fell_then = c.halt.ensures.never_fell;
+        line = c.halt.ensures.line;
+        still = λ early. let same = (c.in-Err.ensures.early early).2 in (ap g.K.Sink.contents same, ap g.K.Sink.faults same);
+      }) (c.in-Err.ensures.replays is),
+  λ start count is.
+      gen_err start count (streams (g.S.Source.remaining c.args.source.now) (g.K.Sink.contents c.args.sink.now) (g.S.Source.faults c.args.source.now) (g.K.Sink.faults c.args.sink.now))
+      (streams (g.S.Source.remaining c.run-ended.new.source) (g.K.Sink.contents c.run-ended.new.sink) (g.S.Source.faults c.run-ended.new.source) (g.K.Sink.faults c.run-ended.new.sink)) (g.K.Sink.contents c.halt.new.sink) (g.K.Sink.faults c.halt.new.sink) c.args.sim.now c.run-ended.new.sim c.in-Err.stop c.halt.result
+      (record {
+        status_is = c.halt.ensures.status;
+        never_fell = c.run-ended.ensures.never_fell;
+        never_fell_then = c.halt.ensures.never_fell;
+        line = c.halt.ensures.line;
+        still = λ early. let same = (c.in-Err.ensures.early early).2 in (ap g.K.Sink.contents same, ap g.K.Sink.faults same);
+      }) (c.in-Err.ensures.generates start count is),
+)
 
 pub returns-in-Ok-clause-run : goal.returns-in-Ok-clause-run
 returns-in-Ok-clause-run g c = λ port rounds is. run_ok g.W.World.Tells rounds _ _ (g.W.World.seen c.args.live.now) (g.W.World.seen c.run-ended.new.live) (c.run-ended.new.live ≡ c.args.live.now) (c.run-ended.new.sink ≡ c.args.sink.now) (c.in-Ok.ensures.serves port rounds is)
@@ -65,7 +81,8 @@ pub returns-in-Err-clause-source_failed : goal.returns-in-Err-clause-source_fail
 returns-in-Err-clause-source_failed g c = λ four.
     let fault = is_read_fault c.in-Err.stop (sym c.halt.ensures.status ∙ four) in
     by_command (Rose (g.S.Source.faults c.args.source.now) (g.S.Source.faults c.run-ended.new.source)) (map (λ s. string_bytes s) c.args.words.now)
-    (λ is. subst (IsCause (Unit {0}) IsNoSession (g.S.Source.remaining c.args.source.now) (faults_of (g.S.Source.faults c.args.source.now) (g.K.Sink.faults c.args.sink.now) (seen_of c.args.sim.now)) (faults_of (g.S.Source.faults c.run-ended.new.source) (g.K.Sink.faults c.run-ended.new.sink) (seen_of c.run-ended.new.sim))) fault (c.in-Err.ensures.replays is).why)
+    (λ is. subst (IsCause (Unit {0}) (IsNoSession session_of) (g.S.Source.remaining c.args.source.now) (faults_of (g.S.Source.faults c.args.source.now) (g.K.Sink.faults c.args.sink.now) (seen_of c.args.sim.now)) (faults_of (g.S.Source.faults c.run-ended.new.source) (g.K.Sink.faults c.run-ended.new.sink) (seen_of c.run-ended.new.sim))) fault (c.in-Err.ensures.replays is).why)
+    (λ start count is. subst (IsCause (Unit {0}) (IsNoSession (drawn start count)) (Some []) (faults_of (g.S.Source.faults c.args.source.now) (g.K.Sink.faults c.args.sink.now) (seen_of c.args.sim.now)) (faults_of (g.S.Source.faults c.run-ended.new.source) (g.K.Sink.faults c.run-ended.new.sink) (seen_of c.run-ended.new.sim))) fault (c.in-Err.ensures.generates start count is).why)
     (λ port rounds is. subst (IsCause g.W.World.Tells IsNoPolicy (g.S.Source.remaining c.args.source.now) (faults_of (g.S.Source.faults c.args.source.now) (g.K.Sink.faults c.args.sink.now) (g.W.World.seen c.args.live.now)) (faults_of (g.S.Source.faults c.run-ended.new.source) (g.K.Sink.faults c.run-ended.new.sink) (g.W.World.seen c.run-ended.new.live))) fault (c.in-Err.ensures.serves port rounds is).why)
     (λ none. absurd (not_read c.in-Err.stop fault (c.in-Err.ensures.no_command none).0))
 
@@ -74,7 +91,8 @@ returns-in-Err-clause-sink_failed g c = λ five.
     let fault = is_write_fault c.in-Err.stop (sym c.halt.ensures.status ∙ five) in
     Rose-before (g.K.Sink.faults c.args.sink.now) (g.K.Sink.faults c.run-ended.new.sink) (g.K.Sink.faults c.halt.new.sink) c.run-ended.ensures.never_fell
     (by_command (Rose (g.K.Sink.faults c.args.sink.now) (g.K.Sink.faults c.run-ended.new.sink)) (map (λ s. string_bytes s) c.args.words.now)
-    (λ is. subst (IsCause (Unit {0}) IsNoSession (g.S.Source.remaining c.args.source.now) (faults_of (g.S.Source.faults c.args.source.now) (g.K.Sink.faults c.args.sink.now) (seen_of c.args.sim.now)) (faults_of (g.S.Source.faults c.run-ended.new.source) (g.K.Sink.faults c.run-ended.new.sink) (seen_of c.run-ended.new.sim))) fault (c.in-Err.ensures.replays is).why)
+    (λ is. subst (IsCause (Unit {0}) (IsNoSession session_of) (g.S.Source.remaining c.args.source.now) (faults_of (g.S.Source.faults c.args.source.now) (g.K.Sink.faults c.args.sink.now) (seen_of c.args.sim.now)) (faults_of (g.S.Source.faults c.run-ended.new.source) (g.K.Sink.faults c.run-ended.new.sink) (seen_of c.run-ended.new.sim))) fault (c.in-Err.ensures.replays is).why)
+    (λ start count is. subst (IsCause (Unit {0}) (IsNoSession (drawn start count)) (Some []) (faults_of (g.S.Source.faults c.args.source.now) (g.K.Sink.faults c.args.sink.now) (seen_of c.args.sim.now)) (faults_of (g.S.Source.faults c.run-ended.new.source) (g.K.Sink.faults c.run-ended.new.sink) (seen_of c.run-ended.new.sim))) fault (c.in-Err.ensures.generates start count is).why)
     (λ port rounds is. subst (IsCause g.W.World.Tells IsNoPolicy (g.S.Source.remaining c.args.source.now) (faults_of (g.S.Source.faults c.args.source.now) (g.K.Sink.faults c.args.sink.now) (g.W.World.seen c.args.live.now)) (faults_of (g.S.Source.faults c.run-ended.new.source) (g.K.Sink.faults c.run-ended.new.sink) (g.W.World.seen c.run-ended.new.live))) fault (c.in-Err.ensures.serves port rounds is).why)
     (λ none. absurd (not_written c.in-Err.stop fault (c.in-Err.ensures.no_command none).0)))
     c.halt.ensures.never_fell

@@ -1,5 +1,5 @@
 use Rattle.std.proofs.Common.{refl, sym, subst, ◌∙◌}
-use Rattle.legosdn.specs.Input.{program_of, program_value}
+use Rattle.legosdn.specs.Input.{program_of, program_value, session_of}
 use Rattle.sim_world.specs.World.{seen_of}
 use Rattle.legosdn.specs.Headline.{streams, Loaded}
 use Rattle.legosdn.proofs.Loads.{loaded_on}
@@ -10,22 +10,22 @@ use Rattle.legosdn.proofs.top.replay.Goals as goal
 
 pub returns-in_err-program-clause-replays : goal.returns-in_err-program-clause-replays
 returns-in_err-program-clause-replays g c =
-    replays_unread (g.S.Source.remaining c.args.source.now) (g.S.Source.remaining c.load.new.source) (g.S.Source.faults c.args.source.now) (g.S.Source.faults c.load.new.source) (g.K.Sink.faults c.args.sink.now) c.args.sim.now c.load.new.sim (g.K.Sink.contents c.args.sink.now)
+    replays_unread session_of (g.S.Source.remaining c.args.source.now) (g.S.Source.remaining c.load.new.source) (g.S.Source.faults c.args.source.now) (g.S.Source.faults c.load.new.source) (g.K.Sink.faults c.args.sink.now) c.args.sim.now c.load.new.sim (g.K.Sink.contents c.args.sink.now)
     _ c.in_err-program.field-0.0 c.from_residual.result c.from_residual.ensures.1 (untouched c.load.new.sim c.load.ensures.new) c.in_err-program.ensures.why (λ early. (c.in_err-program.ensures.early early ∙ c.world_mut.ensures.value, refl))
 
 pub returns-clause-replays : goal.returns-clause-replays
 returns-clause-replays g c =
-    replays_loaded (streams (g.S.Source.remaining c.args.source.now) (g.K.Sink.contents c.args.sink.now) (g.S.Source.faults c.args.source.now) (g.K.Sink.faults c.args.sink.now))
+    replays_loaded session_of (streams (g.S.Source.remaining c.args.source.now) (g.K.Sink.contents c.args.sink.now) (g.S.Source.faults c.args.source.now) (g.K.Sink.faults c.args.sink.now))
     (streams (g.S.Source.remaining c.load.new.source) (g.K.Sink.contents c.simulate.new.sink) (g.S.Source.faults c.load.new.source) (g.K.Sink.faults c.simulate.new.sink)) c.args.sim.now c.load.new.sim c.simulate.new.sim _ c.simulate.result (program_of c.deref.result.now c.in_ok-program.program.judge)
-    (subst (λ apps. Loaded (program_of apps c.in_ok-program.program.judge) (g.S.Source.remaining c.args.source.now) (g.S.Source.remaining c.load.new.source) (seen_of c.simulate.new.sim)) (sym c.deref.ensures.value)
-    (loaded_on (seen_of c.load.new.sim) (seen_of c.simulate.new.sim) c.simulate.ensures.continues c.in_ok-program.ensures.loaded))
-    (c.simulate.ensures.runs (untouched c.load.new.sim c.in_ok-program.ensures.new) c.in_ok-program.ensures.few) c.simulate.ensures.lines c.requires.new c.in_ok-program.ensures.new c.simulate.ensures.why
+    (subst (λ apps. Loaded session_of (program_of apps c.in_ok-program.program.judge) (g.S.Source.remaining c.args.source.now) (g.S.Source.remaining c.load.new.source) (seen_of c.simulate.new.sim)) (sym c.deref.ensures.value)
+    (loaded_on session_of (seen_of c.load.new.sim) (seen_of c.simulate.new.sim) c.simulate.ensures.continues c.in_ok-program.ensures.loaded))
+    (c.simulate.ensures.runs (untouched c.load.new.sim c.in_ok-program.ensures.new) c.in_ok-program.ensures.few) c.simulate.ensures.course c.simulate.ensures.lines c.requires.new c.in_ok-program.ensures.new c.simulate.ensures.why
 
 pub returns-in_err-program-clause-always : goal.returns-in_err-program-clause-always
-returns-in_err-program-clause-always g c = new_always (g.S.Source.remaining c.args.source.now) (g.S.Source.remaining c.load.new.source) c.load.new.sim c.load.ensures.new
+returns-in_err-program-clause-always g c = new_always session_of (g.S.Source.remaining c.args.source.now) (g.S.Source.remaining c.load.new.source) c.load.new.sim c.load.ensures.new
 
 pub returns-clause-always : goal.returns-clause-always
 returns-clause-always g c =
     let none = untouched c.load.new.sim c.in_ok-program.ensures.new in
-    loaded_always (g.S.Source.remaining c.args.source.now) (g.S.Source.remaining c.load.new.source) (seen_of c.simulate.new.sim)
-    (program_value c.in_ok-program.program, loaded_on (seen_of c.load.new.sim) (seen_of c.simulate.new.sim) c.simulate.ensures.continues c.in_ok-program.ensures.loaded) (c.simulate.ensures.strays none) (c.simulate.ensures.lost none) (c.simulate.ensures.ended none) (c.simulate.ensures.ids none)
+    loaded_always session_of (g.S.Source.remaining c.args.source.now) (g.S.Source.remaining c.load.new.source) (seen_of c.simulate.new.sim)
+    (program_value c.in_ok-program.program, loaded_on session_of (seen_of c.load.new.sim) (seen_of c.simulate.new.sim) c.simulate.ensures.continues c.in_ok-program.ensures.loaded) (c.simulate.ensures.strays none) (c.simulate.ensures.lost none) (c.simulate.ensures.ended none) (c.simulate.ensures.ids none)
