@@ -1,6 +1,7 @@
 -- The keys of a table in groups of equal wildcards. All of this is our own choice.
-use Rattle.std.specs.Prelude.{◌≡◌, ℕ, ◌+◌, ◌-◌, ◌*◌, ◌<◌, ◌≤◌, List, length, slice_index_or}
+use Rattle.std.specs.Prelude.{◌≡◌, ℕ, ◌+◌, ◌-◌, ◌*◌, ◌<◌, ◌≤◌, List, [], ◌∷◌, length, map, slice_index_or, if◌then◌else◌}
 use Rattle.std.specs.Option.{option_map}
+use Rattle.of_types.specs.Membership.{is_among}
 use Rattle.of_match.specs.declared.flow_match.Match.{Match}
 use Rattle.of_match.specs.declared.key.Key.{Key}
 use Rattle.of_match.specs.Fields.{word_in}
@@ -12,6 +13,15 @@ use Rattle.flow_table.specs.Sorted.{Ascends, at_place}
 -- the wildcards of a match, the first four of its bytes (OpenFlow 1.0.0, 5.2.3 Flow Match Structures); entries with equal ones are a group
 abbrev pub wildcards : Match → ℕ
 wildcards m = word_in m.bytes 0
+
+-- how many different numbers stand in a list
+abbrev pub different : List ℕ → ℕ
+different [] = 0
+different (n ∷ ns) = if is_among n ns then different ns else different ns + 1
+
+-- how many groups the entries make
+unfoldable pub group_count : List Entry → ℕ
+group_count es = different (map (λ e. wildcards e.key.matching) es)
 
 -- Where a key stands in the order of groups: by the bytes of the match, hence by wildcards first, then by priority descending.
 unfoldable pub spot : Key → ℕ

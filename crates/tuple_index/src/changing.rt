@@ -1,6 +1,6 @@
 //! What a FLOW_MOD that is not refused does to the entries.
 
-ghost use Rattle.std.specs.Prelude.{Ok, Err, nat_lt, ◌≡◌, ◌≢◌, ◌≤◌, ◌<◌, ◌+◌, ◌-◌, ◌^◌, [], All, not, IsTrue, IfOk, OnOk, OnErr, if◌then◌else◌, map, filter, drop, length, slice_set, slice_index_or};
+ghost use Rattle.std.specs.Prelude.{ℕ, Ok, Err, nat_lt, ◌≡◌, ◌≢◌, ◌≤◌, ◌<◌, ◌+◌, ◌-◌, ◌^◌, [], All, not, IsTrue, IfOk, OnOk, OnErr, if◌then◌else◌, map, filter, drop, length, slice_set, slice_index_or};
 ghost use Rattle.std.specs.List.{count_by, list_any, remove};
 ghost use Rattle.flow_table.specs.declared.entry.Entry.{Entry};
 ghost use Rattle.flow_table.specs.Table.{IsTable, IsPlaceOf, place_of, has_key, keys, with_entry};
@@ -9,7 +9,9 @@ ghost use Rattle.tuple_index.specs.Groups.{spot, IsIndexed};
 ghost use Rattle.flow_table.specs.Change.{key_in, is_delete, adds, deletes, modified, new_entry, notice, entries_after, notices_of, means, tells};
 
 use crate::copying::copy_entry;
-use crate::describing::{asks, is_deleted, is_described, is_modifying, key_of, position};
+use crate::describing::{
+    asks, is_delete, is_deleted, is_described, is_met, is_modifying, key_of, position,
+};
 use crate::filing::{drop_key, put_key, sweep};
 use flow_table::{Entry, Notice, NoticeList};
 use of_action::{ActionList, copy_actions};
@@ -245,6 +247,29 @@ fn candidates<'a>(entries: &'a [Entry], m: &FlowMod) -> &'a [Entry]
     }
 }
 
+/// Counts those of the entries that a DELETE removes and that ask for a notice.
+fn count_among(entries: &[Entry], m: &FlowMod) -> usize
+    ensures { result ≡ length (filter (tells m.now) entries.now) }
+{
+    let mut count = 0;
+    for entry in entries {
+        count += usize::from(is_told(m, entry));
+    }
+    count
+}
+
+/// Counts the notices of a FLOW_MOD that is not refused.
+pub(crate) fn count_told(entries: &[Entry], index: &[Key], m: &FlowMod) -> usize
+    requires { IsIndexed index.now entries.now }
+    ensures { (now : ℕ) → result ≡ length (notices_of now m.now entries.now) }
+{
+    if is_delete(m) && is_met(m, entries, index) {
+        count_among(candidates(entries, m), m)
+    } else {
+        0
+    }
+}
+
 /// Removes the entry at a place, and its key, if a DELETE means it.
 fn remove_at(entries: &mut Vec<Entry>, index: &mut Vec<Key>, at: usize, m: &FlowMod)
     requires in_order { Ascends spot 0 index.old.items }
@@ -313,6 +338,9 @@ fn delete(
     ensures without_notices { OnErr result (filter (tells m.now) entries.old.items ≢ []) }
     ensures indexed { IsIndexed index.new.items entries.new.items }
 {
+    if !is_met(m, entries, index) {
+        return Ok(NoticeList::new(alloc));
+    }
     let notices = notices_among(alloc, candidates(entries, m), m, now)?;
     if m.command == flows::DELETE_STRICT {
         delete_one(entries, index, m);

@@ -5,12 +5,13 @@ ghost use Rattle.std.specs.List.{list_any};
 ghost use Rattle.std.specs.Ordering.{nat_cmp};
 ghost use Rattle.of_match.specs.Key.{key_number};
 ghost use Rattle.flow_table.specs.Table.{IsTable, IsPlaceOf, place_of, has_key};
-ghost use Rattle.flow_table.specs.Change.{clashes_with};
-ghost use Rattle.flow_table.specs.Change.{key_in, is_modify, is_output_to, describes, sends_to, deletes, adds, clashes, is_full, refusal, asks_notice};
+ghost use Rattle.tuple_index.specs.Groups.{IsIndexed};
+ghost use Rattle.flow_table.specs.Change.{key_in, is_strict, is_modify, is_delete, is_output_to, describes, sends_to, deletes, adds, clashes, clashes_with, is_full, refusal, asks_notice};
 
 use crate::grouping::key_order;
+use crate::reaching::{clashes_some, subsumes_some};
 use flow_table::Entry;
-use match_overlap::{overlaps, subsumes};
+use match_overlap::subsumes;
 use of_action::{Action, ActionList};
 use of_match::Key;
 use of_types::{OfError, PortNo, errors, flows, ports};
@@ -60,12 +61,19 @@ pub(crate) fn has_entry(entries: &[Entry], key: &Key) -> bool
     position(entries, key).is_ok()
 }
 
+/// Whether a FLOW_MOD names one key.
+fn is_strict(m: &FlowMod) -> bool
+    ensures { result ≡ is_strict m.now }
+{
+    m.command == flows::MODIFY_STRICT || m.command == flows::DELETE_STRICT
+}
+
 /// Whether a FLOW_MOD, strict or not, means an entry.
 #[tactic(auto, unfolding(flow_table::specs::Change::describes))]
 pub(crate) fn is_described(m: &FlowMod, entry: &Entry) -> bool
     ensures { result ≡ describes m.now entry.now.key }
 {
-    if m.command == flows::MODIFY_STRICT || m.command == flows::DELETE_STRICT {
+    if is_strict(m) {
         entry.has_key(&key_of(m))
     } else {
         subsumes(&m.matching, &entry.key.matching)
@@ -107,15 +115,16 @@ pub(crate) fn asks(flags: u16) -> bool
     flows::sends_flow_removed(flags)
 }
 
-/// Whether a MODIFY meets an entry: a strict one by a search for its key, another one by a look at each.
-fn is_met(m: &FlowMod, entries: &[Entry]) -> bool
-    requires { IsTable entries.now }
+/// Whether a FLOW_MOD means an entry: a strict one by a search for its key, another one by a look at the groups.
+#[tactic(auto, unfolding(flow_table::specs::Change::describes))]
+pub(crate) fn is_met(m: &FlowMod, entries: &[Entry], index: &[Key]) -> bool
+    requires { IsIndexed index.now entries.now }
     ensures { result ≡ list_any (λ e. describes m.now e.key) entries.now }
 {
-    if m.command == flows::MODIFY_STRICT {
+    if is_strict(m) {
         has_entry(entries, &key_of(m))
     } else {
-        entries.iter().any(|entry| is_described(m, entry))
+        subsumes_some(index, &m.matching)
     }
 }
 
@@ -126,37 +135,37 @@ pub(crate) fn is_modifying(m: &FlowMod) -> bool
     m.command == flows::MODIFY || m.command == flows::MODIFY_STRICT
 }
 
+/// Whether the command is one of the two of DELETE.
+pub(crate) fn is_delete(m: &FlowMod) -> bool
+    ensures { result ≡ is_delete m.now }
+{
+    m.command == flows::DELETE || m.command == flows::DELETE_STRICT
+}
+
 /// Whether the FLOW_MOD puts an entry in: an ADD, or a MODIFY that meets no entry.
 #[tactic(auto, unfolding(flow_table::specs::Change::adds))]
-pub(crate) fn is_adding(m: &FlowMod, entries: &[Entry]) -> bool
-    requires { IsTable entries.now }
+pub(crate) fn is_adding(m: &FlowMod, entries: &[Entry], index: &[Key]) -> bool
+    requires { IsIndexed index.now entries.now }
     ensures { result ≡ adds m.now entries.now }
 {
-    m.command == flows::ADD || is_modifying(m) && !is_met(m, entries)
+    m.command == flows::ADD || is_modifying(m) && !is_met(m, entries, index)
 }
 
-/// Whether the entry has the priority of a key, another match, and some packet in common with it.
-fn is_overlap(key: &Key, entry: &Entry) -> bool
-    ensures { result ≡ clashes_with key.now entry.now }
-{
-    entry.key.priority == key.priority
-        && !entry.has_key(key)
-        && overlaps(&entry.key.matching, &key.matching)
-}
-
-/// Whether some entry overlaps one of a key.
-fn has_overlap(entries: &[Entry], key: &Key) -> bool
+/// Whether some entry overlaps one of a key, by a look at the groups.
+fn has_overlap(entries: &[Entry], index: &[Key], key: &Key) -> bool
+    requires { IsIndexed index.now entries.now }
     ensures { result ≡ list_any (clashes_with key.now) entries.now }
 {
-    entries.iter().any(|entry| is_overlap(key, entry))
+    clashes_some(index, key)
 }
 
 /// Whether another entry of the priority overlaps, and that was to be checked.
 #[tactic(auto, unfolding(flow_table::specs::Change::clashes))]
-pub(crate) fn is_clashing(m: &FlowMod, entries: &[Entry]) -> bool
+fn is_clashing(m: &FlowMod, entries: &[Entry], index: &[Key]) -> bool
+    requires { IsIndexed index.now entries.now }
     ensures { result ≡ clashes m.now entries.now }
 {
-    flows::checks_overlap(m.flags) && has_overlap(entries, &key_of(m))
+    flows::checks_overlap(m.flags) && has_overlap(entries, index, &key_of(m))
 }
 
 /// Whether there is no room for a new key in a table of `cap` entries.
@@ -174,10 +183,11 @@ fn lacks_room(m: &FlowMod, entries: &[Entry], cap: u32) -> bool
 pub(crate) fn find_refusal(
     m: &FlowMod,
     entries: &[Entry],
+    index: &[Key],
     cap: u32,
     adding: bool,
 ) -> Option<OfError>
-    requires in_order { IsTable entries.now }
+    requires indexed { IsIndexed index.now entries.now }
     requires adding { adding ≡ adds m.now entries.now }
     ensures value { result ≡ refusal cap m.now entries.now }
     ensures known { IfNone result (m.now.command ≤ 4) }
@@ -186,7 +196,7 @@ pub(crate) fn find_refusal(
         Some(errors::FLOW_BAD_COMMAND)
     } else if !adding {
         None
-    } else if is_clashing(m, entries) {
+    } else if is_clashing(m, entries, index) {
         Some(errors::FLOW_OVERLAP)
     } else if lacks_room(m, entries, cap) {
         Some(errors::FLOW_TABLES_FULL)

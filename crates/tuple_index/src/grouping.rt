@@ -1,10 +1,11 @@
 //! Keys in the order of groups, found by halves.
 
-ghost use Rattle.std.specs.Prelude.{◌≡◌, ◌<◌, ◌≤◌, length};
+ghost use Rattle.std.specs.Prelude.{◌≡◌, ◌≢◌, ◌<◌, ◌≤◌, length, map, slice_index_or};
 ghost use Rattle.std.specs.Ordering.{nat_cmp};
 ghost use Rattle.flow_table.specs.Sorted.{Ascends, IsFoundAt};
+ghost use Rattle.of_match.specs.declared.key.Key.{Key};
 ghost use Rattle.of_match.specs.Key.{key_number};
-ghost use Rattle.tuple_index.specs.Groups.{wildcards, spot, IsGroup};
+ghost use Rattle.tuple_index.specs.Groups.{wildcards, spot, different, IsGroup};
 
 use of_match::{Key, Match};
 use std::cmp::Ordering;
@@ -62,6 +63,7 @@ pub(crate) fn group_end(keys: &[Key], from: usize) -> usize
     ensures behind { from < result }
     ensures within { result ≤ length keys.now }
     ensures group { IsGroup from result keys.now }
+    ensures next { (k : Key) → result < length keys.now → wildcards (slice_index_or keys.now result k).matching ≢ wildcards (slice_index_or keys.now from k).matching }
 {
     let word = wildcards(&keys[from].matching);
     let mut low = from + 1;
@@ -75,4 +77,18 @@ pub(crate) fn group_end(keys: &[Key], from: usize) -> usize
         }
     }
     low
+}
+
+/// Counts the groups.
+pub(crate) fn count_groups(keys: &[Key]) -> usize
+    requires { Ascends spot 0 keys.now }
+    ensures { result ≡ different (map (λ k. wildcards k.matching) keys.now) }
+{
+    let mut count = 0;
+    let mut at = 0;
+    while at < keys.len() {
+        at = group_end(keys, at);
+        count += 1;
+    }
+    count
 }

@@ -9,6 +9,7 @@ mod expiring;
 mod filing;
 mod grouping;
 mod hitting;
+mod reaching;
 mod selecting;
 mod table;
 

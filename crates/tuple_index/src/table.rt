@@ -1,17 +1,18 @@
 //! A flow table with an index of its groups.
 
-ghost use Rattle.std.specs.Prelude.{◌≡◌, ◌≢◌, ◌↔◌, ◌<◌, ◌≤◌, ◌+◌, ◌-◌, ◌^◌, [], length, slice_get, Some, IsTrue, IsOk, IfOk, OnOk, OnErr, if◌then◌else◌};
+ghost use Rattle.std.specs.Prelude.{◌≡◌, ◌≢◌, ◌↔◌, ◌<◌, ◌≤◌, ◌+◌, ◌-◌, ◌^◌, ℕ, [], length, slice_get, Some, IsTrue, IsOk, IfOk, OnOk, OnErr, if◌then◌else◌};
 ghost use Rattle.flow_table.specs.Table.{IsTable, IsMoment, IsPositionOf, empty_table};
 ghost use Rattle.flow_table.specs.Change.{Answers, is_delete, adds, refusal, changed, entries_after, notices_of};
 ghost use Rattle.flow_table.specs.Hit.{best, hit, with_counts};
 ghost use Rattle.flow_table.specs.Expiry.{expire, expiry_notices};
 ghost use Rattle.flow_table.specs.Rows.{positions};
-ghost use Rattle.tuple_index.specs.Groups.{IsIndexed};
+ghost use Rattle.tuple_index.specs.Groups.{group_count, IsIndexed};
 
-use crate::changing::apply;
+use crate::changing::{apply, count_told};
 use crate::counting::{add_counts, hit, lookup};
 use crate::describing::{find_refusal, is_adding};
 use crate::expiring::{drop_due, due, expire};
+use crate::grouping::count_groups;
 use crate::selecting::select;
 use flow_table::{ChangeFault, Entry, NoticeList};
 use of_match::{Key, Match, PacketKey};
@@ -25,8 +26,9 @@ use std::marker::Model;
 ///
 /// Beside the entries in key order it keeps their keys in the order of groups. Of each group one search by halves finds what
 /// a packet may hit, and one among all entries the key that a strict command or an addition names. An addition or a removal
-/// moves the entries behind it, as in a `Vec`; `expire`, `select`, `add_counts`, the check for overlaps and a MODIFY or DELETE
-/// with wildcards go over all entries.
+/// moves the entries behind it, as in a `Vec`. A MODIFY or DELETE with wildcards passes over the groups that it does not reach,
+/// and ends where it meets no key of the others; the check for overlaps passes over the group of the new match. `expire`, `select`,
+/// `add_counts`, and a MODIFY or DELETE with wildcards that meets an entry go over all entries.
 #[derive(Debug, Drop)]
 pub struct TupleTable {
     alloc: Global,
@@ -84,6 +86,13 @@ impl TupleTable {
         )
     }
 
+    /// Counts the notices that `change` gives for a FLOW_MOD that is not refused; takes no memory.
+    pub fn count_told(&self, m: &FlowMod) -> usize
+        ensures { (now : ℕ) → result ≡ length (notices_of now m.now self.now.entries) }
+    {
+        count_told(&self.entries, &self.index, m)
+    }
+
     /// Finds where the entry stands that a packet with these fields hits (OpenFlow 1.0.0, 3.4 Matching): of those that
     /// cover it the one of greatest rank, and among equals the least key. `None` exactly where none covers it.
     pub fn lookup(&self, k: &PacketKey) -> Option<usize>
@@ -106,6 +115,13 @@ impl TupleTable {
         ensures { result ≡ length self.now.entries }
     {
         self.entries.len()
+    }
+
+    /// Counts the groups of entries with equal wildcards; takes no memory.
+    pub fn groups(&self) -> usize
+        ensures { result ≡ group_count self.now.entries }
+    {
+        count_groups(&self.index)
     }
 
     /// Tells whether there is no entry.
@@ -198,8 +214,8 @@ fn change_entries(
     ensures without_notices { OnErr result (IsTrue (is_delete m.now) → notices_of now m.now entries.old.items ≢ []) }
     ensures indexed { IsIndexed index.new.items entries.new.items }
 {
-    let adding = is_adding(m, entries);
-    if let Some(error) = find_refusal(m, entries, cap, adding) {
+    let adding = is_adding(m, entries, index);
+    if let Some(error) = find_refusal(m, entries, index, cap, adding) {
         return Err(ChangeFault::Refused(error));
     }
     Ok(apply(alloc, entries, index, next, m, now, adding)?)

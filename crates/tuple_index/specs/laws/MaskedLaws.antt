@@ -120,7 +120,7 @@ left-of_bytes b c k same = λ i. record {
   tp_dst = field-left (word_in b 0) (word_in c 0) 7 (half_in b 38) (half_in c 38) k.tp_dst same i;
 }
 
-masked-in_group : (m n : Match) (k : PacketKey) → wildcards m ≡ wildcards n → masked (fields_in m) k ≡ masked (fields_in n) k
+pub masked-in_group : (m n : Match) (k : PacketKey) → wildcards m ≡ wildcards n → masked (fields_in m) k ≡ masked (fields_in n) k
 unfolding fields_in
 masked-in_group m n k same = left-of_bytes m.bytes n.bytes k same
 

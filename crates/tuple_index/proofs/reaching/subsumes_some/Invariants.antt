@@ -1,0 +1,11 @@
+use Rattle.std.proofs.Common.{◌≡◌, ◌<◌, ◌≤◌, ◌-◌, ℕ, false, length, get_or}
+use Rattle.of_match.specs.declared.key.Key.{Key}
+use Rattle.match_overlap.specs.Relations.{is_subsuming}
+use Rattle.tuple_index.proofs.reaching.subsumes_some.Given as goal
+
+abbrev pub invariant-loop-at : goal.invariant-loop-at
+invariant-loop-at l =
+    (l.at ≤ length l.keys) × ((i : ℕ) (k : Key) → i < l.at → is_subsuming l.m (get_or l.keys i k).matching ≡ false)
+
+abbrev pub decreases-loop-at : goal.decreases-loop-at
+decreases-loop-at l = length l.keys - l.at
