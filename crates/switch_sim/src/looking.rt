@@ -18,10 +18,11 @@ use crate::refusal::port_of;
 use crate::reply::packet_in;
 use crate::switch::SimSwitch;
 use eth_key::key_of;
-use flow_table::{Entry, Table};
+use flow_table::Entry;
 use frame_edit::{OutList, apply};
 use of_types::{ByteList, PortNo, flows};
 use std::alloc::{AllocError, Global};
+use tuple_index::TupleTable;
 
 /// What a look at the table gives for a frame: where it is put out, and what is sent to the controller.
 #[derive(Drop)]
@@ -101,7 +102,7 @@ fn act(alloc: Global, entry: &Entry, in_port: PortNo, frame: &[u8]) -> Result<Lo
 }
 
 /// Counts a frame at the entry that it hits; 1 where it hits one.
-fn hit(table: &mut Table, in_port: PortNo, frame: &[u8], now: u64) -> u64
+fn hit(table: &mut TupleTable, in_port: PortNo, frame: &[u8], now: u64) -> u64
     requires { length frame.now < 2 ^ 32 }
     ensures count { result ≡ hit_count (best (key_of in_port frame.now) table.old.entries) }
     ensures table { table.new ≡ record table.old { entries = hit (key_of in_port frame.now) (length frame.now) now table.old.entries } }

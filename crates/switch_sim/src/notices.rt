@@ -3,7 +3,7 @@
 ghost use Rattle.std.specs.Prelude.{◌≡◌, ℕ, ◌+◌, ◌≤◌, ◌<◌, ◌&&◌, [], length, map, filter, All, IfOk};
 ghost use Rattle.std.specs.Vec.{vec_len, vec_capacity};
 ghost use Rattle.of_wire.specs.Spelling.{message_bytes};
-ghost use Rattle.flow_table.specs.Change.{is_delete, describes, deletes, asks_notice, notices_of};
+ghost use Rattle.flow_table.specs.Change.{asks_notice};
 ghost use Rattle.flow_table.specs.Expiry.{is_due};
 ghost use Rattle.flow_table.specs.Step.{flow_removed_bytes};
 ghost use Rattle.switch_sim.specs.Words.{IsShort};
@@ -13,13 +13,10 @@ ghost use Rattle.switch_sim.specs.Words.{AreSpares};
 
 use crate::message_list::MessageList;
 use crate::reply::flow_removed;
-use crate::statistics::sends;
 use flow_table::{Entry, Notice};
 use flow_timeouts::deadline;
-use match_overlap::subsumes;
-use of_match::Key;
 use of_types::{ByteList, flows};
-use of_wire::{FlowMod, FlowRemoved, Message, encode_into};
+use of_wire::{FlowRemoved, Message, encode_into};
 use std::alloc::{AllocError, Global};
 
 /// The length of a FLOW_REMOVED.
@@ -127,55 +124,6 @@ fn asks(flags: u16) -> bool
     ensures { result ≡ asks_notice flags }
 {
     flows::sends_flow_removed(flags)
-}
-
-/// Tells whether a DELETE, strict or not, removes an entry.
-#[tactic(auto, unfolding(flow_table::specs::Change::describes))]
-fn is_described(m: &FlowMod, entry: &Entry) -> bool
-    ensures { result ≡ describes m.now entry.now.key }
-{
-    if m.command == flows::MODIFY_STRICT || m.command == flows::DELETE_STRICT {
-        entry.has_key(&Key {
-            priority: m.priority,
-            matching: m.matching,
-        })
-    } else {
-        subsumes(&m.matching, &entry.key.matching)
-    }
-}
-
-fn is_told_deletion(m: &FlowMod, entry: &Entry) -> bool
-    ensures { result ≡ (deletes m.now entry.now && asks_notice entry.now.flags) }
-{
-    is_described(m, entry) && sends(m.out_port, &entry.actions) && asks(entry.flags)
-}
-
-fn is_delete(m: &FlowMod) -> bool
-    ensures { result ≡ is_delete m.now }
-{
-    m.command == flows::DELETE || m.command == flows::DELETE_STRICT
-}
-
-/// Counts how many notices a FLOW_MOD gives at most: none, unless it is a DELETE.
-pub(crate) fn count_told(entries: &[Entry], m: &FlowMod) -> usize
-    ensures { (now : ℕ) → length (notices_of now m.now entries.now) ≤ result }
-{
-    if is_delete(m) {
-        count_deleted(entries, m)
-    } else {
-        0
-    }
-}
-
-/// Counts how many notices a DELETE gives.
-fn count_deleted(entries: &[Entry], m: &FlowMod) -> usize
-    ensures { result ≡ length (filter (λ e. deletes m.now e && asks_notice e.flags) entries.now) }
-{
-    let mut count = 0;
-    for entry in entries {
-        count += usize::from(is_told_deletion(m, entry));
-    }
-    count
 }
 
 /// Tells whether an entry goes at a moment, not before those at which it was put in and used.

@@ -71,7 +71,7 @@ fn has_output(port: PortNo, actions: &[Action]) -> bool
 
 /// Tells whether `out_port` is NONE or some OUTPUT of the actions goes to it.
 #[tactic(auto, unfolding(flow_table::specs::Change::sends_to))]
-pub(crate) fn sends(out_port: PortNo, actions: &ActionList) -> bool
+fn sends(out_port: PortNo, actions: &ActionList) -> bool
     ensures { result ≡ sends_to out_port actions.now }
 {
     out_port == ports::NONE || has_output(out_port, actions.as_slice())

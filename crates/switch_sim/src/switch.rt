@@ -4,16 +4,17 @@ ghost use Rattle.std.specs.Prelude.{◌≡◌, ◌≤◌, length, map, Ok, IfOk}
 ghost use Rattle.of_wire.specs.Grammar.{enveloped};
 ghost use Rattle.of_wire.specs.Reading.{reading_of};
 ghost use Rattle.flow_table.specs.Switch.{joined_at, new_port, features_of, features_reply};
+ghost use Rattle.tuple_index.specs.Groups.{group_count};
 ghost use Rattle.switch_sim.specs.Readable.{IsReadable};
 ghost use Rattle.of_wire.specs.Handshake.{IsFeaturesOf};
 
 use crate::port::Port;
 use crate::reply::features;
-use flow_table::Table;
 use of_types::{ByteList, Dpid, PortNo};
 use of_wire::{Message, SwitchConfig};
 use std::alloc::{AllocError, Global};
 use std::marker::Model;
+use tuple_index::TupleTable;
 
 /// A switch of OpenFlow 1.0.0 that has joined, with an empty table. Contracts see its state (`SwitchState`), and what it
 /// sends as a function of that.
@@ -24,7 +25,7 @@ pub struct SimSwitch {
     pub(crate) cap: u32,
     pub(crate) declared: Vec<PortNo>,
     pub(crate) moment: u64,
-    pub(crate) table: Table,
+    pub(crate) table: TupleTable,
     pub(crate) ports: Vec<Port>,
     pub(crate) had: Vec<PortNo>,
     pub(crate) config: SwitchConfig,
@@ -102,7 +103,7 @@ impl SimSwitch {
             cap,
             declared: copy_numbers(alloc, ports)?,
             moment,
-            table: Table::new(alloc)?,
+            table: TupleTable::new(alloc)?,
             ports: new_ports(alloc, ports)?,
             had: copy_numbers(alloc, ports)?,
             config: SwitchConfig {
@@ -145,6 +146,13 @@ impl SimSwitch {
         ensures { result ≡ self.now.declared.cap }
     {
         self.cap
+    }
+
+    /// Counts the groups of entries with equal wildcards in its table; takes no memory.
+    pub fn groups(&self) -> usize
+        ensures { result ≡ group_count self.now.table.entries }
+    {
+        self.table.groups()
     }
 
     /// Lends the ports with which it was made; takes no memory.

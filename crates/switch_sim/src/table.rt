@@ -10,15 +10,16 @@ ghost use Rattle.switch_sim.specs.Sound.{IsEntryAt};
 ghost use Rattle.switch_sim.specs.Words.{AnswersWith};
 
 use crate::message_list::MessageList;
-use crate::notices::{count_due, count_told, make_room, write_all};
-use flow_table::{ChangeFault, Table};
+use crate::notices::{count_due, make_room, write_all};
+use flow_table::ChangeFault;
 use of_wire::FlowMod;
 use std::alloc::{AllocError, Global};
+use tuple_index::TupleTable;
 
 /// Changes the table as a FLOW_MOD says, and gives its FLOW_REMOVED messages.
 pub(crate) fn change(
     alloc: Global,
-    table: &mut Table,
+    table: &mut TupleTable,
     m: &FlowMod,
     now: u64,
     cap: u32,
@@ -31,13 +32,14 @@ pub(crate) fn change(
     ensures err { OnErr result (table.new ≡ table.old) }
     ensures in_order { IsTable table.old.entries }
 {
-    let room = make_room(alloc, count_told(table.entries(), m))?;
+    let _entries = table.entries().len();
+    let room = make_room(alloc, table.count_told(m))?;
     let notices = table.change(m, now, cap)?;
     Ok(write_all(room, notices.as_slice()))
 }
 
 /// Returns the FLOW_REMOVED messages of the entries that are due at a moment.
-pub(crate) fn due(alloc: Global, table: &Table, now: u64) -> Result<MessageList, AllocError>
+pub(crate) fn due(alloc: Global, table: &TupleTable, now: u64) -> Result<MessageList, AllocError>
     requires now { IsMoment now table.now.entries }
     requires each { All (IsEntryAt now) table.now.entries }
     ensures sent { IfOk result (λ list. list ≡ map flow_removed_bytes (expiry_notices now table.now.entries)) }

@@ -1,5 +1,5 @@
 -- What follows about notices: how many there are, and that how long an entry stood fits the field of a FLOW_REMOVED.
-use Rattle.std.proofs.Common.{◌≡◌, ℕ, suc, ◌<◌, ◌≤◌, ◌^◌, true, ◌&&◌, nat_le, List, [], ◌∷◌, length, map, filter, Option, Some, None, refl, ap, ◌∙◌, arith}
+use Rattle.std.proofs.Common.{◌≡◌, ℕ, suc, ◌<◌, ◌^◌, true, ◌&&◌, nat_le, List, [], ◌∷◌, length, map, filter, Option, Some, None, refl, ap, ◌∙◌, arith}
 use Rattle.std.specs.Prelude.{All}
 use Rattle.std.proofs.lemmas.Bool.{cond_both, leb-true, and_parts}
 use Rattle.std.proofs.lemmas.List.{length-map}
@@ -7,7 +7,6 @@ use Rattle.std.proofs.lemmas.List.Elements.{All-nil, All-map, All-weaker, filter
 use Rattle.flow_timeouts.specs.declared.timeouts.Reason.{Reason}
 use Rattle.of_wire.specs.declared.bodies.FlowMod.{FlowMod}
 use Rattle.flow_table.specs.declared.entry.Entry.{Entry}
-use Rattle.flow_table.specs.declared.notice.Notice.{Notice}
 use Rattle.flow_table.specs.Change.{is_delete, deletes, asks_notice, notice, notices_of}
 use Rattle.flow_table.specs.Expiry.{deadline, has_come, is_due, notice_at, end_of, among, by_deadline, expiry_notices}
 use Rattle.switch_sim.specs.Words.{IsShort}
@@ -21,14 +20,6 @@ AreShort-notices_of now m es within =
     cond_both (is_delete m) (map (notice 2 now) (filter (λ e. deletes m e && asks_notice e.flags) es)) [] (All IsShort)
     (λ _. All-map IsShort (notice 2 now) (filter (λ e. deletes m e && asks_notice e.flags) es) (λ k d lt. omega arith))
     (λ _. All-nil IsShort)
-
-pub length-notices_of : (now : ℕ) (m : FlowMod) (es : List Entry) → length (notices_of now m es) ≤ length (filter (λ e. deletes m e && asks_notice e.flags) es)
-unfolding notices_of
-length-notices_of now m es =
-    let going = filter (λ e. deletes m e && asks_notice e.flags) es in
-    cond_both (is_delete m) (map (notice 2 now) going) [] (λ (ns : List Notice). length ns ≤ length going)
-    (λ _. omega (arith, length-map going (notice 2 now)))
-    (λ _. omega arith)
 
 -- ---- Notices of a moment
 
