@@ -337,3 +337,34 @@ fn switches_answer_and_count(rt: HostRuntime) -> Result<(), Fail> {
     assert!(rt; wrong.is_none(), "step {wrong:?}");
     Ok(())
 }
+
+/// Whether an entry for the packets of port `k` and one for those to 10.0.`k`.0/24 are put in, each without an answer.
+fn takes_both(alloc: Global, switch: &mut SimSwitch, k: u8) -> Result<bool, WireFault>
+    requires { switch.old.table.next ≤ 900 }
+    ensures { switch.new.table.next ≤ switch.old.table.next + 2 }
+{
+    let port = is_answered(alloc, switch, &ADD, &[(13, k)], &[])?;
+    let network = [(9, 0x32), (11, 0xef), (13, 0), (30, 8), (40, 10), (42, k)];
+    Ok(is_answered(alloc, switch, &ADD, &network, &[])? && port)
+}
+
+/// Whether 250 entries of each of the two kinds are put in.
+fn takes_all(alloc: Global, switch: &mut SimSwitch) -> Result<bool, WireFault>
+    requires { switch.old.table.next ≡ 0 }
+{
+    for k in 0..250u8 {
+        if !takes_both(alloc, switch, k + 1)? {
+            return Ok(false);
+        }
+    }
+    Ok(true)
+}
+
+#[test]
+fn entries_of_two_wildcard_words_make_two_groups(rt: HostRuntime) -> Result<(), Fail> {
+    let mut switch = SimSwitch::new(rt.alloc(), 1, 500, &[1, 2])?;
+    let filled = takes_all(rt.alloc(), &mut switch)?;
+    let groups = switch.groups();
+    assert!(rt; filled && groups == 2, "{filled} {groups}");
+    Ok(())
+}
