@@ -4,7 +4,8 @@
 Prints a line for each input: its name, its size in bytes, the least seconds of a processor in three runs, and the peak of memory in MiB.
 A peak below 16 MiB is that of the process that measures. A session takes at most four times its input beyond those. A long one stands
 twice, once half as long: the line behind it says how much longer the whole takes than the half, which is to be at most 2.2 times, and
-how many stimuli it had a second, at least 200,000 where they are small. Ends with status 1 where a report or a status is wrong or a
+how many stimuli it had a second, at least 200,000 where they are small (100,000 where they are frames in a table of eight groups of
+equal wildcards). Ends with status 1 where a report or a status is wrong or a
 session takes longer or more. SHARE, as 0.01, makes all sessions shorter, for a trial.
 """
 
@@ -59,6 +60,28 @@ def busy(stimuli):
     return ("\n".join(lines) + "\n").encode(), b"end %d events %d\n" % (moment, events), b"switch 1 flows 0\n"
 
 
+def one_of(i, groups):
+    """A FLOW_MOD that adds the i-th entry: a dl_dst of its own, and dl_src, dl_type and in_port or not, so that there are so many groups."""
+    kind = i % groups
+    word = 0x003820F7 & ~(kind & 1) & ~((kind & 2) << 1) & ~((kind & 4) << 2)
+    source = 0x020000000001 if kind & 2 else 0
+    match = "%08x%04x%012x%012x00000000%04x" % (word, kind & 1, source, i, 0x88B5 if kind & 4 else 0) + "00" * 16
+    return "010e005000000000" + match + "00" * 16 + "ffffffffffff" + "0000" + "0000000800020000"
+
+
+def hits(entries, groups, frames):
+    """A session with so many frames, each of which hits one of so many entries. Turns of at most 999 messages put these in; each but
+    the first is that of a frame which hits none."""
+    head, body, turns = ["---", "session 1", "switch 1 4096 1,2"], [], 0
+    for first in range(0, entries, 999):
+        adds = " ".join("m:1:" + one_of(i, groups) for i in range(first, min(first + 999, entries)))
+        head.append("reply app %s done" % adds)
+        body.append("frame 1 1 " + FRAME if turns else "join 1")
+        turns += 1
+    body += ["frame 1 1 %012x02000000000188b5" % (7919 * k % entries) for k in range(frames)]
+    return ("\n".join(head + body) + "\n").encode(), b"end 0 events %d\n" % turns, b"switch 1 flows %d\n" % entries
+
+
 def long_frames(size):
     """A session of so many bytes: frames of 9,216 bytes, each of which becomes an event and a turn."""
     head = b"---\nsession 1\nswitch 1 8 1,2\njoin 1\n"
@@ -86,19 +109,24 @@ def refused():
 
 
 def sessions(share):
-    """Names, how many small stimuli they have, and sessions with the last line and one more line of their reports; the half first,
-    where there is one."""
+    """Names, how many small stimuli they have, how many of these a second are due, and sessions with the last line and one more line
+    of their reports; the half first, where there is one."""
     for count, end in ((1, "done"), (250, "done"), (500, "done"), (999, "done"), (999, "closed")):
-        yield "%d messages, %s" % (count, end), 0, [big_turn(count, end)]
+        yield "%d messages, %s" % (count, end), 0, 0, [big_turn(count, end)]
     n = int(100_000 * share)
-    yield "%d stimuli: turns, frames, expiries" % n, n, [busy(n // 2), busy(n)]
+    yield "%d stimuli: turns, frames, expiries" % n, n, RATE, [busy(n // 2), busy(n)]
+    for entries in (64, 1_024, 4_000):
+        for groups in (1, 8):
+            name = "%d frames, %d entries in %d groups" % (n, entries, groups)
+            rate = RATE if groups == 1 else RATE // 2
+            yield name, n, rate, [hits(entries, groups, n // 2), hits(entries, groups, n)]
     for listeners in (1, 32):
         n = int(100_000 * share) // listeners
-        yield "%d events, each for %d of 32 applications" % (n, listeners), 0, [many_apps(n // 2, listeners), many_apps(n, listeners)]
+        yield "%d events, each for %d of 32 applications" % (n, listeners), 0, 0, [many_apps(n // 2, listeners), many_apps(n, listeners)]
     n = int(MOST * share)
-    yield "%.3g MiB: long frames" % (n / 2**20), 0, [long_frames(n // 2), long_frames(n)]
+    yield "%.3g MiB: long frames" % (n / 2**20), 0, 0, [long_frames(n // 2), long_frames(n)]
     n = int(1_000_000 * share)
-    yield "%d moments" % n, n, [(b"---\nsession 1\nswitch 1 8 1\njoin 1\n" + b"at 1\n" * k, b"end 1 events 1\n", b"") for k in (n // 2, n - 1)]
+    yield "%d moments" % n, n, RATE, [(b"---\nsession 1\nswitch 1 8 1\njoin 1\n" + b"at 1\n" * k, b"end 1 events 1\n", b"") for k in (n // 2, n - 1)]
 
 
 def processor_seconds():
@@ -148,7 +176,7 @@ def main():
     wrong = 0
     for name, data, line in refused() if share == 1.0 else ():
         wrong += not run(program, name, data, 3, line, line)[1]
-    for name, stimuli, cases in sessions(share):
+    for name, stimuli, rate, cases in sessions(share):
         times = []
         for case, (data, last, within) in enumerate(cases):
             half = len(cases) == 2 and case == 0
@@ -156,10 +184,10 @@ def main():
             wrong += not right
             times.append(seconds)
         if len(times) == 2:
-            slow = times[1] > GROWTH * times[0] and times[1] > 0.5 or RATE * times[1] > stimuli > 0
+            slow = times[1] > GROWTH * times[0] and times[1] > 0.5 or rate * times[1] > stimuli > 0
             wrong += slow
-            rate = ", %d stimuli a second" % (stimuli / times[1]) if stimuli else ""
-            print("%-44s %.2f times the half's time%s%s" % ("", times[1] / times[0], rate, "  TOO SLOW" if slow else ""))
+            reached = ", %d stimuli a second" % (stimuli / times[1]) if stimuli else ""
+            print("%-44s %.2f times the half's time%s%s" % ("", times[1] / times[0], reached, "  TOO SLOW" if slow else ""))
     return 1 if wrong else 0
 
 

@@ -1,7 +1,8 @@
 #!/usr/bin/env python3
 """What a call on a flow table of 100, 1,000 and 4,096 entries takes, and what plans and undos of as many cost.
 
-bench/table.py [PROGRAM [NETLOG]]: the programs are lego_bench and netlog_time as bench/build leaves them; `-` leaves one out.
+bench/table.py [PROGRAM [NETLOG [GROUPS]]]: the programs are lego_bench, netlog_time and group_time as bench/build leaves them; `-`
+leaves one out.
 Prints microseconds a call: of a change that puts an entry in over one with its key, of a lookup and a hit, each entry in
 turn, of an expiry at which no entry goes, and of one DELETE that removes all entries; behind each from 1,000 entries on,
 how many times that of the size before it.
@@ -10,6 +11,9 @@ Then, at 1,024, 2,048 and 4,096 entries, milliseconds of: the plan of a DELETE o
 all images taken out and played; an ADD of each entry planned and logged by itself under one mark. Then the bytes that the
 log holds for each key, with 1,024 to 65,536 keys. Then what a row of a cache of 4,096 takes that is put in, in key order
 and in a scattered one, and that is found and taken out in that: kept in key order as the cache has it, and in maps of the kit.
+
+Then, at 1,000, 4,000 and 60,000 entries in 1, 8 and 40 groups of equal wildcards, microseconds of: a hit; a strict DELETE of an entry
+and the ADD of it again. Both are of the plain table, of the one by groups, and of a switch, where the hit is by a frame of 64 bytes.
 
 All of it is processor time of the program, the least of five runs.
 """
@@ -24,17 +28,24 @@ PROGRAM = os.path.join(HERE, "out", "lego_bench")
 SIZES = (100, 1_000, 4_096)
 NETLOG = os.path.join(HERE, "out", "netlog_time")
 PLANNED = (1_024, 2_048, 4_096)
+GROUPED = os.path.join(HERE, "out", "group_time")
+LARGE = (1_000, 4_000, 60_000)
+GROUPS = (1, 8, 40)
 CALLS = {"change": 400_000, "lookup": 40_000, "hit": 40_000, "expire": 20_000_000}
 
 
-def used(program, operation, size, rounds):
+def used_words(program, *words):
     """What one run takes, by the system's account of it."""
-    child = subprocess.Popen([program, operation, str(size), str(rounds)], stdout=subprocess.DEVNULL)
+    child = subprocess.Popen([program, *map(str, words)], stdout=subprocess.DEVNULL)
     _, status, account = os.wait4(child.pid, 0)
     child.returncode = os.waitstatus_to_exitcode(status)
     if child.returncode:
-        raise SystemExit("%s %s %d %d ended with %d" % (program, operation, size, rounds, child.returncode))
+        raise SystemExit("%s %s ended with %d" % (program, " ".join(map(str, words)), child.returncode))
     return account
+
+
+def used(program, operation, size, rounds):
+    return used_words(program, operation, size, rounds)
 
 
 def seconds(program, operation, size, rounds):
@@ -106,12 +117,32 @@ def calls(program):
         print(line)
 
 
+def by_groups(program, what, operation, size, groups):
+    """Microseconds of a hit, or of a deletion and an addition, in a table of so many entries and groups."""
+    rounds = 2_000 if what == "plain" and operation == "hit" or size > 4_096 and operation == "swap" else 100_000
+
+    def spent(done):
+        accounts = [used_words(program, what, operation, size, groups, done) for _ in range(3)]
+        return min(account.ru_utime + account.ru_stime for account in accounts)
+
+    return (spent(rounds) - spent(0)) / rounds * 1e6
+
+
+def grouped(program):
+    print("%-24s" % "us" + "".join("%12s" % ("%d in %d" % (size, groups)) for size in LARGE for groups in GROUPS))
+    for operation, name in (("hit", "hit"), ("swap", "delete and add")):
+        for what in ("plain", "groups", "switch"):
+            took = [by_groups(program, what, operation, size, groups) for size in LARGE for groups in GROUPS]
+            print("%-24s" % (name + ", " + what) + "".join("%12.2f" % it for it in took))
+
+
 def main():
     parser = argparse.ArgumentParser(description=__doc__, formatter_class=argparse.RawDescriptionHelpFormatter)
     parser.add_argument("program", nargs="?", default=PROGRAM, metavar="PROGRAM")
     parser.add_argument("netlog", nargs="?", default=NETLOG, metavar="NETLOG")
+    parser.add_argument("groups", nargs="?", default=GROUPED, metavar="GROUPS")
     asked = parser.parse_args()
-    program, logs = asked.program, asked.netlog
+    program, logs, groups = asked.program, asked.netlog, asked.groups
     if program != "-":
         calls(program)
     if logs != "-" and not os.path.exists(logs):
@@ -119,6 +150,8 @@ def main():
         return 1
     if logs != "-":
         netlog(logs)
+    if groups != "-":
+        grouped(groups)
     return 0
 
 
