@@ -13,3 +13,4 @@ pub mod Moments
 pub mod Starts
 pub mod Telling
 pub mod TurnTimes
+pub mod Returns

@@ -14,6 +14,7 @@ use crate::notes::Closing;
 use crate::outbound::{Outbound, WriteEnd};
 use crate::own_messages;
 use crate::readiness::Readiness;
+use crate::returned::Returned;
 use mio::net::TcpStream;
 use of_types::{Dpid, get_u16};
 use std::alloc::{AllocError, Global};
@@ -64,6 +65,10 @@ pub(crate) struct Connection {
     pub(crate) outbound: Outbound,
     /// What came before `inbound`, and was put off until `next` tells it.
     pub(crate) backlog: Backlog,
+    /// Which of these messages tell a packet of the controller that came back.
+    pub(crate) returned: Returned,
+    /// Whether the message that was told last is one of these.
+    pub(crate) has_returned: bool,
     pub(crate) life: Life,
     /// Whether bytes came that were not looked at yet.
     pub(crate) is_fresh: bool,
@@ -105,6 +110,8 @@ impl Connection {
             inbound: Inbound::new(alloc)?,
             outbound: Outbound::new(alloc),
             backlog: Backlog::new(alloc)?,
+            returned: Returned::new(alloc),
+            has_returned: false,
             life: Life::new(now),
             is_fresh: false,
             ended: None,
@@ -298,6 +305,7 @@ impl Connection {
         ensures heard { IfOk result (λ heard. IsHeardIn heard buf.new) }
         ensures len { length buf.new ≡ length buf.old }
     {
+        self.has_returned = false;
         match self.tell_oldest(buf)? {
             Some(heard) => Ok(heard),
             None => self.listen(alloc, buf),
@@ -316,6 +324,7 @@ impl Connection {
         let Some(frame) = self.backlog.take()? else {
             return Ok(None);
         };
+        self.has_returned = self.returned.told();
         match hear_joined(frame.as_slice()) {
             Hearing::Refused => Ok(Some(Heard::Over)),
             _ => Ok(Some(Heard::Told(dpid, hand_out(frame.as_slice(), buf)))),
@@ -417,10 +426,14 @@ impl Connection {
         let frame = self.inbound.frame()?;
         let is_kept = match hear_joined(frame) {
             Hearing::Passed => true,
-            Hearing::Told => self.backlog.keep(frame),
+            Hearing::Told => {
+                self.returned.put_off(frame);
+                self.backlog.keep(frame)
+            }
             Hearing::Refused => false,
             Hearing::Reply => {
                 let size = hand_out(frame, buf);
+                self.returned.answered(frame);
                 self.given.1 = self.given.1.saturating_add(size);
                 self.inbound.pass();
                 return Some(if self.has_room() {

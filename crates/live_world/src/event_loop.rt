@@ -89,6 +89,8 @@ pub(crate) struct EventLoop {
     pub(crate) batch: u32,
     /// Whether an item or a message was given since the last `Idle`. Then more may wait with the caller, so `next` does not rest.
     pub(crate) has_told: bool,
+    /// Whether the item that was told last is a packet of the controller that came back.
+    pub(crate) has_returned: bool,
     /// How many calls of `next` there were.
     pub(crate) calls: u64,
     /// What was noted, where that is asked for.
@@ -114,6 +116,7 @@ impl EventLoop {
             moments: Moments::new(0),
             batch: 0,
             has_told: false,
+            has_returned: false,
             calls: 0,
             notes: VecDeque::new(alloc),
             is_noting,

@@ -44,6 +44,15 @@ impl EventLoop {
         Ok(())
     }
 
+    /// A packet that may come back was sent to the switch: what it tells until its next barrier's reply may be that packet.
+    pub(crate) fn await_packet(&mut self, dpid: Dpid) {
+        if let Some(place) = place_of(&self.connections, dpid) {
+            if let Some(Some(connection)) = self.connections.get_mut(place) {
+                connection.returned.await_packet();
+            }
+        }
+    }
+
     /// Waits until what is to be sent went out. Tells whether it did.
     fn is_sent<C: Clock>(&mut self, clock: &mut C, place: usize) -> bool {
         let Some(deadline) = deadline_at(&self.connections, place) else {

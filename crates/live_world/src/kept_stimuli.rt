@@ -142,6 +142,11 @@ impl KeptStimuli {
         self.is_asked = true;
     }
 
+    /// Tells whether it was asked to keep.
+    pub(crate) fn is_asked(&self) -> bool {
+        self.is_asked
+    }
+
     /// Keeps what the item tells, whose bytes stand in the front of the buffer. Where memory is refused it keeps no more.
     pub(crate) fn note(&mut self, item: Item, buf: &[u8])
         requires { IsItemIn ⊥ item buf.now }

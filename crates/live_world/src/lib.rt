@@ -28,6 +28,7 @@ mod outbound;
 mod own_messages;
 mod places;
 mod readiness;
+mod returned;
 mod start_times;
 mod telling;
 mod turn_time;

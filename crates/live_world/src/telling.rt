@@ -49,6 +49,7 @@ impl EventLoop {
         ensures { IfOk result (λ item. IsItemIn ⊥ item buf.new × IsItemReadIn buf.new item) }
     {
         self.calls = self.calls.wrapping_add(1);
+        self.has_returned = false;
         self.write_out();
         let now = clock.seconds();
         let item = match self.moments.change(now) {
@@ -139,7 +140,11 @@ impl EventLoop {
             return Ok(TellingStep::Nothing);
         };
         let heard = match self.connections.get_mut(place) {
-            Some(Some(connection)) => connection.step(self.alloc, buf),
+            Some(Some(connection)) => {
+                let heard = connection.step(self.alloc, buf);
+                self.has_returned = connection.has_returned;
+                heard
+            }
             _ => return Ok(TellingStep::Nothing),
         };
         match heard.map_err(|_| NextFault::Short)? {

@@ -8,6 +8,7 @@ use crate::clock::Clock;
 use crate::counts::FaultCounts;
 use crate::event_loop::EventLoop;
 use crate::kept_stimuli::KeptStimuli;
+use crate::returned::may_come_back;
 use lego_io::{Sink, write_all};
 use of_types::{Dpid, WorldStim};
 use outside::{
@@ -129,12 +130,32 @@ impl<
     /// Keeps from now on what happens, so that the run can be done again; to be called before `open`. Each switch that
     /// joins is declared as it first joined, with room for 4,096 flow entries and the physical ports of its
     /// FEATURES_REPLY. Stimuli are what `next` tells: that a switch joins or leaves, the moments, a PORT_STATUS of a
-    /// physical port, and the bytes of a HELLO, ERROR, VENDOR or PACKET_IN. What `recv` gives is none.
+    /// physical port, and the bytes of a HELLO, ERROR, VENDOR or PACKET_IN. What `recv` gives is none, nor is a PACKET_IN that came
+    /// between a PACKET_OUT to CONTROLLER or TABLE and the next barrier's reply.
     ///
     /// A world that was not asked to keeps nothing, since else it would grow by each packet. Where memory is refused it
     /// keeps no more, and `stimulus` and `declared` answer `AllocError` from then on; else it goes on as before.
     pub fn keep_stimuli(&mut self) {
         self.kept.ask();
+    }
+
+    /// Tells whether the item that was told last is a packet of the controller that came back.
+    fn has_returned(&self) -> bool {
+        match &self.sources {
+            Some(sources) => sources.has_returned,
+            None => false,
+        }
+    }
+
+    /// Where stimuli are kept, has none be made of a packet that was sent now and comes back: the simulated switch of a replay says it too.
+    fn await_packet(&mut self, dpid: Dpid, frame: &[u8])
+        ensures { self.new.counts ≡ self.old.counts }
+    {
+        if self.kept.is_asked() && may_come_back(self.alloc, frame) {
+            if let Some(sources) = &mut self.sources {
+                sources.await_packet(dpid);
+            }
+        }
     }
 
     /// Writes what was noted.
@@ -292,7 +313,7 @@ impl<
             _ => Err(NextFault::Failed),
         };
         self.rests = came == Ok(Item::Idle);
-        if let Ok(item) = came {
+        if let (Ok(item), false) = (came, self.has_returned()) {
             self.kept.note(item, buf);
         }
         match came {
@@ -352,7 +373,7 @@ impl<
             None => Err(LinkFault::Failed),
         };
         match sent {
-            Ok(()) => {}
+            Ok(()) => self.await_packet(dpid, frame),
             Err(LinkFault::Failed) => self.counts.raise_link(dpid),
             Err(LinkFault::Short) => self.counts.raise_shorts_of(dpid),
         }
