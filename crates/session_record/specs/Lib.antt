@@ -6,5 +6,6 @@ pub mod Spelled
 pub mod Links
 pub mod Calls
 pub mod Texts
+pub mod Remarks
 pub mod Readings
 pub mod laws

@@ -8,6 +8,7 @@ ghost use Rattle.outside.specs.Calls.{most_message, Starts, Gives, Takes, Sends,
 ghost use Rattle.session_record.specs.Deeds.{Notes};
 ghost use Rattle.session_record.specs.Calls.{start_deeds, give_deeds, take_deeds, NotesLink, NotesParting};
 ghost use Rattle.session_record.specs.Texts.{IsText};
+ghost use Rattle.session_record.specs.Remarks.{AreRemarks};
 
 use crate::deed::DeedKind;
 use crate::links::LinkCalls;
@@ -161,7 +162,9 @@ impl<W: Told + Drop> Recorder<W> {
 
     /// Comments on a text of this run, line by line: on each kind of thing that no line of a session can say, such as a FLOW_REMOVED of
     /// a real switch, and on each limit of a session that is broken; with the count of these.
-    pub fn remarks(&self, text: &[u8]) -> Result<String, AllocError> {
+    pub fn remarks(&self, text: &[u8]) -> Result<String, AllocError>
+        ensures { IfOk result (λ remarks. AreRemarks (string_bytes remarks)) }
+    {
         remarks_of(self.alloc, &self.world, self.messages, text)
     }
 }
