@@ -1,19 +1,25 @@
 -- What reading a session makes of lines as a recording writes them: each adds to the session so far what it was written for. This text
 -- form is our own.
-use Rattle.std.specs.Prelude.{◌≡◌, ℕ, ◌≤◌, true, false, List, [], ◌∷◌, ◌++◌, length, codes, Ok, nat_le}
+use Rattle.std.specs.Prelude.{◌≡◌, ◌==◌, ℕ, ◌≤◌, true, false, List, [], ◌∷◌, ◌++◌, length, All, codes, Ok, nat_le}
 use Rattle.std.specs.List.{list_all}
 use Rattle.std.specs.Fmt.{decimal}
 use Rattle.hex.specs.Hex.{encode_lower, IsBytes}
-use Rattle.of_types.specs.declared.journal.Stimulus.TheVariants.{Frame, Raw}
+use Rattle.of_types.specs.declared.journal.Stimulus.TheVariants.{Frame, Port, Counts, Raw}
+use Rattle.of_types.specs.declared.journal.PortChange.{PortChange}
 use Rattle.of_types.specs.declared.journal.WorldStim.TheVariants.{Join, Leave, At, Of}
+use Rattle.app_frames.specs.declared.cause.Tried.{Tried}
+use Rattle.app_frames.specs.declared.cause.Tried.TheVariants as tried
+use Rattle.app_frames.specs.declared.script.StartScript.{StartScript}
+use Rattle.app_frames.specs.declared.script.StartScript.TheVariants as scripts
 use Rattle.of_wire.specs.Reading.{reading_of}
 use Rattle.outside.specs.Conforming.{may_be_raw}
 use Rattle.lego_model.specs.Words.{words_of}
-use Rattle.lego_model.specs.SessionWords.{last_number}
+use Rattle.lego_model.specs.SessionWords.{last_number, an_app}
+use Rattle.lego_model.specs.RunReport.{tried_word}
 use Rattle.lego_io.specs.Lines.{most_line}
-use Rattle.lego_model.specs.SessionLines.{SoFar, no_session, is_declared, with_stimulus, with_fault, most_stimuli, line_of}
+use Rattle.lego_model.specs.SessionLines.{SoFar, no_session, is_declared, with_stimulus, with_fault, with_start, most_stimuli, line_of}
 use Rattle.lego_model.specs.SessionText.{is_skipped, is_printable, is_opening, session_text}
-use Rattle.session_record.specs.Lines.{SessionLine, line_text, session_spelled}
+use Rattle.session_record.specs.Lines.{change_word, SessionLine, line_text, session_spelled}
 
 -- one more stimulus may come
 abbrev pub HasRoom : SoFar → Type 0
@@ -50,6 +56,34 @@ RawIsRead = (names : List (List ℕ)) (s : SoFar) (d : ℕ) (bytes : List ℕ) �
 abbrev pub LossIsRead : Type 0
 LossIsRead = (names : List (List ℕ)) (s : SoFar) (d call : ℕ) → 1 ≤ d → d ≤ last_number → is_declared s d ≡ true → 1 ≤ call → call ≤ last_number
     → line_of names s (words_of (codes "fault link " ++ decimal d ++ codes " " ++ decimal call)) ≡ Ok (with_fault s (d, call))
+
+-- a port comes, goes, or its link does
+abbrev pub PortIsRead : Type 0
+PortIsRead = (names : List (List ℕ)) (s : SoFar) (d port : ℕ) (change : PortChange) → 1 ≤ d → d ≤ last_number → is_declared s d ≡ true → HasRoom s → 1 ≤ port → port ≤ 65280
+    → line_of names s (words_of (codes "port " ++ decimal d ++ codes " " ++ decimal port ++ codes " " ++ change_word change)) ≡ Ok (with_stimulus s (Of d (Port port change)))
+
+-- the entries of a priority count more
+abbrev pub CountIsRead : Type 0
+CountIsRead = (names : List (List ℕ)) (s : SoFar) (d priority packets bytes : ℕ) → 1 ≤ d → d ≤ last_number → is_declared s d ≡ true → HasRoom s
+    → priority ≤ 65535 → packets ≤ last_number → bytes ≤ last_number
+    → line_of names s (words_of (codes "count " ++ decimal d ++ codes " " ++ decimal priority ++ codes " " ++ decimal packets ++ codes " " ++ decimal bytes)) ≡ Ok (with_stimulus s (Of d (Counts priority packets bytes)))
+
+-- a byte that is no space
+abbrev pub IsInk : ℕ → Type 0
+IsInk b = (b == 32) ≡ false
+
+-- how a session says that a start ended so
+abbrev pub script_of : Tried → StartScript
+script_of tried.Ready = scripts.Ready
+script_of tried.Refused = scripts.Refused
+script_of tried.Closed = scripts.Closed
+script_of tried.Silent = scripts.Silent
+script_of tried.Garbled = scripts.Garbled
+
+-- how an attempt ended to start the application of a name without a space
+abbrev pub StartIsRead : Type 0
+StartIsRead = (names : List (List ℕ)) (s : SoFar) (app : List ℕ) (i : ℕ) (how : Tried) → All IsInk app → an_app names app ≡ Ok i
+    → line_of names s (words_of (codes "start " ++ app ++ codes " " ++ tried_word how)) ≡ Ok (with_start s (i, script_of how))
 
 -- ---- A whole text
 

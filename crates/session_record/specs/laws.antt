@@ -4,4 +4,5 @@ pub mod SpelledLaws
 pub mod PushLaws
 pub mod NumberLaws
 pub mod ReadLaws
+pub mod MoreReadLaws
 pub mod TextLaws

@@ -1,6 +1,6 @@
 //! Laws of recordings, each the contract of a function that does nothing.
 
-ghost use Rattle.session_record.specs.Readings.{JoinIsRead, LeaveIsRead, MomentIsRead, FrameIsRead, RawIsRead, LossIsRead, TextIsRead};
+ghost use Rattle.session_record.specs.Readings.{JoinIsRead, LeaveIsRead, MomentIsRead, FrameIsRead, RawIsRead, PortIsRead, CountIsRead, LossIsRead, StartIsRead, TextIsRead};
 
 /// Lines as a recording writes them are read as what they were written for.
 pub fn lines_are_read()
@@ -9,7 +9,10 @@ pub fn lines_are_read()
     ensures moment { MomentIsRead }
     ensures frame { FrameIsRead }
     ensures raw { RawIsRead }
+    ensures port { PortIsRead }
+    ensures count { CountIsRead }
     ensures loss { LossIsRead }
+    ensures start { StartIsRead }
 {}
 
 /// A text of lines that are read one after the other is read as the session that they make.

@@ -1,28 +1,23 @@
 -- Each line of a stimulus or of a loss is read as what it says: it adds that to the session so far.
-use Rattle.std.specs.Prelude.{◌≡◌, ◌==◌, ℕ, ◌^◌, ◌<◌, ◌≤◌, ◌*◌, ◌%◌, Bool, true, false, not, ◌&&◌, List, [], ◌∷◌, ◌++◌, length, All, codes, Result, Ok, Err, nat_le, nat_lt, refl}
+use Rattle.std.specs.Prelude.{◌≡◌, ◌==◌, ℕ, ◌^◌, ◌<◌, ◌≤◌, ◌*◌, ◌%◌, Bool, true, false, ◌&&◌, List, [], ◌∷◌, ◌++◌, length, All, codes, Ok, refl}
 use Rattle.std.specs.Fmt.{decimal}
 use Rattle.std.specs.Str.Parse.{AllDigits}
-use Rattle.std.proofs.Common.{sym, ap, ◌∙◌, subst, inl, inr, arith, append_assoc}
+use Rattle.std.proofs.Common.{ap, ◌∙◌, subst, inl, inr, arith, append_assoc}
 use Rattle.std.proofs.lemmas.Bool.Decides.{eqb_tells}
 use Rattle.std.proofs.lemmas.Bool.{le-leb, le-ltb}
 use Rattle.std.proofs.lemmas.Fmt.{decimal_is_IsNumeral}
 use Rattle.std.proofs.lemmas.List.Elements.{All-nil, All-cons}
 use Rattle.std.proofs.lemmas.List.Splits.{slice_split_none, slice_split_at}
 use Rattle.std.proofs.lemmas.Str.Parse.{digit_from_value}
-use Rattle.hex.specs.Hex.{encode_lower, decode_of, is_hex_digit, IsBytes}
+use Rattle.hex.specs.Hex.{encode_lower, is_hex_digit, IsBytes}
 use Rattle.hex.proofs.HexLemmas.{decode_of-encode_lower, decode_of-ok}
-use Rattle.of_types.specs.declared.journal.Stimulus.TheVariants.{Frame, Raw}
-use Rattle.of_types.specs.declared.journal.WorldStim.TheVariants.{Join, Leave, At, Of}
 use Rattle.lego_model.specs.Words.{words_of, is_word}
 use Rattle.lego_model.specs.SessionWords.{last_number, some_bytes}
-use Rattle.lego_model.specs.SessionLines.{SoFar, is_declared, a_switch, with_stimulus, with_fault, line_of, fixed_line, join_line, leave_line, at_line, frame_line, raw_line, fault_line}
-use Rattle.session_record.specs.Readings.{JoinIsRead, LeaveIsRead, MomentIsRead, RawIsRead, LossIsRead, FrameIsRead}
+use Rattle.lego_model.specs.SessionLines.{SoFar, is_declared, a_switch, line_of, fixed_line, join_line, leave_line, at_line, frame_line, raw_line, fault_line}
+use Rattle.session_record.specs.Readings.{IsInk, JoinIsRead, LeaveIsRead, MomentIsRead, RawIsRead, LossIsRead, FrameIsRead}
 use Rattle.session_record.specs.laws.NumberLaws.{number_read}
 
 -- ---- Words without a space
-
-abbrev IsInk : ℕ → Type 0
-IsInk b = (b == 32) ≡ false
 
 digit_ink : (d : ℕ) → 48 ≤ d → IsInk d
 digit_ink d above = grind arith
@@ -31,7 +26,7 @@ digits_ink : (digits : List ℕ) → AllDigits 10 digits → All IsInk digits
 digits_ink [] each = All-nil IsInk
 digits_ink (d ∷ digits) each = All-cons IsInk d digits (digit_ink d (digit_from_value d each.0).0) (digits_ink digits each.1)
 
-decimal_ink : (n : ℕ) → n < 2 ^ 64 → All IsInk (decimal n)
+pub decimal_ink : (n : ℕ) → n < 2 ^ 64 → All IsInk (decimal n)
 decimal_ink n fits = digits_ink (decimal n) (decimal_is_IsNumeral n fits).0.1
 
 hex_digit_ink : (c : ℕ) → is_hex_digit c ≡ true → IsInk c
@@ -47,7 +42,7 @@ hex_ink : (bytes : List ℕ) → IsBytes bytes → All IsInk (encode_lower bytes
 hex_ink bytes are k d less = hex_digit_ink _ ((decode_of-ok (encode_lower bytes) bytes (decode_of-encode_lower bytes are)).1 k d less)
 
 -- a word, and a space behind it
-spaced : (word rest : List ℕ) → All IsInk word → words_of (word ++ 32 ∷ rest) ≡ word ∷ words_of rest
+pub spaced : (word rest : List ℕ) → All IsInk word → words_of (word ++ 32 ∷ rest) ≡ word ∷ words_of rest
 unfolding words_of
 spaced word rest ink = slice_split_at (λ b. b == 32) word 32 rest ink refl
 
@@ -126,17 +121,17 @@ at_read names s moment below later room =
 
 -- ---- Lines of more words
 
-two_words : (one two : List ℕ) → All IsInk one → All IsInk two → words_of (one ++ 32 ∷ two) ≡ one ∷ two ∷ []
+pub two_words : (one two : List ℕ) → All IsInk one → All IsInk two → words_of (one ++ 32 ∷ two) ≡ one ∷ two ∷ []
 two_words one two first second = spaced one two first ∙ ap (λ (ws : List (List ℕ)). one ∷ ws) (last_word two second)
 
-three_words : (one two three : List ℕ) → All IsInk one → All IsInk two → All IsInk three → words_of (one ++ 32 ∷ (two ++ 32 ∷ three)) ≡ one ∷ two ∷ three ∷ []
+pub three_words : (one two three : List ℕ) → All IsInk one → All IsInk two → All IsInk three → words_of (one ++ 32 ∷ (two ++ 32 ∷ three)) ≡ one ∷ two ∷ three ∷ []
 three_words one two three first second third = spaced one (two ++ 32 ∷ three) first ∙ ap (λ (ws : List (List ℕ)). one ∷ ws) (two_words two three second third)
 
 -- what is written with a space between each two, in the order in which it is written
-in_two : (head one two : List ℕ) → head ++ one ++ codes " " ++ two ≡ head ++ (one ++ 32 ∷ two)
+pub in_two : (head one two : List ℕ) → head ++ one ++ codes " " ++ two ≡ head ++ (one ++ 32 ∷ two)
 in_two head one two = append_assoc (head ++ one) (codes " ") two ∙ append_assoc head one (32 ∷ two)
 
-in_three : (head one two three : List ℕ) → head ++ one ++ codes " " ++ two ++ codes " " ++ three ≡ head ++ (one ++ 32 ∷ (two ++ 32 ∷ three))
+pub in_three : (head one two three : List ℕ) → head ++ one ++ codes " " ++ two ++ codes " " ++ three ≡ head ++ (one ++ 32 ∷ (two ++ 32 ∷ three))
 in_three head one two three =
     append_assoc (head ++ one ++ codes " " ++ two) (codes " ") three
     ∙ ap (λ (r : List ℕ). r ++ 32 ∷ three) (in_two head one two)

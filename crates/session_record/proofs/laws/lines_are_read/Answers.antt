@@ -1,4 +1,5 @@
 use Rattle.session_record.specs.laws.ReadLaws.{join_read, leave_read, at_read, frame_read, raw_read, fault_read}
+use Rattle.session_record.specs.laws.MoreReadLaws.{port_read, count_read, start_read}
 use Rattle.session_record.proofs.laws.lines_are_read.Goals as goal
 
 pub returns-clause-join : goal.returns-clause-join
@@ -18,3 +19,12 @@ returns-clause-raw c = raw_read
 
 pub returns-clause-loss : goal.returns-clause-loss
 returns-clause-loss c = fault_read
+
+pub returns-clause-port : goal.returns-clause-port
+returns-clause-port c = port_read
+
+pub returns-clause-count : goal.returns-clause-count
+returns-clause-count c = count_read
+
+pub returns-clause-start : goal.returns-clause-start
+returns-clause-start c = start_read
