@@ -14,12 +14,13 @@ use Rattle.app_frames.specs.declared.script.StartScript.TheVariants as scripts
 use Rattle.of_wire.specs.Reading.{reading_of}
 use Rattle.outside.specs.Conforming.{may_be_raw}
 use Rattle.lego_model.specs.Words.{words_of}
-use Rattle.lego_model.specs.SessionWords.{last_number, an_app}
+use Rattle.lego_model.specs.SessionWords.{last_number, an_app, are_ports}
 use Rattle.lego_model.specs.RunReport.{tried_word}
 use Rattle.lego_io.specs.Lines.{most_line}
-use Rattle.lego_model.specs.SessionLines.{SoFar, no_session, is_declared, with_stimulus, with_fault, with_start, most_stimuli, line_of}
+use Rattle.lego_model.specs.SessionLines.{SoFar, no_session, is_declared, with_switch, with_stimulus, with_fault, with_start, most_stimuli, line_of}
 use Rattle.lego_model.specs.SessionText.{is_skipped, is_printable, is_opening, session_text}
-use Rattle.session_record.specs.Lines.{change_word, SessionLine, line_text, session_spelled}
+use Rattle.flow_table.specs.Switch.{Declared}
+use Rattle.session_record.specs.Lines.{change_word, ports_text, SessionLine, line_text, session_spelled}
 
 -- one more stimulus may come
 abbrev pub HasRoom : SoFar → Type 0
@@ -84,6 +85,12 @@ script_of tried.Garbled = scripts.Garbled
 abbrev pub StartIsRead : Type 0
 StartIsRead = (names : List (List ℕ)) (s : SoFar) (app : List ℕ) (i : ℕ) (how : Tried) → All IsInk app → an_app names app ≡ Ok i
     → line_of names s (words_of (codes "start " ++ app ++ codes " " ++ tried_word how)) ≡ Ok (with_start s (i, script_of how))
+
+-- a switch that is not declared yet
+abbrev pub SwitchIsRead : Type 0
+SwitchIsRead = (names : List (List ℕ)) (s : SoFar) (d : Declared) → 1 ≤ d.dpid → d.dpid ≤ last_number → is_declared s d.dpid ≡ false → nat_le 64 (length s.session.switches) ≡ false
+    → 1 ≤ d.cap → d.cap ≤ 4096 → are_ports d.ports ≡ true
+    → line_of names s (words_of (codes "switch " ++ decimal d.dpid ++ codes " " ++ decimal d.cap ++ codes " " ++ ports_text d.ports)) ≡ Ok (with_switch s (d.dpid, d.cap, d.ports))
 
 -- ---- A whole text
 

@@ -5,4 +5,5 @@ pub mod PushLaws
 pub mod NumberLaws
 pub mod ReadLaws
 pub mod MoreReadLaws
+pub mod SwitchReadLaws
 pub mod TextLaws

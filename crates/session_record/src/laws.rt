@@ -1,9 +1,10 @@
 //! Laws of recordings, each the contract of a function that does nothing.
 
-ghost use Rattle.session_record.specs.Readings.{JoinIsRead, LeaveIsRead, MomentIsRead, FrameIsRead, RawIsRead, PortIsRead, CountIsRead, LossIsRead, StartIsRead, TextIsRead};
+ghost use Rattle.session_record.specs.Readings.{SwitchIsRead, JoinIsRead, LeaveIsRead, MomentIsRead, FrameIsRead, RawIsRead, PortIsRead, CountIsRead, LossIsRead, StartIsRead, TextIsRead};
 
 /// Lines as a recording writes them are read as what they were written for.
 pub fn lines_are_read()
+    ensures switch { SwitchIsRead }
     ensures join { JoinIsRead }
     ensures leave { LeaveIsRead }
     ensures moment { MomentIsRead }

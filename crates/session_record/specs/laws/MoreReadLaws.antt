@@ -1,8 +1,9 @@
 -- The lines of ports, counts and starts are read as what they say.
-use Rattle.std.specs.Prelude.{◌≡◌, ◌==◌, ℕ, ◌^◌, ◌<◌, Bool, true, false, not, ◌&&◌, List, [], ◌∷◌, ◌++◌, All, codes, Some, refl}
+use Rattle.std.specs.Prelude.{◌≡◌, ◌==◌, ℕ, ◌^◌, ◌<◌, true, not, List, [], ◌∷◌, ◌++◌, All, codes, Some, refl}
 use Rattle.std.specs.Fmt.{decimal}
 use Rattle.std.specs.List.{list_all}
 use Rattle.std.proofs.Common.{ap, ◌∙◌, arith, append_assoc}
+use Rattle.std.proofs.lemmas.Bool.{not-true}
 use Rattle.std.proofs.lemmas.List.Elements.{All-nil, All-cons}
 use Rattle.of_types.specs.declared.journal.PortChange.{PortChange}
 use Rattle.of_types.specs.declared.journal.PortChange.TheVariants.{Up, Down, Add, Delete}
@@ -16,23 +17,16 @@ use Rattle.lego_model.specs.SessionLines.{SoFar, line_of, fixed_line, port_line,
 use Rattle.session_record.specs.Lines.{change_word}
 use Rattle.session_record.specs.Readings.{IsInk, script_of, PortIsRead, CountIsRead, StartIsRead}
 use Rattle.session_record.specs.laws.NumberLaws.{number_read}
+use Rattle.session_record.specs.laws.TextLaws.{both}
 use Rattle.session_record.specs.laws.ReadLaws.{decimal_ink, spaced, two_words, three_words, in_two, in_three, switch_read}
 
 -- ---- Fixed words
-
-both : (b rest : Bool) → (b && rest) ≡ true → (b ≡ true) × (rest ≡ true)
-both true rest e = (refl, e)
-both false rest e = absurd cc
-
-is_not : (b : Bool) → not b ≡ true → b ≡ false
-is_not true e = absurd cc
-is_not false e = refl
 
 inked : (word : List ℕ) → list_all (λ b. not (b == 32)) word ≡ true → All IsInk word
 inked [] each = All-nil IsInk
 inked (b ∷ word) each =
     let parts = both (not (b == 32)) (list_all (λ b. not (b == 32)) word) each in
-    All-cons IsInk b word (is_not (b == 32) parts.0) (inked word parts.1)
+    All-cons IsInk b word (not-true (b == 32) parts.0) (inked word parts.1)
 
 change_ink : (change : PortChange) → All IsInk (change_word change)
 change_ink Up = inked (codes "up") refl

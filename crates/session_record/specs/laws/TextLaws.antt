@@ -14,7 +14,7 @@ use Rattle.session_record.specs.Readings.{nothing_read, IsPlain, AreRead, TextIs
 
 -- ---- A line of printable characters has neither LF nor CR
 
-both : (b rest : Bool) → (b && rest) ≡ true → (b ≡ true) × (rest ≡ true)
+pub both : (b rest : Bool) → (b && rest) ≡ true → (b ≡ true) × (rest ≡ true)
 both true rest e = (refl, e)
 both false rest e = absurd cc
 

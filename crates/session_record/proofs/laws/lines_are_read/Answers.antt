@@ -1,5 +1,6 @@
 use Rattle.session_record.specs.laws.ReadLaws.{join_read, leave_read, at_read, frame_read, raw_read, fault_read}
 use Rattle.session_record.specs.laws.MoreReadLaws.{port_read, count_read, start_read}
+use Rattle.session_record.specs.laws.SwitchReadLaws.{switch_is_read}
 use Rattle.session_record.proofs.laws.lines_are_read.Goals as goal
 
 pub returns-clause-join : goal.returns-clause-join
@@ -28,3 +29,6 @@ returns-clause-count c = count_read
 
 pub returns-clause-start : goal.returns-clause-start
 returns-clause-start c = start_read
+
+pub returns-clause-switch : goal.returns-clause-switch
+returns-clause-switch c = switch_is_read
