@@ -9,6 +9,8 @@ use Rattle.of_types.specs.declared.journal.PortChange.{PortChange}
 use Rattle.of_types.specs.declared.journal.WorldStim.TheVariants.{Join, Leave, At, Of}
 use Rattle.app_frames.specs.declared.cause.Tried.{Tried}
 use Rattle.app_frames.specs.declared.cause.Tried.TheVariants as tried
+use Rattle.app_frames.specs.declared.script.ScriptStep.{ScriptStep}
+use Rattle.app_frames.specs.declared.script.ScriptStep.TheVariants.{Bytes}
 use Rattle.app_frames.specs.declared.script.StartScript.{StartScript}
 use Rattle.app_frames.specs.declared.script.StartScript.TheVariants as scripts
 use Rattle.of_wire.specs.Reading.{reading_of}
@@ -17,10 +19,10 @@ use Rattle.lego_model.specs.Words.{words_of}
 use Rattle.lego_model.specs.SessionWords.{last_number, an_app, are_ports}
 use Rattle.lego_model.specs.RunReport.{tried_word}
 use Rattle.lego_io.specs.Lines.{most_line}
-use Rattle.lego_model.specs.SessionLines.{SoFar, no_session, is_declared, with_switch, with_stimulus, with_fault, with_start, most_stimuli, line_of}
+use Rattle.lego_model.specs.SessionLines.{SoFar, no_session, is_declared, with_switch, with_stimulus, with_fault, with_start, with_reply, most_stimuli, line_of}
 use Rattle.lego_model.specs.SessionText.{is_skipped, is_printable, is_opening, session_text}
 use Rattle.flow_table.specs.Switch.{Declared}
-use Rattle.session_record.specs.Lines.{change_word, ports_text, SessionLine, line_text, session_spelled}
+use Rattle.session_record.specs.Lines.{change_word, ports_text, steps_text, SessionLine, line_text, session_spelled}
 
 -- one more stimulus may come
 abbrev pub HasRoom : SoFar → Type 0
@@ -85,6 +87,23 @@ script_of tried.Garbled = scripts.Garbled
 abbrev pub StartIsRead : Type 0
 StartIsRead = (names : List (List ℕ)) (s : SoFar) (app : List ℕ) (i : ℕ) (how : Tried) → All IsInk app → an_app names app ≡ Ok i
     → line_of names s (words_of (codes "start " ++ app ++ codes " " ++ tried_word how)) ≡ Ok (with_start s (i, script_of how))
+
+-- a step of bytes has some
+abbrev pub IsOneStep : ScriptStep → Type 0
+IsOneStep (Bytes bytes) = IsBytes bytes × (1 ≤ length bytes) × (length bytes ≤ last_number)
+IsOneStep other = Unit {0}
+
+-- of steps none stands behind an end
+abbrev pub AreSteps : List ScriptStep → Type 0
+AreSteps [] = Unit {0}
+AreSteps (step ∷ []) = IsOneStep step
+AreSteps (Bytes bytes ∷ next ∷ steps) = IsOneStep (Bytes bytes) × AreSteps (next ∷ steps)
+AreSteps (end ∷ next ∷ steps) = ⊥
+
+-- what the application of such a name gives in a turn
+abbrev pub ReplyIsRead : Type 0
+ReplyIsRead = (names : List (List ℕ)) (s : SoFar) (app : List ℕ) (i : ℕ) (step : ScriptStep) (steps : List ScriptStep) → All IsInk app → an_app names app ≡ Ok i → AreSteps (step ∷ steps)
+    → line_of names s (words_of (codes "reply " ++ app ++ steps_text (step ∷ steps))) ≡ Ok (with_reply s (i, step ∷ steps))
 
 -- a switch that is not declared yet
 abbrev pub SwitchIsRead : Type 0

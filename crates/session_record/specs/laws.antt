@@ -6,4 +6,5 @@ pub mod NumberLaws
 pub mod ReadLaws
 pub mod MoreReadLaws
 pub mod SwitchReadLaws
+pub mod ReplyReadLaws
 pub mod TextLaws

@@ -22,7 +22,7 @@ use Rattle.session_record.specs.laws.ReadLaws.{decimal_ink, spaced, two_words, t
 
 -- ---- Fixed words
 
-inked : (word : List ℕ) → list_all (λ b. not (b == 32)) word ≡ true → All IsInk word
+pub inked : (word : List ℕ) → list_all (λ b. not (b == 32)) word ≡ true → All IsInk word
 inked [] each = All-nil IsInk
 inked (b ∷ word) each =
     let parts = both (not (b == 32)) (list_all (λ b. not (b == 32)) word) each in

@@ -38,7 +38,7 @@ hex_digit_ink c digit = elim (eqb_tells c 32) [
     is_none : is_hex_digit 32 ≡ true → ⊥
     is_none digit = cc
 
-hex_ink : (bytes : List ℕ) → IsBytes bytes → All IsInk (encode_lower bytes)
+pub hex_ink : (bytes : List ℕ) → IsBytes bytes → All IsInk (encode_lower bytes)
 hex_ink bytes are k d less = hex_digit_ink _ ((decode_of-ok (encode_lower bytes) bytes (decode_of-encode_lower bytes are)).1 k d less)
 
 -- a word, and a space behind it
@@ -46,7 +46,7 @@ pub spaced : (word rest : List ℕ) → All IsInk word → words_of (word ++ 32 
 unfolding words_of
 spaced word rest ink = slice_split_at (λ b. b == 32) word 32 rest ink refl
 
-last_word : (word : List ℕ) → All IsInk word → words_of word ≡ word ∷ []
+pub last_word : (word : List ℕ) → All IsInk word → words_of word ≡ word ∷ []
 unfolding words_of
 last_word word ink = slice_split_none (λ b. b == 32) word ink
 

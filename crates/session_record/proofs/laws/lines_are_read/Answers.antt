@@ -1,6 +1,7 @@
 use Rattle.session_record.specs.laws.ReadLaws.{join_read, leave_read, at_read, frame_read, raw_read, fault_read}
 use Rattle.session_record.specs.laws.MoreReadLaws.{port_read, count_read, start_read}
 use Rattle.session_record.specs.laws.SwitchReadLaws.{switch_is_read}
+use Rattle.session_record.specs.laws.ReplyReadLaws.{reply_read}
 use Rattle.session_record.proofs.laws.lines_are_read.Goals as goal
 
 pub returns-clause-join : goal.returns-clause-join
@@ -32,3 +33,6 @@ returns-clause-start c = start_read
 
 pub returns-clause-switch : goal.returns-clause-switch
 returns-clause-switch c = switch_is_read
+
+pub returns-clause-reply : goal.returns-clause-reply
+returns-clause-reply c = reply_read
