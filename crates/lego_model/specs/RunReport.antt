@@ -67,6 +67,10 @@ abbrev pub alive_word : Bool → List ℕ
 alive_word true = codes "alive"
 alive_word false = codes "dead"
 
+abbrev pub kept_word : Bool → List ℕ
+kept_word true = codes "kept"
+kept_word false = codes "undone"
+
 -- ---- Lines
 
 -- a line ends by one LF
@@ -88,6 +92,14 @@ event_line number kind dpid = line_of (codes "event " ++ decimal number ++ codes
 -- `turn APP done`, `turn APP stop` or `turn APP failed CAUSE`
 unfoldable pub turn_line : List ℕ → TurnWord → List ℕ
 turn_line app word = line_of (codes "turn " ++ app ++ codes " " ++ turn_words word)
+
+-- `instead APP KIND DPID done`, `instead APP KIND DPID stop` or `instead APP KIND DPID failed CAUSE`
+unfoldable pub instead_line : List ℕ → EventKind → ℕ → TurnWord → List ℕ
+instead_line app kind dpid word = line_of (codes "instead " ++ app ++ codes " " ++ kind_word kind ++ codes " " ++ decimal dpid ++ codes " " ++ turn_words word)
+
+-- `group APP kept` or `group APP undone`
+unfoldable pub group_line : List ℕ → Bool → List ℕ
+group_line app kept = line_of (codes "group " ++ app ++ codes " " ++ kept_word kept)
 
 -- `out DPID LEN`
 unfoldable pub out_line : ℕ → ℕ → List ℕ

@@ -3,7 +3,7 @@
 ghost use Rattle.std.specs.Prelude.{◌≡◌, IfOk};
 ghost use Rattle.lego_model.specs.RunReport as report;
 
-use crate::words::{alive_word, cause_words, kind_word, tried_word};
+use crate::words::{alive_word, cause_words, kept_word, kind_word, tried_word};
 use app_frames::{EventKind, Tried};
 use lego_model::TurnWord;
 use of_types::{ByteList, Dpid};
@@ -56,6 +56,41 @@ pub fn turn_line(alloc: Global, app: &str, word: &TurnWord) -> Result<ByteList, 
             format!(in alloc; "turn {app} failed {words}\n")?
         }
     };
+    Ok(ByteList::from_vec(line.into_bytes()))
+}
+
+/// Writes `instead APP KIND DPID done`, `instead APP KIND DPID stop` or `instead APP KIND DPID failed CAUSE`: how the turn of the
+/// application ended at an event that it was given in place of another.
+#[tactic(auto, unfolding(lego_model::specs::RunReport::instead_line, lego_model::specs::RunReport::line_of))]
+pub fn instead_line(
+    alloc: Global,
+    app: &str,
+    kind: EventKind,
+    dpid: Dpid,
+    word: &TurnWord,
+) -> Result<ByteList, AllocError>
+    ensures { IfOk result (λ line. line ≡ report.instead_line app.now kind dpid word.now) }
+{
+    let event = kind_word(kind);
+    let line = match word {
+        TurnWord::Done => format!(in alloc; "instead {app} {event} {dpid} done\n")?,
+        TurnWord::Stop => format!(in alloc; "instead {app} {event} {dpid} stop\n")?,
+        TurnWord::Failed(cause) => {
+            let words = cause_words(*cause);
+            format!(in alloc; "instead {app} {event} {dpid} failed {words}\n")?
+        }
+    };
+    Ok(ByteList::from_vec(line.into_bytes()))
+}
+
+/// Writes `group APP kept` or `group APP undone`: what becomes of the turns at the events that the application was given in place
+/// of one.
+#[tactic(auto, unfolding(lego_model::specs::RunReport::group_line, lego_model::specs::RunReport::line_of))]
+pub fn group_line(alloc: Global, app: &str, kept: bool) -> Result<ByteList, AllocError>
+    ensures { IfOk result (λ line. line ≡ report.group_line app.now kept) }
+{
+    let word = kept_word(kept);
+    let line = format!(in alloc; "group {app} {word}\n")?;
     Ok(ByteList::from_vec(line.into_bytes()))
 }
 

@@ -49,6 +49,13 @@ pub(crate) fn kind_word(kind: EventKind) -> &'static str
     }
 }
 
+/// Tells whether the turns of a group are kept.
+pub(crate) fn kept_word(kept: bool) -> &'static str
+    ensures { result.now ≡ report.kept_word kept }
+{
+    if kept { "kept" } else { "undone" }
+}
+
 /// Tells whether an application is still there.
 pub(crate) fn alive_word(alive: bool) -> &'static str
     ensures { result.now ≡ report.alive_word alive }
