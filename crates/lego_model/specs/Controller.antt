@@ -1,7 +1,7 @@
 -- The reference controller: it runs stimuli over whole switches, gives each event to the applications that are alive, and never sees a
 -- turn that failed. It has no inverse message, no cache, and sends nothing for the purpose of undoing. A switch whose link fails goes out.
 -- Events are made of what switches send (OpenFlow 1.0.0, 5.4 Asynchronous Messages); all else is our own choice.
-use Rattle.std.specs.Prelude.{◌==◌, ℕ, zero, suc, ◌+◌, ◌&&◌, Bool, true, false, not, List, [], ◌∷◌, ◌++◌, map, fold, drop, length, Option, Some, None, is_some, unwrap_or, if◌then◌else◌}
+use Rattle.std.specs.Prelude.{◌==◌, ℕ, zero, suc, ◌+◌, ◌&&◌, ◌||◌, Bool, true, false, not, List, [], ◌∷◌, ◌++◌, map, fold, drop, length, Option, Some, None, is_some, unwrap_or, if◌then◌else◌}
 use Rattle.std.specs.List.{flat_map, list_any}
 use Rattle.std.specs.Option.{option_map}
 use Rattle.of_types.specs.declared.journal.Stimulus.{Stimulus}
@@ -22,10 +22,11 @@ use Rattle.crash_policy.specs.declared.policy_file.Policy.{Policy}
 use Rattle.crash_policy.specs.declared.policy_file.Policy.TheVariants as policy
 use Rattle.crash_policy.specs.Policies.{AppValue}
 use Rattle.crash_policy.specs.Asking.{is_given, rule_at}
+use Rattle.crash_policy.specs.Replacing.{instead}
 use Rattle.lego_model.specs.Journal.{Reply, Start, Untold}
 use Rattle.lego_model.specs.Turns.{Outcome, Completed, Failed, Table, turn_of, outcome_of}
 use Rattle.lego_model.specs.Places.{Place, switch_at, with_place}
-use Rattle.lego_model.specs.Losses.{PacketLoss, Stays, BeforeSent, AfterSent, TurnLosses, Losses, next_flag, next_packet, next_turn, batch_fewer, turn_fewer}
+use Rattle.lego_model.specs.Losses.{PacketLoss, Stays, BeforeSent, AfterSent, TurnLosses, Losses, no_loss, next_flag, next_packet, next_turn, batch_fewer, turn_fewer}
 pub use Rattle.lego_model.specs.Events.{ports_of, event_of_message, event_of_read, events_of, join_event, leave_event}
 use Rattle.lego_model.specs.Packets.{Held, HeldBack, Play, fresh_play, play, play_undo}
 pub use Rattle.lego_model.specs.Packets.{lose_at, lose, undoing}
@@ -144,6 +145,10 @@ pub data Line : Type 0 where
   IsGone : ℕ → Line
   Dispatched : ℕ → Event → Line
   Ended : ℕ → Outcome → Line
+  -- so ended its turn at an event that it was given in place of another
+  EndedInstead : ℕ → Event → Outcome → Line
+  -- the turns at all events that it was given in place of one are kept, or undone
+  Grouped : ℕ → Bool → Line
   -- a packet was released to a switch, with so many bytes
   Out : ℕ → ℕ → Line
   -- a switch was lost
@@ -286,11 +291,142 @@ abbrev pub says_stop : Outcome → Bool
 says_stop (Completed stop checkpoint rest) = stop
 says_stop (Failed cause) = false
 
--- ---- Dispatch
+-- ---- Marks
 
 -- the switches are looked at before an event is first given
 abbrev pub marked : Bool → ℕ → List Place → List Mark → List Mark
 marked given n ps marks = if given && not (has_mark n marks) then marks ++ reference_mark (Some n) ps ∷ [] else marks
+
+-- ---- A group of turns: under the policy `equivalence` an application that failed at an event, and was started again, is given events in place of
+-- it, which say the same and less. They have the number of the event. Nothing is released between their turns.
+
+-- what it is given in place of the event, where its turn ended so and it stands so then
+abbrev pub instead_by : Policy → Event → List Event
+instead_by policy.None event = []
+instead_by policy.Absolute event = []
+instead_by policy.Equivalence event = instead event
+
+abbrev pub instead_of : Outcome → App → Event → List Event
+instead_of (Completed stop checkpoint rest) a event = []
+instead_of (Failed cause) a event = if a.alive then instead_by (rule_at a.rule event.kind) event else []
+
+-- How a group stands between two of its turns: what they are played on, the application, whether a turn said stop, whether one failed, what is
+-- lost in the turn that was the last so far, their lines, the losses that are to come, and the marks.
+pub record Group : Type 0 where
+  pub play : Play
+  pub app : App
+  pub stops : Bool
+  pub fails : Bool
+  pub last : TurnLosses
+  pub lines : List Line
+  pub losses : Losses
+  pub marks : List Mark
+
+abbrev pub is_failed : Outcome → Bool
+is_failed (Completed stop checkpoint rest) = false
+is_failed (Failed cause) = true
+
+-- the application behind a turn of a group; what it handed over and that it was done stands under the group's end
+abbrev pub after_instead : Outcome → App → App
+after_instead (Completed stop checkpoint rest) a = record a { rest = rest; kept = unwrap_or checkpoint a.kept; done = a.done + 1 }
+after_instead (Failed cause) a = record a { rest = []; failed = a.failed + 1 }
+
+-- the switches of the messages to come are lost as this turn has it
+abbrev pub with_losses : TurnLosses → Play → Play
+with_losses losses p = record p { losing = losses.messages; inner = losses.inner }
+
+-- one of its turns
+unfoldable pub turn_instead : (List Place → Bool) → ℕ → ℕ → ℕ → Event → Group → Group
+turn_instead allows number moment i event g =
+    let losses = next_turn g.losses.turns in
+    let reply = next_reply g.app.replies in
+    let played = turn_of (table_of allows) g.app.rule.budget g.app.rest reply (with_losses losses g.play) in
+    record {
+      play = played.state;
+      app = after_instead played.outcome (record g.app { replies = drop 1 g.app.replies; inputs = g.app.inputs ++ given_in reply.given (event_frame number moment event) played.answers });
+      stops = g.stops || says_stop played.outcome;
+      fails = is_failed played.outcome;
+      last = losses;
+      lines = g.lines ++ EndedInstead i event played.outcome ∷ [];
+      losses = turn_fewer g.losses;
+      marks = marked reply.given number g.play.places g.marks;
+    }
+
+-- one after the other, up to the first that fails
+unfoldable pub turns_instead : (List Place → Bool) → ℕ → ℕ → ℕ → List Event → Group → Group
+turns_instead allows number moment i [] g = g
+turns_instead allows number moment i (event ∷ events) g =
+    let next = turn_instead allows number moment i event g in
+    if next.fails then next else turns_instead allows number moment i events next
+
+abbrev pub fresh_group : App → Run → Group
+fresh_group a run = record { play = fresh_play no_loss run.places; app = a; stops = false; fails = false; last = no_loss; lines = []; losses = run.losses; marks = run.marks }
+
+-- Where all its turns completed, what they held is released, once; where one failed, all of them are undone. What is lost then is said of the
+-- last turn.
+abbrev pub release_group : List Place → Group → Release
+release_group before g = if g.fails then undone_release (undoing g.last.undone before g.play.places) else release g.last.packets g.play.places g.play.held
+
+-- Where one failed, the application is started again with the checkpoint of before, and no turn of the group counts as done.
+abbrev pub close_group : App → Group → App × List Tried
+close_group before g = if g.fails then started attempts (record g.app { kept = before.kept; done = before.done }) else (g.app, [])
+
+abbrev pub again_lines : ℕ → Bool → App × List Tried → List Line
+again_lines i false a = []
+again_lines i true a = map (Started i) a.1 ++ gone_line i a.0.alive
+
+-- what an application leaves that had its turns at an event: how it stands, whether the event goes no further, and the run
+pub record Had : Type 0 where
+  pub app : App
+  pub stops : Bool
+  pub run : Run
+
+-- the run behind a group, with the Leave events of the switches that were lost in it
+abbrev pub after_group : ℕ → Group → Release → List Event → App × List Tried → Run → Run
+after_group i g r left a run = record run {
+  places = r.places;
+  queue = run.queue ++ (r.events ++ left);
+  lines = run.lines ++ (g.lines ++ Grouped i (not g.fails) ∷ out_lines r.packets ++ lost_lines (leavers left) ++ again_lines i g.fails a);
+  released = run.released ++ r.packets;
+  lost = run.lost ++ leavers left;
+  losses = g.losses;
+  marks = g.marks;
+}
+
+abbrev pub group_had : ℕ → App → Group → Run → Had
+group_had i a g run =
+    let r = release_group run.places g in
+    let closed = close_group a g in
+    record { app = closed.0; stops = not g.fails && g.stops; run = after_group i g r (g.play.left ++ r.left) closed run }
+
+-- where there is nothing to give, nothing is done
+unfoldable pub group : (List Place → Bool) → List Event → ℕ → App → Run → Had
+group allows [] i a run = record { app = a; stops = false; run = run }
+group allows (event ∷ events) i a run = group_had i a (turns_instead allows run.events run.moment i (event ∷ events) (fresh_group a run)) run
+
+-- ---- What an application has at an event: its turn, and then the turns at the events that it is given in place of it
+
+-- the run behind a turn of the application with an index
+abbrev pub after_turn : ℕ → Turned → Run → Run
+after_turn i t run = record run {
+  places = t.release.places;
+  queue = run.queue ++ (t.release.events ++ t.left);
+  lines = run.lines ++ Ended i t.outcome ∷ out_lines t.release.packets ++ lost_lines (leavers t.left) ++ restart_lines i t.outcome t.app;
+  released = run.released ++ t.release.packets;
+  lost = run.lost ++ leavers t.left;
+  losses = turn_fewer run.losses;
+  marks = marked t.given run.events run.places run.marks;
+}
+
+abbrev pub had_behind : (List Place → Bool) → Event → ℕ → Turned → Run → Had
+had_behind allows event i t run =
+    let later = group allows (instead_of t.outcome t.app.0 event) i t.app.0 (after_turn i t run) in
+    record later { stops = says_stop t.outcome || later.stops }
+
+unfoldable pub had_at : (List Place → Bool) → Event → ℕ → App → Run → Had
+had_at allows event i a run = had_behind allows event i (turn allows run.events run.moment event (next_turn run.losses.turns) run.places a) run
+
+-- ---- Dispatch
 
 -- The applications from an index on that are alive and are given such events have their turns, until one that completed says stop.
 unfoldable pub given_to : (List Place → Bool) → Event → ℕ → List App → Run → List App × Run

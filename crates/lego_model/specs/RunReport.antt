@@ -23,7 +23,7 @@ use Rattle.of_match.specs.Match.{fields_in}
 use Rattle.of_match.specs.Text.{match_text}
 use Rattle.lego_model.specs.Turns.{Outcome, Completed, Failed as FailedBy}
 use Rattle.lego_model.specs.Places.{Place}
-use Rattle.lego_model.specs.Controller.{App, Line, Started, IsGone, Dispatched, Ended, Out, Lost, Run, is_last_lost}
+use Rattle.lego_model.specs.Controller.{App, Line, Started, IsGone, Dispatched, Ended, EndedInstead, Grouped, Out, Lost, Run, is_last_lost}
 use Rattle.lego_model.specs.declared.turn.TurnWord.{TurnWord}
 use Rattle.lego_model.specs.declared.turn.TurnWord.TheVariants.{Done, Stop, Failed}
 
@@ -168,6 +168,8 @@ line_text names (Started i how) = start_line (name_of i names) how
 line_text names (IsGone i) = gone_line (name_of i names)
 line_text names (Dispatched number event) = event_line number event.kind event.dpid
 line_text names (Ended i outcome) = turn_line (name_of i names) (outcome_word outcome)
+line_text names (EndedInstead i event outcome) = instead_line (name_of i names) event.kind event.dpid (outcome_word outcome)
+line_text names (Grouped i kept) = group_line (name_of i names) kept
 line_text names (Out dpid size) = out_line dpid size
 line_text names (Lost dpid) = lost_line dpid
 
