@@ -5,16 +5,16 @@ use Rattle.app_frames.specs.declared.cause.Tried.{Tried}
 use Rattle.crash_policy.specs.declared.policy_file.Policy.{Policy}
 use Rattle.lego_model.specs.Journal.{Reply, Start}
 use Rattle.lego_model.specs.RunReport.{name_of}
-use Rattle.lego_model.specs.Controller.{Started, after_failure, gone_line, Ended, out_lines, lost_lines, leavers, restart_lines, Release, turn, says_stop}
-use Rattle.lego_model.specs.Losses.{TurnLosses}
-use Rattle.lego_model.specs.Scripted.{AreStartFronts, IsFront}
+use Rattle.lego_model.specs.Controller.{App, Had, Run, Started, after_failure, gone_line, Ended, out_lines, lost_lines, leavers, restart_lines, Release, turn, says_stop, is_failed}
+use Rattle.lego_model.specs.Losses.{TurnLosses, Losses}
+use Rattle.lego_model.specs.Scripted.{AreFronts, AreStartFronts, IsFront}
 use Rattle.outside.specs.Seen.{Seen, Continues}
 use Rattle.outside.specs.State.{state, marks_at_event}
 use Rattle.switch_laws.specs.Shown.{shown_places, shown_by}
 use Rattle.batch_laws.specs.Calm.{Calm}
 use Rattle.journal_laws.specs.Readings.{LastStands}
 use Rattle.lego_model.specs.History.{starts_in, replies_in, own_acts, given_in, stimuli_in, released_of, lost_of}
-use Rattle.run_laws.specs.Engine.{Focus, app_at}
+use Rattle.run_laws.specs.Engine.{Focus, app_at, ahead, Shares}
 use Rattle.run_laws.specs.LinkSteps.{TriesKeep}
 use Rattle.run_laws.specs.LastReport.{lines_text}
 use Rattle.app_frames.specs.declared.frame.Event.{Event}
@@ -87,11 +87,40 @@ pub record TurnAlike {Own : Type 0} (allows : List Place → Bool) (event : Even
   pub text_is : (names : List (List ℕ)) → name_of e.index names ≡ e.rule.name → (later_starts : List Start) (later_replies : List Reply)
       → text ≡ lines_text names (Ended e.index outcome ∷ out_lines release.packets ++ lost_lines (leavers left) ++ restart_lines e.index outcome (app_at now_e (given_in e.index new) later_starts later_replies, tries))
 
--- so it leaves an event where it stops it there, or does not
-pub record TurnMoves {Own : Type 0} (allows : List Place → Bool) (event : Event) (stops : Bool) (text : List ℕ) (old new : Seen Own) (e now_e : Focus) : Type 0 where
+-- so it leaves an event where it stops it there, or does not, and fails at it, or does not
+pub record TurnMoves {Own : Type 0} (allows : List Place → Bool) (event : Event) (stops fails : Bool) (text : List ℕ) (old new : Seen Own) (e now_e : Focus) : Type 0 where
   pub starts : List Start
   pub reply : Reply
   pub tells : TurnTells old new e now_e starts reply
   pub losses : TurnLosses
   pub alike : TurnAlike allows event text old new e now_e starts reply losses
   pub stops_is : says_stop alike.outcome ≡ stops
+  pub fails_is : is_failed alike.outcome ≡ fails
+
+-- ---- What an application has at an event
+
+-- what an application comes to there, and the run of it
+pub record IsHadAlike {Own : Type 0} (stops : Bool) (text : List ℕ) (new : Seen Own) (now_e : Focus) (starts : List Start) (replies : List Reply) (later : Losses) (r : Run) (done : Had) : Type 0 where
+  pub app_is : done.app ≡ app_at now_e (given_in now_e.index new) starts replies
+  pub stops_is : done.stops ≡ stops
+  pub shares : Shares new now_e.net now_e.queue now_e.events later done.run
+  pub lines : (names : List (List ℕ)) → name_of now_e.index names ≡ now_e.rule.name → lines_text names done.run.lines ≡ lines_text names r.lines ++ text
+
+-- What an application had leaves what this makes of application and run: the journal tells these starts and replies of it, and switches were lost in these
+-- turns. Where engine and reference controller stood alike before it, and the application there has starts and replies before it of which these are the
+-- fronts, they stand alike behind it.
+pub record HadMoves {Own : Type 0} (does : App → Run → Had) (stops : Bool) (text : List ℕ) (old new : Seen Own) (e now_e : Focus) : Type 0 where
+  pub starts : List Start
+  pub replies : List Reply
+  pub turns : List TurnLosses
+  pub given : new.given ≡ old.given
+  pub index : now_e.index ≡ e.index
+  pub rule : now_e.rule ≡ e.rule
+  pub events : now_e.events ≡ e.events
+  pub calm : Calm new now_e.net
+  pub read_starts : starts_in (own_acts e.index new) ≡ starts_in (own_acts e.index old) ++ starts
+  pub read_replies : replies_in (own_acts e.index new) ≡ replies_in (own_acts e.index old) ++ replies
+  pub read_stimuli : stimuli_in new ≡ stimuli_in old
+  pub life : now_e.alive ≡ true → LastStands (own_acts e.index new)
+  pub had : (said_starts : List Start) (said_replies : List Reply) (later : Losses) (r : Run) → AreStartFronts starts said_starts → AreFronts replies said_replies → Shares old e.net e.queue e.events (ahead [] turns later) r
+      → IsHadAlike stops text new now_e (drop (length starts) said_starts) (drop (length replies) said_replies) later r (does (app_at e (given_in e.index old) said_starts said_replies) r)

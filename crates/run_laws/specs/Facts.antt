@@ -2,7 +2,7 @@
 -- done says stop. What a turn changed is kept where it was done, with the checkpoint that it handed over and the packets that it held released,
 -- and undone where it failed; then the switches that were lost are told, and behind a turn that failed the application goes by its policy: it is
 -- started again at its kept checkpoint, or it is gone. All of this is our own.
-use Rattle.std.specs.Prelude.{◌≡◌, ℕ, ◌+◌, ◌&&◌, Bool, true, false, List, [], ◌∷◌, ◌++◌, length, take, drop, Option, Ok, is_some, unwrap_or}
+use Rattle.std.specs.Prelude.{◌≡◌, ℕ, ◌+◌, ◌&&◌, ◌||◌, Bool, true, false, not, List, [], ◌∷◌, ◌++◌, length, take, drop, Option, Ok, is_some, unwrap_or, if◌then◌else◌}
 use Rattle.std.specs.List.{flat_map, list_any}
 use Rattle.flow_table.specs.View.{TableView}
 use Rattle.app_frames.specs.declared.frame.Event.{Event}
@@ -12,10 +12,11 @@ use Rattle.app_frames.specs.declared.cause.Tried.{Tried}
 use Rattle.crash_policy.specs.declared.policy_file.Policy.{Policy}
 use Rattle.crash_policy.specs.declared.policy_file.Policy.TheVariants as policy
 use Rattle.crash_policy.specs.Asking.{is_given, rule_at}
+use Rattle.crash_policy.specs.Policies.{AppValue}
 use Rattle.lego_model.specs.declared.turn.TurnWord.{TurnWord}
 use Rattle.lego_model.specs.declared.turn.TurnWord.TheVariants as words
-use Rattle.lego_model.specs.Controller.{event_frame}
-use Rattle.lego_model.specs.RunReport.{event_line, turn_line, out_line, start_line, gone_line}
+use Rattle.lego_model.specs.Controller.{event_frame, instead_by}
+use Rattle.lego_model.specs.RunReport.{event_line, turn_line, instead_line, group_line, out_line, start_line, gone_line}
 use Rattle.outside.specs.Seen.{Seen}
 use Rattle.outside.specs.Calls.{Ends}
 use Rattle.net_txn.specs.Net.{NetState}
@@ -120,6 +121,137 @@ is_taking event a = a.alive && is_given a.rule event.kind
 abbrev pub says_stop : TurnEnd → Bool
 says_stop (ends.Done stop) = stop
 says_stop (ends.Failed cause) = false
+
+abbrev pub end_fails : TurnEnd → Bool
+end_fails (ends.Done stop) = false
+end_fails (ends.Failed cause) = true
+
+-- ---- Events in place of one at which the application failed: their turns are held one after the other, in one transaction, up to the first that
+-- fails. Where all were done, what they did is kept, with the checkpoint that was handed over last, and the packets that they held are released; where
+-- one failed, what all of them did is undone, and the application is started again with the checkpoint of before.
+
+-- how a group stands between two of its turns: what is seen and kept, the bytes that are unread, the checkpoint that was handed over last, or is kept
+-- from before, how many turns of the application completed and how many failed, whether a turn said stop, whether one failed, and their lines
+pub record Turning (Own : Type 0) : Type 0 where
+  pub seen : Seen Own
+  pub net : NetState
+  pub rest : List ℕ
+  pub kept : List ℕ
+  pub done : ℕ
+  pub failed : ℕ
+  pub stops : Bool
+  pub fails : Bool
+  pub text : List ℕ
+
+abbrev pub turning_at : {Own : Type 0} → Seen Own → Focus → Turning Own
+turning_at seen e = record { seen = seen; net = e.net; rest = e.rest; kept = e.kept; done = e.done; failed = e.failed; stops = false; fails = false; text = [] }
+
+-- one turn, in the transaction of all of them; each has the number of the event for which they stand
+pub record PlaysOne {Own : Type 0} (Tells : Type 0) (accepts : List TableView → Bool) (app budget number : ℕ) (event : Event) (from : Turning Own) : Type 0 where
+  pub mid : Seen Own
+  pub mid_net : NetState
+  pub end : TurnEnd
+  pub unread : List ℕ
+  pub turns : Turns Tells accepts app budget from.rest (event_frame number from.net.moment event) from.seen mid from.net mid_net end unread
+
+abbrev pub done_by : TurnEnd → ℕ → ℕ
+done_by (ends.Done stop) n = n + 1
+done_by (ends.Failed cause) n = n
+
+abbrev pub failed_by : TurnEnd → ℕ → ℕ
+failed_by (ends.Done stop) n = n
+failed_by (ends.Failed cause) n = n + 1
+
+-- behind a turn that ended so, and handed over this checkpoint
+abbrev pub turned : {Own : Type 0} → TurnEnd → Option (List ℕ) → List ℕ → Seen Own → NetState → List ℕ → Turning Own → Turning Own
+turned end checkpoint unread seen net line from = record {
+  seen = seen;
+  net = net;
+  rest = unread;
+  kept = unwrap_or checkpoint from.kept;
+  done = done_by end from.done;
+  failed = failed_by end from.failed;
+  stops = from.stops || says_stop end;
+  fails = end_fails end;
+  text = from.text ++ line;
+}
+
+-- the others have theirs, unless it failed
+abbrev pub unless_failed : TurnEnd → Type 0 → Type 0 → Type 0
+unless_failed (ends.Done stop) Over Goes = Goes
+unless_failed (ends.Failed cause) Over Goes = Over
+
+abbrev pub line_by : List ℕ → Event → TurnEnd → List ℕ
+line_by name event end = instead_line name event.kind event.dpid (turn_word end)
+
+-- behind one turn
+abbrev pub behind_one : {Own Tells : Type 0} {accepts : List TableView → Bool} {app budget number : ℕ} {event : Event} {from : Turning Own} → List ℕ → PlaysOne Tells accepts app budget number event from → Turning Own
+behind_one {event = event} {from = from} name one = turned one.end (handed one.turns.outcome) one.unread one.mid one.mid_net (line_by name event one.end) from
+
+-- the turns of an application of a name at these events
+abbrev pub PlaysAll : {Own : Type 0} → Type 0 → (List TableView → Bool) → (app : ℕ) → List ℕ → (budget number : ℕ) → List Event → Turning Own → Turning Own → Type 0
+PlaysAll Tells accepts app name budget number [] from to = to ≡ from
+PlaysAll Tells accepts app name budget number (event ∷ events) from to =
+    (one : PlaysOne Tells accepts app budget number event from)
+    × unless_failed one.end (to ≡ behind_one name one) (PlaysAll Tells accepts app name budget number events (behind_one name one) to)
+
+-- ---- How it is closed
+
+-- what the turns did, so many of them, stays
+pub record KeepsGroup {Own : Type 0} (Tells : Type 0) (number : ℕ) (text : List ℕ) (start : ℕ) (new : Seen Own) (t : Turning Own) (e now_e : Focus) : Type 0 where
+  pub net : NetState
+  pub queue : List Event
+  pub sent : List (ℕ × ℕ)
+  pub commits : Commits Tells start t.seen new t.net net e.queue queue (Ok sent)
+  pub engine : now_e ≡ all_told net queue (record e { rest = t.rest; kept = t.kept; done = e.done + number })
+  pub text_is : text ≡ t.text ++ (group_line e.rule.name true ++ (out_text sent ++ lost_text net.left))
+
+-- it was undone, and the application is started again with the checkpoint that was kept before; none of the turns counts as done
+pub record UndoesGroup {Own : Type 0} (Tells : Type 0) (text : List ℕ) (start : ℕ) (new : Seen Own) (t : Turning Own) (e now_e : Focus) : Type 0 where
+  pub undone : Seen Own
+  pub undone_net : NetState
+  pub undoes : Undoes Tells start t.seen undone t.net undone_net (Ok tt)
+  pub later_text : List ℕ
+  pub starts : StartsAgain Tells later_text undone new (all_told undone_net e.queue (record e { rest = []; failed = e.failed + 1 })) now_e
+  pub text_is : text ≡ t.text ++ (group_line e.rule.name false ++ (lost_text undone_net.left ++ later_text))
+
+abbrev pub ClosesGroup : {Own : Type 0} → Bool → Type 0 → ℕ → List ℕ → ℕ → Seen Own → Turning Own → Focus → Focus → Type 0
+ClosesGroup false Tells number text start new t e now_e = KeepsGroup Tells number text start new t e now_e
+ClosesGroup true Tells number text start new t e now_e = UndoesGroup Tells text start new t e now_e
+
+-- ---- The whole
+
+pub record TakesGroup {Own : Type 0} (Tells : Type 0) (accepts : List TableView → Bool) (events : List Event) (text : List ℕ) (old new : Seen Own) (e now_e : Focus) : Type 0 where
+  pub turning : Turning Own
+  pub plays : PlaysAll Tells accepts e.index e.rule.name e.rule.budget e.events events (turning_at old e) turning
+  pub closed : ClosesGroup turning.fails Tells (length events) text (length e.net.log) new turning e now_e
+
+-- the event for which they stand goes no further where all were done and one said so
+abbrev pub group_stops : {Own : Type 0} → Turning Own → Bool
+group_stops t = not t.fails && t.stops
+
+-- ---- What an application has at an event
+
+-- what it is given in place of the event behind a turn that failed, or did not, where it is alive and its policy says so
+abbrev pub instead_if : Bool → Bool → AppValue → Event → List Event
+instead_if fails alive rule event = if fails && alive then instead_by (rule_at rule event.kind) event else []
+
+-- it has a group of turns, or nothing is done where there is nothing to give
+abbrev pub TakesInstead : {Own : Type 0} → Type 0 → (List TableView → Bool) → List Event → Bool → List ℕ → Seen Own → Seen Own → Focus → Focus → Type 0
+TakesInstead Tells accepts [] stops text old new e now_e = (new ≡ old) × (now_e ≡ e) × (stops ≡ false) × (text ≡ [])
+TakesInstead Tells accepts (event ∷ events) stops text old new e now_e = (taken : TakesGroup Tells accepts (event ∷ events) text old new e now_e) × (stops ≡ group_stops taken.turning)
+
+-- it has its turn at the event, and then at those that it is given in place of it
+pub record TakesEvent {Own : Type 0} (Tells : Type 0) (accepts : List TableView → Bool) (event : Event) (stops : Bool) (text : List ℕ) (old new : Seen Own) (e now_e : Focus) : Type 0 where
+  pub mid : Seen Own
+  pub mid_e : Focus
+  pub front_text : List ℕ
+  pub takes : TakesTurn Tells accepts event front_text old mid e mid_e
+  pub stopped : Bool
+  pub later_text : List ℕ
+  pub later : TakesInstead Tells accepts (instead_if (end_fails takes.end) mid_e.alive mid_e.rule event) stopped later_text mid new mid_e now_e
+  pub stops_is : stops ≡ (says_stop takes.end || stopped)
+  pub text_is : text ≡ front_text ++ later_text
 
 -- ---- One application after the other
 

@@ -5,24 +5,13 @@ use Rattle.lego_model.specs.Journal.{Reply}
 use Rattle.lego_model.specs.Places.{Place}
 use Rattle.lego_model.specs.Packets.{Play}
 use Rattle.lego_model.specs.Turns.{Played}
-use Rattle.lego_model.specs.Controller.{App, Dispatched, Ended, Run, Turned, event_frame, given_in, after_outcome, release_by, out_lines, lost_lines, leavers, restart_lines, marked}
-use Rattle.lego_model.specs.Losses.{TurnLosses, turn_fewer}
+pub use Rattle.lego_model.specs.Controller.{after_turn}
+use Rattle.lego_model.specs.Controller.{App, Dispatched, Run, Turned, event_frame, given_in, after_outcome, release_by}
+use Rattle.lego_model.specs.Losses.{TurnLosses}
 
 -- the event has its number and its line
 abbrev pub numbered : Event → Run → Run
 numbered event r = record r { events = r.events + 1; lines = r.lines ++ Dispatched (r.events + 1) event ∷ [] }
-
--- the run behind a turn of the application with an index
-abbrev pub after_turn : ℕ → Turned → Run → Run
-after_turn i t r = record r {
-  places = t.release.places;
-  queue = r.queue ++ (t.release.events ++ t.left);
-  lines = r.lines ++ Ended i t.outcome ∷ out_lines t.release.packets ++ lost_lines (leavers t.left) ++ restart_lines i t.outcome t.app;
-  released = r.released ++ t.release.packets;
-  lost = r.lost ++ leavers t.left;
-  losses = turn_fewer r.losses;
-  marks = marked t.given r.events r.places r.marks;
-}
 
 -- the application with its reply used up and what it was given in its turn
 abbrev pub after_given : App → Reply → List (List ℕ) → App

@@ -19,6 +19,10 @@ pub mod ChainLaws
 pub mod DialogueLaws
 pub mod TellLaws
 pub mod LineLaws
+pub mod InsteadLaws
+pub mod GroupMoveLaws
+pub mod GroupGoesLaws
+pub mod HadLaws
 pub mod StartMoveLaws
 pub mod TurnMoveLaws
 pub mod OfferLaws

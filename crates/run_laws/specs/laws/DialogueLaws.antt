@@ -67,7 +67,7 @@ abbrev pub others_at_once : {Own : Type 0} (app : ℕ) (old new : Seen Own) (ste
 others_at_once app old new steps history none a = at_once_then app (record a.last { since = a.last.since ++ journal steps }) old new a (others_converse app a.last old new steps history none)
 
 -- where the application is alive then, this went well
-speaks_on : {Own : Type 0} (old new : Seen Own) (now_e : Focus) (well : Bool) (unread : List ℕ) (a : AtOnce now_e.index (journal old.history)) → Speaks now_e.index a.last old new well unread
+pub speaks_on : {Own : Type 0} (old new : Seen Own) (now_e : Focus) (well : Bool) (unread : List ℕ) (a : AtOnce now_e.index (journal old.history)) → Speaks now_e.index a.last old new well unread
     → (now_e.alive ≡ true → (well ≡ true) × (now_e.rest ≡ unread)) → Conversing new now_e
 speaks_on old new now_e well unread a says so = record {
   at_once = at_once_then now_e.index says.after old new a says.converses;

@@ -1,47 +1,40 @@
 -- Laws of an event that is offered to one application after the other: what the engine does is what the reference controller does, whether an
 -- application is given it or passed over, and whether one stops it or not.
-use Rattle.std.proofs.Common.{◌≡◌, ◌==◌, ℕ, suc, ◌+◌, ◌^◌, ◌<◌, ◌≤◌, Bool, true, false, List, [], ◌∷◌, ◌++◌, length, drop, map, if◌then◌else◌, Some, refl, sym, ap, ap₂, ◌∙◌, subst, inl, inr, arith, true≢false}
+use Rattle.std.proofs.Common.{◌≡◌, ◌==◌, ℕ, suc, ◌+◌, ◌^◌, ◌<◌, ◌≤◌, Bool, true, false, List, [], ◌∷◌, ◌++◌, length, map, if◌then◌else◌, refl, sym, ap, ap₂, ◌∙◌, subst, inl, inr, arith, true≢false}
 use Rattle.std.proofs.lemmas.Bool.{cases_Bool, eqb-true, eqb-false, eq-eqb, ne_eqb}
 use Rattle.std.proofs.lemmas.List.{append-nil, append_assoc}
-use Rattle.std.proofs.lemmas.List.Concat.{flat_map-append}
 use Rattle.flow_table.specs.View.{TableView}
 use Rattle.app_frames.specs.declared.frame.Event.{Event}
 use Rattle.crash_policy.specs.Policies.{AppValue}
 use Rattle.of_types.specs.declared.journal.Act.{Act}
-use Rattle.lego_model.specs.Journal.{Reply, Start}
 use Rattle.lego_model.specs.Places.{Place}
-use Rattle.lego_model.specs.Losses.{TurnLosses, Losses, next_turn, turn_fewer}
-use Rattle.lego_model.specs.Packets.{Held}
+use Rattle.lego_model.specs.Losses.{TurnLosses, Losses}
 use Rattle.lego_model.specs.Scripted.{AreFronts, AreStartFronts}
 use Rattle.lego_model.specs.Application.{names}
-use Rattle.lego_model.specs.Controller.{App, Line, Ended, Run, Turned, out_lines, lost_lines, leavers, restart_lines, turn, marked, given_to}
-use Rattle.lego_model.specs.Agreement.{AgreeMarks}
-use Rattle.lego_model.specs.RunReport.{name_of, line_text}
+use Rattle.lego_model.specs.Controller.{App, Run, turn, given_to}
+use Rattle.lego_model.specs.RunReport.{name_of}
 use Rattle.lego_model.specs.ReferenceRun.{Said, AreFrontsOf}
-use Rattle.lego_model.specs.History.{starts_in, replies_in, own_acts, given_in, stimuli_in, points_in}
-use Rattle.outside.specs.Seen.{Given, Seen, Continues}
-use Rattle.outside.specs.State.{Mark, state, marks_at_event}
+use Rattle.lego_model.specs.History.{starts_in, replies_in, own_acts, given_in, stimuli_in}
+use Rattle.outside.specs.Seen.{Seen, Continues}
 use Rattle.outside.specs.laws.SeenLaws.{Continues-refl, Continues-trans}
 use Rattle.outside.specs.laws.StateLaws.{Conforming-before}
 use Rattle.outside.specs.Conforming.{Conforming}
-use Rattle.switch_laws.specs.Shown.{shown_places, shown_by}
 use Rattle.switch_laws.specs.Orderly.{OrderlySince}
 use Rattle.switch_laws.specs.laws.OrderlyLaws.{orderly-none, orderly-then}
-use Rattle.switch_laws.specs.laws.StandLaws.{state-links}
 use Rattle.batch_laws.specs.Calm.{Calm}
-use Rattle.run_laws.specs.Engine.{Application, EachFrom, Focus, focus, app_at, app_with, apps_from, nothing, both_told, told_then, left_behind, behind, Shares, ahead}
-use Rattle.run_laws.specs.Facts.{Between, is_taking, HasItsTurn, IsOffered, AreLeftOut, if_stopped, Offers}
+use Rattle.run_laws.specs.Engine.{Application, EachFrom, Focus, focus, app_with, apps_from, nothing, both_told, told_then, left_behind, behind, Shares, ahead}
+use Rattle.run_laws.specs.Facts.{Between, is_taking, end_fails, HasItsTurn, IsOffered, AreLeftOut, if_stopped, Offers}
 use Rattle.run_laws.specs.LastReport.{lines_text}
 use Rattle.run_laws.specs.LinkSteps.{Silent}
 use Rattle.run_laws.specs.Moves.{TellsMore, IsAtRest}
 use Rattle.run_laws.specs.Readings.{JudgesAlike}
 use Rattle.run_laws.specs.ReferenceTurn.{after_turn}
-use Rattle.run_laws.specs.EventMoves.{TurnAlike, TurnMoves}
+use Rattle.run_laws.specs.EventMoves.{TurnMoves}
 use Rattle.run_laws.specs.laws.DialogueLaws.{takes_alive, turn_goes_on}
+use Rattle.run_laws.specs.laws.HadLaws.{turned_of, turned-so, shares-so, lines-so}
 use Rattle.run_laws.specs.laws.MoveLaws.{apps-ext, behind-then, fronts-then, longer}
 use Rattle.run_laws.specs.laws.OrderlyRunLaws.{turn-continues, turn-orderly}
 use Rattle.run_laws.specs.laws.OtherLaws.{calls-silent, silent-none, silent-then, silent-acts, silent-given, silent-rests}
-use Rattle.run_laws.specs.laws.PointLaws.{marks_at_events}
 use Rattle.run_laws.specs.laws.ReadRunLaws.{are-read}
 use Rattle.run_laws.specs.laws.ReferenceLaws.{given_none, given_passed, given_stop, given_on}
 use Rattle.run_laws.specs.laws.TurnMoveLaws.{turn_moves}
@@ -196,68 +189,13 @@ module _ {Own : Type 0} (allows : List Place → Bool) (event : Event) (number i
 
 -- ---- One has its turn
 
-abbrev pub turned_of : {Own : Type 0} {allows : List Place → Bool} {event : Event} {text : List ℕ} {old new : Seen Own} {e now_e : Focus} {starts : List Start} {reply : Reply} {losses : TurnLosses} → TurnAlike allows event text old new e now_e starts reply losses → List Start → List Reply → Turned
-turned_of {new = new} {e = e} {now_e = now_e} alike later_starts later_replies = record {
-  release = alike.release;
-  left = alike.left;
-  app = (app_at now_e (given_in e.index new) later_starts later_replies, alike.tries);
-  outcome = alike.outcome;
-  given = alike.given;
-}
-
-abbrev told_by : {Own : Type 0} {allows : List Place → Bool} {event : Event} {stops : Bool} {text : List ℕ} {old new : Seen Own} {e now_e : Focus} → TurnMoves allows event stops text old new e now_e → Said
+abbrev told_by : {Own : Type 0} {allows : List Place → Bool} {event : Event} {stops fails : Bool} {text : List ℕ} {old new : Seen Own} {e now_e : Focus} → TurnMoves allows event stops fails text old new e now_e → Said
 told_by t = record { starts = t.starts; replies = t.reply ∷ [] }
-
--- what follows of the turn alone
-module _ {Own : Type 0} (allows : List Place → Bool) (event : Event) (number i : ℕ) (stops : Bool) (text : List ℕ) (from mid : Between Own) (a now_a : Application)
-    (t : TurnMoves allows event stops text from.seen mid.seen (focus i a from.net from.queue number) (focus i now_a mid.net mid.queue number)) where
-  turned-so : (said_starts : List Start) (said_replies : List Reply) (turns : List TurnLosses) (later : Losses) (r : Run) → AreStartFronts t.starts said_starts → AreFronts (t.reply ∷ []) said_replies → Shares from.seen from.net from.queue number (ahead [] (t.losses ∷ turns) later) r
-      → turn allows r.events r.moment event (next_turn r.losses.turns) r.places (app_at (focus i a from.net from.queue number) (given_in i from.seen) said_starts said_replies) ≡ turned_of t.alike (drop (length t.starts) said_starts) (drop 1 said_replies)
-  turned-so said_starts [] turns later r starts_is fronts s = absurd fronts
-  turned-so said_starts (said ∷ later_replies) turns later r starts_is fronts s =
-      let x = app_at (focus i a from.net from.queue number) (given_in i from.seen) said_starts (said ∷ later_replies) in
-      ap (λ (l : Losses). turn allows r.events r.moment event (next_turn l.turns) r.places x) s.losses_is
-      ∙ ap (λ (n : ℕ). turn allows n r.moment event t.losses r.places x) s.events_is
-      ∙ ap (λ (moment : ℕ). turn allows number moment event t.losses r.places x) (s.moment ∙ sym s.calm.moment)
-      ∙ ap (λ (ps : List Place). turn allows number from.net.moment event t.losses ps x) s.places
-      ∙ t.alike.turned said_starts said later_replies starts_is fronts.0
-
-  marks-so : Conforming from.seen → (r : Run) → r.events ≡ number → r.places ≡ shown_places from.seen.given.declared (shown_by from.net) (state from.seen) → AgreeMarks (points_in from.seen) r.marks
-      → AgreeMarks (points_in mid.seen) (marked t.alike.given r.events r.places r.marks)
-  marks-so keeps r events places marks =
-      subst (λ (ms : List Mark). AgreeMarks ms (marked t.alike.given r.events r.places r.marks)) (sym t.alike.marks)
-      (subst (λ (n : ℕ). AgreeMarks ((if t.alike.given then marks_at_event (Some number) (state from.seen) else (state from.seen).marks)) (marked t.alike.given n r.places r.marks)) (sym events)
-      (subst (λ (ps : List Place). AgreeMarks ((if t.alike.given then marks_at_event (Some number) (state from.seen) else (state from.seen).marks)) (marked t.alike.given number ps r.marks)) (sym places)
-      (marks_at_events t.alike.given number from.seen.given.declared from.net.views (state from.seen) r.marks (state-links from.seen).declared_is keeps.declared marks)))
-
-  shares-so : Conforming from.seen → (later_starts : List Start) (later_replies : List Reply) (turns : List TurnLosses) (later : Losses) (r : Run) → Shares from.seen from.net from.queue number (ahead [] (t.losses ∷ turns) later) r
-      → Shares mid.seen mid.net mid.queue number (ahead [] turns later) (after_turn i (turned_of t.alike later_starts later_replies) r)
-  shares-so keeps later_starts later_replies turns later r s = record {
-    calm = t.alike.calm;
-    moment = s.moment ∙ sym t.alike.moment;
-    places = t.alike.places ∙ ap (λ (g : Given Own). shown_places g.declared (shown_by mid.net) (state mid.seen)) (sym t.tells.given);
-    queue_is = ap (λ (waiting : List Event). waiting ++ (t.alike.release.events ++ t.alike.left)) s.queue_is ∙ sym t.alike.queue;
-    events_is = s.events_is;
-    released = ap (λ (packets : List Held). packets ++ t.alike.release.packets) s.released ∙ sym t.alike.released;
-    lost = ap (λ (ds : List ℕ). ds ++ leavers t.alike.left) s.lost ∙ sym t.alike.lost;
-    losses_is = ap turn_fewer s.losses_is;
-    marks = marks-so keeps r s.events_is s.places s.marks;
-  }
-
-  lines-so : (known : List (List ℕ)) → name_of i known ≡ a.rule.name → (later_starts : List Start) (later_replies : List Reply) (r : Run)
-      → lines_text known (after_turn i (turned_of t.alike later_starts later_replies) r).lines ≡ lines_text known r.lines ++ text
-  lines-so known named later_starts later_replies r =
-      let ended : List Line = Ended i t.alike.outcome ∷ out_lines t.alike.release.packets in
-      let lost : List Line = lost_lines (leavers t.alike.left) in
-      let again : List Line = restart_lines i t.alike.outcome (app_at (focus i now_a mid.net mid.queue number) (given_in i mid.seen) later_starts later_replies, t.alike.tries) in
-      ap (lines_text known) (ap (λ (lines : List Line). lines ++ again) (append_assoc r.lines ended lost) ∙ append_assoc r.lines (ended ++ lost) again)
-      ∙ flat_map-append (line_text known) r.lines ((ended ++ lost) ++ again)
-      ∙ ap (λ (more : List ℕ). lines_text known r.lines ++ more) (sym (t.alike.text_is known named later_starts later_replies))
 
 -- ---- and stops the event there
 
-module _ {Own : Type 0} (allows : List Place → Bool) (event : Event) (number i : ℕ) (text : List ℕ) (from mid : Between Own) (a now_a : Application) (more : List Application) (takes : is_taking event a ≡ true) (keeps : Conforming from.seen)
-    (t : TurnMoves allows event true text from.seen mid.seen (focus i a from.net from.queue number) (focus i now_a mid.net mid.queue number)) (silent : (j : ℕ) → (j ≡ i → ⊥) → Silent j from.seen mid.seen) where
+module _ {Own : Type 0} (allows : List Place → Bool) (event : Event) (number i : ℕ) (fails : Bool) (text : List ℕ) (from mid : Between Own) (a now_a : Application) (more : List Application) (takes : is_taking event a ≡ true) (keeps : Conforming from.seen)
+    (t : TurnMoves allows event true fails text from.seen mid.seen (focus i a from.net from.queue number) (focus i now_a mid.net mid.queue number)) (silent : (j : ℕ) → (j ≡ i → ⊥) → Silent j from.seen mid.seen) where
   stop-gives : (said : ℕ → Said) (later : Losses) (r : Run) → AreFrontsOf (told_at i (told_by t)) said → Shares from.seen from.net from.queue number (ahead [] (t.losses ∷ []) later) r
       → IsGivenAlike number i (a ∷ more) (now_a ∷ more) text mid (behind (told_at i (told_by t)) said) later r (given_to allows event i (apps_from i from.seen (a ∷ more) said) r)
   stop-gives said later r fronts s =
@@ -266,12 +204,12 @@ module _ {Own : Type 0} (allows : List Place → Bool) (event : Event) (number i
       let turned = turned_of t.alike left.starts left.replies in
       subst (IsGivenAlike number i (a ∷ more) (now_a ∷ more) text mid (behind (told_at i (told_by t)) said) later r)
       (sym (given_stop allows event i (app_with a (given_in i from.seen) (said i)) (apps_from (i + 1) from.seen more said) r takes turned
-      (turned-so allows event number i true text from mid a now_a t (said i).starts (said i).replies [] later r here.0 here.1 s) t.stops_is)) (record {
+      (turned-so allows event true fails text from.seen mid.seen (focus i a from.net from.queue number) (focus i now_a mid.net mid.queue number) t (said i).starts (said i).replies [] later r here.0 here.1 s) t.stops_is)) (record {
         apps_is = ap₂ (λ (s : Said) (xs : List App). app_with now_a (given_in i mid.seen) s ∷ xs) (sym (behind-here i (told_by t) said))
             (apps-ext (i + 1) from.seen mid.seen more said (behind (told_at i (told_by t)) said)
             (λ j le. (silent-given j from.seen mid.seen (silent j (λ same. omega (arith, le, same))), sym (behind-other i j (told_by t) said (λ same. omega (arith, le, same))))));
-        shares = shares-so allows event number i true text from mid a now_a t keeps left.starts left.replies [] later r s;
-        lines = λ known are. lines-so allows event number i true text from mid a now_a t known are.0 left.starts left.replies r;
+        shares = shares-so allows event true fails text from.seen mid.seen (focus i a from.net from.queue number) (focus i now_a mid.net mid.queue number) t keeps left.starts left.replies [] later r s;
+        lines = λ known are. lines-so allows event true fails text from.seen mid.seen (focus i a from.net from.queue number) (focus i now_a mid.net mid.queue number) t known are.0 left.starts left.replies r;
       })
 
   stop-offered : ((n : ℕ) → i < n → OrderlySince n from.seen mid.seen) → IsAtRest mid.seen i now_a → EachFrom (IsAtRest from.seen) (i + 1) more → OfferMoves allows event number i (a ∷ more) (now_a ∷ more) text from mid
@@ -292,8 +230,8 @@ module _ {Own : Type 0} (allows : List Place → Bool) (event : Event) (number i
 
 -- ---- or lets it go on
 
-module _ {Own : Type 0} (allows : List Place → Bool) (event : Event) (number i : ℕ) (text later_text : List ℕ) (from mid to : Between Own) (a now_a : Application) (more later_apps : List Application) (takes : is_taking event a ≡ true) (keeps : Conforming from.seen)
-    (t : TurnMoves allows event false text from.seen mid.seen (focus i a from.net from.queue number) (focus i now_a mid.net mid.queue number)) (silent : (j : ℕ) → (j ≡ i → ⊥) → Silent j from.seen mid.seen)
+module _ {Own : Type 0} (allows : List Place → Bool) (event : Event) (number i : ℕ) (fails : Bool) (text later_text : List ℕ) (from mid to : Between Own) (a now_a : Application) (more later_apps : List Application) (takes : is_taking event a ≡ true) (keeps : Conforming from.seen)
+    (t : TurnMoves allows event false fails text from.seen mid.seen (focus i a from.net from.queue number) (focus i now_a mid.net mid.queue number)) (silent : (j : ℕ) → (j ≡ i → ⊥) → Silent j from.seen mid.seen)
     (m : OfferMoves allows event number (i + 1) more later_apps later_text mid to) where
   first_still : i + 1 ≤ i → i < i + 1 + length more → ⊥
   first_still le less = omega (arith, le)
@@ -320,15 +258,15 @@ module _ {Own : Type 0} (allows : List Place → Bool) (event : Event) (number i
       sym (apps-ext (i + 1) from.seen mid.seen more said (behind first said)
       (λ j le. (silent-given j from.seen mid.seen (silent j (λ same. omega (arith, le, same))), sym (behind-other i j (told_by t) said (λ same. omega (arith, le, same)))))) in
       let g = subst (λ (xs : List App). IsGivenAlike number (i + 1) more later_apps later_text to (behind m.told (behind first said)) later next (given_to allows event (i + 1) xs next)) others_are
-      (m.gives (behind first said) later next parts.1 (shares-so allows event number i false text from mid a now_a t keeps left.starts left.replies m.turns later r s)) in
+      (m.gives (behind first said) later next parts.1 (shares-so allows event false fails text from.seen mid.seen (focus i a from.net from.queue number) (focus i now_a mid.net mid.queue number) t keeps left.starts left.replies m.turns later r s)) in
       subst (IsGivenAlike number i (a ∷ more) (now_a ∷ later_apps) (text ++ later_text) to whole later r)
       (sym (given_on allows event i (app_with a (given_in i from.seen) (said i)) others r takes turned
-      (turned-so allows event number i false text from mid a now_a t (said i).starts (said i).replies m.turns later r here.0 here.1 s) t.stops_is)) (record {
+      (turned-so allows event false fails text from.seen mid.seen (focus i a from.net from.queue number) (focus i now_a mid.net mid.queue number) t (said i).starts (said i).replies m.turns later r here.0 here.1 s) t.stops_is)) (record {
         apps_is = ap₂ (λ (x : App) (xs : List App). x ∷ xs)
             (ap₂ (λ (given : List (List ℕ)) (s : Said). app_with now_a given s) (sym (silent-given i mid.seen to.seen (m.still i first_still))) (sym (left-first said)))
             (g.apps_is ∙ apps-ext (i + 1) to.seen to.seen later_apps (behind m.told (behind first said)) whole (λ j le. (refl, sym (behind-then first m.told said j))));
         shares = g.shares;
-        lines = λ known are. g.lines known are.1 ∙ ap (λ (lines : List ℕ). lines ++ later_text) (lines-so allows event number i false text from mid a now_a t known are.0 left.starts left.replies r)
+        lines = λ known are. g.lines known are.1 ∙ ap (λ (lines : List ℕ). lines ++ later_text) (lines-so allows event false fails text from.seen mid.seen (focus i a from.net from.queue number) (focus i now_a mid.net mid.queue number) t known are.0 left.starts left.replies r)
             ∙ append_assoc (lines_text known r.lines) text later_text;
       })
 
@@ -373,7 +311,8 @@ offers-continue Tells accepts event number i (a ∷ more) text from to now_apps 
 -- what a turn is of, where all was at rest before it
 record TurnAt {Own : Type 0} (allows : List Place → Bool) (event : Event) (number i : ℕ) (stops : Bool) (text : List ℕ) (from mid : Between Own) (a now_a : Application) : Type 0 where
   keeps : Conforming from.seen
-  moves : TurnMoves allows event stops text from.seen mid.seen (focus i a from.net from.queue number) (focus i now_a mid.net mid.queue number)
+  fails : Bool
+  moves : TurnMoves allows event stops fails text from.seen mid.seen (focus i a from.net from.queue number) (focus i now_a mid.net mid.queue number)
   silent : (j : ℕ) → (j ≡ i → ⊥) → Silent j from.seen mid.seen
   orderly : (n : ℕ) → i < n → OrderlySince n from.seen mid.seen
   rests : IsAtRest mid.seen i now_a
@@ -389,7 +328,8 @@ module _ {Own : Type 0} (Tells : Type 0) (accepts : List TableView → Bool) (al
       let goes = turn_goes_on Tells accepts event text from.seen mid.seen e now_e told takes (record { at_once = rests.at_once; rest_is = rests.rest_is }) turn.takes in
       record {
         keeps = Conforming-before told (turn-continues Tells accepts event text from.seen mid.seen e now_e turn.takes) keeps;
-        moves = subst (λ (b : Bool). TurnMoves allows event b text from.seen mid.seen e now_e) (sym turn.stops_is) moves;
+        fails = end_fails turn.takes.end;
+        moves = subst (λ (b : Bool). TurnMoves allows event b (end_fails turn.takes.end) text from.seen mid.seen e now_e) (sym turn.stops_is) moves;
         silent = λ j other. calls-silent i j from.seen mid.seen (turn.own told) other;
         orderly = λ n less. turn-orderly Tells accepts n event text from.seen mid.seen e now_e told less keeps calm reads turn.takes;
         rests = record { life = moves.tells.life; at_once = goes.at_once; rest_is = goes.rest_is };
@@ -404,12 +344,12 @@ module _ {Own : Type 0} (Tells : Type 0) (accepts : List TableView → Bool) (al
       subst (λ (x : Between Own). OfferMoves allows event number i (a ∷ more) (now_a ∷ later_apps) (text ++ later_text) from x) (sym out.0)
       (subst (λ (apps : List Application). OfferMoves allows event number i (a ∷ more) (now_a ∷ apps) (text ++ later_text) from mid) (sym out.2)
       (subst (λ (said : List ℕ). OfferMoves allows event number i (a ∷ more) (now_a ∷ more) said from mid) (sym (ap (λ (said : List ℕ). text ++ said) out.1 ∙ append-nil text))
-      (stop-offered allows event number i text from mid a now_a more takes t.keeps t.moves t.silent t.orderly t.rests others)))
+      (stop-offered allows event number i t.fails text from mid a now_a more takes t.keeps t.moves t.silent t.orderly t.rests others)))
   by-offer i a now_a more later_apps text later_text from mid to true false stopped takes keeps calm rests others turn offers go =
       let keeps_mid = Conforming-before told (offers-continue Tells accepts event number (i + 1) more later_text mid to later_apps stopped offers) keeps in
       let t = turn-at i false text from mid a now_a takes keeps_mid calm rests turn in
       let m = go (each-silent (i + 1) more from.seen mid.seen (λ j le. t.silent j (λ same. omega (arith, le, same))) others) t.moves.alike.calm offers in
-      on-offered allows event number i text later_text from mid to a now_a more later_apps takes t.keeps t.moves t.silent m t.orderly t.rests
+      on-offered allows event number i t.fails text later_text from mid to a now_a more later_apps takes t.keeps t.moves t.silent m t.orderly t.rests
   by-offer i a now_a more later_apps text later_text from mid to false true stopped passed keeps calm rests others off out go = absurd (true≢false off.2)
   by-offer i a now_a more later_apps text later_text from mid to false false stopped passed keeps calm rests others off offers go =
       let m = go (subst (λ (x : Between Own). EachFrom (IsAtRest x.seen) (i + 1) more) (sym off.0) others) (subst (λ (x : Between Own). Calm x.seen x.net) (sym off.0) calm) offers in

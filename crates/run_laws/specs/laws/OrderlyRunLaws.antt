@@ -68,7 +68,7 @@ talks-orderly app number (act ∷ acts) small all = (talk-orderly app number act
 -- ---- Beats
 
 -- of a turn that stands so in a world that keeps its word
-chain-orderly : {Own : Type 0} (Tells : Type 0) (app number start : ℕ) (lost : List ℕ) (first : Seen Own) (net0 : NetState) (trace : List (Beat Own)) (old new : Seen Own) (net now_net : NetState) → Tells → app < number → Conforming new → Chain Tells app trace old new net now_net
+pub chain-orderly : {Own : Type 0} (Tells : Type 0) (app number start : ℕ) (lost : List ℕ) (first : Seen Own) (net0 : NetState) (trace : List (Beat Own)) (old new : Seen Own) (net now_net : NetState) → Tells → app < number → Conforming new → Chain Tells app trace old new net now_net
     → Goes start lost first old net0 net → OrderlySince number old new
 chain-orderly Tells app number start lost first net0 [] old new net now_net told small keeps chain goes = orderly-same number old new chain.0
 chain-orderly Tells app number start lost first net0 (Talk act ∷ trace) old new net now_net told small keeps chain goes =

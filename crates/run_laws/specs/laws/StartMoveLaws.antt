@@ -121,7 +121,7 @@ unfolding after_failure
 absolute_is a = refl
 
 -- under `equivalence` too
-equivalence_is : (a : App) → after_failure policy.Equivalence a ≡ started attempts a
+pub equivalence_is : (a : App) → after_failure policy.Equivalence a ≡ started attempts a
 unfolding after_failure
 equivalence_is a = refl
 

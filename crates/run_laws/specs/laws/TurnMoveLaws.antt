@@ -21,7 +21,7 @@ use Rattle.lego_model.specs.Turns.{Outcome, Completed, Failed, turn_of}
 use Rattle.lego_model.specs.Scripted.{IsFront, is_heard}
 use Rattle.lego_model.specs.laws.ScriptedLaws.{turn-front}
 use Rattle.lego_model.specs.Losses.{PacketLoss, TurnLosses}
-use Rattle.lego_model.specs.Controller.{table_of, App, Turned, Started, after_failure, gone_line, event_frame, answer_frame, given_in as given_by_turn, Release, release, undoing, undone_release, out_lines, lost_lines, leavers, turn, says_stop as outcome_stops}
+use Rattle.lego_model.specs.Controller.{table_of, App, Turned, Started, after_failure, gone_line, event_frame, answer_frame, given_in as given_by_turn, Release, release, undoing, undone_release, out_lines, lost_lines, leavers, turn, is_failed, says_stop as outcome_stops}
 use Rattle.lego_model.specs.RunReport.{turn_line, lost_line, outcome_word, line_text}
 use Rattle.outside.specs.Seen.{Given, Seen}
 use Rattle.outside.specs.State.{State, Mark, state, marks_at_event}
@@ -52,7 +52,7 @@ use Rattle.journal_laws.specs.Readings.{LastStands}
 use Rattle.lego_model.specs.History.{starts_in, replies_in, own_acts, given_in, released_of, lost_of}
 use Rattle.run_laws.specs.Engine.{Focus, app_at}
 use Rattle.batch_laws.specs.Knowledge.{left_events, lost_text}
-use Rattle.run_laws.specs.Facts.{turn_word, out_text, all_told, IsClosed, TakesTurn, says_stop}
+use Rattle.run_laws.specs.Facts.{turn_word, out_text, all_told, IsClosed, TakesTurn, says_stop, end_fails}
 use Rattle.run_laws.specs.Readings.{AreRead, JudgesAlike}
 use Rattle.run_laws.specs.laws.FrameLaws.{event_numbered}
 use Rattle.run_laws.specs.laws.ReferenceLaws.{turn_is}
@@ -70,15 +70,16 @@ use Rattle.run_laws.specs.EventMoves.{StartsAlike, TurnAlike, TurnMoves}
 -- ---- How all stands when the application is done or failed
 
 -- the turn of the reference controller leaves the same, with these losses
-record AlikeBy {Own : Type 0} (allows : List Place → Bool) (event : Event) (stops : Bool) (text : List ℕ) (old new : Seen Own) (e now_e : Focus) (starts : List Start) (reply : Reply) : Type 0 where
+record AlikeBy {Own : Type 0} (allows : List Place → Bool) (event : Event) (stops fails : Bool) (text : List ℕ) (old new : Seen Own) (e now_e : Focus) (starts : List Start) (reply : Reply) : Type 0 where
   losses : TurnLosses
   alike : TurnAlike allows event text old new e now_e starts reply losses
   stops_is : outcome_stops alike.outcome ≡ stops
+  fails_is : is_failed alike.outcome ≡ fails
 
 abbrev marks_by : Bool → ℕ → State → List Mark
 marks_by given n s = if given then marks_at_event (Some n) s else s.marks
 
-abbrev places_at : {Own : Type 0} → Seen Own → Seen Own → NetState → List Place
+abbrev pub places_at : {Own : Type 0} → Seen Own → Seen Own → NetState → List Place
 places_at first now net = shown_places first.given.declared (shown_by net) (state now)
 
 record AtEnd {Own : Type 0} (allows : List Place → Bool) (event : Event) (old mid : Seen Own) (e : Focus) (mid_net : NetState) (given : Bool) (reply : Reply) (answers : List Answer) (outcome : Outcome) : Type 0 where
@@ -102,7 +103,7 @@ fresh_is old net losing packets undone none = ap (λ (held : HeldBack). record {
 tail_is : (frame : List ℕ) (xs ys : List (List ℕ)) → frame ∷ xs ≡ frame ∷ ys → xs ≡ ys
 tail_is frame xs ys is = cc
 
-behind_event : (app : ℕ) (given : Bool) (frame : List ℕ) (acts : List Act) (answers : List Answer) → inputs app (give_act given app frame ∷ acts) ≡ given_by_turn given frame answers → NoEvents (inputs app acts)
+pub behind_event : (app : ℕ) (given : Bool) (frame : List ℕ) (acts : List Act) (answers : List Answer) → inputs app (give_act given app frame ∷ acts) ≡ given_by_turn given frame answers → NoEvents (inputs app acts)
 unfolding inputs
 behind_event app true frame acts answers is =
     subst NoEvents (sym (tail_is frame (inputs app acts) (map answer_frame answers) (sym (gave_first app app frame acts (eq-eqb app app refl)) ∙ is))) (answers_no_events answers)
@@ -142,7 +143,7 @@ at_end Tells accepts allows event old mid e mid_net end unread told keeps judges
 
 -- ---- What a turn tells, and what it leaves
 
-given_is : {Own : Type 0} (given : Bool) (trace : List (Beat Own)) → (reply_by given trace).given ≡ given
+pub given_is : {Own : Type 0} (given : Bool) (trace : List (Beat Own)) → (reply_by given trace).given ≡ given
 unfolding reply_of
 given_is true trace = refl
 given_is false trace = refl
@@ -170,11 +171,11 @@ done_engine checkpoint unread net queue e = all_told net queue (record e { rest 
 
 -- ---- Switches that were lost in a turn, first in its messages and then behind them
 
-record AllLeft {Own : Type 0} (old new : Seen Own) (net : NetState) (left more : List Event) : Type 0 where
-  events : left_events net.left ≡ left ++ more
-  lost : lost_of new ≡ lost_of old ++ leavers (left ++ more)
+pub record AllLeft {Own : Type 0} (old new : Seen Own) (net : NetState) (left more : List Event) : Type 0 where
+  pub events : left_events net.left ≡ left ++ more
+  pub lost : lost_of new ≡ lost_of old ++ leavers (left ++ more)
 
-all_left : {Own : Type 0} (old mid new : Seen Own) (first_net mid_net then_net net : NetState) (left more : List Event) → first_net.left ≡ [] → LeavesBy old mid first_net mid_net left → then_net.left ≡ mid_net.left → LeavesBy mid new then_net net more
+pub all_left : {Own : Type 0} (old mid new : Seen Own) (first_net mid_net then_net net : NetState) (left more : List Event) → first_net.left ≡ [] → LeavesBy old mid first_net mid_net left → then_net.left ≡ mid_net.left → LeavesBy mid new then_net net more
     → AllLeft old new net left more
 all_left old mid new first_net mid_net then_net net left more none first same later = record {
   events = ap left_events (later.left_is ∙ ap (λ (ks : List KnownPorts). ks ++ later.gone) (same ∙ first.left_is ∙ ap (λ (ks : List KnownPorts). ks ++ first.gone) none))
@@ -184,16 +185,16 @@ all_left old mid new first_net mid_net then_net net left more none first same la
 }
 
 -- their lines
-losts_is : (names : List (List ℕ)) (gone : List KnownPorts) → lost_text gone ≡ lines_text names (lost_lines (leavers (left_events gone)))
+pub losts_is : (names : List (List ℕ)) (gone : List KnownPorts) → lost_text gone ≡ lines_text names (lost_lines (leavers (left_events gone)))
 losts_is names [] = refl
 losts_is names (k ∷ gone) = ap (λ (text : List ℕ). lost_line k.dpid ++ text) (losts_is names gone)
 
 -- what the release of the held packets leaves, in the places of the beginning
-record ReleasedSince {Own : Type 0} (old mid new : Seen Own) (mid_net net : NetState) (losing : List PacketLoss) (release_is : Release) : Type 0 where
-  is : release_is ≡ release losing (places_at old mid mid_net) mid_net.held
-  places : release_is.places ≡ places_at old new net
+pub record ReleasedSince {Own : Type 0} (old mid new : Seen Own) (mid_net net : NetState) (losing : List PacketLoss) (release_is : Release) : Type 0 where
+  pub is : release_is ≡ release losing (places_at old mid mid_net) mid_net.held
+  pub places : release_is.places ≡ places_at old new net
 
-released_since : {Own : Type 0} (old mid new : Seen Own) (start : ℕ) (sent : List Held) (mid_net net : NetState) (queue now_queue : List Event) → mid.given ≡ old.given
+pub released_since : {Own : Type 0} (old mid new : Seen Own) (start : ℕ) (sent : List Held) (mid_net net : NetState) (queue now_queue : List Event) → mid.given ≡ old.given
     → (shown : ReleaseShown mid_net.held sent mid new (committed start mid_net) net queue now_queue) → ReleasedSince old mid new mid_net net shown.losing shown.release_is
 released_since {Own} old mid new start sent mid_net net queue now_queue given shown =
     let declared : mid.given.declared ≡ old.given.declared = ap (λ (g : Given Own). g.declared) given in
@@ -205,7 +206,7 @@ released_since {Own} old mid new start sent mid_net net queue now_queue given sh
 done_alike : {Own : Type 0} (Tells : Type 0) (allows : List Place → Bool) (event : Event) (stop : Bool) (unread text : List ℕ) (old mid new : Seen Own) (e : Focus) (mid_net net : NetState) (queue : List Event) (sent : List (ℕ × ℕ)) (given : Bool) (trace : List (Beat Own)) (answers : List Answer) (outcome : Outcome)
     → Tells → Conforming new → mid.given ≡ old.given → Commits Tells (length e.net.log) mid new mid_net net e.queue queue (Ok sent) → IsEnd (ends.Done stop) unread outcome → text ≡ turn_line e.rule.name (turn_word (ends.Done stop)) ++ (out_text sent ++ lost_text net.left)
     → given_in e.index mid ≡ given_in e.index old ++ given_by_turn given (event_frame e.events e.net.moment event) answers → Calm old e.net
-    → AtEnd allows event old mid e mid_net given (reply_by given trace) answers outcome → AlikeBy allows event stop text old new e (done_engine (handed outcome) unread net queue e) [] (reply_by given trace)
+    → AtEnd allows event old mid e mid_net given (reply_by given trace) answers outcome → AlikeBy allows event stop false text old new e (done_engine (handed outcome) unread net queue e) [] (reply_by given trace)
 done_alike Tells allows event stop unread text old mid new e mid_net net queue sent given trace answers (Failed cause) told keeps given_stays commits is text_is inputs_are calm at = absurd is
 done_alike Tells allows event stop unread text old mid new e mid_net net queue sent given trace answers (Completed stops checkpoint rest) told keeps given_stays commits is text_is inputs_are calm at =
     let frame = event_frame e.events e.net.moment event in
@@ -251,6 +252,7 @@ done_alike Tells allows event stop unread text old mid new e mid_net net queue s
             ∙ ap (λ (n : List ℕ). turn_line n (outcome_word outcome) ++ lines_text names ((out_lines there_is.packets ++ lost_lines (leavers left)) ++ [])) (sym known);
       };
       stops_is = sym is.0;
+      fails_is = refl;
     }
 
 -- ---- A turn that failed
@@ -271,13 +273,13 @@ failed_app e starts replies inputs = record {
 abbrev failed_turn : List Place × List Event → List Event → App × List Tried → Outcome → Bool → Turned
 failed_turn r left a outcome given = record { release = undone_release r; left = left; app = a; outcome = outcome; given = given }
 
-abbrev failed_engine : NetState → Focus → Focus
+abbrev pub failed_engine : NetState → Focus → Focus
 failed_engine undone_net e = all_told undone_net e.queue (record e { rest = []; failed = e.failed + 1 })
 
 failed_alike : {Own : Type 0} (Tells : Type 0) (allows : List Place → Bool) (event : Event) (cause : Cause) (unread text later_text : List ℕ) (old mid undone new : Seen Own) (e now_e : Focus) (mid_net undone_net : NetState) (given : Bool) (trace : List (Beat Own)) (answers : List Answer) (outcome : Outcome)
     → Tells → Conforming undone → mid.given ≡ old.given → Undoes Tells (length e.net.log) mid undone mid_net undone_net (Ok tt) → (again : StartsAlike Tells (rule_at e.rule event.kind) later_text undone new (failed_engine undone_net e) now_e)
     → IsEnd (ends.Failed cause) unread outcome → text ≡ turn_line e.rule.name (turn_word (ends.Failed cause)) ++ (lost_text undone_net.left ++ later_text) → given_in e.index mid ≡ given_in e.index old ++ given_by_turn given (event_frame e.events e.net.moment event) answers → Calm old e.net
-    → AtEnd allows event old mid e mid_net given (reply_by given trace) answers outcome → AlikeBy allows event false text old new e now_e again.starts (reply_by given trace)
+    → AtEnd allows event old mid e mid_net given (reply_by given trace) answers outcome → AlikeBy allows event false true text old new e now_e again.starts (reply_by given trace)
 failed_alike Tells allows event cause unread text later_text old mid undone new e now_e mid_net undone_net given trace answers (Completed stops checkpoint rest) told keeps given_stays undoes again is text_is inputs_are calm at = absurd is
 failed_alike {Own} Tells allows event cause unread text later_text old mid undone new e now_e mid_net undone_net given trace answers (Failed why) told keeps given_stays undoes again is text_is inputs_are calm at =
     let frame = event_frame e.events e.net.moment event in
@@ -327,6 +329,7 @@ failed_alike {Own} Tells allows event cause unread text later_text old mid undon
             ∙ ap (λ (n : List ℕ). turn_line n (outcome_word outcome) ++ lines_text names (lost_lines (leavers left) ++ (map (Started e.index) again.tries ++ gone_line e.index now_e.alive))) (sym known);
       };
       stops_is = refl;
+      fails_is = refl;
     }
 
 -- ---- The whole
@@ -340,7 +343,7 @@ turn_tells Tells accepts event old mid e mid_net end unread told t =
 closed_moves : {Own : Type 0} (Tells : Type 0) (accepts : List TableView → Bool) (allows : List Place → Bool) (event : Event) (text : List ℕ) (old mid new : Seen Own) (e now_e : Focus) (mid_net : NetState) (end : TurnEnd) (unread : List ℕ)
     → Tells → Conforming new → JudgesAlike Own allows accepts → AreRead Own e.index Tells accepts → e.events < 2 ^ 64 → LastStands (own_acts e.index old) → Calm old e.net
     → (t : Turns Tells accepts e.index e.rule.budget e.rest (event_frame e.events e.net.moment event) old mid e.net mid_net end unread) → IsClosed Tells event.kind end (handed t.outcome) unread text (length e.net.log) mid new mid_net e now_e
-    → TurnMoves allows event (says_stop end) text old new e now_e
+    → TurnMoves allows event (says_stop end) (end_fails end) text old new e now_e
 closed_moves Tells accepts allows event text old mid new e now_e mid_net (ends.Done stop) unread told keeps judges reads few stands calm t closed =
     let read = reads.turn e.rule.budget e.events e.net.moment event e.rest old mid e.net mid_net (ends.Done stop) unread told t stands in
     let commits = closed.commits in
@@ -350,7 +353,7 @@ closed_moves Tells accepts allows event text old mid new e now_e mid_net (ends.D
     let tells = links_tell e.index mid new (commits.links told) in
     let by = done_alike Tells allows event stop unread text old mid new e mid_net closed.net closed.queue closed.sent t.given t.trace t.answers t.outcome told keeps given_stays commits t.ends closed.text_is told_is.given calm
     (at_end Tells accepts allows event old mid e mid_net (ends.Done stop) unread told keeps_mid judges few calm t read.heard) in
-    subst (λ (x : Focus). TurnMoves allows event stop text old new e x) (sym closed.engine) (record {
+    subst (λ (x : Focus). TurnMoves allows event stop false text old new e x) (sym closed.engine) (record {
       starts = [];
       reply = reply_by t.given t.trace;
       tells = record {
@@ -363,6 +366,7 @@ closed_moves Tells accepts allows event text old mid new e now_e mid_net (ends.D
       losses = by.losses;
       alike = by.alike;
       stops_is = by.stops_is;
+      fails_is = by.fails_is;
     })
 closed_moves Tells accepts allows event text old mid new e now_e mid_net (ends.Failed cause) unread told keeps judges reads few stands calm t closed =
     let read = reads.turn e.rule.budget e.events e.net.moment event e.rest old mid e.net mid_net (ends.Failed cause) unread told t stands in
@@ -389,10 +393,11 @@ closed_moves Tells accepts allows event text old mid new e now_e mid_net (ends.F
       losses = by.losses;
       alike = by.alike;
       stops_is = by.stops_is;
+      fails_is = by.fails_is;
     }
 
 pub turn_moves : {Own : Type 0} (Tells : Type 0) (accepts : List TableView → Bool) (allows : List Place → Bool) (event : Event) (text : List ℕ) (old new : Seen Own) (e now_e : Focus)
     → Tells → Conforming new → JudgesAlike Own allows accepts → AreRead Own e.index Tells accepts → e.events < 2 ^ 64 → LastStands (own_acts e.index old) → Calm old e.net → (taken : TakesTurn Tells accepts event text old new e now_e)
-    → TurnMoves allows event (says_stop taken.end) text old new e now_e
+    → TurnMoves allows event (says_stop taken.end) (end_fails taken.end) text old new e now_e
 turn_moves Tells accepts allows event text old new e now_e told keeps judges reads few stands calm turn =
     closed_moves Tells accepts allows event text old turn.mid new e now_e turn.mid_net turn.end turn.unread told keeps judges reads few stands calm turn.turns turn.closed
