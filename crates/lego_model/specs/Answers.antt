@@ -1,7 +1,7 @@
 -- The answer to one message of an application: the host's own tests in their order, and then the switch. Which error the host answers
 -- with is our own choice; the names are those of OpenFlow 1.0.0, 5.4.4 Error Message.
 use Rattle.std.specs.Prelude.{◌==◌, ℕ, ◌+◌, ◌/◌, ◌*◌, Bool, not, ◌&&◌, List, [], ◌∷◌, map, Option, Some, None, Result, Ok, Err, nat_lt, if◌then◌else◌}
-use Rattle.std.specs.List.{list_any}
+use Rattle.std.specs.List.{list_any, concat}
 use Rattle.of_types.specs.declared.errors.OfError.{OfError}
 use Rattle.of_match.specs.declared.key.Key.{Key}
 use Rattle.of_match.specs.Key.{key_number}
@@ -24,9 +24,10 @@ use Rattle.flow_table.specs.declared.view.ViewRow.{ViewRow}
 use Rattle.flow_table.specs.Errors.{bad_type, bad_len, buffer_unknown, action_bad_type, action_bad_vendor, bad_command, flow_eperm}
 use Rattle.flow_table.specs.Change.{is_modify, is_delete, checks_overlap, key_in, describes, sends_to}
 use Rattle.flow_table.specs.Refusals.{or_else, no_buffer, is_emergency, most_action_bytes, stats_refusal, message_refusal}
+use Rattle.flow_table.specs.Statistics.{reply_rows}
 use Rattle.flow_table.specs.Switch.{SwitchState}
 use Rattle.app_frames.specs.declared.frame.Answer.{Answer}
-use Rattle.app_frames.specs.declared.frame.Answer.TheVariants.{Fine, Error, Unknown}
+use Rattle.app_frames.specs.declared.frame.Answer.TheVariants.{Fine, Error, Statistics, Unknown}
 use Rattle.flow_table.specs.RowKeys.{shown_row, held_entry}
 
 -- ---- Bytes that are no message
@@ -92,14 +93,14 @@ flow_mod_refused m =
 unfoldable pub packet_refused : PacketOutBody → Option OfError
 packet_refused m = if not (m.buffer_id == no_buffer) then Some buffer_unknown else unknown_action m.actions
 
--- Entries that are there already stay as they are for now, and statistics are not given yet.
+-- Entries that are there already stay as they are for now.
 abbrev pub not_yet : Bool → Option OfError
 not_yet refused = if refused then Some bad_type else None
 
 unfoldable pub host_refusal : Rows → Message → Option OfError
 host_refusal rows (FlowMod m) = or_else (flow_mod_refused m) (not_yet (would_touch m rows))
 host_refusal rows (PacketOut m) = packet_refused m
-host_refusal rows (StatsRequest m) = or_else (stats_refusal m) (Some bad_type)
+host_refusal rows (StatsRequest m) = stats_refusal m
 host_refusal rows BarrierRequest = None
 host_refusal rows other = Some bad_type
 
@@ -134,9 +135,17 @@ host_answer (Some rows) bytes = host_answer_read rows (reading_of bytes)
 
 -- ---- The switch's own answer to what it is sent, and its state then
 
+abbrev pub unless_error : Option OfError → Answer → Answer
+unless_error None answer = answer
+unless_error (Some e) answer = Error e
+
 abbrev pub answer_by : Option OfError → Answer
-answer_by None = Fine
-answer_by (Some e) = Error e
+answer_by refusal = unless_error refusal Fine
+
+-- to what it takes: its statistics, where it is asked for them (5.3.5 Read State Messages)
+abbrev pub taken_answer : SwitchState → Message → Answer
+taken_answer s (StatsRequest q) = Statistics q.kind (concat (reply_rows q s))
+taken_answer s other = Fine
 
 unfoldable pub switch_answer : SwitchState → Message → Answer
-switch_answer s m = answer_by (message_refusal s m)
+switch_answer s m = unless_error (message_refusal s m) (taken_answer s m)

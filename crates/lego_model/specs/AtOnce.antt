@@ -4,14 +4,17 @@
 -- while it runs. And it is looked at no further than needed: what it gives is taken only where no whole frame stands at the front of what is
 -- unread, nor bytes that are refused, and where no end of its bytes was taken since it was started or given another frame than an Answer
 -- last. All else is our own.
-use Rattle.std.specs.Prelude.{◌≡◌, ◌==◌, ℕ, Bool, true, false, List, [], ◌∷◌, ◌++◌, filter, filter_map, drop, Option, Some, None, Ok, ◌⊎◌, slice_index, slice_get, if◌then◌else◌}
+use Rattle.std.specs.Prelude.{◌≡◌, ◌==◌, ℕ, ◌<◌, Bool, true, false, List, [], ◌∷◌, ◌++◌, filter, filter_map, drop, Option, Some, None, Ok, ◌⊎◌, slice_index, slice_get, if◌then◌else◌}
 use Rattle.of_types.specs.declared.errors.OfError.{OfError}
 use Rattle.of_types.specs.declared.journal.Act.{Act}
-use Rattle.of_types.specs.declared.journal.Act.TheVariants.{Started, Gave, Gone, Took, Ended, Got, Lost}
+use Rattle.of_types.specs.declared.journal.Act.TheVariants.{Started, Gave, Gone, Took, Ended, Sent, Got, Lost}
 use Rattle.of_types.specs.declared.journal.TookWhat.TheVariants.{Bytes}
+use Rattle.of_wire.specs.declared.bodies.Stats.{Stats as Query}
 use Rattle.of_wire.specs.declared.message.Message.{Message}
+use Rattle.of_wire.specs.declared.message.Message.TheVariants.{StatsRequest, BarrierRequest, BarrierReply}
 use Rattle.of_wire.specs.Reading.{reading_of}
 use Rattle.of_wire.specs.Grammar.{enveloped}
+use Rattle.of_wire.specs.Spelling.{message_bytes}
 use Rattle.app_frames.specs.declared.frame.AppFrame.{AppFrame}
 use Rattle.app_frames.specs.declared.frame.AppFrame.TheVariants as frames
 use Rattle.app_frames.specs.declared.frame.Answer.{Answer}
@@ -23,6 +26,7 @@ use Rattle.lego_model.specs.declared.wait.Notices.TheVariants as notices
 use Rattle.lego_model.specs.declared.wait.Heard.{Heard}
 use Rattle.lego_model.specs.declared.wait.Heard.TheVariants.{Refused}
 use Rattle.lego_model.specs.BarrierWaits.{heard}
+use Rattle.lego_model.specs.FlowQueries.{query_bytes, parts_in, refusals_in, IsAnswerTo}
 use Rattle.lego_model.specs.Answers.{Rows, as_sent, host_answer, answer_by}
 use Rattle.lego_model.specs.Journal.{is_of, is_event, is_change, sends_change, ReachedAtOnce}
 use Rattle.lego_model.specs.Controller.{answer_frame}
@@ -127,6 +131,42 @@ pub record AnsweredBySwitch (dpid : ℕ) (bytes : List ℕ) (answer : Answer) (s
   pub error_is : error ≡ first_error dpid reached.xid reached.barrier (drop reached.sent since)
   pub answer_is : answer ≡ answer_by error
 
+-- ---- Statistics that are asked for (5.3.5 Read State Messages)
+
+-- the messages that these acts got from the switch
+abbrev pub got_from : ℕ → Act → Option (ℕ × List ℕ)
+got_from dpid (Got of bytes) = if of == dpid then Some (of, bytes) else None
+got_from dpid act = None
+
+unfoldable pub all_got : ℕ → List Act → List (ℕ × List ℕ)
+all_got dpid acts = filter_map (got_from dpid) acts
+
+-- The request was sent to the switch, and behind it a barrier; the barrier's reply came, and no change was sent.
+pub record AsksAtOnce (dpid : ℕ) (q : Query) (acts : List Act) : Type 0 where
+  -- the transaction ids of the request and of the barrier
+  pub xid : ℕ
+  pub barrier : ℕ
+  -- where the three acts stand
+  pub sent : ℕ
+  pub asked : ℕ
+  pub told : ℕ
+  pub query_sent : slice_get acts sent ≡ Some (Sent dpid (query_bytes xid q))
+  pub barrier_sent : slice_get acts asked ≡ Some (Sent dpid (message_bytes barrier BarrierRequest))
+  pub reply_got : slice_get acts told ≡ Some (Got dpid (message_bytes barrier BarrierReply))
+  pub in_order : (sent < asked) × (asked < told)
+  pub none_sent : SendsNone acts
+
+-- The message is a request of statistics that its switch was asked: the answer is the first ERROR for it that was got behind it, or the whole
+-- reply.
+pub record AnsweredByStatistics (dpid : ℕ) (bytes : List ℕ) (answer : Answer) (since : List Act) : Type 0 where
+  pub number : ℕ
+  pub query : Query
+  pub read : reading_of bytes ≡ Ok (enveloped number (StatsRequest query))
+  pub asks : AsksAtOnce dpid query since
+  pub answers : IsAnswerTo query.kind (refusals_in asks.xid (all_got dpid (drop asks.sent since))) (parts_in asks.xid (all_got dpid (drop asks.sent since))) answer
+
+-- ---- A switch that is lost
+
 -- this act is the loss of the switch
 abbrev pub is_loss_of : ℕ → Act → Bool
 is_loss_of dpid (Lost of) = of == dpid
@@ -137,9 +177,10 @@ pub record AnsweredForLoss (dpid : ℕ) (answer : Answer) (since : List Act) : T
   pub answer_is : answer ≡ Unknown
   pub lost : list_any (is_loss_of dpid) since ≡ true
 
--- the host answered, or the switch did, or the switch was lost
+-- the host answered, or the switch did, a change or a request of statistics, or the switch was lost
 abbrev pub AnsweredAtOnce : ℕ → List ℕ → Answer → List Act → Type 0
-AnsweredAtOnce dpid bytes answer since = AnsweredByHost bytes answer since ⊎ AnsweredBySwitch dpid bytes answer since ⊎ AnsweredForLoss dpid answer since
+AnsweredAtOnce dpid bytes answer since =
+    AnsweredByHost bytes answer since ⊎ AnsweredBySwitch dpid bytes answer since ⊎ AnsweredForLoss dpid answer since ⊎ AnsweredByStatistics dpid bytes answer since
 
 -- an Answer frame: its kind is 3
 abbrev pub is_answer : List ℕ → Bool

@@ -8,6 +8,7 @@ use Rattle.of_match.specs.declared.key.Key.{Key}
 use Rattle.of_wire.specs.Reading.{reading_of}
 use Rattle.of_wire.specs.Spelling.{message_bytes}
 use Rattle.of_wire.specs.declared.bodies.PacketOut.{PacketOut as Packet}
+use Rattle.of_wire.specs.declared.bodies.Stats.{Stats as Query}
 use Rattle.of_wire.specs.declared.message.Message.TheVariants.{PacketOut, BarrierReply}
 use Rattle.flow_table.specs.Switch.{SwitchState}
 use Rattle.flow_table.specs.Step.{sent_by_message}
@@ -20,7 +21,7 @@ use Rattle.lego_model.specs.declared.fault.TxnFault.TheVariants.{SwitchBroke, Di
 use Rattle.lego_model.specs.declared.wait.Awaited.{Awaited}
 use Rattle.lego_model.specs.BarrierWaits.{flood, next_xid, heard, is_reply, kept_of, wait_steps, barrier_sent, reply_got}
 use Rattle.lego_model.specs.UndoFaults.{inverse_bytes}
-use Rattle.lego_model.specs.FlowQueries.{flows_request, request_sent, asked_from, parts_in, refusals_in, IsBroken}
+use Rattle.lego_model.specs.FlowQueries.{query_bytes, query_sent, flows_query, flows_request, asked_from, parts_in, refusals_in, IsBroken}
 
 -- ---- What a history tells of a switch
 
@@ -38,10 +39,14 @@ CameFrom d bytes old new = Happened (From d bytes ∷ []) old new ⊎ Happened (
 abbrev pub SentThenGot : ℕ → List ℕ → List ℕ → List WorldStep → List WorldStep → Type 0
 SentThenGot d sent got old new = (between : List WorldStep) × Happened (Acted (Sent d sent) ∷ (between ++ Acted (Got d got) ∷ [])) old new
 
--- ---- A request of rows (5.3.5 Read State Messages): it was sent, then a barrier, and behind these messages the barrier's reply was got.
+-- ---- A request of statistics (5.3.5 Read State Messages): it was sent, then a barrier, and behind these messages the barrier's reply was got.
 
+abbrev pub query_steps : ℕ → ℕ → Query → List (List ℕ) → List WorldStep
+query_steps d xid q got = query_sent d xid q ∷ barrier_sent (asked_from d xid) ∷ (wait_steps (asked_from d xid) got ++ reply_got (asked_from d xid) ∷ [])
+
+-- of the rows of all flows
 abbrev pub rows_steps : ℕ → ℕ → List (List ℕ) → List WorldStep
-rows_steps d xid got = request_sent d xid ∷ barrier_sent (asked_from d xid) ∷ (wait_steps (asked_from d xid) got ++ reply_got (asked_from d xid) ∷ [])
+rows_steps d xid got = query_steps d xid flows_query got
 
 -- those of the messages that may answer it
 abbrev pub came_for : ℕ → ℕ → List (List ℕ) → List (ℕ × List ℕ)
@@ -50,21 +55,23 @@ came_for d xid got = kept_of (asked_from d xid) got
 -- No ERROR answered, and the bytes are a part of the reply, a STATS_REPLY (17), that is at fault in it.
 pub record IsBadPart {Own : Type 0} (Tells : Type 0) (d : ℕ) (bytes : List ℕ) (old new : Seen Own) : Type 0 where
   pub xid : ℕ
+  pub query : Query
   pub got : List (List ℕ)
   pub kind : number_at 1 1 bytes ≡ 17
   pub no_refusal : refusals_in xid (came_for d xid got) ≡ []
-  pub broken : IsBroken (parts_in xid (came_for d xid got)) bytes
-  pub told : Tells → Happened (rows_steps d xid got) old.history new.history
+  pub broken : IsBroken query.kind (parts_in xid (came_for d xid got)) bytes
+  pub told : Tells → Happened (query_steps d xid query got) old.history new.history
 
 -- The reply to the barrier was got, and nothing that came before it answered.
 pub record IsUnanswered {Own : Type 0} (Tells : Type 0) (d : ℕ) (sent reply : List ℕ) (old new : Seen Own) : Type 0 where
   pub xid : ℕ
+  pub query : Query
   pub got : List (List ℕ)
-  pub sent_is : sent ≡ flows_request xid
+  pub sent_is : sent ≡ query_bytes xid query
   pub reply_is : reply ≡ message_bytes (next_xid xid) BarrierReply
   pub no_part : parts_in xid (came_for d xid got) ≡ []
   pub no_refusal : refusals_in xid (came_for d xid got) ≡ []
-  pub told : Tells → Happened (rows_steps d xid got) old.history new.history
+  pub told : Tells → Happened (query_steps d xid query got) old.history new.history
 
 -- ---- What else a switch is at fault for
 
@@ -102,8 +109,8 @@ pub record FloodedByPacket {Own : Type 0} (d : ℕ) (old new : Seen Own) : Type 
 
 -- ---- The cause of a fault
 
--- Of a switch: bytes came from it that are no message, or a bad part of a reply to a request of rows; an inverse or a request of rows was
--- answered by an ERROR, or a request of rows by nothing; or too many messages came from it, behind a barrier.
+-- Of a switch: bytes came from it that are no message, or a bad part of a reply to a request of statistics; an inverse or a request of rows was
+-- answered by an ERROR, or a request of statistics by nothing; or too many messages came from it, behind a barrier.
 abbrev pub IsWhyTxn : {Own : Type 0} → Type 0 → Seen Own → Seen Own → TxnFault → Type 0
 IsWhyTxn Tells old new (Flooded d n) = (n ≡ flood) × IsFlood Tells d n old new
 IsWhyTxn Tells old new NoMemory = ⊥

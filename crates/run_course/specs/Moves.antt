@@ -9,8 +9,9 @@ use Rattle.of_match.specs.declared.key.Key.{Key}
 use Rattle.of_wire.specs.declared.bodies.FeaturesReply.{FeaturesReply as Features}
 use Rattle.of_wire.specs.declared.bodies.FlowMod.{FlowMod as Change}
 use Rattle.of_wire.specs.declared.bodies.PacketOut.{PacketOut as Packet}
+use Rattle.of_wire.specs.declared.bodies.Stats.{Stats as Query}
 use Rattle.of_wire.specs.declared.message.Message.{Message}
-use Rattle.of_wire.specs.declared.message.Message.TheVariants.{FlowMod, FeaturesReply, PacketOut, SetConfig}
+use Rattle.of_wire.specs.declared.message.Message.TheVariants.{FlowMod, FeaturesReply, PacketOut, SetConfig, StatsRequest}
 use Rattle.of_wire.specs.declared.message.Envelope.{Envelope}
 use Rattle.of_wire.specs.declared.fault.WireFault.{WireFault}
 use Rattle.of_wire.specs.Grammar.{enveloped}
@@ -26,6 +27,7 @@ use Rattle.outside.specs.Calls.{stim_steps}
 use Rattle.lego_model.specs.declared.wait.Notices.TheVariants as notices
 use Rattle.lego_model.specs.Answers.{as_sent}
 use Rattle.lego_model.specs.BarrierWaits.{next_xid, kept_of}
+use Rattle.lego_model.specs.FlowQueries.{query_bytes, asked_from, others_in}
 use Rattle.lego_model.specs.History.{lost_of}
 use Rattle.lego_model.specs.UndoFaults.{WasSent, IsStepOf}
 use Rattle.lego_model.specs.Echoes.{IsEchoRead}
@@ -100,6 +102,21 @@ pub record Changes {Own : Type 0} (asked : ℕ × List ℕ) (from to : Holding O
   pub was_in : is_in asked.0 from.tables ≡ true
   pub tables : SameTables (tables_by (is_refused waited.awaited waited.got) asked.0 change from.tables) to.tables
   pub kept : to.kept ≡ from.kept ++ kept_of waited.awaited waited.got
+  pub queue : to.queue ≡ from.queue
+
+-- The message that was asked is a request of statistics. It was sent to its switch, which is joined, and waited for. What came is kept behind the
+-- others, but for what answers it: the parts of a reply, and ERRORs, with its transaction id (5.3.5 Read State Messages).
+pub record Queries {Own : Type 0} (asked : ℕ × List ℕ) (from to : Holding Own) : Type 0 where
+  pub number : ℕ
+  pub query : Query
+  pub read : reading_of asked.1 ≡ Ok (enveloped number (StatsRequest query))
+  pub xid : ℕ
+  pub waited : Waited from.seen.history to.seen.history
+  pub awaited_is : waited.awaited ≡ asked_from asked.0 xid
+  pub sent : waited.sent ≡ query_bytes xid query ∷ []
+  pub was_in : is_in asked.0 from.tables ≡ true
+  pub tables : SameTables from.tables to.tables
+  pub kept : to.kept ≡ from.kept ++ others_in xid (kept_of waited.awaited waited.got)
   pub queue : to.queue ≡ from.queue
 
 -- A packet was released to a switch that is joined: what came becomes events at once, an ERROR or a notice as any other message.

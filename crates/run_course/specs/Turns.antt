@@ -17,7 +17,7 @@ use Rattle.lego_model.specs.Turns.{Outcome, Completed, Failed, next_of}
 use Rattle.run_course.specs.Messages.{is_refused}
 use Rattle.run_course.specs.Asked.{pieces_of, AreAsked}
 use Rattle.run_course.specs.Applications.{Application, listens, Follows}
-use Rattle.run_course.specs.Moves.{Holding, HoldsStill, Rests, Calls, Notes, Changes, Loses, TakesBack, OneByOne, EndMove}
+use Rattle.run_course.specs.Moves.{Holding, HoldsStill, Rests, Calls, Notes, Changes, Queries, Loses, TakesBack, OneByOne, EndMove}
 
 -- the application is given the frame, or is gone by then
 pub record IsGiven {Own : Type 0} (i : ℕ) (frame : List ℕ) (from to : Holding Own) : Type 0 where
@@ -26,10 +26,11 @@ pub record IsGiven {Own : Type 0} (i : ℕ) (frame : List ℕ) (from to : Holdin
 
 -- ---- What it asks
 
--- A call for the application; or what becomes of a message that it asked: the host answers, or it is a change and its switch does, or that is lost.
+-- A call for the application; or what becomes of a message that it asked: the host answers, or it is a change or a request of statistics and its
+-- switch does, or that is lost.
 abbrev pub TalkMove : {Own : Type 0} → ℕ → Option (ℕ × List ℕ) → Holding Own → Holding Own → Type 0
 TalkMove i None from to = Calls i from to
-TalkMove i (Some asked) from to = Rests from to ⊎ Changes asked from to ⊎ Loses from to
+TalkMove i (Some asked) from to = Rests from to ⊎ Changes asked from to ⊎ Queries asked from to ⊎ Loses from to
 
 -- such moves one after the other, each with what is held behind it
 abbrev pub Talk : {Own : Type 0} → ℕ → List (Option (ℕ × List ℕ) × Holding Own) → Holding Own → Holding Own → Type 0
@@ -48,7 +49,8 @@ abbrev pub added_by : {Own : Type 0} (i : ℕ) (asked : Option (ℕ × List ℕ)
 added_by i None from to calls = []
 added_by i (Some asked) from to (inl rests) = []
 added_by i (Some asked) from to (inr (inl changes)) = added_key (is_refused changes.waited.awaited changes.waited.got) asked.0 changes.change
-added_by i (Some asked) from to (inr (inr loses)) = []
+added_by i (Some asked) from to (inr (inr (inl queries))) = []
+added_by i (Some asked) from to (inr (inr (inr loses))) = []
 
 -- the keys of all entries that were added
 abbrev pub added_in : {Own : Type 0} (i : ℕ) (moves : List (Option (ℕ × List ℕ) × Holding Own)) (from to : Holding Own) → Talk i moves from to → List (ℕ × Key)

@@ -5,7 +5,6 @@ use Rattle.std.proofs.lemmas.List.{length-append}
 use Rattle.std.proofs.lemmas.List.Elements.{filter_map-append}
 use Rattle.of_types.specs.Fields.{number_at, number_bytes}
 use Rattle.of_types.specs.laws.FieldLaws.{number_at-number_bytes, length-number_bytes}
-use Rattle.of_wire.specs.declared.kind.MessageKind.TheVariants as kinds
 use Rattle.of_wire.specs.declared.message.Message.{Message}
 use Rattle.of_wire.specs.declared.message.Message.TheVariants.{EchoReply}
 use Rattle.of_wire.specs.Kinds.{number_of_kind}
