@@ -1,5 +1,5 @@
 -- What `rows` does from a transaction id on; and what follows of it in a world that keeps its word, where nothing of the switch waited.
-use Rattle.std.specs.Prelude.{◌≡◌, ◌≢◌, ℕ, List, [], ◌∷◌, map, Option, Some, Result, Ok, IfSome, MatchResult}
+use Rattle.std.specs.Prelude.{◌≡◌, ◌≢◌, ℕ, List, [], map, Option, Some, Result, Ok, IfSome, MatchResult}
 use Rattle.of_stats.specs.declared.flow_row.FlowRow.{FlowRow}
 use Rattle.of_stats.specs.Flows.{rows_bytes, AreRows}
 use Rattle.of_stats.specs.Reading.{rows_of}
@@ -10,26 +10,17 @@ use Rattle.outside.specs.State.{state, switch_of, waits_of}
 use Rattle.outside.specs.Conforming.{Conforming}
 use Rattle.lego_model.specs.declared.fault.TxnFault.{TxnFault}
 use Rattle.lego_model.specs.declared.fault.TxnFault.TheVariants.{SwitchBroke}
-use Rattle.outside.specs.InOrder.{MessagesSince}
-use Rattle.lego_model.specs.BarrierWaits.{barrier_sent}
-use Rattle.lego_model.specs.FlowQueries.{request_sent, asked_from}
-use Rattle.lego_model.specs.History.{lost_of}
 use Rattle.net_txn.specs.declared.halt.Halt.{Halt}
-use Rattle.net_txn.specs.declared.halt.Halt.TheVariants.{Lost, Fault}
 use Rattle.net_txn.specs.Causes.{IsPlain}
 use Rattle.net_txn.specs.Said.{Speaks}
-use Rattle.net_txn.specs.Waits.{IfFlooded, KeptMore}
-use Rattle.net_txn.specs.Losing.{IsLost}
-use Rattle.net_txn.specs.Asks.{GivesRows, IsAskCause}
+use Rattle.net_txn.specs.Waits.{KeptMore}
+use Rattle.net_txn.specs.Asks.{rows_inquiry, InquiryHalts, GivesRows, IsAskCause}
 
 -- ---- From a transaction id on
 
 -- its switch was lost, or a fault came, which loses no switch
 abbrev pub AskHalts : {Own : Type 0} → Type 0 → ℕ → ℕ → Seen Own → Seen Own → List (ℕ × List ℕ) → List (ℕ × List ℕ) → Halt → Type 0
-AskHalts Tells d xid old new kept now_kept Lost = IsLost Tells d [] old new × (Tells → MessagesSince old new)
-AskHalts Tells d xid old new kept now_kept (Fault fault) =
-    IsAskCause Tells d xid old new kept now_kept fault
-    × IfFlooded Tells (asked_from d xid) (request_sent d xid ∷ barrier_sent (asked_from d xid) ∷ []) old new fault × (Tells → lost_of new ≡ lost_of old)
+AskHalts Tells d xid old new kept now_kept halt = InquiryHalts Tells (rows_inquiry d xid) old new (IsAskCause Tells d xid old new kept now_kept) halt
 
 pub record AsksFrom {Own : Type 0} (Tells : Type 0) (d xid : ℕ) (old new : Seen Own) (kept now_kept : List (ℕ × List ℕ)) (result : Result (List FlowRow) Halt) : Type 0 where
   pub speaks : Speaks Tells d xid 2 old new

@@ -1,17 +1,21 @@
 -- What `rows` does: a switch is asked for the statistics of all its flows, behind a barrier (OpenFlow 1.0.0, 5.3.5 Read State Messages:
 -- Individual Flow Statistics, and 5.3.7 Barrier Message). Which messages answer, and what is a fault of the switch, is our own choice.
-use Rattle.std.specs.Prelude.{◌≡◌, ℕ, ◌||◌, List, [], ◌∷◌, ◌++◌, slice_get, Option, Some, None, Result, Ok, Err, IsOk, IfErr, MatchResult, ◌⊎◌, if◌then◌else◌}
-use Rattle.std.specs.List.{flat_map}
-use Rattle.of_wire.specs.declared.message.Message.TheVariants.{BarrierReply}
+use Rattle.std.specs.Prelude.{◌≡◌, ℕ, List, [], ◌∷◌, ◌++◌, slice_get, Option, Some, None, Result, Ok, Err, IsOk, IfErr, MatchResult, ◌⊎◌}
+use Rattle.of_wire.specs.declared.message.Message.TheVariants.{StatsRequest, BarrierReply}
+use Rattle.of_wire.specs.Grammar.{IsMessage}
+use Rattle.flow_table.specs.Refusals.{stats_refusal}
 use Rattle.of_wire.specs.Spelling.{message_bytes}
 use Rattle.of_stats.specs.declared.flow_row.FlowRow.{FlowRow}
 use Rattle.of_stats.specs.Flows.{AreRows, SpellRows}
 use Rattle.of_stats.specs.Parts.{part_at, IsWhole, joined}
 use Rattle.of_stats.specs.Reading.{rows_of}
 use Rattle.outside.specs.Seen.{Seen, Continues}
+use Rattle.lego_model.specs.AfterFault.{SwitchesStay}
 use Rattle.outside.specs.InOrder.{MessagesSince}
 use Rattle.lego_model.specs.declared.fault.TxnFault.{TxnFault}
 use Rattle.lego_model.specs.declared.fault.TxnFault.TheVariants.{SwitchBroke, Diverged, Flooded, NoMemory}
+use Rattle.net_txn.specs.declared.halt.Halt.{Halt}
+use Rattle.net_txn.specs.declared.halt.Halt.TheVariants.{Lost, Fault}
 use Rattle.net_txn.specs.LinkSteps.{OnLinks, AsksWithoutStrays}
 use Rattle.net_txn.specs.OwnIds.{KeepsIds}
 use Rattle.net_txn.specs.Causes.{IsCause}
@@ -20,15 +24,29 @@ use Rattle.lego_model.specs.History.{lost_of}
 use Rattle.net_txn.specs.Losing.{IsLost, lost_net}
 use Rattle.net_txn.specs.Waits.{Brought, Waits, IfFlooded, KeptMore}
 use Rattle.lego_model.specs.BarrierWaits.{barrier_sent, next_xid}
-use Rattle.lego_model.specs.FlowQueries.{flows_request, request_sent, asked_from, is_about, parts_in, refusals_in, all_parts, IsBroken}
+use Rattle.of_wire.specs.declared.bodies.Stats.{Stats as Query}
+use Rattle.outside.specs.declared.step.WorldStep.{WorldStep}
+use Rattle.lego_model.specs.FlowQueries.{query_sent, flows_query, flows_request, request_sent, asked_from, parts_in, refusals_in, others_in, all_parts, IsBroken}
 
--- ---- Which of the messages that came do not answer the request
+-- ---- A request of statistics to a switch, with its transaction id
 
-abbrev pub other_in : ℕ → ℕ × List ℕ → List (ℕ × List ℕ)
-other_in xid m = if is_about xid 17 m.1 || is_about xid 1 m.1 then [] else m ∷ []
+-- one that every switch takes
+pub record IsAsked (q : Query) : Type 0 where
+  pub message : IsMessage (StatsRequest q)
+  pub passed : stats_refusal q ≡ None
 
-abbrev pub others_in : ℕ → List (ℕ × List ℕ) → List (ℕ × List ℕ)
-others_in xid came = flat_map (other_in xid) came
+pub record Inquiry : Type 0 where
+  pub dpid : ℕ
+  pub xid : ℕ
+  pub query : Query
+
+-- what is sent for it: the request, and a barrier
+abbrev pub inquiry_sent : Inquiry → List WorldStep
+inquiry_sent i = query_sent i.dpid i.xid i.query ∷ barrier_sent (asked_from i.dpid i.xid) ∷ []
+
+-- of the rows of all flows
+abbrev pub rows_inquiry : ℕ → ℕ → Inquiry
+rows_inquiry d xid = record { dpid = d; xid = xid; query = flows_query }
 
 -- ---- What parts say
 
@@ -40,12 +58,12 @@ pub record AreRowsOf (messages : List (List ℕ)) (rows : List FlowRow) : Type 0
   pub fit : AreRows rows
   pub spelled_is : SpellRows rows (joined (all_parts messages))
 
--- of parts, one at least; memory may be wanting at any time
-abbrev pub IsPartsFault : ℕ → List (List ℕ) → TxnFault → Type 0
-IsPartsFault d messages (SwitchBroke of bytes) = (of ≡ d) × IsBroken messages bytes
-IsPartsFault d messages NoMemory = Unit {0}
-IsPartsFault d messages (Diverged of sent got) = ⊥
-IsPartsFault d messages (Flooded of n) = ⊥
+-- of parts of a reply of a type, one at least; memory may be wanting at any time
+abbrev pub IsPartsFault : ℕ → ℕ → List (List ℕ) → TxnFault → Type 0
+IsPartsFault kind d messages (SwitchBroke of bytes) = (of ≡ d) × IsBroken kind messages bytes
+IsPartsFault kind d messages NoMemory = Unit {0}
+IsPartsFault kind d messages (Diverged of sent got) = ⊥
+IsPartsFault kind d messages (Flooded of n) = ⊥
 
 -- the first ERROR, or the reply to the barrier where nothing answered
 abbrev pub IsRefusal : List (List ℕ) → List (List ℕ) → List ℕ → List ℕ → Type 0
@@ -53,7 +71,7 @@ IsRefusal parts refusals reply got = (slice_get refusals 0 ≡ Some got) ⊎ ((r
 
 -- of what came for a request
 abbrev pub IsRepliesFault : ℕ → List ℕ → List ℕ → List (List ℕ) → List (List ℕ) → TxnFault → Type 0
-IsRepliesFault d request reply parts refusals (SwitchBroke of bytes) = (of ≡ d) × (refusals ≡ []) × IsBroken parts bytes
+IsRepliesFault d request reply parts refusals (SwitchBroke of bytes) = (of ≡ d) × (refusals ≡ []) × IsBroken 1 parts bytes
 IsRepliesFault d request reply parts refusals (Diverged of sent got) = (of ≡ d) × (sent ≡ request) × IsRefusal parts refusals reply got
 IsRepliesFault d request reply parts refusals NoMemory = Unit {0}
 IsRepliesFault d request reply parts refusals (Flooded of n) = ⊥
@@ -61,10 +79,25 @@ IsRepliesFault d request reply parts refusals (Flooded of n) = ⊥
 -- ---- The whole, from a transaction id on
 
 -- The request was sent, then a barrier, and its reply came; of what came before it, what does not answer the request is kept.
-pub record Answered {Own : Type 0} (Tells : Type 0) (d xid : ℕ) (old new : Seen Own) (kept now_kept came : List (ℕ × List ℕ)) : Type 0 where
+pub record AnsweredFor {Own : Type 0} (Tells : Type 0) (i : Inquiry) (old new : Seen Own) (kept now_kept came : List (ℕ × List ℕ)) : Type 0 where
   pub brought : Brought
-  pub waits : Waits Tells (asked_from d xid) (request_sent d xid ∷ barrier_sent (asked_from d xid) ∷ []) old new [] came brought
-  pub kept_is : now_kept ≡ kept ++ others_in xid came
+  pub waits : Waits Tells (asked_from i.dpid i.xid) (inquiry_sent i) old new [] came brought
+  pub kept_is : now_kept ≡ kept ++ others_in i.xid came
+
+abbrev pub Answered : {Own : Type 0} → Type 0 → ℕ → ℕ → Seen Own → Seen Own → List (ℕ × List ℕ) → List (ℕ × List ℕ) → List (ℕ × List ℕ) → Type 0
+Answered Tells d xid old new kept now_kept came = AnsweredFor Tells (rows_inquiry d xid) old new kept now_kept came
+
+-- It ends by a fault, with such a cause: no switch is lost, and none moves.
+pub record InquiryFails {Own : Type 0} (Tells : Type 0) (i : Inquiry) (old new : Seen Own) (Cause : TxnFault → Type 0) (fault : TxnFault) : Type 0 where
+  pub cause : Cause fault
+  pub flooded : IfFlooded Tells (asked_from i.dpid i.xid) (inquiry_sent i) old new fault
+  pub losses : Tells → lost_of new ≡ lost_of old
+  pub still : Tells → SwitchesStay old new
+
+-- how it ends before its end: its switch was lost, or a fault came
+abbrev pub InquiryHalts : {Own : Type 0} → Type 0 → Inquiry → Seen Own → Seen Own → (TxnFault → Type 0) → Halt → Type 0
+InquiryHalts Tells i old new Cause Lost = IsLost Tells i.dpid [] old new × (Tells → MessagesSince old new)
+InquiryHalts Tells i old new Cause (Fault fault) = InquiryFails Tells i old new Cause fault
 
 -- no ERROR answered, and the rows are those of the parts
 pub record GivesRows {Own : Type 0} (Tells : Type 0) (d xid : ℕ) (old new : Seen Own) (kept now_kept : List (ℕ × List ℕ)) (rows : List FlowRow) : Type 0 where

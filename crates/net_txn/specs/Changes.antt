@@ -2,7 +2,8 @@
 use Rattle.std.specs.Prelude.{◌≡◌, ℕ, true, List, [], Some, None, Result, Ok, IsOk, IfErr, IsSome, MatchResult, ◌⊎◌}
 use Rattle.std.specs.Option.{is_some}
 use Rattle.of_wire.specs.declared.bodies.FlowMod.{FlowMod as Change}
-use Rattle.of_wire.specs.declared.message.Message.TheVariants.{FlowMod}
+use Rattle.of_wire.specs.declared.bodies.Stats.{Stats as Query}
+use Rattle.of_wire.specs.declared.message.Message.TheVariants.{FlowMod, StatsRequest}
 use Rattle.of_wire.specs.Reading.{reading_of}
 use Rattle.of_wire.specs.Grammar.{enveloped}
 use Rattle.app_frames.specs.declared.frame.Answer.{Answer}
@@ -20,12 +21,19 @@ use Rattle.lego_model.specs.History.{lost_of}
 use Rattle.net_txn.specs.Views.{rows_at, is_viewed}
 use Rattle.net_txn.specs.Net.{NetState}
 use Rattle.net_txn.specs.ChangeSteps.{Reaches, Steps}
+use Rattle.net_txn.specs.Asks.{Inquiry}
+use Rattle.net_txn.specs.Queries.{IsReplyCause, Queries}
 pub use Rattle.net_txn.specs.Answering.{answer_of_host, error_in, views_by, log_by, change_sent, Asked, Unsent, log_in_flight, CutOff, Stopped, BreaksOff, InFlight, MayMove, IfGivenUp, held_after, ByHost}
+
+-- a fault of the wait, or of what came for a request of statistics
+abbrev pub IsExchangeCause : {Own : Type 0} → Type 0 → ℕ → Seen Own → Seen Own → List (ℕ × List ℕ) → List (ℕ × List ℕ) → TxnFault → Type 0
+IsExchangeCause Tells d old new kept now_kept fault = IsCause Tells d old new fault ⊎ ((i : Inquiry) × (i.dpid ≡ d) × IsReplyCause Tells i old new kept now_kept fault)
 
 -- No switch was lost. A packet is held, after a fault nothing more is, and the same switches have views. The host's own answer is exactly that; else the switch answers.
 -- Flooded comes only where 65,536 messages were got behind the barrier, none of them its reply. After a fault it is known whether anything was
 -- sent, and what was said; what undoes the change is logged before it is sent. What the switch answered reached it at once; and where the world
--- keeps its word, nothing of the switch waited, and view and table agreed, they take the step together, and a fault is one of memory.
+-- keeps its word, nothing of the switch waited, and view and table agreed, they take the step together, and a fault is one of memory. A request of
+-- statistics moves nothing, and is answered by what came for it.
 pub record ChangesJoined {Own : Type 0} (Tells : Type 0) (d : ℕ) (bytes : List ℕ) (old new : Seen Own) (net now_net : NetState) (result : Result Answer TxnFault) : Type 0 where
   pub switches : (e : ℕ) → is_some (rows_at e now_net.views) ≡ is_some (rows_at e net.views)
   pub ports : now_net.ports ≡ net.ports
@@ -39,6 +47,8 @@ pub record ChangesJoined {Own : Type 0} (Tells : Type 0) (d : ℕ) (bytes : List
       → IfErr result (λ fault. IfGivenUp Tells d m old new net (Fault fault))
   pub in_flight : (xid : ℕ) (m : Change) → answer_of_host d bytes net ≡ None → reading_of bytes ≡ Ok (enveloped xid (FlowMod m))
       → IfErr result (λ fault. Unsent old new net now_net ⊎ InFlight Tells d m (log_in_flight d m net.views net.log) old new net now_net (Fault fault))
+  pub by_statistics : (xid : ℕ) (q : Query) → answer_of_host d bytes net ≡ None → reading_of bytes ≡ Ok (enveloped xid (StatsRequest q))
+      → Queries Tells (record { dpid = d; xid = net.xid; query = q }) old new net now_net result
   pub reached : Reaches Tells d bytes old new net result
   pub in_step : Steps Tells d bytes old new net now_net result
   pub losses : Tells → lost_of new ≡ lost_of old
@@ -56,7 +66,7 @@ pub record Changes {Own : Type 0} (Tells : Type 0) (d : ℕ) (bytes : List ℕ) 
   pub links : OnLinks Tells old new
   pub no_strays : Tells → InOrder new → (IsSome (rows_at d net.views) → is_joined d (state old) ≡ true) → MakesNoStrayCall old new
   pub read : IsOk result → Tells → MessagesSince old new
-  pub cause : IfErr result (IsCause Tells d old new)
+  pub cause : IfErr result (IsExchangeCause Tells d old new net.kept now_net.kept)
   pub moment : now_net.moment ≡ net.moment
   pub room : now_net.room ≡ net.room
   pub ids : KeepsIds Tells 2 old new net.xid now_net.xid result

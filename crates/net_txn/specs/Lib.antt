@@ -23,6 +23,7 @@ pub mod OwnIds
 pub mod Said
 pub mod Asks
 pub mod AskSteps
+pub mod Queries
 pub mod JoiningSteps
 pub mod MessageStore
 pub mod Abreast

@@ -21,7 +21,6 @@ use Rattle.outside.specs.Conforming.{Conforming}
 use Rattle.outside.specs.InOrder.{InOrder, MessagesSince}
 use Rattle.lego_model.specs.declared.fault.TxnFault.{TxnFault}
 use Rattle.lego_model.specs.declared.fault.TxnFault.TheVariants.{SwitchBroke, Diverged, Flooded, NoMemory}
-use Rattle.lego_model.specs.declared.wait.Notices.TheVariants as notices
 use Rattle.lego_model.specs.BarrierWaits.{barrier_sent, flood, next_xid}
 use Rattle.lego_model.specs.Journal.{released, losses}
 use Rattle.lego_model.specs.Packets.{Held, nothing_held}

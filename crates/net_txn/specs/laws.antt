@@ -69,4 +69,7 @@ pub mod PacketReleaseLaws
 pub mod ReleaseStepLaws
 pub mod ReleaseLaws
 pub mod LoseAllLaws
+pub mod QueryReachedLaws
+pub mod QueryStepLaws
+pub mod QueryLaws
 pub mod OutLaws

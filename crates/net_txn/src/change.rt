@@ -144,7 +144,7 @@ impl Net {
     }
 
     /// Answers one message of an application for a switch: by the host's own tests, else by the switch behind a
-    /// barrier, or by `Unknown` where the switch is lost meanwhile.
+    /// barrier, a change by its answer and a request by its statistics, or by `Unknown` where the switch is lost meanwhile.
     pub(crate) fn change<W: World>(
         &mut self,
         world: &mut W,
@@ -164,6 +164,7 @@ impl Net {
                 Ok(Answer::Fine)
             }
             HostAnswer::Asks(flow) => self.make_or_lose(world, dpid, flow),
+            HostAnswer::Queries(query) => self.query_or_lose(world, dpid, query),
         }
     }
 }

@@ -27,6 +27,8 @@ pub(crate) enum HostAnswer {
     Holds(PacketOut),
     /// The switch must answer the change.
     Asks(FlowMod),
+    /// The switch must give the statistics.
+    Queries(Stats),
 }
 
 /// Returns the first action that no switch here knows.
@@ -90,19 +92,30 @@ fn refuse_change(m: &FlowMod, rows: &[ViewRow]) -> Option<OfError>
 
 /// Tells what stands against a request of statistics.
 #[tactic(auto, unfolding(flow_table::specs::Refusals::stats_refusal))]
-fn refuse_stats(m: &Stats) -> OfError
-    ensures { Some result ≡ or_else (stats_refusal m.now) (Some bad_type) }
+fn refuse_stats(m: &Stats) -> Option<OfError>
+    ensures { result ≡ stats_refusal m.now }
 {
     let wanted = match m.kind {
         stats::DESC | stats::TABLE => 0,
         stats::FLOW | stats::AGGREGATE => 44,
         stats::PORT => 8,
-        _ => return errors::REQUEST_BAD_STAT,
+        _ => return Some(errors::REQUEST_BAD_STAT),
     };
     if m.body.len() == wanted {
-        errors::REQUEST_BAD_TYPE
+        None
     } else {
-        errors::REQUEST_BAD_LEN
+        Some(errors::REQUEST_BAD_LEN)
+    }
+}
+
+/// Tells what the host makes of a request of statistics.
+#[tactic(auto, unfolding(lego_model::specs::Answers::host_refusal))]
+fn answer_stats(m: Stats, rows: &[ViewRow]) -> HostAnswer
+    ensures { IsHostAnswerOf (rows_of_view rows.now) (messages.StatsRequest m) result }
+{
+    match refuse_stats(&m) {
+        Some(error) => HostAnswer::Answered(Answer::Error(error)),
+        None => HostAnswer::Queries(m),
     }
 }
 
@@ -165,7 +178,7 @@ fn answer_message(message: Message, rows: &[ViewRow]) -> HostAnswer
     match message {
         Message::FlowMod(m) => answer_change(m, rows),
         Message::PacketOut(m) => answer_packet(m, rows),
-        Message::StatsRequest(m) => HostAnswer::Answered(Answer::Error(refuse_stats(&m))),
+        Message::StatsRequest(m) => answer_stats(m, rows),
         Message::BarrierRequest => HostAnswer::Answered(Answer::Fine),
         _ => HostAnswer::Answered(Answer::Error(errors::REQUEST_BAD_TYPE)),
     }

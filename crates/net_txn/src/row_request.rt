@@ -28,7 +28,7 @@ use std::alloc::{AllocError, Global};
 const ALL_TABLES: u8 = 0xff;
 
 /// Tells what is awaited where a request is sent with this id, and then a barrier.
-fn asked(dpid: Dpid, xid: Xid) -> Awaited
+pub(crate) fn asked(dpid: Dpid, xid: Xid) -> Awaited
     ensures { result ≡ asked_from dpid xid }
 {
     let barrier = following(xid);

@@ -1,4 +1,4 @@
--- Where a world keeps its word, a switch that is asked for its rows tells them, and all stays as it was.
+-- Where a world keeps its word, a switch that is asked for statistics tells them, and all stays as it was.
 use Rattle.std.specs.Prelude.{◌≡◌, ◌≢◌, ℕ, ◌^◌, ◌<◌, false, List, [], ◌∷◌, ◌++◌, length, drop, map, Some, None, Ok, refl, filter, true}
 use Rattle.std.specs.List.{AllByRecursion, concat, flat_map}
 use Rattle.std.proofs.Common.{sym, ap, ◌∙◌, subst, arith}
@@ -44,8 +44,8 @@ use Rattle.lego_model.specs.declared.wait.Heard.TheVariants.{Other}
 use Rattle.lego_model.specs.BarrierWaits.{next_xid, heard, is_reply, wait_steps, kept_of, barrier_sent, reply_got}
 use Rattle.net_txn.specs.laws.HeardLaws.{IsMessage-barrier, next_xid-lt}
 use Rattle.net_txn.specs.laws.StepLaws.{told_switch, told_waits, barrier_sends, barrier_stays, gots, gots_switch, gots_other, gots_other_waits, gots_empty, first_got, reply_alone, other_steps, other_no_reply}
-use Rattle.net_txn.specs.Asks.{others_in, Answered, GivesRows}
-use Rattle.lego_model.specs.FlowQueries.{all_flows, flows_request, request_sent, asked_from, parts_in, refusals_in, all_parts}
+use Rattle.net_txn.specs.Asks.{IsAsked, Inquiry, rows_inquiry, AnsweredFor, GivesRows}
+use Rattle.lego_model.specs.FlowQueries.{query_bytes, query_sent, all_flows, flows_query, asked_from, parts_in, refusals_in, others_in, all_parts}
 use Rattle.net_txn.specs.laws.AskLaws.{part_refuses_not}
 use Rattle.net_txn.specs.AskSteps.{own_rows, RowsInStep}
 use Rattle.net_txn.specs.laws.ReplyLaws.{IsSmallPart, IsPartOf-part_bytes, heard_part, about_part, small_parts, joined_parts}
@@ -96,62 +96,81 @@ selected_all s =
     rw (query_laid.1.0, query_laid.1.1.0, matching) (all_selected s.table.entries)
 
 abbrev pub asking : StatsBody
-asking = record { kind = 1; flags = 0; body = all_flows }
+asking = flows_query
 
 pub IsMessage-asking : IsMessage (StatsRequest asking)
 unfolding message_size
 IsMessage-asking = record { fields = (omega arith, (omega arith, tt)); tail = tt; size = omega (arith, length-all_flows) }
 
-not_refused : (s : SwitchState) → message_refusal s (StatsRequest asking) ≡ None
-unfolding message_refusal stats_refusal
-not_refused s = rw length-all_flows refl
+asking_passed : stats_refusal asking ≡ None
+unfolding stats_refusal
+asking_passed = rw length-all_flows refl
 
-asking_stays : (s : SwitchState) → after_message (StatsRequest asking) s ≡ s
-unfolding after_message after_taken
-asking_stays s = rw (not_refused s) refl
+pub IsAsked-asking : IsAsked asking
+IsAsked-asking = record { message = IsMessage-asking; passed = asking_passed }
 
-abbrev pub own_parts : SwitchState → List Part
-own_parts s = parts_of 1 (flow_rows all_flows s)
+-- ---- Any request that is taken
 
-abbrev pub own_replies : ℕ → SwitchState → List (List ℕ)
-own_replies xid s = map (part_bytes xid) (own_parts s)
+query_stays : (q : StatsBody) (s : SwitchState) → stats_refusal q ≡ None → after_message (StatsRequest q) s ≡ s
+unfolding after_message after_taken message_refusal
+query_stays q s passed = rw passed refl
 
-asking_sends : (xid : ℕ) (s : SwitchState) → sent_by_message xid (StatsRequest asking) s ≡ own_replies xid s
-unfolding sent_by_message sent_by_taken statistics_replies reply_rows
-asking_sends xid s = rw (not_refused s) refl
+abbrev pub own_parts : StatsBody → SwitchState → List Part
+own_parts q s = parts_of q.kind (reply_rows q s)
 
-pub small_own : (s : SwitchState) → AllByRecursion IsSmallPart (own_parts s)
+abbrev pub own_replies : ℕ → StatsBody → SwitchState → List (List ℕ)
+own_replies xid q s = map (part_bytes xid) (own_parts q s)
+
+query_sends : (xid : ℕ) (q : StatsBody) (s : SwitchState) → stats_refusal q ≡ None → sent_by_message xid (StatsRequest q) s ≡ own_replies xid q s
+unfolding sent_by_message sent_by_taken statistics_replies message_refusal
+query_sends xid q s passed = rw passed refl
+
+small_kind : (q : StatsBody) → IsAsked q → q.kind < 2 ^ 16
+small_kind q asked = omega (arith, asked.message.fields.0)
+
+pub small_own : (q : StatsBody) (s : SwitchState) → IsAsked q → AllByRecursion IsSmallPart (own_parts q s)
 unfolding parts_of
-small_own s = small_parts 1 [] (flow_rows all_flows s) (omega arith)
+small_own q s asked = small_parts q.kind [] (reply_rows q s) (small_kind q asked)
+
+pub joined_own : (q : StatsBody) (s : SwitchState) → joined (own_parts q s) ≡ concat (reply_rows q s)
+unfolding parts_of
+joined_own q s = joined_parts q.kind [] (reply_rows q s)
 
 concat_rows : (moment : ℕ) (es : List Entry) → concat (map (λ e. row_bytes (flow_row moment e)) es) ≡ flat_map row_bytes (map (flow_row moment) es)
 concat_rows moment [] = refl
 concat_rows moment (e ∷ es) = ap (λ (b : List ℕ). row_bytes (flow_row moment e) ++ b) (concat_rows moment es)
 
-pub joined_own : (s : SwitchState) → joined (own_parts s) ≡ rows_bytes (own_rows s)
-unfolding parts_of flow_rows
-joined_own s = joined_parts 1 [] (flow_rows all_flows s) ∙ concat_rows s.moment (selected_by all_flows s) ∙ ap (λ (es : List Entry). rows_bytes (map (flow_row s.moment) es)) (selected_all s)
+pub concat_flows : (query : List ℕ) (s : SwitchState) → concat (flow_rows query s) ≡ rows_bytes (map (flow_row s.moment) (selected_by query s))
+unfolding flow_rows
+concat_flows query s = concat_rows s.moment (selected_by query s)
+
+-- of all flows
+pub joined_rows : (s : SwitchState) → joined (own_parts asking s) ≡ rows_bytes (own_rows s)
+unfolding reply_rows
+joined_rows s = joined_own asking s ∙ concat_flows all_flows s ∙ ap (λ (es : List Entry). rows_bytes (map (flow_row s.moment) es)) (selected_all s)
 
 -- ---- Before the messages that were got: the request and the barrier were sent.
 
-pub record Asking (d xid : ℕ) (s : SwitchState) (before after : State) : Type 0 where
-  pub switch : switch_of d after ≡ Some s
-  pub waits : waits_of d after ≡ own_replies xid s ++ message_bytes (next_xid xid) BarrierReply ∷ []
-  pub others : (e : ℕ) → e ≢ d → switch_of e after ≡ switch_of e before
-  pub others_wait : (e : ℕ) → e ≢ d → waits_of e after ≡ waits_of e before
+pub record Asking (i : Inquiry) (s : SwitchState) (before after : State) : Type 0 where
+  pub switch : switch_of i.dpid after ≡ Some s
+  pub waits : waits_of i.dpid after ≡ own_replies i.xid i.query s ++ message_bytes (next_xid i.xid) BarrierReply ∷ []
+  pub others : (e : ℕ) → e ≢ i.dpid → switch_of e after ≡ switch_of e before
+  pub others_wait : (e : ℕ) → e ≢ i.dpid → waits_of e after ≡ waits_of e before
 
-abbrev pub after_both : ℕ → ℕ → State → State
-after_both d xid t = after_step (barrier_sent (asked_from d xid)) (after_step (request_sent d xid) t)
+abbrev pub after_both : Inquiry → State → State
+after_both i t = after_step (barrier_sent (asked_from i.dpid i.xid)) (after_step (query_sent i.dpid i.xid i.query) t)
 
-pub both_sent : (d xid : ℕ) (s : SwitchState) (t : State) → xid < 2 ^ 32 → switch_of d t ≡ Some s → waits_of d t ≡ [] → Asking d xid s t (after_both d xid t)
-both_sent d xid s t small is none =
-    let request = flows_request xid in
+pub both_sent : (i : Inquiry) (s : SwitchState) (t : State) → IsAsked i.query → i.xid < 2 ^ 32 → switch_of i.dpid t ≡ Some s → waits_of i.dpid t ≡ [] → Asking i s t (after_both i t)
+both_sent i s t asked small is none =
+    let d = i.dpid in
+    let xid = i.xid in
+    let request = query_bytes xid i.query in
     let barrier = message_bytes (next_xid xid) BarrierRequest in
-    let read = reading_of-message_bytes xid (StatsRequest asking) small IsMessage-asking in
+    let read = reading_of-message_bytes xid (StatsRequest i.query) small asked.message in
     let asks = reading_of-message_bytes (next_xid xid) BarrierRequest (next_xid-lt xid small) IsMessage-barrier in
-    let one = after_step (request_sent d xid) t in
-    let there : switch_of d one ≡ Some s = rw (told_switch d xid (StatsRequest asking) request t s read is, asking_stays s) refl in
-    let sends : waits_of d one ≡ own_replies xid s = rw (told_waits d xid (StatsRequest asking) request t s read is, none) (asking_sends xid s) in
+    let one = after_step (query_sent d xid i.query) t in
+    let there : switch_of d one ≡ Some s = rw (told_switch d xid (StatsRequest i.query) request t s read is, query_stays i.query s asked.passed) refl in
+    let sends : waits_of d one ≡ own_replies xid i.query s = rw (told_waits d xid (StatsRequest i.query) request t s read is, none) (query_sends xid i.query s asked.passed) in
     record {
       switch = rw (told_switch d (next_xid xid) BarrierRequest barrier one s asks there, barrier_stays s) refl;
       waits = rw (told_waits d (next_xid xid) BarrierRequest barrier one s asks there, sends, barrier_sends (next_xid xid) s) refl;
@@ -226,44 +245,47 @@ parts_said xid (p ∷ ps) lt fit =
 -- ---- What was answered
 
 -- the messages of the transaction id are the switch's own reply, and no ERROR; what the wait leaves
-pub record AskedInStep {Own : Type 0} (d xid : ℕ) (s : SwitchState) (old new : Seen Own) (kept now_kept came : List (ℕ × List ℕ)) : Type 0 where
-  pub parts : parts_in xid came ≡ own_replies xid s
-  pub refusals : refusals_in xid came ≡ []
-  pub said : all_parts (parts_in xid came) ≡ own_parts s
-  pub waits : waits_of d (state new) ≡ []
-  pub stays : switch_of d (state new) ≡ Some s
-  pub others : (e : ℕ) → e ≢ d → switch_of e (state new) ≡ switch_of e (state old)
-  pub others_wait : (e : ℕ) → e ≢ d → waits_of e (state new) ≡ waits_of e (state old)
+pub record AskedInStep {Own : Type 0} (i : Inquiry) (s : SwitchState) (old new : Seen Own) (kept now_kept came : List (ℕ × List ℕ)) : Type 0 where
+  pub parts : parts_in i.xid came ≡ own_replies i.xid i.query s
+  pub refusals : refusals_in i.xid came ≡ []
+  pub said : all_parts (parts_in i.xid came) ≡ own_parts i.query s
+  pub waits : waits_of i.dpid (state new) ≡ []
+  pub stays : switch_of i.dpid (state new) ≡ Some s
+  pub others : (e : ℕ) → e ≢ i.dpid → switch_of e (state new) ≡ switch_of e (state old)
+  pub others_wait : (e : ℕ) → e ≢ i.dpid → waits_of e (state new) ≡ waits_of e (state old)
   pub kept_is : now_kept ≡ kept
 
-pub asked_in_step : {Own : Type 0} {Tells : Type 0} (d xid : ℕ) (s : SwitchState) (old new : Seen Own) (kept now_kept came : List (ℕ × List ℕ)) → xid < 2 ^ 32 → Tells → Answered Tells d xid old new kept now_kept came
-    → Conforming new → switch_of d (state old) ≡ Some s → waits_of d (state old) ≡ [] → AskedInStep d xid s old new kept now_kept came
-asked_in_step d xid s old new kept now_kept came lt told answered keeps is none =
+pub asked_in_step : {Own : Type 0} {Tells : Type 0} (i : Inquiry) (s : SwitchState) (old new : Seen Own) (kept now_kept came : List (ℕ × List ℕ)) → IsAsked i.query → i.xid < 2 ^ 32 → Tells → AnsweredFor Tells i old new kept now_kept came
+    → Conforming new → switch_of i.dpid (state old) ≡ Some s → waits_of i.dpid (state old) ≡ [] → AskedInStep i s old new kept now_kept came
+asked_in_step i s old new kept now_kept came asked lt told answered keeps is none =
+    let d = i.dpid in
+    let xid = i.xid in
     let a = asked_from d xid in
     let small = next_xid-lt xid lt in
-    let fit = small_own s in
-    let parts = own_replies xid s in
+    let own = own_parts i.query s in
+    let fit = small_own i.query s asked in
+    let parts = own_replies xid i.query s in
     let reply = message_bytes (next_xid xid) BarrierReply in
     let w = answered.waits in
-    let steps = request_sent d xid ∷ barrier_sent a ∷ (wait_steps a w.got ++ reply_got a ∷ []) in
+    let steps = query_sent d xid i.query ∷ barrier_sent a ∷ (wait_steps a w.got ++ reply_got a ∷ []) in
     let may = Conforming-rest old new steps w.hears.continues.given (w.hears.told told) keeps in
     let after = state-append old new steps w.hears.continues.given (w.hears.told told) in
-    let mid = after_both d xid (state old) in
-    let sent = both_sent d xid s (state old) lt is none in
-    let got_is : w.got ≡ parts = parts_alone old.given.declared a xid (own_parts s) w.got mid lt small fit sent.waits may.1.1 w.hears.before_reply in
-    let got_steps : wait_steps a w.got ++ reply_got a ∷ [] ≡ gots d (parts ++ reply ∷ []) = ap (λ (gs : List (List ℕ)). wait_steps a gs ++ reply_got a ∷ []) got_is ∙ part_steps a xid (own_parts s) lt small fit in
+    let mid = after_both i (state old) in
+    let sent = both_sent i s (state old) asked lt is none in
+    let got_is : w.got ≡ parts = parts_alone old.given.declared a xid own w.got mid lt small fit sent.waits may.1.1 w.hears.before_reply in
+    let got_steps : wait_steps a w.got ++ reply_got a ∷ [] ≡ gots d (parts ++ reply ∷ []) = ap (λ (gs : List (List ℕ)). wait_steps a gs ++ reply_got a ∷ []) got_is ∙ part_steps a xid own lt small fit in
     let now : state new ≡ after_steps (gots d (parts ++ reply ∷ [])) mid = after ∙ ap (λ (xs : List WorldStep). after_steps xs mid) got_steps in
-    let came_is : came ≡ map (of_switch d) parts = w.hears.kept_is ∙ ap (kept_of a) got_is ∙ came_parts a xid (own_parts s) lt small fit in
-    let there : parts_in xid came ≡ parts = ap (parts_in xid) came_is ∙ parts_there d xid (own_parts s) lt fit in
+    let came_is : came ≡ map (of_switch d) parts = w.hears.kept_is ∙ ap (kept_of a) got_is ∙ came_parts a xid own lt small fit in
+    let there : parts_in xid came ≡ parts = ap (parts_in xid) came_is ∙ parts_there d xid own lt fit in
     record {
       parts = there;
-      refusals = ap (refusals_in xid) came_is ∙ no_refusals d xid (own_parts s) lt fit;
-      said = ap all_parts there ∙ parts_said xid (own_parts s) lt fit;
+      refusals = ap (refusals_in xid) came_is ∙ no_refusals d xid own lt fit;
+      said = ap all_parts there ∙ parts_said xid own lt fit;
       waits = ap (waits_of d) now ∙ gots_empty d (parts ++ reply ∷ []) mid sent.waits;
       stays = ap (switch_of d) now ∙ gots_switch d (parts ++ reply ∷ []) mid ∙ sent.switch;
       others = λ e other. ap (switch_of e) now ∙ gots_other d e (parts ++ reply ∷ []) mid other ∙ sent.others e other;
       others_wait = λ e other. ap (waits_of e) now ∙ gots_other_waits d e (parts ++ reply ∷ []) mid other ∙ sent.others_wait e other;
-      kept_is = answered.kept_is ∙ ap (λ (ms : List (ℕ × List ℕ)). kept ++ others_in xid ms) came_is ∙ ap (λ (ms : List (ℕ × List ℕ)). kept ++ ms) (no_others d xid (own_parts s) lt fit) ∙ append-nil kept;
+      kept_is = answered.kept_is ∙ ap (λ (ms : List (ℕ × List ℕ)). kept ++ others_in xid ms) came_is ∙ ap (λ (ms : List (ℕ × List ℕ)). kept ++ ms) (no_others d xid own lt fit) ∙ append-nil kept;
     }
 
 -- ---- The rows
@@ -275,8 +297,8 @@ own_read s fits = rows_of-spelled (own_rows s) (rows_bytes (own_rows s)) fits (S
 pub rows_in_step : {Own : Type 0} {Tells : Type 0} (d xid : ℕ) (s : SwitchState) (old new : Seen Own) (kept now_kept : List (ℕ × List ℕ)) (rows : List FlowRow) → xid < 2 ^ 32 → Tells → GivesRows Tells d xid old new kept now_kept rows
     → Conforming new → switch_of d (state old) ≡ Some s → waits_of d (state old) ≡ [] → RowsInStep d s old new kept now_kept rows
 rows_in_step d xid s old new kept now_kept rows lt told gives keeps is none =
-    let in_step = asked_in_step d xid s old new kept now_kept gives.came lt told gives.answered keeps is none in
-    let said : joined (all_parts (parts_in xid gives.came)) ≡ rows_bytes (own_rows s) = ap joined in_step.said ∙ joined_own s in
+    let in_step = asked_in_step (rows_inquiry d xid) s old new kept now_kept gives.came IsAsked-asking lt told gives.answered keeps is none in
+    let said : joined (all_parts (parts_in xid gives.came)) ≡ rows_bytes (own_rows s) = ap joined in_step.said ∙ joined_rows s in
     let read : rows_of (rows_bytes (own_rows s)) ≡ Ok rows = ap rows_of (sym said) ∙ gives.rows_is.read in
     record {
       rows_is = read;

@@ -23,7 +23,6 @@ use Rattle.net_txn.specs.declared.halt.Halt.{Halt}
 use Rattle.net_txn.specs.declared.halt.Halt.TheVariants.{Lost, Fault}
 use Rattle.lego_model.specs.declared.wait.Awaited.{Awaited}
 use Rattle.lego_model.specs.declared.wait.Refusal.{Refusal}
-use Rattle.lego_model.specs.BarrierWaits.{next_xid}
 use Rattle.net_txn.specs.declared.queue.Storage.TheVariants.{Growing}
 use Rattle.net_txn.specs.declared.logged.Logged.{Logged}
 use Rattle.net_txn.specs.declared.trouble.Trouble.{Trouble}
@@ -184,25 +183,26 @@ front_of_two change barrier (c ∷ []) rest same = record { front = inr (inl cc)
 front_of_two change barrier (c ∷ b ∷ []) rest same = record { front = inr (inr cc) }
 front_of_two change barrier (c ∷ b ∷ x ∷ xs) rest same = absurd cc
 
-module _ (d xid : ℕ) (m : Change) (small : xid < 2 ^ 32) (is : IsMessage (FlowMod m)) where
-  change_moves : Moves d (as_sent (FlowMod m)) (Says d (change_bytes xid m) ∷ [])
-  change_moves = told_map xid (as_sent (FlowMod m)) (change_bytes xid m) d (reading_of-as_sent xid m small is)
+-- a message, and a barrier behind it
+module _ (a : Awaited) (xid : ℕ) (m : Message) (frame : List ℕ) (small : a.barrier < 2 ^ 32) (read : reading_of frame ≡ Ok (enveloped xid m)) where
+  change_moves : Moves a.dpid m (Says a.dpid frame ∷ [])
+  change_moves = told_map xid m frame a.dpid read
 
-  both_move : Moves d (as_sent (FlowMod m)) (Says d (change_bytes xid m) ∷ Says d (barrier_of (awaited_from d xid)) ∷ [])
-  both_move = moves_then d (as_sent (FlowMod m)) (Says d (change_bytes xid m) ∷ []) (Says d (barrier_of (awaited_from d xid)) ∷ []) change_moves (stays_barrier d (next_xid xid) (next_xid-lt xid small))
+  both_move : Moves a.dpid m (Says a.dpid frame ∷ Says a.dpid (barrier_of a) ∷ [])
+  both_move = moves_then a.dpid m (Says a.dpid frame ∷ []) (Says a.dpid (barrier_of a) ∷ []) change_moves (stays_barrier a.dpid a.barrier small)
 
-  front_moves : (first : List (List ℕ)) (last : List Said) → IsFront (change_bytes xid m) (barrier_of (awaited_from d xid)) first → Stays d last → EitherWay d (as_sent (FlowMod m)) (frames_said d first ++ last)
+  front_moves : (first : List (List ℕ)) (last : List Said) → IsFront frame (barrier_of a) first → Stays a.dpid last → EitherWay a.dpid m (frames_said a.dpid first ++ last)
   front_moves first last front stays =
       elim front.front [
-        | inl none ↦ inl (subst (λ (fs : List (List ℕ)). Stays d (frames_said d fs ++ last)) (sym none) stays)
+        | inl none ↦ inl (subst (λ (fs : List (List ℕ)). Stays a.dpid (frames_said a.dpid fs ++ last)) (sym none) stays)
         | inr some ↦ elim some [
-          | inl one ↦ inr (subst (λ (fs : List (List ℕ)). Moves d (as_sent (FlowMod m)) (frames_said d fs ++ last)) (sym one) (moves_then d (as_sent (FlowMod m)) (Says d (change_bytes xid m) ∷ []) last change_moves stays))
-          | inr two ↦ inr (subst (λ (fs : List (List ℕ)). Moves d (as_sent (FlowMod m)) (frames_said d fs ++ last)) (sym two)
-              (moves_then d (as_sent (FlowMod m)) (Says d (change_bytes xid m) ∷ Says d (barrier_of (awaited_from d xid)) ∷ []) last both_move stays))
+          | inl one ↦ inr (subst (λ (fs : List (List ℕ)). Moves a.dpid m (frames_said a.dpid fs ++ last)) (sym one) (moves_then a.dpid m (Says a.dpid frame ∷ []) last change_moves stays))
+          | inr two ↦ inr (subst (λ (fs : List (List ℕ)). Moves a.dpid m (frames_said a.dpid fs ++ last)) (sym two)
+              (moves_then a.dpid m (Says a.dpid frame ∷ Says a.dpid (barrier_of a) ∷ []) last both_move stays))
         ]
       ]
 
-  both_front : IsFront (change_bytes xid m) (barrier_of (awaited_from d xid)) (change_bytes xid m ∷ barrier_of (awaited_from d xid) ∷ [])
+  both_front : IsFront frame (barrier_of a) (frame ∷ barrier_of a ∷ [])
   both_front = record { front = inr (inr refl) }
 
 moves_by : {Own : Type 0} {Tells : Type 0} (d : ℕ) (m : Message) (said : List Said) (old new : Seen Own) → Tells → Calls Tells d said old new → EitherWay d m said → MayMove d m (state old) (state new)
@@ -218,28 +218,34 @@ moves_by d m said old new told calls either =
       others = λ e other. ap (switch_of e) after ∙ (steps_other d e steps (state old) other (Calls-moves steps refl calls).each).0;
     }
 
-breaks_move : {Own : Type 0} {Tells : Type 0} (d xid : ℕ) (m : Change) (old new : Seen Own) (kept now_kept : List (ℕ × List ℕ)) (buf : List ℕ) (trouble : Trouble) → Tells → xid < 2 ^ 32 → IsMessage (FlowMod m) → is_of_link trouble ≡ false
-    → Breaks Tells (awaited_from d xid) (change_bytes xid m ∷ barrier_of (awaited_from d xid) ∷ []) Growing [] old new kept now_kept buf trouble → MayMove d (as_sent (FlowMod m)) (state old) (state new)
-breaks_move d xid m old new kept now_kept buf trouble told small is none (inl u) =
-    moves_by d (as_sent (FlowMod m)) (frames_said d u.first ++ unsaid d trouble) old new told u.calls
-    (front_moves d xid m small is u.first (unsaid d trouble) (front_of_two (change_bytes xid m) (barrier_of (awaited_from d xid)) u.first u.rest u.frames_is) (stays_unsaid d trouble none))
-breaks_move d xid m old new kept now_kept buf trouble told small is none (inr u) =
-    let a = awaited_from d xid in
-    let frames = change_bytes xid m ∷ barrier_of a ∷ [] in
-    let last = wait_said a u.got ++ last_said d u.by trouble buf in
-    moves_by d (as_sent (FlowMod m)) (frames_said d frames ++ last) old new told u.calls
-    (front_moves d xid m small is frames last (both_front d xid m small is) (stays_then d (wait_said a u.got) (last_said d u.by trouble buf) (stays_wait a u.got) (stays_last d u.by trouble buf none)))
+-- The switches stand so after an exchange that broke off by a fault, or whose reply came.
+pub breaks_move : {Own : Type 0} {Tells : Type 0} (a : Awaited) (xid : ℕ) (m : Message) (frame : List ℕ) (old new : Seen Own) (kept now_kept : List (ℕ × List ℕ)) (buf : List ℕ) (trouble : Trouble) → Tells → a.barrier < 2 ^ 32 → reading_of frame ≡ Ok (enveloped xid m)
+    → is_of_link trouble ≡ false → Breaks Tells a (frame ∷ barrier_of a ∷ []) Growing [] old new kept now_kept buf trouble → MayMove a.dpid m (state old) (state new)
+breaks_move a xid m frame old new kept now_kept buf trouble told small read none (inl u) =
+    moves_by a.dpid m (frames_said a.dpid u.first ++ unsaid a.dpid trouble) old new told u.calls
+    (front_moves a xid m frame small read u.first (unsaid a.dpid trouble) (front_of_two frame (barrier_of a) u.first u.rest u.frames_is) (stays_unsaid a.dpid trouble none))
+breaks_move a xid m frame old new kept now_kept buf trouble told small read none (inr u) =
+    let frames = frame ∷ barrier_of a ∷ [] in
+    let last = wait_said a u.got ++ last_said a.dpid u.by trouble buf in
+    moves_by a.dpid m (frames_said a.dpid frames ++ last) old new told u.calls
+    (front_moves a xid m frame small read frames last (both_front a xid m frame small read) (stays_then a.dpid (wait_said a u.got) (last_said a.dpid u.by trouble buf) (stays_wait a u.got) (stays_last a.dpid u.by trouble buf none)))
+
+pub replied_move : {Own : Type 0} {Tells : Type 0} (a : Awaited) (xid : ℕ) (m : Message) (frame : List ℕ) (old new : Seen Own) (kept now_kept : List (ℕ × List ℕ)) (answer : Brought) → Tells → a.barrier < 2 ^ 32 → reading_of frame ≡ Ok (enveloped xid m)
+    → Replied Tells a (frame ∷ barrier_of a ∷ []) Growing [] old new kept now_kept answer → MayMove a.dpid m (state old) (state new)
+replied_move a xid m frame old new kept now_kept answer told small read replied =
+    let frames = frame ∷ barrier_of a ∷ [] in
+    let last = wait_said a replied.got ++ reply_heard a ∷ [] in
+    moves_by a.dpid m (frames_said a.dpid frames ++ last) old new told replied.calls
+    (front_moves a xid m frame small read frames last (both_front a xid m frame small read) (stays_then a.dpid (wait_said a replied.got) (reply_heard a ∷ []) (stays_wait a replied.got) (stays_reply a)))
 
 -- The switches stand so after a fault of a change.
 pub flight_moves : {Own : Type 0} {Tells : Type 0} (d : ℕ) (m : Change) (log : List Logged) (old new : Seen Own) (net now_net : NetState) (fault : TxnFault) → Tells → InFlight Tells d m log old new net now_net (Fault fault) → MayMove d (as_sent (FlowMod m)) (state old) (state new)
 flight_moves d m log old new net now_net fault told flight =
     let a = awaited_from d net.xid in
+    let small = next_xid-lt net.xid flight.is_xid in
+    let frame = change_bytes net.xid m in
+    let read = reading_of-as_sent net.xid m flight.is_xid flight.message in
     elim flight.said [
-      | inl broke ↦ breaks_move d net.xid m old new net.kept now_net.kept broke.buf broke.trouble told flight.is_xid flight.message (fault_is_none d broke.trouble broke.buf fault broke.halt_is) broke.breaks
-      | inr well ↦
-          (let replied = well.replied in
-          let frames = change_bytes net.xid m ∷ barrier_of a ∷ [] in
-          let last = wait_said a replied.got ++ reply_heard a ∷ [] in
-          moves_by d (as_sent (FlowMod m)) (frames_said d frames ++ last) old new told replied.calls
-          (front_moves d net.xid m flight.is_xid flight.message frames last (both_front d net.xid m flight.is_xid flight.message) (stays_then d (wait_said a replied.got) (reply_heard a ∷ []) (stays_wait a replied.got) (stays_reply a))))
+      | inl broke ↦ breaks_move a net.xid (as_sent (FlowMod m)) frame old new net.kept now_net.kept broke.buf broke.trouble told small read (fault_is_none d broke.trouble broke.buf fault broke.halt_is) broke.breaks
+      | inr well ↦ replied_move a net.xid (as_sent (FlowMod m)) frame old new net.kept now_net.kept _ told small read well.replied
     ]

@@ -7,9 +7,10 @@ use Rattle.std.proofs.lemmas.List.Elements.{filter-append}
 use Rattle.std.proofs.lemmas.Bool.{eq-eqb}
 use Rattle.of_types.specs.declared.journal.Act.TheVariants.{Sent}
 use Rattle.of_wire.specs.declared.bodies.FlowMod.{FlowMod as Change}
+use Rattle.of_wire.specs.declared.bodies.Stats.{Stats as StatsBody}
 use Rattle.of_wire.specs.declared.message.Message.{Message}
 use Rattle.of_wire.specs.declared.bodies.PacketOut.{PacketOut as Packet}
-use Rattle.of_wire.specs.declared.message.Message.TheVariants.{FlowMod, PacketOut}
+use Rattle.of_wire.specs.declared.message.Message.TheVariants.{FlowMod, PacketOut, StatsRequest}
 use Rattle.of_wire.specs.declared.message.Envelope.{Envelope}
 use Rattle.of_wire.specs.declared.fault.WireFault.{WireFault}
 use Rattle.of_wire.specs.Reading.{reading_of}
@@ -19,7 +20,9 @@ use Rattle.app_frames.specs.declared.frame.Answer.{Answer}
 use Rattle.app_frames.specs.declared.frame.Answer.TheVariants.{Fine, Error, Unknown, Statistics}
 use Rattle.lego_model.specs.Packets.{Held, holds, HeldBack}
 use Rattle.lego_model.specs.History.{lost_of}
-use Rattle.lego_model.specs.Answers.{rows_of_view, as_sent, host_answer_read, host_answer}
+use Rattle.of_types.specs.declared.errors.OfError.{OfError}
+use Rattle.flow_table.specs.Refusals.{stats_refusal}
+use Rattle.lego_model.specs.Answers.{Rows, rows_of_view, as_sent, host_refusal, refused_or, host_answer_read, host_answer}
 use Rattle.outside.specs.declared.step.WorldStep.TheVariants.{Acted}
 use Rattle.outside.specs.Seen.{Seen, Continues}
 use Rattle.outside.specs.laws.SeenLaws.{Continues-refl}
@@ -52,9 +55,13 @@ use Rattle.net_txn.specs.Host.{held_read}
 use Rattle.net_txn.specs.Net.{NetState, awaited_from, logged_by, with_logged}
 use Rattle.net_txn.specs.Answering.{answer_of_host, held_after, held_by, views_by, change_sent, Asked, Unsent, Stopped, log_in_flight, InFlight, IfGivenUp}
 use Rattle.net_txn.specs.Making.{StaysBut, LosesSo, Halts, forgets, log_halted, Judged, MakesJoined, MakesLost, Makes}
-use Rattle.net_txn.specs.Changes.{ChangesJoined, ChangesLost, Changes}
+use Rattle.net_txn.specs.Asks.{Inquiry}
+use Rattle.net_txn.specs.Queries.{Queries, Queried}
+use Rattle.net_txn.specs.ChangeSteps.{Reaches, Steps}
+use Rattle.net_txn.specs.Changes.{IsExchangeCause, ChangesJoined, ChangesLost, Changes}
 use Rattle.net_txn.specs.Losing.{lost_net}
 use Rattle.net_txn.specs.laws.ViewLaws.{viewed}
+use Rattle.net_txn.specs.laws.WaitLaws.{none_kept}
 use Rattle.net_txn.specs.laws.TalkLaws.{IfHaltFlooded, speaks_on, speaks_links, speaks_place}
 use Rattle.net_txn.specs.laws.LostLaws.{waits_none_lost}
 use Rattle.net_txn.specs.laws.ChangeFlightLaws.{flight_none_lost}
@@ -101,12 +108,27 @@ some_rows rows = Some rows
 abbrev read_as : ℕ → Change → Result Envelope WireFault
 read_as xid m = Ok (enveloped xid (FlowMod m))
 
+abbrev asked_as : ℕ → StatsBody → Result Envelope WireFault
+asked_as xid q = Ok (enveloped xid (StatsRequest q))
+
 abbrev message_in : Result Envelope WireFault → Option Message
 message_in (Ok envelope) = Some envelope.message
 message_in (Err fault) = None
 
 same_change : (x y : ℕ) (m n : Change) → read_as x m ≡ read_as y n → m ≡ n
 same_change x y m n e = let f : Some (FlowMod m) ≡ Some (FlowMod n) = ap message_in e in cc
+
+-- a change is no request of statistics
+no_query : (x y : ℕ) (m : Change) (q : StatsBody) → read_as x m ≡ asked_as y q → ⊥
+no_query x y m q e = let f : Some (FlowMod m) ≡ Some (StatsRequest q) = ap message_in e in cc
+
+same_query : (x y : ℕ) (p q : StatsBody) → asked_as x p ≡ asked_as y q → p ≡ q
+same_query x y p q e = let f : Some (StatsRequest p) ≡ Some (StatsRequest q) = ap message_in e in cc
+
+-- a cause of a wait
+wait_cause : {Own T : Type 0} (Tells : Type 0) (d : ℕ) (old new : Seen Own) (kept now_kept : List (ℕ × List ℕ)) (result : Result T TxnFault) → IfErr result (IsCause Tells d old new) → IfErr result (IsExchangeCause Tells d old new kept now_kept)
+wait_cause Tells d old new kept now_kept (Ok x) cause = tt
+wait_cause Tells d old new kept now_kept (Err fault) cause = inl cause
 
 some_is : (a b : Answer) → Some a ≡ Some b → a ≡ b
 some_is a b e = cc
@@ -128,6 +150,7 @@ held_joined {Tells = Tells} d bytes seen net answer is = record {
   by_switch = λ xid m none read. absurd (no_answer answer (sym is ∙ none));
   flooded = λ xid m none read. tt;
   in_flight = λ xid m none read. tt;
+  by_statistics = λ xid q none read. absurd (no_answer answer (sym is ∙ none));
   reached = λ xid m told none read. absurd (no_answer answer (sym is ∙ none));
   in_step = λ xid m told none read keeps waits agrees. absurd (no_answer answer (sym is ∙ none));
   losses = λ told. refl;
@@ -163,6 +186,16 @@ short_joined {Tells = Tells} d bytes seen net = record {
   by_switch = λ xid m none read. inl (record { world = refl; views = refl; log = refl; kept = refl; held = refl });
   flooded = λ xid m none read. tt;
   in_flight = λ xid m none read. inl (record { world = refl; views = refl; log = refl; kept = refl; held = refl });
+  by_statistics = λ xid q none read. record {
+    kept_more = none_kept d net.kept;
+    answer = inl tt;
+    flooded = tt;
+    stays = refl;
+    losses = λ told. refl;
+    still = λ told e. refl;
+    reached = λ told. tt;
+    in_step = λ s told keeps joined waits. tt;
+  };
   reached = λ xid m told none read. tt;
   in_step = λ xid m told none read keeps waits agrees. tt;
   losses = λ told. refl;
@@ -174,7 +207,7 @@ Changes-short {Tells = Tells} d bytes seen net = record {
   links = OnLinks-refl Tells seen;
   no_strays = λ told keeps joined. no_strays_none seen;
   read = λ ok told. messages-none seen;
-  cause = tt;
+  cause = inl tt;
   moment = refl;
   room = refl;
   ids = ids_none Tells 2 seen net.xid net.xid refl;
@@ -226,7 +259,7 @@ host_knows d bytes net views rows seen same known is =
     let here : rows_at d net.views ≡ Some seen = ap (λ (vs : List TableView). rows_at d vs) (sym same) ∙ known ∙ ap (λ (rs : List ViewRow). some_rows rs) (sym is) in
     rw here refl
 
-some_is_some : (o : Option (List ViewRow)) → IsSome o → is_some o ≡ true
+pub some_is_some : (o : Option (List ViewRow)) → IsSome o → is_some o ≡ true
 some_is_some None some = absurd cc
 some_is_some (Some rows) some = refl
 
@@ -235,7 +268,7 @@ some_rows_there None some = absurd (some refl)
 some_rows_there (Some rows) some = refl
 
 -- where the host has no answer, the switch is joined
-host_known : (d : ℕ) (bytes : List ℕ) (net : NetState) → answer_of_host d bytes net ≡ None → IsSome (rows_at d net.views)
+pub host_known : (d : ℕ) (bytes : List ℕ) (net : NetState) → answer_of_host d bytes net ≡ None → IsSome (rows_at d net.views)
 host_known d bytes net none = some_rows_there (rows_at d net.views) (λ is. absurd (no_answer Unknown (sym (host_unknown d bytes net net.views refl is) ∙ none)))
 
 -- ---- What it holds
@@ -409,6 +442,7 @@ module _ {Own : Type 0} (Tells : Type 0) (d : ℕ) (bytes : List ℕ) (old new :
     by_switch = answers_is j.judged;
     flooded = flooded_is j.flooded;
     in_flight = λ other n _ again. in_flight_is Tells d n old new net now_net result (subst (λ (x : Change). Judged Tells d x old new net now_net result) (same_change xid other m n (sym read ∙ again)) j.judged);
+    by_statistics = λ other q _ again. absurd (no_query xid other m q (sym read ∙ again));
     reached = reaches d bytes old new net now_net result (answers_is j.judged);
     in_step = steps d bytes old new net now_net result continues cause (answers_is j.judged) (flooded_is j.flooded);
     losses = judged_losses d m old new net now_net result j.judged;
@@ -426,7 +460,7 @@ module _ {Own : Type 0} (Tells : Type 0) (d : ℕ) (bytes : List ℕ) (old new :
       | inl j ↦ asked_read Tells d m old new net now_net result (stopped_is Tells d m old new net now_net result j.judged) ok told
       | inr l ↦ l.1.read told
     ];
-    cause = makes.cause;
+    cause = wait_cause Tells d old new net.kept now_net.kept result makes.cause;
     moment = elim makes.made [ inl j ↦ ap (λ (n : NetState). n.moment) j.stays | inr l ↦ ap (λ (n : NetState). n.moment) l.1.net_is ];
     room = elim makes.made [ inl j ↦ ap (λ (n : NetState). n.room) j.stays | inr l ↦ ap (λ (n : NetState). n.room) l.1.net_is ];
     ids = elim makes.made [
@@ -434,4 +468,78 @@ module _ {Own : Type 0} (Tells : Type 0) (d : ℕ) (bytes : List ℕ) (old new :
       | inr l ↦ subst (λ (r : Result Answer TxnFault). KeepsIds Tells 2 old new net.xid now_net.xid r) (sym l.0) (speaks_on_ids now_net.xid makes.speaks (omega arith) (λ small. ap (λ (n : NetState). n.xid) l.1.net_is ∙ second_next net.xid small) l.1.is_lost.some)
     ];
     answered = elim makes.made [ inl j ↦ inl (changes_joined (speaks_on makes.speaks) makes.cause j) | inr l ↦ inr (none, l.0, changes_lost l.1) ];
+  }
+
+-- ---- A request of statistics
+
+-- one that the host let pass, every switch takes
+pub query_passed : (rows : Rows) (bytes : List ℕ) (xid : ℕ) (q : StatsBody) → reading_of bytes ≡ Ok (enveloped xid (StatsRequest q)) → host_answer_read rows (reading_of bytes) ≡ None → stats_refusal q ≡ None
+unfolding host_refusal
+query_passed rows bytes xid q read none = passed_by (stats_refusal q) (rw read at none)
+  where
+    passed_by : (o : Option OfError) → refused_or o None ≡ None → o ≡ None
+    passed_by None h = refl
+    passed_by (Some e) h = absurd cc
+
+-- nothing is held of it
+no_packet_asked : (d xid : ℕ) (q : StatsBody) (bytes : List ℕ) (answer : Answer) → reading_of bytes ≡ Ok (enveloped xid (StatsRequest q)) → [] ≡ holds d bytes answer
+unfolding holds
+no_packet_asked d xid q bytes Fine read = rw read refl
+no_packet_asked d xid q bytes (Error error) read = refl
+no_packet_asked d xid q bytes Unknown read = refl
+no_packet_asked d xid q bytes (Statistics kind body) read = refl
+
+none_held_asked : (d xid : ℕ) (q : StatsBody) (bytes : List ℕ) (result : Result Answer TxnFault) (held : HeldBack) → reading_of bytes ≡ Ok (enveloped xid (StatsRequest q)) → held.packets ≡ (held_after d bytes result held).packets
+none_held_asked d xid q bytes (Ok answer) held read = sym (append-nil held.packets) ∙ ap (λ (more : List Held). held.packets ++ more) (no_packet_asked d xid q bytes answer read)
+none_held_asked d xid q bytes (Err fault) held read = refl
+
+stays_unheld : (result : Result Answer TxnFault) (net now_net : NetState) → now_net.held ≡ net.held → IfErr result (λ fault. now_net.held ≡ net.held)
+stays_unheld (Ok answer) net now_net same = tt
+stays_unheld (Err fault) net now_net same = same
+
+query_cause : {Own : Type 0} {Tells : Type 0} (i : Inquiry) (old new : Seen Own) (net now_net : NetState) (result : Result Answer TxnFault) → Queries Tells i old new net now_net result → IfErr result (IsExchangeCause Tells i.dpid old new net.kept now_net.kept)
+query_cause i old new net now_net (Ok answer) q = tt
+query_cause i old new net now_net (Err fault) q = elim q.answer [ inl cause ↦ inl cause | inr reply ↦ inr (i, refl, reply) ]
+
+no_reached : {Own : Type 0} {Tells : Type 0} (d : ℕ) (bytes : List ℕ) (old new : Seen Own) (net : NetState) (result : Result Answer TxnFault) (xid : ℕ) (q : StatsBody) → reading_of bytes ≡ Ok (enveloped xid (StatsRequest q)) → Reaches Tells d bytes old new net result
+no_reached d bytes old new net result xid q read other m told none again = absurd (no_query other xid m q (sym again ∙ read))
+
+no_steps : {Own : Type 0} {Tells : Type 0} (d : ℕ) (bytes : List ℕ) (old new : Seen Own) (net now_net : NetState) (result : Result Answer TxnFault) (xid : ℕ) (q : StatsBody) → reading_of bytes ≡ Ok (enveloped xid (StatsRequest q)) → Steps Tells d bytes old new net now_net result
+no_steps d bytes old new net now_net result xid q read other m told none again keeps waits agrees = absurd (no_query other xid m q (sym again ∙ read))
+
+module _ {Own : Type 0} (Tells : Type 0) (d : ℕ) (bytes : List ℕ) (old new : Seen Own) (net now_net : NetState) (result : Result Answer TxnFault) (xid : ℕ) (q : StatsBody) (none : answer_of_host d bytes net ≡ None) (read : reading_of bytes ≡ Ok (enveloped xid (StatsRequest q))) where
+  query_joined : Queries Tells (record { dpid = d; xid = net.xid; query = q }) old new net now_net result → ChangesJoined Tells d bytes old new net now_net result
+  query_joined j = record {
+    switches = λ e. ap (λ (n : NetState). has_rows e n.views) j.stays;
+    ports = ap (λ (n : NetState). n.ports) j.stays;
+    left = ap (λ (n : NetState). n.left) j.stays;
+    held = ap (λ (n : NetState). n.held.packets) j.stays ∙ none_held_asked d xid q bytes result net.held read;
+    unheld = stays_unheld result net now_net (ap (λ (n : NetState). n.held) j.stays);
+    by_host = λ answer h. absurd (no_answer answer (sym h ∙ none));
+    by_switch = λ other m _ again. absurd (no_query other xid m q (sym again ∙ read));
+    flooded = λ other m _ again. absurd (no_query other xid m q (sym again ∙ read));
+    in_flight = λ other m _ again. absurd (no_query other xid m q (sym again ∙ read));
+    by_statistics = λ other p _ again. subst (λ (x : StatsBody). Queries Tells (record { dpid = d; xid = net.xid; query = x }) old new net now_net result) (same_query xid other q p (sym read ∙ again)) j;
+    reached = no_reached d bytes old new net result xid q read;
+    in_step = no_steps d bytes old new net now_net result xid q read;
+    losses = j.losses;
+  }
+
+  pub Changes-by_statistics : Queried Tells (record { dpid = d; xid = net.xid; query = q }) old new net now_net result → Changes Tells d bytes old new net now_net result
+  Changes-by_statistics queried = record {
+    continues = queried.continues;
+    links = queried.links;
+    no_strays = λ told keeps joined. queried.no_strays told keeps (joined (host_known d bytes net none));
+    read = queried.read;
+    cause = elim queried.queried [
+      | inl j ↦ query_cause (record { dpid = d; xid = net.xid; query = q }) old new net now_net result j
+      | inr l ↦ subst (λ (r : Result Answer TxnFault). IfErr r (IsExchangeCause Tells d old new net.kept now_net.kept)) (sym l.0) tt
+    ];
+    moment = elim queried.queried [ inl j ↦ ap (λ (n : NetState). n.moment) j.stays | inr l ↦ ap (λ (n : NetState). n.moment) l.1.net_is ];
+    room = elim queried.queried [ inl j ↦ ap (λ (n : NetState). n.room) j.stays | inr l ↦ ap (λ (n : NetState). n.room) l.1.net_is ];
+    ids = queried.ids;
+    answered = elim queried.queried [
+      | inl j ↦ inl (query_joined j)
+      | inr l ↦ inr (none, l.0, record { viewed = viewed d net.views ∙ some_is_some (rows_at d net.views) (host_known d bytes net none); is_lost = l.1.is_lost; net_is = l.1.net_is })
+    ];
   }

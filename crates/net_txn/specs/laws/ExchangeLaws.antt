@@ -24,7 +24,7 @@ use Rattle.net_txn.specs.Waits.{Brought, nothing_brought, with_heard, IsRead}
 use Rattle.net_txn.specs.laws.WaitLaws.{is_Reply, reply_is, answer_more, brings_none}
 use Rattle.lego_model.specs.UndoFaults.{key_refused, key_sent}
 use Rattle.net_txn.specs.laws.NoticeLaws.{reply_kind}
-use Rattle.net_txn.specs.Said.{Said, Says, Hears, CannotSay, Calls, unsaid, unheard, IsOfLink, IsOfHearing, HearsMessage, KeptAs, said_by, heard_said, wait_said, IsUntreated, Treats, TreatsNot, PartsBehind, AreHeard, IsBreak, IsBreakBehind, is_parted, unrefused_by, refuses_any, IsParting, HearsAndParts, HearsNext, HearsLast, HearsNoMore, WaitsOn, GivesUp, PartsOrNot, is_of_switch, PartsOrFails, reply_heard, Replied, Unreplied, Breaks, Exchanges}
+use Rattle.net_txn.specs.Said.{Said, Says, Hears, CannotSay, Calls, unsaid, unheard, IsOfLink, IsOfHearing, HearsMessage, KeptAs, said_by, heard_said, wait_said, IsUntreated, Treats, TreatsNot, PartsBehind, AreHeard, IsBreak, IsBreakBehind, is_parted, unrefused_by, refuses_any, IsParting, HearsAndParts, HearsNext, HearsNoMore, WaitsOn, GivesUp, PartsOrNot, is_of_switch, PartsOrFails, reply_heard, Replied, Unreplied, Breaks, Exchanges}
 use Rattle.net_txn.specs.laws.SaidLaws.{all_two, Calls-none, Calls-then, Calls-same}
 
 -- ---- Where messages are kept

@@ -46,7 +46,7 @@ use Rattle.net_txn.specs.laws.WaitLaws.{of_switch}
 abbrev pub IsUnawaited : List ℕ → Type 0
 IsUnawaited bytes = (d xid : ℕ) → heard (asked_from d xid) bytes ≡ Other
 
-none_awaited : (d xid n : ℕ) → is_awaited (asked_from d xid) n ≡ false
+pub none_awaited : (d xid n : ℕ) → is_awaited (asked_from d xid) n ≡ false
 none_awaited d xid n =
     let first = next_xid xid in
     let self : nat_le first first ≡ true = le-leb first first (omega arith) in

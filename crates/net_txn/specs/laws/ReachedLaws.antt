@@ -35,7 +35,7 @@ use Rattle.net_txn.specs.ChangeSteps.{ReachedSince}
 
 -- ---- Which acts send a change
 
-sends_by : (d xid : ℕ) (m : Message) (bytes : List ℕ) → reading_of bytes ≡ Ok (enveloped xid m) → sends_change (Sent d bytes) ≡ is_change m
+pub sends_by : (d xid : ℕ) (m : Message) (bytes : List ℕ) → reading_of bytes ≡ Ok (enveloped xid m) → sends_change (Sent d bytes) ≡ is_change m
 sends_by d xid m bytes read = rw read refl
 
 steps_send_none : (d : ℕ) (h : Heard) (bytes : List ℕ) → IsRead bytes → filter sends_change (journal (steps_by d h bytes)) ≡ []
@@ -52,7 +52,7 @@ heard_sends_none : (a : Awaited) (bytes : List ℕ) → IsRead bytes → filter 
 unfolding journal
 heard_sends_none a bytes is = steps_send_none a.dpid (heard a bytes) bytes is
 
-wait_sends_none : (a : Awaited) (got : List (List ℕ)) → AllByRecursion IsRead got → filter sends_change (journal (wait_steps a got)) ≡ []
+pub wait_sends_none : (a : Awaited) (got : List (List ℕ)) → AllByRecursion IsRead got → filter sends_change (journal (wait_steps a got)) ≡ []
 unfolding journal
 wait_sends_none a [] all = refl
 wait_sends_none a (b ∷ bs) all =
@@ -111,7 +111,7 @@ first_behind a got =
 
 -- ---- Where the acts stand
 
-last_at : (acts : List Act) (act : Act) → slice_get (acts ++ act ∷ []) (length acts) ≡ Some act
+pub last_at : (acts : List Act) (act : Act) → slice_get (acts ++ act ∷ []) (length acts) ≡ Some act
 last_at [] act = refl
 last_at (x ∷ xs) act = last_at xs act
 

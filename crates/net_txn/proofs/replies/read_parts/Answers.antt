@@ -19,4 +19,4 @@ returns-in-Err-Bad c =
     let same = c.deref-2.ensures.value ∙ c.in_ok-parts.ensures ∙ ap all_parts c.deref.ensures.value in
     let bad = subst (IsFirstBad c.in-Err-Bad.place) same ((c.in-Err-Bad.ensures.bad c.in-Err-Bad.place).0 (ap failed c.in-Err-Bad.field-0-is)) in
     let within = within_messages c.in-Err-Bad.place c.args.messages.items c.requires.some bad in
-    rw (c.broke.ensures, c.in-Err-Bad.place-is) (broken_at c.args.dpid c.in-Err-Bad.place c.args.messages.items within (inl bad))
+    rw (c.broke.ensures, c.in-Err-Bad.place-is) (broken_at 1 c.args.dpid c.in-Err-Bad.place c.args.messages.items within (inl bad))

@@ -2,7 +2,7 @@ use Rattle.std.proofs.Common.{◌≡◌, ◌++◌, ℕ, List, length, take, refl
 use Rattle.std.proofs.lemmas.List.{take_at}
 use Rattle.std.proofs.lemmas.Result.{err_from_is_err_and}
 use Rattle.std.specs.Vec.Iter.{into_iter_items}
-use Rattle.net_txn.specs.Asks.{others_in}
+use Rattle.lego_model.specs.FlowQueries.{others_in}
 use Rattle.net_txn.proofs.replies.sort_out.Goals as goal
 
 pub returns-in_err-sort_one-clause-kept_err : goal.returns-in_err-sort_one-clause-kept_err

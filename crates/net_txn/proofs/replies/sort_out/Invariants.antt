@@ -1,6 +1,6 @@
 use Rattle.std.proofs.Common.{◌≡◌, ◌++◌}
 use Rattle.std.specs.Vec.Iter.{into_iter_items}
-use Rattle.net_txn.specs.Asks.{others_in}
+use Rattle.lego_model.specs.FlowQueries.{others_in}
 use Rattle.lego_model.specs.FlowQueries.{parts_in, refusals_in}
 use Rattle.net_txn.proofs.replies.sort_out.Given as goal
 
