@@ -8,6 +8,7 @@ use Rattle.of_types.specs.declared.journal.Act.{Act}
 use Rattle.of_types.specs.declared.journal.Act.TheVariants.{Stim, Started, Gave, Gone, Took, Ended, Sent, Got, Lost}
 use Rattle.of_types.specs.declared.journal.TookWhat.TheVariants as took
 use Rattle.of_wire.specs.declared.bodies.FlowMod.{FlowMod as Change}
+use Rattle.of_wire.specs.declared.bodies.Stats.{Stats as Query}
 use Rattle.of_wire.specs.declared.message.Message.TheVariants as messages
 use Rattle.of_wire.specs.Reading.{reading_of}
 use Rattle.of_wire.specs.Grammar.{enveloped}
@@ -26,11 +27,12 @@ use Rattle.net_txn.specs.Net.{NetState}
 use Rattle.net_txn.specs.LinkSteps.{LinkSteps}
 use Rattle.net_txn.specs.Losing.{GoesOut, SaysNone, IsLost}
 use Rattle.net_txn.specs.ChangeSteps.{ReachedSince}
+use Rattle.net_txn.specs.Queries.{AskedSince}
 use Rattle.net_txn.specs.Answering.{known_rows, answer_of_host, ByHost}
 use Rattle.net_txn.specs.Changes.{ChangesJoined}
 use Rattle.lego_model.specs.Answers.{as_sent, host_answer}
 use Rattle.lego_model.specs.AtOnce.{Before, before, nothing_said, besides, ends_well, Passes, PassesBefore, SendsNone, is_loss_of, AnsweredAtOnce, GivesFrame, Says, Dialogue}
-use Rattle.journal_laws.specs.laws.AtOnceLaws.{answer_is_one, restore_is_no_answer, event_is_no_answer, Dialogue-append, others_say, host_since, switch_since, loss_since}
+use Rattle.journal_laws.specs.laws.AtOnceLaws.{answer_is_one, restore_is_no_answer, event_is_no_answer, Dialogue-append, others_say, host_since, switch_since, statistics_since, loss_since}
 use Rattle.journal_laws.specs.laws.FrameLaws.{restore_is_none}
 use Rattle.app_visor.specs.Talks.{step_of, Told}
 use Rattle.app_visor.specs.Reads.{takes, TakesAll, IsNext}
@@ -157,12 +159,21 @@ switch_answered Tells app since x xid m read r only none = record {
   })));
 }
 
+statistics_answered : {Own : Type 0} (Tells : Type 0) (app : ℕ) (since : List Act) (x : Exchange Own) (xid : ℕ) (q : Query) → reading_of x.bytes ≡ Ok (enveloped xid (messages.StatsRequest q))
+    → AskedSince (record { dpid = x.dpid; xid = x.net.xid; query = q }) x.answer x.before.history x.after.history → LinkSteps x.before x.after → SendsNone since → IsAnswered app since x
+statistics_answered Tells app since x xid q read r only none = record {
+  steps = r.steps;
+  history = r.since;
+  others = link_others app x.before x.after r.steps r.since only;
+  at_once = inr (inr (inr (statistics_since x.dpid x.bytes x.answer since (journal r.steps) none (record { number = xid; query = q; read = read; asks = r.asks; answers = r.answers }))));
+}
+
 joined_answered : {Own : Type 0} (Tells : Type 0) (app : ℕ) (since : List Act) (x : Exchange Own) → ChangesJoined Tells x.dpid x.bytes x.before x.after x.net x.now_net (Ok x.answer) → LinkSteps x.before x.after → Tells → SendsNone since → IsAnswered app since x
 joined_answered Tells app since x is only tells none = elim (decided (known_rows x.dpid x.net.views) x.bytes) [
   | inl h ↦ host_answered app since x h.0 h.1.0 (is.by_host h.0 h.1.0) none
-  | inr h ↦ elim h.1.1.0 [
-    | inl unanswered ↦ switch_answered Tells app since x h.0 h.1.0 h.1.1.1 (is.reached h.0 h.1.0 tells unanswered h.1.1.1) only none
-    | inr y ↦ host_answered app since x y.0 y.1.0 (is.by_host y.0 y.1.0) none
+  | inr h ↦ elim h.1.1 [
+    | inl m ↦ switch_answered Tells app since x h.1.0 m.0 m.1 (is.reached h.1.0 m.0 tells h.0 m.1) only none
+    | inr q ↦ statistics_answered Tells app since x h.1.0 q.0 q.1 ((is.by_statistics h.1.0 q.0 h.0 q.1).reached tells) only none
   ]
 ]
 
@@ -190,7 +201,7 @@ loss_answered app since x unknown out only = record {
   steps = out.steps;
   history = out.history;
   others = link_others app x.before x.after out.steps out.history only;
-  at_once = inr (inr (loss_since x.dpid x.answer since (journal out.steps) (record { answer_is = unknown; lost = loss_told x.dpid (journal out.steps) [] out.lost })));
+  at_once = inr (inr (inl (loss_since x.dpid x.answer since (journal out.steps) (record { answer_is = unknown; lost = loss_told x.dpid (journal out.steps) [] out.lost }))));
 }
 
 -- It was out before, and so no change was sent: it is answered as a switch that is not known.

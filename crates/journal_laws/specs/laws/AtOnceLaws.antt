@@ -11,7 +11,8 @@ use Rattle.of_wire.specs.declared.bodies.FlowMod.{FlowMod as Change}
 use Rattle.of_wire.specs.declared.fault.WireFault.{WireFault}
 use Rattle.of_wire.specs.declared.message.Envelope.{Envelope}
 use Rattle.of_wire.specs.declared.message.Message.{Message}
-use Rattle.of_wire.specs.declared.message.Message.TheVariants.{FlowMod}
+use Rattle.of_wire.specs.declared.bodies.Stats.{Stats as Query}
+use Rattle.of_wire.specs.declared.message.Message.TheVariants.{FlowMod, StatsRequest}
 use Rattle.of_wire.specs.Reading.{reading_of}
 use Rattle.of_wire.specs.Grammar.{enveloped}
 use Rattle.app_frames.specs.declared.frame.Answer.TheVariants.{Fine, Unknown}
@@ -20,7 +21,8 @@ use Rattle.app_frames.specs.declared.frame.Answer.{Answer}
 use Rattle.app_frames.specs.Spelling.{framed, host_bytes}
 use Rattle.lego_model.specs.Journal.{is_of, is_event, sends_change, ReachedAtOnce}
 use Rattle.lego_model.specs.Controller.{restore_frame, answer_frame}
-use Rattle.lego_model.specs.AtOnce.{Before, besides, SendsNone, AnsweredByHost, first_error, AnsweredBySwitch, is_loss_of, AnsweredForLoss, is_answer, Says, Dialogue, AnsweredAtOnce}
+use Rattle.lego_model.specs.FlowQueries.{parts_in, refusals_in, IsAnswerTo}
+use Rattle.lego_model.specs.AtOnce.{Before, besides, SendsNone, AnsweredByHost, first_error, AnsweredBySwitch, all_got, AsksAtOnce, AnsweredByStatistics, is_loss_of, AnsweredForLoss, is_answer, Says, Dialogue, AnsweredAtOnce}
 
 -- ---- Frames
 
@@ -131,6 +133,34 @@ switch_since dpid bytes answer xs ys none by = record {
   answer_is = by.answer_is;
 }
 
+-- ---- Statistics that were asked for, behind acts that send no change
+
+pub asks_since : (dpid : ℕ) (q : Query) (xs ys : List Act) → SendsNone xs → AsksAtOnce dpid q ys → AsksAtOnce dpid q (xs ++ ys)
+asks_since dpid q xs ys none r = record {
+  xid = r.xid;
+  barrier = r.barrier;
+  sent = place_behind xs r.sent;
+  asked = place_behind xs r.asked;
+  told = place_behind xs r.told;
+  query_sent = at_behind xs ys r.sent ∙ r.query_sent;
+  barrier_sent = at_behind xs ys r.asked ∙ r.barrier_sent;
+  reply_got = at_behind xs ys r.told ∙ r.reply_got;
+  in_order = (order_behind xs r.sent r.asked r.in_order.0, order_behind xs r.asked r.told r.in_order.1);
+  none_sent = sends_none_both xs ys none r.none_sent;
+}
+
+pub statistics_since : (dpid : ℕ) (bytes : List ℕ) (answer : Answer) (xs ys : List Act) → SendsNone xs → AnsweredByStatistics dpid bytes answer ys → AnsweredByStatistics dpid bytes answer (xs ++ ys)
+unfolding asks_since
+statistics_since dpid bytes answer xs ys none by =
+    let same : drop (place_behind xs by.asks.sent) (xs ++ ys) ≡ drop by.asks.sent ys = drop_behind xs ys by.asks.sent in
+    record {
+      number = by.number;
+      query = by.query;
+      read = by.read;
+      asks = asks_since dpid by.query xs ys none by.asks;
+      answers = subst (λ (acts : List Act). IsAnswerTo by.query.kind (refusals_in by.asks.xid (all_got dpid acts)) (parts_in by.asks.xid (all_got dpid acts)) answer) (sym same) by.answers;
+    }
+
 -- ---- A switch that is lost
 
 loss_behind : (dpid : ℕ) (xs ys : List Act) → list_any (is_loss_of dpid) ys ≡ true → list_any (is_loss_of dpid) (xs ++ ys) ≡ true
@@ -162,9 +192,13 @@ message_or other (Err fault) = other
 -- a change that was answered so reached its switch
 pub fine_reached : (dpid : ℕ) (bytes : List ℕ) (since : List Act) (xid : ℕ) (m : Change) → reading_of bytes ≡ Ok (enveloped xid (FlowMod m)) → AnsweredAtOnce dpid bytes Fine since → ReachedAtOnce dpid (as_sent (FlowMod m)) since
 fine_reached dpid bytes since xid m read (inl by) = absurd (fine_by_host by.rows bytes xid m read by.answer_is)
-fine_reached dpid bytes since xid m read (inr (inr by)) = absurd (not_unknown by.answer_is)
+fine_reached dpid bytes since xid m read (inr (inr (inl by))) = absurd (not_unknown by.answer_is)
   where
     not_unknown : Fine ≡ Unknown → ⊥
     not_unknown is = absurd cc
+fine_reached dpid bytes since xid m read (inr (inr (inr by))) = absurd (no_query by.query m (ap (message_or (FlowMod m)) (sym by.read ∙ read)))
+  where
+    no_query : (q : Query) (m : Change) → StatsRequest q ≡ FlowMod m → ⊥
+    no_query q m is = cc
 fine_reached dpid bytes since xid m read (inr (inl by)) =
     subst (λ (x : Message). ReachedAtOnce dpid (as_sent x) since) (ap (message_or by.message) (sym by.read ∙ read)) by.reached
