@@ -34,6 +34,7 @@ use Rattle.outside.specs.Seen.{Seen}
 use Rattle.outside.specs.State.{Link, State, link_at_first, at_first, link_of, switch_in, switch_of, switch_joined, link_joined, link_left, link_stimulated, switch_told, link_sent, link_got, link_told, link_lost, link_failed, links_after, after_stim, after_act, after_step, after_steps, state}
 use Rattle.outside.specs.Conforming.{ArePortsFrom, MayDeclare, IsStimulus, IsWorldStim, MayAct, MayStep, MaySteps, Conforming}
 use Rattle.outside.specs.laws.LinkKeptLaws.{Keeps, one-kept, each-kept}
+use Rattle.net_txn.specs.laws.TableBoundLaws.{length-inserted, length-filtered}
 use Rattle.switch_laws.specs.laws.StandLaws.{state-links}
 use Rattle.batch_laws.specs.Lasting.{AscendPorts, Lasts, PortWithin, LastsIn, LinkLasts, AllLast}
 use Rattle.switch_laws.specs.laws.FaceLaws.{goes}
@@ -63,14 +64,6 @@ ascend-filter test least (p ∷ ps) h =
       | inr fails ↦ rw fails (ascend-filter test least ps (ascend-less least (p.number + 1) (omega (arith, h.0)) ps h.3))
     ]
 
-length-filtered : (test : PortState → Bool) (ps : List PortState) → length (filter test ps) ≤ length ps
-length-filtered test [] = omega arith
-length-filtered test (p ∷ ps) =
-    elim (cases_Bool (test p)) [
-      | inl passes ↦ rw passes (omega (arith, length-filtered test ps))
-      | inr fails ↦ rw fails (omega (arith, length-filtered test ps))
-    ]
-
 pub none_is : (o : Option PortState) → is_none o ≡ true → o ≡ None
 none_is None h = refl
 none_is (Some p) h = absurd cc
@@ -94,14 +87,6 @@ ascend-insert p least (q ∷ qs) low high config none h =
 
     less : (m n : ℕ) → m ≤ n → (m ≡ n → ⊥) → m + 1 ≤ n
     less m n le apart = omega (arith, le, apart)
-
-length-inserted : (p : PortState) (ps : List PortState) → length (insert_port p ps) ≡ length ps + 1
-length-inserted p [] = refl
-length-inserted p (q ∷ qs) =
-    elim (cases_Bool (nat_lt p.number q.number)) [
-      | inl below ↦ rw below (omega arith)
-      | inr behind ↦ rw behind (omega (arith, length-inserted p qs))
-    ]
 
 ascend-new : (least : ℕ) (ns : List ℕ) → ArePortsFrom least ns → AscendPorts least (map new_port ns)
 ascend-new least [] h = tt

@@ -52,6 +52,7 @@ use Rattle.net_txn.specs.laws.TableBoundLaws.{second_none}
 use Rattle.lego_model.specs.laws.SwitchFaultLaws.{failed_behind}
 use Rattle.switch_laws.specs.Shown.{Passes, has_row, Known}
 use Rattle.switch_laws.specs.laws.ShownChangeLaws.{asks_the_same}
+use Rattle.switch_laws.specs.Asked.{ReadAsChange}
 use Rattle.switch_laws.specs.laws.AskedLaws.{asked}
 use Rattle.switch_laws.specs.laws.AbsentLaws.{at_key, none_at, absent}
 use Rattle.switch_laws.specs.laws.LossLaws.{losses-append}
@@ -277,18 +278,10 @@ module _ {Own : Type 0} (Tells : Type 0) (d : ℕ) (bytes : List ℕ) (start : �
     out = λ e is. let o = before.out e is in (views e ∙ o.0, out_still e o.1);
   }
 
-  fault-by : Tells → Continues Tells first old → Longer old.history new.history → ChangesJoined Tells d bytes old new net now_net (Err fault) → Goes start lost first old net0 net → (o : Option Answer) → answer_of_host d bytes net ≡ o → TablesSince start first new now_net
-  fault-by told later longer changes goes (Some a) host =
-      let by = changes.by_host a host in
-      subst (λ (n : NetState). TablesSince start first new n) (sym by.stays) (held-no_matter
-      (subst (λ (w : Seen _). TablesSince start first w net) (sym by.world) (tables-since Tells start lost first old net0 net told later goes)))
-    where
-      held-no_matter : TablesSince start first new net → TablesSince start first new (record net { held = net.held })
-      held-no_matter since = record { joined = since.joined; out = since.out }
-  fault-by told later longer changes goes None host =
-      let read = asked (known_rows d net.views) bytes host in
-      let before = tables-since Tells start lost first old net0 net told later goes in
-      let views : (e : ℕ) → is_viewed e now_net.views ≡ is_viewed e net.views = λ e. viewed_rows e now_net.views ∙ changes.switches e ∙ sym (viewed_rows e net.views) in
+  -- a change
+  fault-change : Tells → ChangesJoined Tells d bytes old new net now_net (Err fault) → Goes start lost first old net0 net → answer_of_host d bytes net ≡ None → ReadAsChange bytes → TablesSince start first old net
+      → ((e : ℕ) → is_viewed e now_net.views ≡ is_viewed e net.views) → Longer old.history new.history → TablesSince start first new now_net
+  fault-change told changes goes host read before views longer =
       elim (changes.in_flight read.xid read.change host read.read) [
         | inl unsent ↦
             let stays : (e : ℕ) → switch_of e (state new) ≡ switch_of e (state old) = λ e. ap (λ (w : Seen _). switch_of e (state w)) unsent.world in
@@ -300,6 +293,28 @@ module _ {Own : Type 0} (Tells : Type 0) (d : ℕ) (bytes : List ℕ) (start : �
             let moves = flight_moves d read.change (log_in_flight d read.change net.views net.log) old new net now_net fault told flight in
             carried views longer (flown-out Tells d start lost first old new net0 net now_net read.change moves)
             (flown-joined Tells d start lost first old new net0 net now_net read.change k (goes.ready.agrees d) goes.since.started moves flight.log_is) before
+      ]
+
+  fault-by : Tells → Continues Tells first old → Longer old.history new.history → ChangesJoined Tells d bytes old new net now_net (Err fault) → Goes start lost first old net0 net → (o : Option Answer) → answer_of_host d bytes net ≡ o → TablesSince start first new now_net
+  fault-by told later longer changes goes (Some a) host =
+      let by = changes.by_host a host in
+      subst (λ (n : NetState). TablesSince start first new n) (sym by.stays) (held-no_matter
+      (subst (λ (w : Seen _). TablesSince start first w net) (sym by.world) (tables-since Tells start lost first old net0 net told later goes)))
+    where
+      held-no_matter : TablesSince start first new net → TablesSince start first new (record net { held = net.held })
+      held-no_matter since = record { joined = since.joined; out = since.out }
+  fault-by told later longer changes goes None host =
+      let before = tables-since Tells start lost first old net0 net told later goes in
+      let views : (e : ℕ) → is_viewed e now_net.views ≡ is_viewed e net.views = λ e. viewed_rows e now_net.views ∙ changes.switches e ∙ sym (viewed_rows e net.views) in
+      elim (asked (known_rows d net.views) bytes host) [
+        | inl read ↦ fault-change told changes goes host read before views longer
+        | inr query ↦
+            let asks = changes.by_statistics query.xid query.query host query.read in
+            let still = asks.still told in
+            let log : now_net.log ≡ net.log = ap (λ (n : NetState). n.log) asks.stays in
+            carried views longer (λ e none. still e ∙ none)
+            (λ e s j. subst (λ (log : List Logged). JoinedSince (keys_of e (map key_logged (drop start log))) s (switch_of e (state new))) (sym log)
+            (subst (λ (o : Option SwitchState). JoinedSince (keys_of e (logged_since start net)) s o) (sym (still e)) j)) before
       ]
 
   -- A message that ended in a fault leaves the transaction so.

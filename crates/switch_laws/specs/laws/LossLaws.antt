@@ -25,7 +25,7 @@ use Rattle.lego_model.specs.Places.{Place, switch_at, with_place}
 use Rattle.outside.specs.declared.step.WorldStep.{WorldStep}
 use Rattle.outside.specs.declared.step.WorldStep.TheVariants.{Acted, TookInto, From, Joined, Left, Moment, Idle, End, Opened, NotOpened, NextFailed, SendLost, RecvLost, SendFailed, RecvFailed}
 use Rattle.outside.specs.Seen.{Seen, is_declared, journal}
-use Rattle.outside.specs.State.{state, switch_of, waits_of}
+use Rattle.outside.specs.State.{State, state, switch_of, waits_of, is_joined}
 use Rattle.outside.specs.Conforming.{AreDeclaredFrom}
 use Rattle.outside.specs.laws.SeenLaws.{journal-append}
 use Rattle.net_txn.specs.declared.ports.KnownPorts.{KnownPorts}
@@ -36,7 +36,7 @@ use Rattle.net_txn.specs.Losing.{lost_net, lose_all, GoesOut}
 use Rattle.of_types.specs.Membership.{is_among}
 use Rattle.net_txn.specs.Net.{NetState}
 use Rattle.net_txn.specs.Undos.{without_keys, AreJoined}
-use Rattle.net_txn.specs.Views.{rows_at, with_rows}
+use Rattle.net_txn.specs.Views.{is_viewed, rows_at, with_rows}
 use Rattle.net_txn.specs.laws.AgreeLaws.{viewed as viewed_rows}
 use Rattle.net_txn.specs.laws.LostPartLaws.{not_first, Distinct}
 use Rattle.net_txn.specs.laws.ViewLaws.{with_rows-none}
@@ -379,13 +379,16 @@ leavers-lost declared (d ∷ ds) f ports can apart there =
 
 -- ---- Where all is ready
 
-pub ready-joined : {Own : Type 0} (seen : Seen Own) (net : NetState) → Ready seen net → AreJoined net.views (state seen)
-ready-joined seen net ready d is = by (rows_at d net.views) (switch_of d (state seen)) (ready.agrees d) (sym (viewed_rows d net.views) ∙ is)
+pub agrees-joined : (d : ℕ) (views : List TableView) (s : State) → Agrees d views s → is_viewed d views ≡ true → is_joined d s ≡ true
+agrees-joined d views s agrees is = by (rows_at d views) (switch_of d s) agrees (sym (viewed_rows d views) ∙ is)
   where
     by : (r : Option (List ViewRow)) (o : Option SwitchState) → option_map rows_of_view r ≡ option_map (λ x. rows_of_table x.table.entries) o → is_some r ≡ true → is_some o ≡ true
     by None o same is = absurd (true≢false (sym is))
     by (Some rows) None same is = absurd cc
     by (Some rows) (Some s) same is = refl
+
+pub ready-joined : {Own : Type 0} (seen : Seen Own) (net : NetState) → Ready seen net → AreJoined net.views (state seen)
+ready-joined seen net ready d is = agrees-joined d net.views (state seen) (ready.agrees d) is
 
 pub joined-stays : (o : Option SwitchState) → is_some o ≡ true → Stays o
 joined-stays None is = absurd (true≢false (sym is))

@@ -53,6 +53,7 @@ use Rattle.net_txn.specs.Views.{rows_at, is_viewed}
 use Rattle.net_txn.specs.laws.AgreeLaws.{viewed as viewed_rows}
 use Rattle.net_txn.specs.laws.NoticeLaws.{kind_of_header}
 use Rattle.net_txn.specs.laws.LostLaws.{released_two}
+use Rattle.lego_model.specs.SwitchFaults.{query_steps}
 use Rattle.switch_laws.specs.laws.AskedLaws.{asked}
 use Rattle.switch_laws.specs.Orderly.{OrderlySince}
 use Rattle.lego_model.specs.OrderlySteps.{IsOrderly}
@@ -265,14 +266,22 @@ asked-none d xid m got = (sent_is d xid m, (barrier-none d (awaited_from d xid).
     sent_is : (d xid : ℕ) (m : Change) → released_by (change_sent d xid m) ≡ None
     sent_is d xid m = change-none d xid _
 
+-- where it gave statistics
+query-none : (d xid : ℕ) (q : Statistics) (got : List (List ℕ)) → ReleasesNone (query_steps d xid q got)
+query-none d xid q got = (request-none d xid q, (barrier-none d _, ended-none (asked_from d xid) got))
+
 module _ {Own : Type 0} (Tells : Type 0) (d : ℕ) (bytes : List ℕ) (old new : Seen Own) (net now_net : NetState) (given : Answer) where
   -- where its switch was not lost
   joined-by-none : Tells → ChangesJoined Tells d bytes old new net now_net (Ok given) → (o : Option Answer) → answer_of_host d bytes net ≡ o → released_of new ≡ released_of old
   joined-by-none told changes (Some a) host = ap (λ (s : Seen _). released_of s) (changes.by_host a host).world
-  joined-by-none told changes None host =
-      let read = asked (known_rows d net.views) bytes host in
-      let asks = changes.by_switch read.xid read.change host read.read in
-      released-still old new (asked_steps d net.xid read.change asks.waits.got) (asks.waits.hears.told told) (asked-none d net.xid read.change asks.waits.got)
+  joined-by-none told changes None host = elim (asked (known_rows d net.views) bytes host) [
+    | inl read ↦
+        let asks = changes.by_switch read.xid read.change host read.read in
+        released-still old new (asked_steps d net.xid read.change asks.waits.got) (asks.waits.hears.told told) (asked-none d net.xid read.change asks.waits.got)
+    | inr query ↦
+        let waits = (changes.by_statistics query.xid query.query host query.read).answer.answered.waits in
+        released-still old new (query_steps d net.xid query.query waits.got) (waits.hears.told told) (query-none d net.xid query.query waits.got)
+  ]
 
   pub exchange-releases-none : Tells → AreJoined net.views (state old) → Changes Tells d bytes old new net now_net (Ok given) → released_of new ≡ released_of old
   exchange-releases-none told joined changes = elim changes.answered [

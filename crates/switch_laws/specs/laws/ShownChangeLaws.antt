@@ -39,7 +39,7 @@ asks_the_same m = record { command = refl; matching = refl; priority = refl; out
 
 -- ---- What the host let pass
 
-no_refusal : (o : Option OfError) → refused_or o None ≡ None → o ≡ None
+pub no_refusal : (o : Option OfError) → refused_or o None ≡ None → o ≡ None
 no_refusal None h = refl
 no_refusal (Some e) h = absurd cc
 

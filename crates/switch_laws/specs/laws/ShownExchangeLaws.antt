@@ -47,11 +47,21 @@ use Rattle.switch_laws.specs.laws.CorrectionLaws.{goes_along}
 use Rattle.switch_laws.specs.Lost.{shown_play, ExchangeShown}
 use Rattle.switch_laws.specs.Since.{Ready}
 use Rattle.switch_laws.specs.laws.ClockLaws.{switch-in_time}
-use Rattle.switch_laws.specs.laws.LossLaws.{leaves-none, ready-joined, joined-stays, lost-leaves, lost-places}
+use Rattle.switch_laws.specs.laws.LossLaws.{leaves-none, agrees-joined, ready-joined, joined-stays, lost-leaves, lost-places}
 use Rattle.switch_laws.specs.laws.StandLaws.{all-stand}
 use Rattle.switch_laws.specs.laws.PlaceLaws.{switch_at-declared, switch_at-undeclared, with_place-places}
 use Rattle.switch_laws.specs.laws.ShownChangeLaws.{passes, refusal-shown, taken-shown, refused-shown}
-use Rattle.switch_laws.specs.laws.AskedLaws.{asked}
+use Rattle.of_wire.specs.declared.bodies.Stats.{Stats as Query}
+use Rattle.of_wire.specs.declared.message.Message.TheVariants.{StatsRequest}
+use Rattle.flow_table.specs.Change.{unless_refused}
+use Rattle.flow_table.specs.Refusals.{stats_refusal}
+use Rattle.flow_table.specs.Step.{after_taken}
+use Rattle.app_frames.specs.declared.frame.Answer.TheVariants.{Statistics}
+use Rattle.undo_laws.specs.laws.ShownStatisticsLaws.{reply-owned}
+use Rattle.std.specs.List.{concat}
+use Rattle.lego_model.specs.AfterFault.{SwitchesStay}
+use Rattle.switch_laws.specs.Asked.{ReadAsChange}
+use Rattle.switch_laws.specs.laws.AskedLaws.{asked, passed-viewed}
 use Rattle.net_txn.specs.laws.InStepLaws.{rows_by}
 use Rattle.net_txn.specs.laws.WaitMoveLaws.{some_switch}
 
@@ -187,6 +197,35 @@ module _ {Own : Type 0} (Tells : Type 0) (d : ℕ) (old new : Seen Own) (net now
       (ap₂ (λ (a : Answer) (ps : List Place). (a, ps)) (answer-shown (correction_in k.rows) (goes_along k.rows).corrects m k.switch (rows_of_table k.switch.table.entries) k.passes ∙ sym answered)
       (places-then declared are stand k step asks.refusal asks.views refused))
 
+-- ---- Statistics that the switch gave
+
+statistics-answer : (rows : List ViewRow) (q : Query) (s : SwitchState) → stats_refusal q ≡ None → switch_answer (corrected_switch (correction_in rows) s) (StatsRequest q) ≡ switch_answer s (StatsRequest q)
+unfolding switch_answer message_refusal
+statistics-answer rows q s passed = rw passed (ap (λ (found : List (List ℕ)). Statistics q.kind (concat found)) (reply-owned rows q s))
+
+statistics-stay : (q : Query) (s : SwitchState) → after_message (StatsRequest q) s ≡ s
+unfolding after_message after_taken
+statistics-stay q s = unless_same (message_refusal s (StatsRequest q)) s
+  where
+    unless_same : (o : Option OfError) (s : SwitchState) → unless_refused o s s ≡ s
+    unless_same None s = refl
+    unless_same (Some e) s = refl
+
+statistics-shown : {Own : Type 0} (d : ℕ) (old new : Seen Own) (net now_net : NetState) (given : Answer) (declared : List Declared) → AreDeclaredFrom 1 declared → Stand declared (state old) → (bytes : List ℕ) (xid : ℕ) (q : Query)
+    → reading_of bytes ≡ Ok (enveloped xid (StatsRequest q)) → stats_refusal q ≡ None → (s : SwitchState) → switch_of d (state old) ≡ Some s → given ≡ switch_answer s (StatsRequest q) → now_net.views ≡ net.views → SwitchesStay old new
+    → by_switch d (reading_of bytes) (switch_at d (places (shown_switch (shown_by net) (state old)) declared)) (places (shown_switch (shown_by net) (state old)) declared) ≡ (given, places (shown_switch (shown_by now_net) (state new)) declared)
+statistics-shown d old new net now_net given declared are stand bytes xid q read passed s here answer_is views still =
+    let mine = corrected_switch (shown_by net d) s in
+    let at : switch_at d (places (shown_switch (shown_by net) (state old)) declared) ≡ Some mine = switch_at-shown declared net.views (state old) d stand ∙ ap (option_map (corrected_switch (shown_by net d))) here in
+    let is : is_declared d declared ≡ true = declared_of d declared (state old) stand s here in
+    let same : (e : ℕ) → shown_switch (shown_by now_net) (state new) e ≡ shown_switch (shown_by net) (state old) e =
+    λ e. ap₂ (λ (vs : List TableView) (o : Option SwitchState). option_map (corrected_switch (corrections vs e)) o) views (still e) in
+    let there : shown_switch (shown_by now_net) (state new) d ≡ Some (after_message (StatsRequest q) mine) =
+    same d ∙ ap (option_map (corrected_switch (shown_by net d))) here ∙ ap some_switch (sym (statistics-stay q mine)) in
+    rw (read, at)
+    (ap₂ (λ (a : Answer) (ps : List Place). (a, ps)) (statistics-answer (rows_or_none (rows_at d net.views)) q s passed ∙ sym answer_is)
+    (with_place-places (shown_switch (shown_by net) (state old)) (shown_switch (shown_by now_net) (state new)) d (λ o. Some (after_message (StatsRequest q) mine)) 1 declared are is there (λ e other. same e)))
+
 module _ {Own : Type 0} (Tells : Type 0) (d : ℕ) (bytes : List ℕ) (old new : Seen Own) (net now_net : NetState) (given : Answer) where
   answered-by : Tells → Conforming new → new.given ≡ old.given → ChangesJoined Tells d bytes old new net now_net (Ok given) → waits_of d (state old) ≡ [] → Agrees d net.views (state old) → Stand old.given.declared (state old)
       → (o : Option Answer) → answer_of_host d bytes net ≡ o
@@ -196,12 +235,19 @@ module _ {Own : Type 0} (Tells : Type 0) (d : ℕ) (bytes : List ℕ) (old new :
       let same : given ≡ a = by.answers in
       ap₂ (λ (x : Answer) (ps : List Place). (x, ps)) (sym same)
       (ap₂ (λ (n : NetState) (w : Seen _). places (shown_switch (shown_by n) (state w)) old.given.declared) (sym by.stays) (sym by.world))
-  answered-by told keeps same_given changes waits agrees stand None host =
-      let read = asked (known_rows d net.views) bytes host in
-      let k = known d bytes read.change read.xid net (state old) agrees host read.read in
-      let asks = changes.by_switch read.xid read.change host read.read in
-      let step = changes.in_step read.xid read.change told host read.read keeps waits agrees in
-      by_switch-shown Tells d old new net now_net read.change given old.given.declared (declared_before old new same_given keeps) stand bytes read.xid read.read k asks step
+  answered-by told keeps same_given changes waits agrees stand None host = elim (asked (known_rows d net.views) bytes host) [
+    | inl read ↦
+        let k = known d bytes read.change read.xid net (state old) agrees host read.read in
+        let asks = changes.by_switch read.xid read.change host read.read in
+        let step = changes.in_step read.xid read.change told host read.read keeps waits agrees in
+        by_switch-shown Tells d old new net now_net read.change given old.given.declared (declared_before old new same_given keeps) stand bytes read.xid read.read k asks step
+    | inr query ↦
+        let asks = changes.by_statistics query.xid query.query host query.read in
+        let s = joined-stays (switch_of d (state old)) (agrees-joined d net.views (state old) agrees (passed-viewed d bytes net host)) in
+        let step = asks.in_step s.switch told keeps s.stands waits in
+        statistics-shown d old new net now_net given old.given.declared (declared_before old new same_given keeps) stand bytes query.xid query.query query.read query.passed s.switch s.stands step.answer_is
+        (ap (λ (n : NetState). n.views) asks.stays) (asks.still told)
+  ]
 
   -- the host knows what the reference controller's switches show
   rows-shown : Agrees d net.views (state old) → rows_in (switch_at d (places (shown_switch (shown_by net) (state old)) old.given.declared)) ≡ known_rows d net.views
@@ -218,14 +264,9 @@ module _ {Own : Type 0} (Tells : Type 0) (d : ℕ) (bytes : List ℕ) (old new :
       let host : host_answer (rows_in (switch_at d ps)) bytes ≡ answer_of_host d bytes net = ap (λ (k : Option Rows). host_answer k bytes) (rows-shown (ready.agrees d)) in
       ap (λ (o : Option Answer). by_host o d bytes ps) host ∙ answered-by told keeps same_given changes (ready.waits d) (ready.agrees d) (all-stand old) (answer_of_host d bytes net) refl
 
-  -- What is held then is what the reference controller holds.
-  held-by : Tells → Conforming new → ChangesJoined Tells d bytes old new net now_net (Ok given) → waits_of d (state old) ≡ [] → Agrees d net.views (state old) → Stand old.given.declared (state old)
-      → (o : Option Answer) → answer_of_host d bytes net ≡ o → with_held net.held (holds d bytes given) (notices_past o d (reading_of bytes) (switch_at d (places (shown_switch (shown_by net) (state old)) old.given.declared))) ≡ now_net.held
-  held-by told keeps changes waits agrees stand (Some a) host =
-      let by = changes.by_host a host in
-      ap (λ (notices : List Event). record { packets = net.held.packets ++ holds d bytes given; notices = notices }) (append-nil net.held.notices) ∙ sym (ap (λ (n : NetState). n.held) by.stays)
-  held-by told keeps changes waits agrees stand None host =
-      let read = asked (known_rows d net.views) bytes host in
+  held-change : Tells → Conforming new → ChangesJoined Tells d bytes old new net now_net (Ok given) → waits_of d (state old) ≡ [] → Agrees d net.views (state old) → Stand old.given.declared (state old)
+      → answer_of_host d bytes net ≡ None → ReadAsChange bytes → with_held net.held (holds d bytes given) (notices_past None d (reading_of bytes) (switch_at d (places (shown_switch (shown_by net) (state old)) old.given.declared))) ≡ now_net.held
+  held-change told keeps changes waits agrees stand host read =
       let k = known d bytes read.change read.xid net (state old) agrees host read.read in
       let step = changes.in_step read.xid read.change told host read.read keeps waits agrees in
       let at : switch_at d (places (shown_switch (shown_by net) (state old)) old.given.declared) ≡ Some (corrected_switch (correction_in k.rows) k.switch) =
@@ -234,6 +275,24 @@ module _ {Own : Type 0} (Tells : Type 0) (d : ℕ) (bytes : List ℕ) (old new :
       rw (read.read, at)
       (ap₂ (λ (packets : List Held) (notices : List Event). record { packets = packets; notices = notices }) (sym changes.held)
       (ap (λ (more : List Event). net.held.notices ++ more) (quiet-change d (correction_in k.rows) (goes_along k.rows).corrects read.change k.switch k.passes) ∙ append-nil net.held.notices ∙ sym (ap (λ (h : HeldBack). h.notices) step.held)))
+
+  -- What is held then is what the reference controller holds.
+  held-by : Tells → Conforming new → ChangesJoined Tells d bytes old new net now_net (Ok given) → waits_of d (state old) ≡ [] → Agrees d net.views (state old) → Stand old.given.declared (state old)
+      → (o : Option Answer) → answer_of_host d bytes net ≡ o → with_held net.held (holds d bytes given) (notices_past o d (reading_of bytes) (switch_at d (places (shown_switch (shown_by net) (state old)) old.given.declared))) ≡ now_net.held
+  held-by told keeps changes waits agrees stand (Some a) host =
+      let by = changes.by_host a host in
+      ap (λ (notices : List Event). record { packets = net.held.packets ++ holds d bytes given; notices = notices }) (append-nil net.held.notices) ∙ sym (ap (λ (n : NetState). n.held) by.stays)
+  held-by told keeps changes waits agrees stand None host = elim (asked (known_rows d net.views) bytes host) [
+    | inl read ↦ held-change told keeps changes waits agrees stand host read
+    | inr query ↦
+        let asks = changes.by_statistics query.xid query.query host query.read in
+        let s = joined-stays (switch_of d (state old)) (agrees-joined d net.views (state old) agrees (passed-viewed d bytes net host)) in
+        let at : switch_at d (places (shown_switch (shown_by net) (state old)) old.given.declared) ≡ Some (corrected_switch (shown_by net d) s.switch) =
+        switch_at-shown old.given.declared net.views (state old) d stand ∙ ap (option_map (corrected_switch (shown_by net d))) s.stands in
+        rw (query.read, at)
+        (ap₂ (λ (packets : List Held) (notices : List Event). record { packets = packets; notices = notices }) (sym changes.held)
+        (append-nil net.held.notices ∙ sym (ap (λ (n : NetState). n.held.notices) asks.stays)))
+  ]
 
   held-shown : Tells → Conforming new → ChangesJoined Tells d bytes old new net now_net (Ok given) → Ready old net
       → with_held net.held (holds d bytes given) (notices_at (switch_at d (shown_places old.given.declared (shown_by net) (state old))) d bytes) ≡ now_net.held

@@ -49,7 +49,8 @@ use Rattle.net_txn.specs.laws.TableBoundLaws.{second_none}
 use Rattle.net_txn.specs.laws.LostLaws.{losses_then}
 use Rattle.switch_laws.specs.Shown.{Passes, has_row, Known}
 use Rattle.switch_laws.specs.laws.ShownChangeLaws.{asks_the_same}
-use Rattle.switch_laws.specs.laws.AskedLaws.{asked}
+use Rattle.switch_laws.specs.laws.AskedLaws.{asked, passed-viewed}
+use Rattle.lego_model.specs.AfterFault.{SwitchesStay}
 use Rattle.switch_laws.specs.laws.ViewLaws.{without-added}
 use Rattle.switch_laws.specs.laws.LossLaws.{without_keys-lost, lose_all-append, ready-joined, joined-stays, lost-ready}
 use Rattle.switch_laws.specs.laws.AbsentLaws.{absent-entry, absent-row}
@@ -304,6 +305,32 @@ goes-held start lost first now net0 net held goes =
       ready = record { waits = goes.ready.waits; agrees = goes.ready.agrees; known = goes.ready.known };
     }
 
+-- ---- A request of statistics, which moves nothing
+
+goes-still : {Own : Type 0} (start : ℕ) (lost : List ℕ) (first old new : Seen Own) (net0 net now_net : NetState) → new.given ≡ old.given → lost_of new ≡ lost_of old → SwitchesStay old new → ((e : ℕ) → waits_of e (state new) ≡ waits_of e (state old))
+    → now_net ≡ record net { xid = now_net.xid; kept = now_net.kept } → now_net.kept ≡ net.kept → Goes start lost first old net0 net → Goes start lost first new net0 now_net
+goes-still start lost first old new net0 net now_net given_is losses still waits net_is kept goes =
+    let s = goes.since in
+    let same : now_net ≡ record net { xid = now_net.xid } = net_is ∙ ap (λ (ms : List (ℕ × List ℕ)). record net { xid = now_net.xid; kept = ms }) kept in
+    subst (λ (n : NetState). Goes start lost first new net0 n) (sym same) (record {
+      since = record {
+        started = s.started;
+        given = given_is ∙ s.given;
+        moment = s.moment;
+        kept = s.kept;
+        views = s.views;
+        losses = losses ∙ s.losses;
+        joined = λ e x stays is. let j = s.joined e x stays is in record { switch = j.switch; stands = still e ∙ j.stands; since = j.since };
+        lost_out = λ e among. still e ∙ s.lost_out e among;
+        out = λ e none. still e ∙ s.out e none;
+      };
+      ready = record {
+        waits = λ e. waits e ∙ goes.ready.waits e;
+        agrees = λ e. goes.ready.agrees e ∙ ap (option_map (λ x. rows_of_table x.table.entries)) (sym (still e));
+        known = λ e. goes.ready.known e ∙ ap (ports_known e) (sym (still e));
+      };
+    })
+
 -- ---- One message whose switch was not lost
 
 module _ {Own : Type 0} (Tells : Type 0) (d : ℕ) (bytes : List ℕ) (start : ℕ) (lost : List ℕ) (first old new : Seen Own) (net0 net now_net : NetState) (given : Answer) where
@@ -312,15 +339,26 @@ module _ {Own : Type 0} (Tells : Type 0) (d : ℕ) (bytes : List ℕ) (start : �
   goes-by told keeps given_is moment_is changes goes (Some a) host =
       let by = changes.by_host a host in
       subst (λ (n : NetState). Goes start lost first new net0 n) (sym by.stays) (goes-held start lost first new net0 net _ (subst (λ (w : Seen _). Goes start lost first w net0 net) (sym by.world) goes))
-  goes-by told keeps given_is moment_is changes goes None host =
-      let read = asked (known_rows d net.views) bytes host in
-      let k = known d bytes read.change read.xid net (state old) (goes.ready.agrees d) host read.read in
-      let asks = changes.by_switch read.xid read.change host read.read in
-      let step = changes.in_step read.xid read.change told host read.read keeps (goes.ready.waits d) (goes.ready.agrees d) in
-      record {
-        since = since-asked Tells d start lost first old new net0 net now_net read.change given k goes.since (goes.ready.agrees d) given_is moment_is (changes.losses told) asks step;
-        ready = ready-asked d read.change old new net now_net given goes.ready changes.ports step;
-      }
+  goes-by told keeps given_is moment_is changes goes None host = elim (asked (known_rows d net.views) bytes host) [
+    | inl read ↦
+        let k = known d bytes read.change read.xid net (state old) (goes.ready.agrees d) host read.read in
+        let asks = changes.by_switch read.xid read.change host read.read in
+        let step = changes.in_step read.xid read.change told host read.read keeps (goes.ready.waits d) (goes.ready.agrees d) in
+        record {
+          since = since-asked Tells d start lost first old new net0 net now_net read.change given k goes.since (goes.ready.agrees d) given_is moment_is (changes.losses told) asks step;
+          ready = ready-asked d read.change old new net now_net given goes.ready changes.ports step;
+        }
+    | inr query ↦
+        let asks = changes.by_statistics query.xid query.query host query.read in
+        let s = joined-stays (switch_of d (state old)) (ready-joined old net goes.ready d (passed-viewed d bytes net host)) in
+        let step = asks.in_step s.switch told keeps s.stands (goes.ready.waits d) in
+        goes-still start lost first old new net0 net now_net given_is (changes.losses told) (asks.still told)
+        (λ e. elim (cases_eq e d) [
+          | inl same ↦ ap (λ (n : ℕ). waits_of n (state new)) same ∙ step.waits ∙ sym (goes.ready.waits d) ∙ ap (λ (n : ℕ). waits_of n (state old)) (sym same)
+          | inr other ↦ step.others_wait e other
+        ])
+        asks.stays step.kept_is goes
+  ]
 
 -- ---- One message whose switch was lost
 

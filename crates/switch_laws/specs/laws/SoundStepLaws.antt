@@ -19,6 +19,7 @@ use Rattle.net_txn.specs.Net.{NetState}
 use Rattle.net_txn.specs.Answering.{known_rows}
 use Rattle.net_txn.specs.Changes.{answer_of_host, ChangesJoined, Changes}
 use Rattle.net_txn.specs.ChangeSteps.{InStep}
+use Rattle.lego_model.specs.AfterFault.{SwitchesStay}
 use Rattle.net_txn.specs.Losing.{GoesOut}
 use Rattle.of_types.specs.Membership.{is_among}
 use Rattle.net_txn.specs.Undos.{parts_of, is_stuck, Undoes}
@@ -50,13 +51,19 @@ lost-sound d packets old new out all = record {
   ];
 }
 
+-- no switch moved
+pub standing-sound : {Own : Type 0} (old new : Seen Own) → SwitchesStay old new → Sound (state old) → Sound (state new)
+standing-sound old new still all = record { entries = λ e x here. all.entries e x (sym (still e) ∙ here) }
+
 module _ {Own : Type 0} (Tells : Type 0) (d : ℕ) (bytes : List ℕ) (old new : Seen Own) (net now_net : NetState) (given : Answer) where
   joined-sound : Tells → Conforming new → ChangesJoined Tells d bytes old new net now_net (Ok given) → Ready old net → Sound (state old) → (o : Option Answer) → answer_of_host d bytes net ≡ o → Sound (state new)
   joined-sound told keeps changes ready all (Some a) host = subst (λ (w : Seen _). Sound (state w)) (sym (changes.by_host a host).world) all
-  joined-sound told keeps changes ready all None host =
-      let read = asked (known_rows d net.views) bytes host in
-      let asks = changes.by_switch read.xid read.change host read.read in
-      step-sound d read.change old new net now_net given asks.message (changes.in_step read.xid read.change told host read.read keeps (ready.waits d) (ready.agrees d)) all
+  joined-sound told keeps changes ready all None host = elim (asked (known_rows d net.views) bytes host) [
+    | inl read ↦
+        let asks = changes.by_switch read.xid read.change host read.read in
+        step-sound d read.change old new net now_net given asks.message (changes.in_step read.xid read.change told host read.read keeps (ready.waits d) (ready.agrees d)) all
+    | inr query ↦ standing-sound old new ((changes.by_statistics query.xid query.query host query.read).still told) all
+  ]
 
   pub exchange-sound : Tells → Conforming new → Changes Tells d bytes old new net now_net (Ok given) → Ready old net → Sound (state old) → Sound (state new)
   exchange-sound told keeps changes ready all = elim changes.answered [
