@@ -73,11 +73,10 @@ pub record PlainCalm {Own : Type 0} (Tells : Type 0) (old new : Seen Own) (net :
 
 -- ---- A turn, and a question for rows
 
--- where all is ready
+-- where all is ready, and the tables are sound
 pub record PlainTurn {Own : Type 0} (Tells : Type 0) (old new : Seen Own) (net : NetState) (fault : Fault) : Type 0 where
-  pub plain : Tells → Conforming new → Ready old net → EndsPlain old new (served_by fault)
+  pub plain : Tells → Conforming new → Ready old net → Sound (state old) → EndsPlain old new (served_by fault)
 
--- and the tables are sound
 pub record PlainTable {Own : Type 0} (Tells : Type 0) (old new : Seen Own) (net : NetState) (fault : Fault) : Type 0 where
   pub plain : Tells → Conforming new → Ready old net → Sound (state old) → IsPlainEnd fault
 

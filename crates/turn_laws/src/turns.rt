@@ -20,6 +20,7 @@ ghost use Rattle.app_visor.specs.Turns.{reply_by, Turns};
 ghost use Rattle.switch_laws.specs.Shown.{shown_by, shown_places};
 ghost use Rattle.switch_laws.specs.Released.{StopsFor};
 ghost use Rattle.switch_laws.specs.Since.{Ready, Goes};
+ghost use Rattle.switch_laws.specs.Sound.{Sound};
 ghost use Rattle.lego_model.specs.AfterFault.{NoEventSince, UndoneButFailed, TurnDone, TurnKept, TurnReleasing, TablesLeft};
 ghost use Rattle.lego_model.specs.laws.CutTurnLaws.{CutAtMessage};
 ghost use Rattle.turn_laws.specs.Chain.{PlayedAlike};
@@ -37,11 +38,12 @@ pub fn turns_are_shown<W: World>()
         → PlayedAlike allows budget rest (reply_by t.given t.trace) old new net now_net t.answers t.outcome }
 {}
 
-/// A turn that stops in a world that keeps its word, where all was ready, stops for want of memory; and so does the release of the
+/// A turn that stops in a world that keeps its word, where all was ready, stops for want of memory, where the entries were sound at the
+/// message at which it stops; and so does the release of the
 /// packets of one that ended, unless one of these made its switch send too many messages.
 pub fn stops_are_plain<W: World>()
     ensures turn { (app : ℕ) (old new : Seen W.Own) (net now_net : NetState) (fault : TxnFault) → W.Tells → Conforming new → Ready old net
-        → Stops W.Tells app old new net now_net fault → IsPlain fault }
+        → (stops : Stops W.Tells app old new net now_net fault) → Sound (state stops.then_seen) → IsPlain fault }
     ensures release { (accepts : List TableView → Bool) (app budget : ℕ) (rest frame : List ℕ) (old mid new : Seen W.Own) (net mid_net now_net : NetState) (end : TurnEnd) (unread : List ℕ)
         (queue now_queue : List Event) (fault : TxnFault) → W.Tells → Conforming new → Ready old net → Turns W.Tells accepts app budget rest frame old mid net mid_net end unread
         → Commits W.Tells (length net.log) mid new mid_net now_net queue now_queue (Err fault) → StopsFor old new fault }

@@ -6,7 +6,6 @@ use Rattle.std.proofs.lemmas.List.{append-nil}
 use Rattle.std.proofs.lemmas.Bool.{eqb-true}
 use Rattle.of_types.specs.Fields.{number_at}
 use Rattle.of_types.specs.declared.journal.Act.TheVariants.{Sent, Got}
-use Rattle.of_match.specs.declared.key.Key.{Key}
 use Rattle.of_wire.specs.declared.bodies.PacketOut.{PacketOut as Packet}
 use Rattle.of_wire.specs.Reading.{reading_of}
 use Rattle.of_wire.specs.Spelling.{message_bytes}
@@ -37,15 +36,18 @@ use Rattle.net_txn.specs.Joining.{greeting, greeted_from}
 use Rattle.net_txn.specs.Waits.{Floods, IfFlooded}
 use Rattle.net_txn.specs.Answering.{known_rows}
 use Rattle.net_txn.specs.Changes.{answer_of_host, change_sent, ChangesJoined, Changes}
-use Rattle.net_txn.specs.Asks.{IsRefusal, IsRepliesFault, IsAskCause, Asks}
-use Rattle.lego_model.specs.FlowQueries.{is_about, flows_request, request_sent, asked_from, parts_in, refusals_in}
+use Rattle.net_txn.specs.Asks.{Inquiry, inquiry_sent, rows_inquiry, IsRefusal, IsRepliesFault, IsAskCause, Asks}
+use Rattle.net_txn.specs.laws.QueryReachedLaws.{about_in}
+use Rattle.net_txn.specs.Queries.{IsFaultOf, IsReplyCause}
+use Rattle.of_wire.specs.declared.bodies.Stats.{Stats as Query}
+use Rattle.lego_model.specs.FlowQueries.{query_bytes, query_sent, flows_query, IsBroken, is_about, flows_request, request_sent, asked_from, parts_in, refusals_in}
 use Rattle.net_txn.specs.laws.LostPartLaws.{faulty}
 use Rattle.net_txn.specs.Undos.{Part, part_steps, steps_of, parts_of, fault_in, first_fault_of, first_fault, IsRun, ended_by as undo_ended, Undoes}
 use Rattle.app_visor.specs.Beats.{Halts, Stops}
 use Rattle.app_visor.specs.laws.BeatLaws.{Leads-continues}
 use Rattle.switch_laws.specs.laws.AskedLaws.{asked}
 use Rattle.event_dispatch.specs.Why.{IsWhy, fault_of, ended_by, IsReason, WhyMessage}
-use Rattle.lego_model.specs.SwitchFaults.{Happened, CameFrom, SentThenGot, rows_steps, came_for, IsBadPart, IsUnanswered, IsErrorFor, IsFlood, IsWhyTxn}
+use Rattle.lego_model.specs.SwitchFaults.{query_steps, Happened, CameFrom, SentThenGot, rows_steps, came_for, IsBadPart, IsUnanswered, IsErrorFor, IsFlood, IsWhyTxn}
 use Rattle.event_dispatch.specs.laws.WhyLaws.{IsWhy-behind}
 use Rattle.lego_model.specs.laws.SwitchFaultLaws.{happened_before}
 use Rattle.net_txn.specs.laws.StepLaws.{some_is}
@@ -131,10 +133,6 @@ unfolding is_about
 about_xid xid kind bytes h =
     eqb-true (number_at 4 4 bytes) xid (both_first (number_at 4 4 bytes == xid) (number_at 1 1 bytes == kind) (second_of (nat_le 12 (length bytes)) (number_at 4 4 bytes == xid && number_at 1 1 bytes == kind) h))
 
--- those of one kind
-abbrev about_in : ℕ → ℕ → ℕ × List ℕ → List (List ℕ)
-about_in xid kind m = if is_about xid kind m.1 then m.1 ∷ [] else []
-
 -- a message that answers, and the steps around it
 record IsGot (d xid kind : ℕ) (bytes : List ℕ) (steps : List WorldStep) : Type 0 where
   about : is_about xid kind bytes ≡ true
@@ -187,12 +185,12 @@ got_in a xid kind (b ∷ bs) bytes at =
     ]
 
 -- what was asked, by what was got
-module _ {Own Tells : Type 0} (d xid : ℕ) (got : List (List ℕ)) (old new : Seen Own) (told : Tells → Happened (rows_steps d xid got) old.history new.history) where
+module _ {Own Tells : Type 0} (d xid : ℕ) (q : Query) (got : List (List ℕ)) (old new : Seen Own) (told : Tells → Happened (query_steps d xid q got) old.history new.history) where
   came_among : (kind : ℕ) (bytes : List ℕ) → IsGot d xid kind bytes (wait_steps (asked_from d xid) got) → Tells → CameFrom d bytes old.history new.history
   came_among kind bytes is tells =
       let h = told tells in
       let reply = reply_got (asked_from d xid) ∷ [] in
-      let front = request_sent d xid ∷ barrier_sent (asked_from d xid) ∷ [] in
+      let front = query_sent d xid q ∷ barrier_sent (asked_from d xid) ∷ [] in
       inr (record {
         before = h.before ++ (front ++ is.before);
         behind = (is.behind ++ reply) ++ h.behind;
@@ -202,11 +200,11 @@ module _ {Own Tells : Type 0} (d xid : ℕ) (got : List (List ℕ)) (old new : S
       regroup : (b f x : List WorldStep) (g : WorldStep) (y r k : List WorldStep) → b ++ ((f ++ ((x ++ (g ∷ y)) ++ r)) ++ k) ≡ (b ++ (f ++ x)) ++ ((g ∷ []) ++ ((y ++ r) ++ k))
       regroup b f x g y r k = simp append_assoc
 
-  sent_among : (kind : ℕ) (bytes : List ℕ) → IsGot d xid kind bytes (wait_steps (asked_from d xid) got) → Tells → SentThenGot d (flows_request xid) bytes old.history new.history
+  sent_among : (kind : ℕ) (bytes : List ℕ) → IsGot d xid kind bytes (wait_steps (asked_from d xid) got) → Tells → SentThenGot d (query_bytes xid q) bytes old.history new.history
   sent_among kind bytes is tells =
       let h = told tells in
       let reply = reply_got (asked_from d xid) ∷ [] in
-      let ask = request_sent d xid in
+      let ask = query_sent d xid q in
       let bar = barrier_sent (asked_from d xid) in (
         bar ∷ is.before,
         record {
@@ -220,45 +218,54 @@ module _ {Own Tells : Type 0} (d xid : ℕ) (got : List (List ℕ)) (old new : S
       regroup : (x : List WorldStep) (g : WorldStep) (y r k : List WorldStep) → ((x ++ (g ∷ y)) ++ r) ++ k ≡ (x ++ (g ∷ [])) ++ ((y ++ r) ++ k)
       regroup x g y r k = simp append_assoc
 
-  part_why : (e : ℕ) (bytes : List ℕ) → IsRepliesFault d (flows_request xid) (message_bytes (next_xid xid) BarrierReply) (parts_in xid (came_for d xid got)) (refusals_in xid (came_for d xid got)) (SwitchBroke e bytes)
-      → IsWhyTxn Tells old new (SwitchBroke e bytes)
+  part_why : (e : ℕ) (bytes : List ℕ) → (e ≡ d) × (refusals_in xid (came_for d xid got) ≡ []) × IsBroken q.kind (parts_in xid (came_for d xid got)) bytes → IsWhyTxn Tells old new (SwitchBroke e bytes)
   part_why e bytes is =
       let part = got_in (asked_from d xid) xid 17 got bytes (is.2.0, is.2.1) in
-      let bad : IsBadPart Tells d bytes old new = record { xid = xid; got = got; kind = about_kind xid 17 bytes part.about; no_refusal = is.1; broken = is.2; told = told } in
+      let bad : IsBadPart Tells d bytes old new = record { xid = xid; query = q; got = got; kind = about_kind xid 17 bytes part.about; no_refusal = is.1; broken = is.2; told = told } in
       subst (λ (n : ℕ). (Tells → CameFrom n bytes old.history new.history) × (IsErr (reading_of bytes) ⊎ IsBadPart Tells n bytes old new)) (sym is.0) (came_among 17 bytes part, inr bad)
 
-  error_why : (bytes : List ℕ) → slice_get (refusals_in xid (came_for d xid got)) 0 ≡ Some bytes → IsWhyTxn Tells old new (Diverged d (flows_request xid) bytes)
-  error_why bytes at =
-      let is = got_in (asked_from d xid) xid 1 got bytes (0, at) in
-      (sent_among 1 bytes is, inl (record { kind = about_kind xid 1 bytes is.about; sent_is = inr (ap (λ (n : ℕ). flows_request n) (sym (about_xid xid 1 bytes is.about))) }))
-
-  unanswered_why : refusals_in xid (came_for d xid got) ≡ [] → parts_in xid (came_for d xid got) ≡ [] → IsWhyTxn Tells old new (Diverged d (flows_request xid) (message_bytes (next_xid xid) BarrierReply))
+  unanswered_why : refusals_in xid (came_for d xid got) ≡ [] → parts_in xid (came_for d xid got) ≡ [] → IsWhyTxn Tells old new (Diverged d (query_bytes xid q) (message_bytes (next_xid xid) BarrierReply))
   unanswered_why none_refused no_part =
       let reply = message_bytes (next_xid xid) BarrierReply in (
         (λ tells. (barrier_sent (asked_from d xid) ∷ wait_steps (asked_from d xid) got, told tells)),
-        inr (record { xid = xid; got = got; sent_is = refl; reply_is = refl; no_part = no_part; no_refusal = none_refused; told = told }),
+        inr (record { xid = xid; query = q; got = got; sent_is = refl; reply_is = refl; no_part = no_part; no_refusal = none_refused; told = told }),
       )
+
+  fault_why : (fault : TxnFault) → IsFaultOf q.kind d (query_bytes xid q) (message_bytes (next_xid xid) BarrierReply) (parts_in xid (came_for d xid got)) (refusals_in xid (came_for d xid got)) fault → IsWhy Tells old new 0 0 (ended_by fault)
+  fault_why (SwitchBroke e bytes) is = part_why e bytes is
+  fault_why (Diverged e sent bytes) is =
+      subst (λ (n : ℕ). IsWhyTxn Tells old new (Diverged n sent bytes)) (sym is.0) (subst (λ (s : List ℕ). IsWhyTxn Tells old new (Diverged d s bytes)) (sym is.1)
+      (subst (λ (b : List ℕ). IsWhyTxn Tells old new (Diverged d (query_bytes xid q) b)) (sym is.4) (unanswered_why is.2 is.3)))
+  fault_why (Flooded e n) is = absurd is
+  fault_why NoMemory is = tt
+
+-- the rows of all flows
+module _ {Own Tells : Type 0} (d xid : ℕ) (got : List (List ℕ)) (old new : Seen Own) (told : Tells → Happened (rows_steps d xid got) old.history new.history) where
+  error_why : (bytes : List ℕ) → slice_get (refusals_in xid (came_for d xid got)) 0 ≡ Some bytes → IsWhyTxn Tells old new (Diverged d (flows_request xid) bytes)
+  error_why bytes at =
+      let is = got_in (asked_from d xid) xid 1 got bytes (0, at) in
+      (sent_among d xid flows_query got old new told 1 bytes is, inl (record { kind = about_kind xid 1 bytes is.about; sent_is = inr (ap (λ (n : ℕ). flows_request n) (sym (about_xid xid 1 bytes is.about))) }))
 
   refused_why : (bytes : List ℕ) → IsRefusal (parts_in xid (came_for d xid got)) (refusals_in xid (came_for d xid got)) (message_bytes (next_xid xid) BarrierReply) bytes → IsWhyTxn Tells old new (Diverged d (flows_request xid) bytes)
   refused_why bytes (inl first) = error_why bytes first
-  refused_why bytes (inr none) = subst (λ (b : List ℕ). IsWhyTxn Tells old new (Diverged d (flows_request xid) b)) (sym none.2) (unanswered_why none.0 none.1)
+  refused_why bytes (inr none) = subst (λ (b : List ℕ). IsWhyTxn Tells old new (Diverged d (flows_request xid) b)) (sym none.2) (unanswered_why d xid flows_query got old new told none.0 none.1)
 
   replies_why : (fault : TxnFault) → IsRepliesFault d (flows_request xid) (message_bytes (next_xid xid) BarrierReply) (parts_in xid (came_for d xid got)) (refusals_in xid (came_for d xid got)) fault → IsWhy Tells old new 0 0 (ended_by fault)
-  replies_why (SwitchBroke e bytes) is = part_why e bytes is
+  replies_why (SwitchBroke e bytes) is = part_why d xid flows_query got old new told e bytes is
   replies_why (Diverged e sent bytes) is =
       subst (λ (n : ℕ). IsWhyTxn Tells old new (Diverged n sent bytes)) (sym is.0) (subst (λ (s : List ℕ). IsWhyTxn Tells old new (Diverged d s bytes)) (sym is.1) (refused_why bytes is.2))
   replies_why (Flooded e n) is = absurd is
   replies_why NoMemory is = tt
 
-ask_flood : {Own : Type 0} (Tells : Type 0) (d xid : ℕ) (old new : Seen Own) (fault : TxnFault) → IfFlooded Tells (asked_from d xid) (request_sent d xid ∷ barrier_sent (asked_from d xid) ∷ []) old new fault → FloodSo Tells d old new fault
-ask_flood Tells d xid old new (Flooded of n) f = flood_of (asked_from d xid) (request_sent d xid ∷ []) old new f
-ask_flood Tells d xid old new (SwitchBroke of bytes) f = tt
-ask_flood Tells d xid old new (Diverged of sent got) f = tt
-ask_flood Tells d xid old new NoMemory f = tt
+query_flood : {Own : Type 0} (Tells : Type 0) (i : Inquiry) (old new : Seen Own) (fault : TxnFault) → IfFlooded Tells (asked_from i.dpid i.xid) (inquiry_sent i) old new fault → FloodSo Tells i.dpid old new fault
+query_flood Tells i old new (Flooded of n) f = flood_of (asked_from i.dpid i.xid) (query_sent i.dpid i.xid i.query ∷ []) old new f
+query_flood Tells i old new (SwitchBroke of bytes) f = tt
+query_flood Tells i old new (Diverged of sent got) f = tt
+query_flood Tells i old new NoMemory f = tt
 
 ask_why : {Own Tells : Type 0} (d xid : ℕ) (old new : Seen Own) (kept now_kept : List (ℕ × List ℕ)) (fault : TxnFault) → IfFlooded Tells (asked_from d xid) (request_sent d xid ∷ barrier_sent (asked_from d xid) ∷ []) old new fault
     → IsAskCause Tells d xid old new kept now_kept fault → IsWhy Tells old new 0 0 (ended_by fault)
-ask_why {Tells = Tells} d xid old new kept now_kept fault flooded (inl cause) = cause_why Tells d old new fault cause (ask_flood Tells d xid old new fault flooded)
+ask_why {Tells = Tells} d xid old new kept now_kept fault flooded (inl cause) = cause_why Tells d old new fault cause (query_flood Tells (rows_inquiry d xid) old new fault flooded)
 ask_why {Tells = Tells} d xid old new kept now_kept fault flooded (inr asks) =
     let waits = asks.1.waits in
     let steps = rows_steps d xid waits.got in
@@ -315,17 +322,29 @@ undo_why start old new net now_net fault u =
 
 change_flood : {Own Tells : Type 0} (d : ℕ) (bytes : List ℕ) (old new : Seen Own) (net now_net : NetState) (fault : TxnFault) → ChangesJoined Tells d bytes old new net now_net (Err fault) → (o : Option Answer) → answer_of_host d bytes net ≡ o → FloodSo Tells d old new fault
 change_flood {Tells = Tells} d bytes old new net now_net fault changes (Some a) host = subst (λ (f : TxnFault). FloodSo Tells d old new f) (sym (changes.by_host a host).fault) tt
-change_flood {Tells = Tells} d bytes old new net now_net (Flooded of n) changes None host =
-    let read = asked (known_rows d net.views) bytes host in
-    let given = changes.flooded read.xid read.change host read.read in
-    flood_of _ (change_sent d net.xid read.change ∷ []) old new given.2
+change_flood {Tells = Tells} d bytes old new net now_net (Flooded of n) changes None host = elim (asked (known_rows d net.views) bytes host) [
+  | inl read ↦ let given = changes.flooded read.xid read.change host read.read in flood_of _ (change_sent d net.xid read.change ∷ []) old new given.2
+  | inr query ↦ query_flood Tells (record { dpid = d; xid = net.xid; query = query.query }) old new (Flooded of n) (changes.by_statistics query.xid query.query host query.read).flooded
+]
 change_flood {Tells = Tells} d bytes old new net now_net (SwitchBroke of came) changes None host = tt
 change_flood {Tells = Tells} d bytes old new net now_net (Diverged of sent got) changes None host = tt
 change_flood {Tells = Tells} d bytes old new net now_net NoMemory changes None host = tt
 
+-- what came for a request of statistics
+reply_why : {Own Tells : Type 0} (i : Inquiry) (old new : Seen Own) (kept now_kept : List (ℕ × List ℕ)) (fault : TxnFault) → IsReplyCause Tells i old new kept now_kept fault → IsWhy Tells old new 0 0 (ended_by fault)
+reply_why {Tells = Tells} i old new kept now_kept fault reply =
+    let waits = reply.answered.waits in
+    let steps = query_steps i.dpid i.xid i.query waits.got in
+    let told : (Tells → Happened steps old.history new.history) = λ tells. record { before = []; behind = []; told = waits.hears.told tells ∙ ap (λ (xs : List WorldStep). old.history ++ xs) (sym (append-nil steps)) } in
+    fault_why i.dpid i.xid i.query waits.got old new told fault
+    (subst (λ (came : List (ℕ × List ℕ)). IsFaultOf i.query.kind i.dpid (query_bytes i.xid i.query) (message_bytes (next_xid i.xid) BarrierReply) (parts_in i.xid came) (refusals_in i.xid came) fault) waits.hears.kept_is reply.why)
+
 change_why : {Own Tells : Type 0} (d : ℕ) (bytes : List ℕ) (old new : Seen Own) (net now_net : NetState) (fault : TxnFault) → Changes Tells d bytes old new net now_net (Err fault) → IsWhy Tells old new 0 0 (ended_by fault)
 change_why {Tells = Tells} d bytes old new net now_net fault changes = elim changes.answered [
-  | inl joined ↦ cause_why Tells d old new fault changes.cause (change_flood d bytes old new net now_net fault joined (answer_of_host d bytes net) refl)
+  | inl joined ↦ elim changes.cause [
+    | inl cause ↦ cause_why Tells d old new fault cause (change_flood d bytes old new net now_net fault joined (answer_of_host d bytes net) refl)
+    | inr reply ↦ reply_why reply.0 old new net.kept now_net.kept fault reply.2
+  ]
   | inr gone ↦ absurd (no_answer Unknown gone.1)
 ]
   where

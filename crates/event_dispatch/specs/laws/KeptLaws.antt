@@ -37,6 +37,8 @@ use Rattle.net_txn.specs.laws.LinkPresenceLaws.{among-front}
 use Rattle.net_txn.specs.Releases.{Commits}
 use Rattle.app_visor.specs.Beats.{Beat, Talk, Asks as AskedNow, Chain}
 use Rattle.lego_model.specs.Journal.{give_act}
+use Rattle.lego_model.specs.FlowQueries.{others_in}
+use Rattle.run_laws.specs.laws.KeptJoinedLaws.{unanswered_of}
 use Rattle.switch_laws.specs.laws.AskedLaws.{asked}
 use Rattle.event_dispatch.specs.declared.closing.Closing.{Closing}
 use Rattle.event_dispatch.specs.declared.closing.Closing.TheVariants as closings
@@ -203,10 +205,15 @@ undoes_read {start = start} {old = old} {new = new} net now_net u read =
 
 change_stays : {Own Tells : Type 0} {d : ℕ} {old new : Seen Own} (bytes : List ℕ) (net now_net : NetState) (answer : Answer) → ChangesJoined Tells d bytes old new net now_net (Ok answer) → (o : Option Answer) → answer_of_host d bytes net ≡ o → AreRead net.kept → AreRead now_net.kept
 change_stays bytes net now_net answer changes (Some a) host read = read_alike net.kept now_net.kept (ap (λ (n : NetState). n.kept) (changes.by_host a host).stays) read
-change_stays {d = d} bytes net now_net answer changes None host read =
-    let change = asked (known_rows d net.views) bytes host in
-    let asks = changes.by_switch change.xid change.change host change.read in
-    waits_read net.kept now_net.kept (record { refusal = asks.refusal; notices = asks.notices }) asks.waits read
+change_stays {d = d} bytes net now_net answer changes None host read = elim (asked (known_rows d net.views) bytes host) [
+  | inl change ↦
+      let asks = changes.by_switch change.xid change.change host change.read in
+      waits_read net.kept now_net.kept (record { refusal = asks.refusal; notices = asks.notices }) asks.waits read
+  | inr query ↦
+      let gives = (changes.by_statistics query.xid query.query host query.read).answer in
+      let came = waits_read [] gives.came gives.answered.brought gives.answered.waits tt in
+      read_alike (net.kept ++ others_in net.xid gives.came) now_net.kept gives.answered.kept_is (read_append net.kept (others_in net.xid gives.came) read (unanswered_of IsKeptRead net.xid gives.came came))
+]
 
 change_goes : {Own Tells : Type 0} {d : ℕ} {old new : Seen Own} (net now_net : NetState) → ChangesLost Tells d old new net now_net → AreRead net.kept → AreRead now_net.kept
 change_goes {d = d} net now_net lost read = read_alike (filter (λ m. not (m.0 == d)) net.kept) now_net.kept (ap (λ (n : NetState). n.kept) lost.net_is) (read_left d net.kept read)

@@ -574,7 +574,7 @@ offer_none Tells event seen c m = record {
     of_turn = tt;
     left = λ told keeps order ready rests. inl (no_event_none seen);
     later = λ told. calm_later (calm_none m.state.index seen);
-    plain = record { plain = λ told keeps ready. inl tt };
+    plain = record { plain = λ told keeps ready sound. inl tt };
   };
   why = tt;
 }
@@ -740,7 +740,7 @@ dispatch_short Tells accepts event seen r =
           talks = goes_none Tells seen e;
           left = left_none Tells (IsShort faults.NoMemory) seen e;
           here = quietly_here (quietly_none Tells seen);
-          plain = record { plain = λ told keeps ready. inl tt };
+          plain = record { plain = λ told keeps ready sound. inl tt };
         };
       };
       why = tt;

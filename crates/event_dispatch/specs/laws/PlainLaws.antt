@@ -35,6 +35,10 @@ use Rattle.app_visor.specs.Beats.{Stops}
 use Rattle.app_visor.specs.Turns.{Turns}
 use Rattle.switch_laws.specs.laws.SoundLaws.{rows-are}
 use Rattle.switch_laws.specs.laws.ClockLaws.{switch-in_time, moment-within}
+use Rattle.run_laws.specs.laws.TellLaws.{chain_keeps}
+use Rattle.app_visor.specs.laws.BeatLaws.{halts_continue}
+use Rattle.switch_laws.specs.Since.{Goes}
+use Rattle.switch_laws.specs.laws.SinceLaws.{begun}
 use Rattle.turn_laws.specs.laws.StopLaws.{stop-plain, turn-ready, flooded-since, commit-plain}
 use Rattle.batch_laws.specs.laws.InBatchLaws.{next_can}
 use Rattle.run_laws.specs.Engine.{Engine}
@@ -165,7 +169,7 @@ batch_next n old now new run mid fault goes later next = record {
 -- ---- A turn
 
 pub turn_memory : {Own : Type 0} {Tells : Type 0} (old new : Seen Own) (net : NetState) → PlainTurn Tells old new net faults.NoMemory
-turn_memory old new net = record { plain = λ told keeps ready. inl tt }
+turn_memory old new net = record { plain = λ told keeps ready sound. inl tt }
 
 -- what is noted leaves the network
 pub turn_noted : {Own : Type 0} {Tells : Type 0} (old new : Seen Own) (net noted : NetState) (fault : Fault) → noted ≡ net → PlainTurn Tells old new noted fault → PlainTurn Tells old new net fault
@@ -173,7 +177,12 @@ turn_noted {Tells = Tells} old new net noted fault same turn = subst (λ (n : Ne
 
 pub turn_stopped : {Own : Type 0} {Tells : Type 0} {app : ℕ} (old mid new : Seen Own) (net now_net : NetState) (fault : TxnFault) → Continues Tells mid new → Stops Tells app old mid net now_net fault → PlainTurn Tells old new net (fault_of fault)
 turn_stopped {Tells = Tells} {app = app} old mid new net now_net fault later stops = record {
-  plain = λ told keeps ready. inl (plain_fault fault (stop-plain Tells app old mid net now_net fault told (Conforming-before told later keeps) ready stops));
+  plain = λ told keeps ready sound.
+      let before : Conforming mid = Conforming-before told later keeps in
+      let there : Conforming stops.then_seen = Conforming-before told (halts_continue Tells stops.then_seen mid stops.then_net now_net fault stops.halts) before in
+      let first : Goes (length net.log) [] old old net net = record { since = begun old net; ready = ready } in
+      let keeps_sound = chain_keeps Tells app (length net.log) [] old net stops.leads.trace old stops.then_seen net stops.then_net told there stops.leads.chain first sound in
+      inl (plain_fault fault (stop-plain Tells app old mid net now_net fault told before ready stops keeps_sound.sound));
 }
 
 -- a turn that failed, and could not be undone
@@ -182,7 +191,7 @@ pub turn_not_undone : {Own : Type 0} {Tells : Type 0} {accepts : List TableView 
 turn_not_undone {Own} {Tells} {accepts} {app} {budget} {start} {rest} {frame} {unread} {end} old mid new net txn_net mid_net now_net result fault same turns is undoes =
     let failed : Undoes Tells start mid new mid_net now_net (Err fault) = subst (Undoes Tells start mid new mid_net now_net) is undoes in
     turn_noted old new net txn_net (fault_of fault) same (record {
-      plain = λ told keeps ready.
+      plain = λ told keeps ready sound.
           let before : Conforming mid = Conforming-before told failed.continues keeps in
           let again = turn-ready Tells accepts app budget rest frame old mid txn_net mid_net end unread told before ready turns in
           inl (plain_fault fault (failed.plain told keeps (λ d viewed. stands_ready d mid mid_net again viewed (switch_of d (state mid)) refl)));
@@ -196,7 +205,7 @@ turn_uncommitted {Own} {Tells} {accepts} {app} {budget} {start} {now_start} {res
     let broken : Commits Tells (length net.log) mid new mid_net now_net queue now_queue (Err fault) =
     subst (λ (n : ℕ). Commits Tells n mid new mid_net now_net queue now_queue (Err fault)) (kept ∙ at) commits in
     record {
-      plain = λ told keeps ready.
+      plain = λ told keeps ready sound.
           ends_release old new fault (commit-plain Tells accepts app budget rest frame old mid new net mid_net now_net end unread queue now_queue fault told keeps ready turned broken);
     }
 
@@ -243,7 +252,7 @@ run_fails {Own} {Tells} {accepts} old new r fault next = record {
   plain = λ allows told keeps judges settled.
       let f = next.fails in
       let gone = partly_gone Tells accepts allows fault old new (engine_of r) next told (Conforming-before told f.later keeps) judges settled in
-      ends_behind old f.mid new (served_by fault) (f.on.told told) (f.within.plain.plain told keeps gone.rest.calm.ready);
+      ends_behind old f.mid new (served_by fault) (f.on.told told) (f.within.plain.plain told keeps gone.rest.calm.ready gone.rest.calm.sound);
 }
 
 -- events, one after the other

@@ -29,11 +29,12 @@ came_before d bytes a b c rest (inr got) = inr (happened_before _ a b c rest got
 
 module _ {Own Tells : Type 0} (a b c : Seen Own) (first : Tells → Longer a.history b.history) where
   bad_part_behind : (d : ℕ) (bytes : List ℕ) → IsBadPart Tells d bytes b c → IsBadPart Tells d bytes a c
-  bad_part_behind d bytes is = record { xid = is.xid; got = is.got; kind = is.kind; no_refusal = is.no_refusal; broken = is.broken; told = λ told. happened_behind _ a.history b.history c.history (first told) (is.told told) }
+  bad_part_behind d bytes is = record { xid = is.xid; query = is.query; got = is.got; kind = is.kind; no_refusal = is.no_refusal; broken = is.broken; told = λ told. happened_behind _ a.history b.history c.history (first told) (is.told told) }
 
   unanswered_behind : (d : ℕ) (sent reply : List ℕ) → IsUnanswered Tells d sent reply b c → IsUnanswered Tells d sent reply a c
   unanswered_behind d sent reply is = record {
     xid = is.xid;
+    query = is.query;
     got = is.got;
     sent_is = is.sent_is;
     reply_is = is.reply_is;
@@ -58,11 +59,12 @@ module _ {Own Tells : Type 0} (a b c : Seen Own) (first : Tells → Longer a.his
 
 module _ {Own Tells : Type 0} (a b c : Seen Own) (rest : Tells → Longer b.history c.history) where
   bad_part_before : (d : ℕ) (bytes : List ℕ) → IsBadPart Tells d bytes a b → IsBadPart Tells d bytes a c
-  bad_part_before d bytes is = record { xid = is.xid; got = is.got; kind = is.kind; no_refusal = is.no_refusal; broken = is.broken; told = λ told. happened_before _ a.history b.history c.history (rest told) (is.told told) }
+  bad_part_before d bytes is = record { xid = is.xid; query = is.query; got = is.got; kind = is.kind; no_refusal = is.no_refusal; broken = is.broken; told = λ told. happened_before _ a.history b.history c.history (rest told) (is.told told) }
 
   unanswered_before : (d : ℕ) (sent reply : List ℕ) → IsUnanswered Tells d sent reply a b → IsUnanswered Tells d sent reply a c
   unanswered_before d sent reply is = record {
     xid = is.xid;
+    query = is.query;
     got = is.got;
     sent_is = is.sent_is;
     reply_is = is.reply_is;

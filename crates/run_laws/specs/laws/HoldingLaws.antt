@@ -39,6 +39,8 @@ use Rattle.net_txn.specs.laws.ArrivalLaws.{net_after_kept}
 use Rattle.net_txn.specs.Changes.{answer_of_host, views_by, Changes, ChangesJoined}
 use Rattle.net_txn.specs.Answering.{known_rows, log_by}
 use Rattle.net_txn.specs.Releases.{Knows, takes_read, takes_all, SendsPacket, LosesPacket, ReleasesOne, ReleasesAll, committed, Commits}
+use Rattle.lego_model.specs.FlowQueries.{query_bytes, others_in}
+use Rattle.switch_laws.specs.Asked.{ReadAsChange, ReadAsQuery}
 use Rattle.switch_laws.specs.laws.AskedLaws.{asked}
 use Rattle.switch_laws.specs.laws.LossLaws.{rows-gone, rows-stay}
 use Rattle.batch_laws.specs.Knowledge.{left_events, ports_lost}
@@ -179,9 +181,8 @@ changed_by None d e m views =
 refusal_told : (a : Awaited) (got : List (List ℕ)) (refusal : Option Refusal) (notices : List (List ℕ)) → record { refusal = refusal; notices = notices } ≡ answer_of a got → is_some refusal ≡ is_refused a got
 refusal_told a got refusal notices is = ap (λ (b : Brought). is_some b.refusal) is ∙ refused_is a got
 
-change_asked : {Own Tells : Type 0} {d : ℕ} {old new : Seen Own} (bytes : List ℕ) (net now_net : NetState) (queue : List Event) (answer : Answer) → Tells → ChangesJoined Tells d bytes old new net now_net (Ok answer) → answer_of_host d bytes net ≡ None → course.Changes (d, bytes) (holding_of old net queue) (holding_of new now_net queue)
-change_asked {d = d} bytes net now_net queue answer told changes host =
-    let change = asked (known_rows d net.views) bytes host in
+change_asked : {Own Tells : Type 0} {d : ℕ} {old new : Seen Own} (bytes : List ℕ) (net now_net : NetState) (queue : List Event) (answer : Answer) → Tells → ChangesJoined Tells d bytes old new net now_net (Ok answer) → answer_of_host d bytes net ≡ None → ReadAsChange bytes → course.Changes (d, bytes) (holding_of old net queue) (holding_of new now_net queue)
+change_asked {d = d} bytes net now_net queue answer told changes host change =
     let asks = changes.by_switch change.xid change.change host change.read in
     let frame = message_bytes net.xid (as_sent (FlowMod change.change)) in
     record {
@@ -221,14 +222,32 @@ logged_as : (refusal : Option Refusal) (d : ℕ) (m : Change) (log : List Logged
 logged_as (Some refusal) d m log = sym (append-nil log)
 logged_as None d m log = key_added (is_delete m) d m log
 
-asked_logged : {Own Tells : Type 0} {d : ℕ} {old new : Seen Own} (bytes : List ℕ) (net now_net : NetState) (queue : List Event) (answer : Answer) (told : Tells) (changes : ChangesJoined Tells d bytes old new net now_net (Ok answer)) (host : answer_of_host d bytes net ≡ None)
-    → now_net.log ≡ net.log ++ map logged_of (added_by 0 (Some (d, bytes)) (holding_of old net queue) (holding_of new now_net queue) (inr (inl (change_asked bytes net now_net queue answer told changes host))))
+asked_logged : {Own Tells : Type 0} {d : ℕ} {old new : Seen Own} (bytes : List ℕ) (net now_net : NetState) (queue : List Event) (answer : Answer) (told : Tells) (changes : ChangesJoined Tells d bytes old new net now_net (Ok answer)) (host : answer_of_host d bytes net ≡ None) (change : ReadAsChange bytes)
+    → now_net.log ≡ net.log ++ map logged_of (added_by 0 (Some (d, bytes)) (holding_of old net queue) (holding_of new now_net queue) (inr (inl (change_asked bytes net now_net queue answer told changes host change))))
 unfolding change_asked
-asked_logged {d = d} bytes net now_net queue answer told changes host =
-    let change = asked (known_rows d net.views) bytes host in
+asked_logged {d = d} bytes net now_net queue answer told changes host change =
     let asks = changes.by_switch change.xid change.change host change.read in
     asks.log ∙ (logged_as asks.refusal d change.change net.log
     ∙ ap (λ (refused : Bool). net.log ++ map logged_of (added_key refused d change.change)) (refusal_told (awaited_from d net.xid) asks.waits.got asks.refusal asks.notices asks.waits.hears.answer_is))
+
+-- statistics that were asked for
+query_asked : {Own Tells : Type 0} {d : ℕ} {old new : Seen Own} (bytes : List ℕ) (net now_net : NetState) (queue : List Event) (answer : Answer) → Tells → ChangesJoined Tells d bytes old new net now_net (Ok answer) → answer_of_host d bytes net ≡ None → ReadAsQuery bytes → course.Queries (d, bytes) (holding_of old net queue) (holding_of new now_net queue)
+query_asked {d = d} bytes net now_net queue answer told changes host query =
+    let asks = changes.by_statistics query.xid query.query host query.read in
+    let answered = asks.answer.answered in
+    record {
+      number = query.xid;
+      query = query.query;
+      read = query.read;
+      xid = net.xid;
+      waited = waited_by (query_bytes net.xid query.query ∷ []) told answered.waits;
+      awaited_is = refl;
+      sent = refl;
+      was_in = asked_joined d bytes net (rows_at d net.views) refl host;
+      tables = λ e. ap (λ (n : NetState). rows_at e n.views) asks.stays;
+      kept = answered.kept_is ∙ ap (λ (came : List (ℕ × List ℕ)). net.kept ++ others_in net.xid came) answered.waits.hears.kept_is;
+      queue = refl;
+    }
 
 change_stays : {Own Tells : Type 0} {d : ℕ} {old new : Seen Own} (i : ℕ) (bytes : List ℕ) (net now_net : NetState) (queue : List Event) (answer : Answer) (host : Option Answer) → Tells → ChangesJoined Tells d bytes old new net now_net (Ok answer) → answer_of_host d bytes net ≡ host
     → ChangeMove i d bytes net.log now_net.log (holding_of old net queue) (holding_of new now_net queue)
@@ -238,8 +257,13 @@ change_stays {old = old} {new = new} i bytes net now_net queue answer (Some said
       move = inl (rests_so old new net now_net queue queue same.world (ap (λ (n : NetState). n.views) same.stays) (ap (λ (n : NetState). n.kept) same.stays) refl);
       logged = nothing_logged net.log now_net.log (ap (λ (n : NetState). n.log) same.stays);
     }
-change_stays i bytes net now_net queue answer None told changes host =
-    record { move = inr (inl (change_asked bytes net now_net queue answer told changes host)); logged = asked_logged bytes net now_net queue answer told changes host }
+change_stays {d = d} i bytes net now_net queue answer None told changes host = elim (asked (known_rows d net.views) bytes host) [
+  | inl change ↦ record { move = inr (inl (change_asked bytes net now_net queue answer told changes host change)); logged = asked_logged bytes net now_net queue answer told changes host change }
+  | inr query ↦ record {
+    move = inr (inr (inl (query_asked bytes net now_net queue answer told changes host query)));
+    logged = nothing_logged net.log now_net.log (ap (λ (n : NetState). n.log) (changes.by_statistics query.xid query.query host query.read).stays);
+  }
+]
 
 pub change_moves : {Own Tells : Type 0} {d : ℕ} {bytes : List ℕ} {old new : Seen Own} (i : ℕ) (net now_net : NetState) (queue : List Event) (answer : Answer) → Tells → Changes Tells d bytes old new net now_net (Ok answer)
     → ChangeMove i d bytes net.log now_net.log (holding_of old net queue) (holding_of new now_net queue)
@@ -247,7 +271,7 @@ change_moves {d = d} {bytes = bytes} {old = old} {new = new} i net now_net queue
     elim changes.answered [
       | inl joined ↦ change_stays i bytes net now_net queue answer (answer_of_host d bytes net) told joined refl
       | inr lost ↦ record {
-        move = inr (inr (loses_quietly d old new net now_net queue told lost.2.is_lost (ap (λ (n : NetState). n.views) lost.2.net_is) (ap (λ (n : NetState). n.kept) lost.2.net_is)));
+        move = inr (inr (inr (loses_quietly d old new net now_net queue told lost.2.is_lost (ap (λ (n : NetState). n.views) lost.2.net_is) (ap (λ (n : NetState). n.kept) lost.2.net_is))));
         logged = nothing_logged net.log now_net.log (ap (λ (n : NetState). n.log) lost.2.net_is);
       }
     ]

@@ -1,6 +1,6 @@
 -- In the course of a run each message that is kept is of a switch that is joined: a wait is for such a switch, and what was kept of a switch goes
 -- with it. So each of them makes its events when it is taken.
-use Rattle.std.specs.Prelude.{◌==◌, filter, not, is_some}
+use Rattle.std.specs.Prelude.{◌==◌, ◌||◌, filter, not, is_some}
 use Rattle.std.specs.Option.{option_map}
 use Rattle.std.proofs.Common.{◌≡◌, ◌≢◌, ℕ, ◌+◌, Bool, true, false, List, [], ◌∷◌, ◌++◌, Option, Some, None, Result, Ok, Err, refl, sym, ap, ◌∙◌, subst, inl, inr, if◌then◌else◌}
 use Rattle.std.specs.List.{AllByRecursion}
@@ -25,7 +25,8 @@ use Rattle.lego_model.specs.ViewRows.{rows_without}
 use Rattle.run_course.specs.Tables.{Tables, is_in, with_table, rows_with}
 use Rattle.run_course.specs.Messages.{is_refused, tables_left, tables_read, tables_behind, but_of, AreStored}
 use Rattle.of_types.specs.Membership.{is_among}
-use Rattle.run_course.specs.Moves.{Holding, OfJoined, HoldsStill, Notes, tables_by, Changes, Releases, Loses, TakesBack, Takes, Joins, Leaves, Go, OneByOne, ItemMove, EndMove, keys_at}
+use Rattle.run_course.specs.Moves.{Holding, OfJoined, HoldsStill, Notes, tables_by, Changes, Queries, Releases, Loses, TakesBack, Takes, Joins, Leaves, Go, OneByOne, ItemMove, EndMove, keys_at}
+use Rattle.lego_model.specs.FlowQueries.{is_about, other_in, others_in}
 use Rattle.run_course.specs.Applications.{Application, listens}
 use Rattle.run_course.specs.Turns.{TalkMove, Talk, added_in, Closes, HasTurn, IsOffered, unless_stopped, Offers}
 use Rattle.run_course.specs.Parts.{Standing, KeptComeFirst, Part, Goes}
@@ -126,6 +127,24 @@ changes_keep asked from to changes all =
     let is = ap (joined_in to.tables) changes.of_switch ∙ (stays asked.0 ∙ changes.was_in) in
     subst (Of (joined_in to.tables)) (sym changes.kept) (all_two (λ m. is_in m.0 to.tables ≡ true) from.kept came (of_same (joined_in from.tables) (joined_in to.tables) from.kept stays all) (wait_of (joined_in to.tables) a changes.waited.got is))
 
+-- what answers a request of statistics is not kept
+part_of : (P : ℕ × List ℕ → Type 0) (xid : ℕ) (m : ℕ × List ℕ) (about : Bool) → P m → AllByRecursion P (if about then [] else m ∷ [])
+part_of P xid m true is = tt
+part_of P xid m false is = (is, tt)
+
+pub unanswered_of : (P : ℕ × List ℕ → Type 0) (xid : ℕ) (came : List (ℕ × List ℕ)) → AllByRecursion P came → AllByRecursion P (others_in xid came)
+unanswered_of P xid [] all = tt
+unanswered_of P xid (m ∷ ms) all = all_two P (other_in xid m) (others_in xid ms) (part_of P xid m (is_about xid 17 m.1 || is_about xid 1 m.1) all.0) (unanswered_of P xid ms all.1)
+
+queries_keep : {Own : Type 0} (asked : ℕ × List ℕ) (from to : Holding Own) → Queries asked from to → OfJoined from from.kept → OfJoined to to.kept
+queries_keep asked from to queries all =
+    let a = queries.waited.awaited in
+    let came = kept_of a queries.waited.got in
+    let stays : (e : ℕ) → is_in e to.tables ≡ is_in e from.tables = λ e. same_in from.tables to.tables e (queries.tables e) in
+    let is = ap (λ (x : Awaited). joined_in to.tables x.dpid) queries.awaited_is ∙ (stays asked.0 ∙ queries.was_in) in
+    let more = unanswered_of (λ m. is_in m.0 to.tables ≡ true) queries.xid came (wait_of (joined_in to.tables) a queries.waited.got is) in
+    subst (Of (joined_in to.tables)) (sym queries.kept) (all_two (λ m. is_in m.0 to.tables ≡ true) from.kept (others_in queries.xid came) (of_same (joined_in from.tables) (joined_in to.tables) from.kept stays all) more)
+
 notes_keep : {Own : Type 0} (from to : Holding Own) → Notes from to → OfJoined from from.kept → OfJoined to to.kept
 notes_keep from to notes all = subst (Of (joined_in to.tables)) (sym notes.kept) (of_same (joined_in from.tables) (joined_in to.tables) from.kept (λ e. same_in from.tables to.tables e (notes.tables e)) all)
 
@@ -212,7 +231,8 @@ talk_keeps : {Own : Type 0} (i : ℕ) (asked : Option (ℕ × List ℕ)) (from t
 talk_keeps i None from to calls all = still_keep from to calls.still all
 talk_keeps i (Some asked) from to (inl rests) all = still_keep from to rests.still all
 talk_keeps i (Some asked) from to (inr (inl changes)) all = changes_keep asked from to changes all
-talk_keeps i (Some asked) from to (inr (inr loses)) all = loses_keep from to loses all
+talk_keeps i (Some asked) from to (inr (inr (inl queries))) all = queries_keep asked from to queries all
+talk_keeps i (Some asked) from to (inr (inr (inr loses))) all = loses_keep from to loses all
 
 go_keeps : {Own : Type 0} (Move : Holding Own → Holding Own → Type 0) → ((a b : Holding Own) → Move a b → OfJoined a a.kept → OfJoined b b.kept) → (stops : List (Holding Own)) (from to : Holding Own) → Go Move stops from to → OfJoined from from.kept → OfJoined to to.kept
 go_keeps Move keeps [] from to go all = subst (λ (h : Holding _). OfJoined h h.kept) (sym go) all
