@@ -1,7 +1,8 @@
 //! Which entry a packet hits, and what is counted at entries.
 
-ghost use Rattle.std.specs.Prelude.{◌≡◌};
-ghost use Rattle.flow_table.specs.Table.{IsPositionOf};
+ghost use Rattle.std.specs.Prelude.{◌≡◌, ◌<◌, length, slice_get, Some};
+ghost use Rattle.flow_table.specs.declared.entry.Entry.{Entry};
+ghost use Rattle.flow_table.specs.Table.{IsPositionOf, with_entry};
 ghost use Rattle.flow_table.specs.Hit.{best, counted, hit, with_more, with_counts};
 ghost use Rattle.tuple_index.specs.Groups.{IsIndexed};
 
@@ -33,8 +34,17 @@ fn count(entry: &mut Entry, len: u32, now: u64)
     entry.used = now;
 }
 
+/// Counts a packet of `len` bytes at the entry that stands at a place.
+pub(crate) fn count_at(entries: &mut [Entry], index: &[Key], i: usize, len: u32, now: u64)
+    requires indexed { IsIndexed index.now entries.old }
+    requires within { i < length entries.old }
+    ensures entries { (e : Entry) → slice_get entries.old i ≡ Some e → entries.new ≡ with_entry (counted len now e) entries.old }
+    ensures indexed { IsIndexed index.now entries.new }
+{
+    count(&mut entries[i], len, now);
+}
+
 /// Counts a packet of `len` bytes at the entry that it hits, and says where that entry stands.
-#[tactic(auto, unfolding(flow_table::specs::Hit::hit))]
 pub(crate) fn hit(
     entries: &mut [Entry],
     index: &[Key],
@@ -49,7 +59,7 @@ pub(crate) fn hit(
 {
     let found = lookup(entries, index, k);
     if let Some(i) = found {
-        count(&mut entries[i], len, now);
+        count_at(entries, index, i, len, now);
     }
     found
 }

@@ -1,15 +1,16 @@
 //! A flow table with an index of its groups.
 
 ghost use Rattle.std.specs.Prelude.{◌≡◌, ◌≢◌, ◌↔◌, ◌<◌, ◌≤◌, ◌+◌, ◌-◌, ◌^◌, ℕ, [], length, slice_get, Some, IsTrue, IsOk, IfOk, OnOk, OnErr, if◌then◌else◌};
-ghost use Rattle.flow_table.specs.Table.{IsTable, IsMoment, IsPositionOf, empty_table};
+ghost use Rattle.flow_table.specs.declared.entry.Entry.{Entry};
+ghost use Rattle.flow_table.specs.Table.{IsTable, IsMoment, IsPositionOf, empty_table, with_entry};
 ghost use Rattle.flow_table.specs.Change.{Answers, is_delete, adds, refusal, changed, entries_after, notices_of};
-ghost use Rattle.flow_table.specs.Hit.{best, hit, with_counts};
+ghost use Rattle.flow_table.specs.Hit.{best, counted, hit, with_counts};
 ghost use Rattle.flow_table.specs.Expiry.{expire, expiry_notices};
 ghost use Rattle.flow_table.specs.Rows.{positions};
 ghost use Rattle.tuple_index.specs.Groups.{group_count, IsIndexed};
 
 use crate::changing::{apply, count_told};
-use crate::counting::{add_counts, hit, lookup};
+use crate::counting::{add_counts, count_at, hit, lookup};
 use crate::describing::{find_refusal, is_adding};
 use crate::expiring::{drop_due, due, expire};
 use crate::grouping::count_groups;
@@ -108,6 +109,16 @@ impl TupleTable {
         ensures next { self.new.next ≡ self.old.next }
     {
         hit(&mut self.entries, &self.index, k, len, now)
+    }
+
+    /// Counts a packet of `len` bytes at the i-th entry in key order, counted from 0: as `hit` does where `lookup` finds that
+    /// one, without a search.
+    pub fn count_at(&mut self, i: usize, len: u32, now: u64)
+        requires { i < length self.old.entries }
+        ensures entries { (e : Entry) → slice_get self.old.entries i ≡ Some e → self.new.entries ≡ with_entry (counted len now e) self.old.entries }
+        ensures next { self.new.next ≡ self.old.next }
+    {
+        count_at(&mut self.entries, &self.index, i, len, now);
     }
 
     /// Counts the entries.

@@ -1,27 +1,32 @@
-use Rattle.std.proofs.Common.{◌≡◌, ◌<◌, List, length, get_or, set, Some, Option, None, ℕ, sym, ap, ◌∙◌}
-use Rattle.std.proofs.lemmas.Option.{slice_get_within, get_or_from_slice_get}
-use Rattle.of_match.specs.declared.packet_key.PacketKey.{PacketKey}
+use Rattle.std.proofs.Common.{◌≡◌, ◌<◌, List, length, Some, Option, None, ℕ, refl}
+use Rattle.std.specs.Prelude.{slice_get}
+use Rattle.std.proofs.lemmas.Option.{slice_get_within}
 use Rattle.flow_table.specs.declared.entry.Entry.{Entry}
-use Rattle.flow_table.specs.Table.{IsTable, IsPositionOf}
-use Rattle.flow_table.specs.Hit.{best, counted, hit}
-use Rattle.flow_table.specs.laws.HitLaws.{hit-set, keys-hit}
-use Rattle.tuple_index.specs.laws.IndexLaws.{IsIndexed-keys}
+use Rattle.flow_table.specs.Table.{IsPositionOf, with_entry}
+use Rattle.flow_table.specs.Hit.{best, counted, hit, hit_by}
 use Rattle.tuple_index.proofs.counting.hit.Goals as goal
 
-found : (o : Option Entry) (es : List Entry) (i : ℕ) (e : Entry) → e ≡ get_or es i e → IsPositionOf o es (Some i) → (o ≡ Some e) × (i < length es)
-found None es i e is p = absurd p
-found (Some g) es i e is p = (ap Some (sym (get_or_from_slice_get es i g e p) ∙ sym is), slice_get_within es i g p)
+within : (o : Option Entry) (es : List Entry) (i : ℕ) → IsPositionOf o es (Some i) → i < length es
+within None es i p = absurd p
+within (Some e) es i p = slice_get_within es i e p
 
-counted_at : (k : PacketKey) (len now : ℕ) (es : List Entry) (i : ℕ) (e f : Entry) → IsTable es → e ≡ get_or es i e → IsPositionOf (best k es) es (Some i) → f ≡ counted len now (get_or es i e) → set es i f ≡ hit k len now es
-counted_at k len now es i e f table is p here =
-    let (at, within) = found (best k es) es i e is p in
-    rw (here, sym is) (sym (hit-set k len now es i e table at within (sym is)))
+hit_at : (o : Option Entry) (len now : ℕ) (es new : List Entry) (i : ℕ) → IsPositionOf o es (Some i) → ((e : Entry) → slice_get es i ≡ Some e → new ≡ with_entry (counted len now e) es) → new ≡ hit_by o len now es
+hit_at None len now es new i p counts = absurd p
+hit_at (Some e) len now es new i p counts = counts e p
+
+hit_none : (o : Option Entry) (len now : ℕ) (es : List Entry) → IsPositionOf o es None → es ≡ hit_by o len now es
+hit_none None len now es p = refl
+hit_none (Some e) len now es p = absurd p
+
+pub count_at-requires-clause-within : goal.count_at-requires-clause-within
+count_at-requires-clause-within c = within (best c.args.k.now c.args.entries.now) c.args.entries.now c.in-Some.i (rw c.in-Some.is at c.lookup-found.ensures)
 
 pub returns-in-Some-clause-entries : goal.returns-in-Some-clause-entries
+unfolding hit
 returns-in-Some-clause-entries c =
-    counted_at c.args.k.now c.args.len c.args.now c.args.entries.now c.in-Some.i c.index-entries-i.result c.count.new.entry c.requires.in_order c.index-entries-i.is (rw c.in-Some.is at c.lookup-found.ensures) c.count.ensures
+    hit_at (best c.args.k.now c.args.entries.now) c.args.len c.args.now c.args.entries.now _ c.in-Some.i (rw c.in-Some.is at c.lookup-found.ensures) c.count_at.ensures.entries
 
-pub returns-in-Some-clause-indexed : goal.returns-in-Some-clause-indexed
-returns-in-Some-clause-indexed c =
-    rw (counted_at c.args.k.now c.args.len c.args.now c.args.entries.now c.in-Some.i c.index-entries-i.result c.count.new.entry c.requires.in_order c.index-entries-i.is (rw c.in-Some.is at c.lookup-found.ensures) c.count.ensures)
-    (IsIndexed-keys c.args.index.now c.args.entries.now (hit c.args.k.now c.args.len c.args.now c.args.entries.now) (sym (keys-hit c.args.k.now c.args.len c.args.now c.args.entries.now c.requires.in_order)) c.requires)
+pub returns-in_default-clause-entries : goal.returns-in_default-clause-entries
+unfolding hit
+returns-in_default-clause-entries c =
+    hit_none (best c.args.k.now c.args.entries.now) c.args.len c.args.now c.args.entries.now (rw c.in_default.is at c.lookup-found.ensures)
