@@ -126,7 +126,8 @@ impl SimSwitch {
         ensures { self.new ≡ after_packet_output in_port (planned_output step.now) self.old }
     {
         if step.to == ports::TABLE {
-            self.finish_lookup(in_port, step.frame.as_slice(), step.hit.as_slice());
+            let place = self.find(in_port, step.frame.as_slice());
+            self.finish_lookup(in_port, step.frame.as_slice(), place, step.hit.as_slice());
         } else {
             self.count_out(in_port, step.to, step.frame.len() as u64);
         }
