@@ -45,12 +45,13 @@ def misbehaving(words="", name="app"):
 
 
 class Case(NamedTuple):
-    """A case: what it does with a run, over which policy, and what it sets for the program besides."""
+    """A case: what it does with a run, over which policy, what it sets for the program besides, and by which command it is started."""
 
     play: Callable[..., None]
     policy: str = misbehaving()
     rounds: int = ROUNDS
     variables: dict[str, str] = {}
+    word: str = "run"
 
 
 def free_ports(count):
@@ -110,7 +111,7 @@ class Run:
         with open(policy, "w", encoding="ascii") as file:
             file.write(case.policy.replace("PID_FILE", self.path("pid")).replace("ROOM", room))
         with open(policy, "rb") as source, open(self.path("report"), "wb") as report, open(self.path("errors"), "wb") as errors:
-            words, variables = [program, "run", str(port), str(case.rounds)], {**os.environ, **case.variables}
+            words, variables = [program, case.word, str(port), str(case.rounds)], {**os.environ, **case.variables}
             self.began = time.monotonic()
             self.process = subprocess.Popen(words, stdin=source, stdout=report, stderr=errors, env=variables)
 

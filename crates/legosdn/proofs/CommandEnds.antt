@@ -2,7 +2,7 @@
 use Rattle.std.proofs.Common.{◌≡◌, ◌⊎◌, ℕ, List, [], ◌∷◌, Option, Some, None, Result, Ok, Err, IfErr, OnOk, IfSome, Contains, refl, sym, subst, ◌∙◌, ap, inl, inr}
 use Rattle.std.specs.Result.{IsErrAnd}
 use Rattle.command_words.specs.declared.command.Command.{Command}
-use Rattle.command_words.specs.declared.command.Command.TheVariants.{Replay, Run, Gen}
+use Rattle.command_words.specs.declared.command.Command.TheVariants.{Replay, Run, Record, Gen}
 use Rattle.command_words.specs.Commands.{command_in}
 use Rattle.lego_io.specs.Count.{NeverFell}
 use Rattle.outside.specs.Seen.{Seen}
@@ -13,7 +13,7 @@ use Rattle.legosdn.specs.declared.stop.Stop.{Stop}
 use Rattle.legosdn.specs.declared.stop.Stop.TheVariants.{Usage, Refused, ReadFault, WriteFault, Shut, NextFault, SwitchBroke, Diverged, EventsLeft, NoMemory}
 use Rattle.legosdn.specs.Input.{ProgramValue, run_policy, Spelling}
 use Rattle.legosdn.specs.Stops.{stop_status, stop_line, refusal_line}
-use Rattle.legosdn.specs.Headline.{NoneFloods, Streams, streams, IsReplay, IsRun, IsGen, IsNoSession, IsNoPolicy, IsReadCause, IsRunCause, IsEarly, IsLate, SpellsPolicy, OfInput, Loaded, KeepsLines, RunsAs, Wrote, NotBegun, Replays}
+use Rattle.legosdn.specs.Headline.{NoneFloods, Streams, streams, IsReplay, IsRun, IsRecord, IsGen, IsNoSession, IsNoPolicy, IsReadCause, IsRunCause, IsEarly, IsLate, SpellsPolicy, OfInput, Loaded, KeepsLines, RunsAs, Wrote, NotBegun, Replays}
 use Rattle.legosdn.specs.Live.{Taken, IsTaken, TellsInOrder, ServesWhole, ServesUntil, ServesAs, ServesCut, TakenAs, ServesTaken, Serves}
 use Rattle.legosdn.specs.Course.{StandsAt}
 use Rattle.legosdn.proofs.Causes.{are_new, run_causes, ran_causes, unread_causes, no_both}
@@ -26,14 +26,16 @@ use Rattle.legosdn.proofs.Statuses.{is_broken, is_diverged, is_memory, not_late,
 -- ---- By the command
 
 command_is : (P : Type 0) (words : List (List ℕ)) (command : Option Command) → command_in words ≡ command → (IsReplay words → P) → ((start count : ℕ) → IsGen words start count → P) → ((port rounds : ℕ) → IsRun words port rounds → P)
-    → (command_in words ≡ None → P) → P
-command_is P words None is replays draws runs none = none is
-command_is P words (Some Replay) is replays draws runs none = replays is
-command_is P words (Some (Gen start count)) is replays draws runs none = draws start count is
-command_is P words (Some (Run port rounds)) is replays draws runs none = runs port rounds is
+    → ((port rounds : ℕ) → IsRecord words port rounds → P) → (command_in words ≡ None → P) → P
+command_is P words None is replays draws runs records none = none is
+command_is P words (Some Replay) is replays draws runs records none = replays is
+command_is P words (Some (Gen start count)) is replays draws runs records none = draws start count is
+command_is P words (Some (Run port rounds)) is replays draws runs records none = runs port rounds is
+command_is P words (Some (Record port rounds)) is replays draws runs records none = records port rounds is
 
-pub by_command : (P : Type 0) (words : List (List ℕ)) → (IsReplay words → P) → ((start count : ℕ) → IsGen words start count → P) → ((port rounds : ℕ) → IsRun words port rounds → P) → (command_in words ≡ None → P) → P
-by_command P words replays draws runs none = command_is P words (command_in words) refl replays draws runs none
+pub by_command : (P : Type 0) (words : List (List ℕ)) → (IsReplay words → P) → ((start count : ℕ) → IsGen words start count → P) → ((port rounds : ℕ) → IsRun words port rounds → P)
+    → ((port rounds : ℕ) → IsRecord words port rounds → P) → (command_in words ≡ None → P) → P
+by_command P words replays draws runs records none = command_is P words (command_in words) refl replays draws runs records none
 
 -- ---- Nothing ran
 
@@ -63,6 +65,13 @@ serves_unread Tells rounds told left i j k seen contents Stays stop result is ca
   why = unread_causes Tells IsNoPolicy told i j k k seen seen stop result is cause;
   early = stays_early Stays stop result is (λ early. stays);
 }
+
+-- what a run gives where it comes to its end is no part of how it ends
+pub serves_ok : {Own T : Type 0} (Tells : Type 0) (rounds : ℕ) (old new : Streams) (was now : Seen Own) (Stays : Type 0) (x : T) → Serves Tells rounds (Ok x) old new was now Stays → Serves {T = Unit {0}} Tells rounds (Ok tt) old new was now Stays
+serves_ok Tells rounds old new was now Stays x ends = record { taken = ends.taken; no_other = ends.no_other; runs = ends.runs; course = ends.course; why = tt; early = tt }
+
+pub serves_err : {Own T : Type 0} (Tells : Type 0) (rounds : ℕ) (old new : Streams) (was now : Seen Own) (Stays : Type 0) (stop : Stop) → Serves {T = T} Tells rounds (Err stop) old new was now Stays → Serves {T = Unit {0}} Tells rounds (Err stop) old new was now Stays
+serves_err Tells rounds old new was now Stays stop ends = record { taken = ends.taken; no_other = ends.no_other; runs = ends.runs; course = ends.course; why = ends.why; early = ends.early }
 
 pub replays_unread : (spells : Spelling) {T : Type 0} (told left : Option (List ℕ)) (i j k : ℕ) (was now : WorldData) (contents : Option (List ℕ)) (Stays : Type 0) (stop : Stop) (result : Result T Stop) → IsErrAnd result (λ s. s ≡ stop) → (seen_of now).history ≡ []
     → IsReadCause (IsNoSession spells) told i j stop → (IsEarly stop → Stays) → Replays spells result (streams told contents i k) (streams left contents j k) was now Stays

@@ -108,7 +108,7 @@ generates_whole start count old new was now report faults (Err stop) replays all
 }
 
 -- or it stopped
-no_rise : (P : Type 0) → Rose 0 0 → P
+pub no_rise : (P : Type 0) → Rose 0 0 → P
 no_rise P (inl less) = absurd (omega (arith, less))
 no_rise P (inr last) = absurd (omega (arith, last))
 
@@ -139,7 +139,7 @@ generates_stopped start count old was now report faults ended stop result is rep
 
 -- ---- Statuses
 
-ends_same : (ended stop : Stop) (status : ℕ) → StopsSo ended stop → status ≡ stop_status stop → (status ≡ 12) ⊎ (stop_status ended ≡ status_replayed status)
+pub ends_same : (ended stop : Stop) (status : ℕ) → StopsSo ended stop → status ≡ stop_status stop → (status ≡ 12) ⊎ (stop_status ended ≡ status_replayed status)
 ends_same Usage stop status so is = inr (sym (ap status_replayed (is ∙ ap stop_status so)))
 ends_same (Refused refusal) stop status so is = inr (sym (ap status_replayed (is ∙ ap stop_status so)))
 ends_same ReadFault stop status so is = inr (sym (ap status_replayed (is ∙ ap stop_status so)))
@@ -151,7 +151,7 @@ ends_same (Diverged d) stop status so is = inr (sym (ap status_replayed (is ∙ 
 ends_same (EventsLeft left) stop status so is = inr (sym (ap status_replayed (is ∙ ap stop_status so)))
 ends_same NoMemory stop status so is = inr (sym (ap status_replayed (is ∙ ap stop_status so)))
 
-never_five : (ended stop : Stop) → StopsSo ended stop → stop_status stop ≡ 5 → ⊥
+pub never_five : (ended stop : Stop) → StopsSo ended stop → stop_status stop ≡ 5 → ⊥
 never_five Usage stop so five = omega (arith, sym (ap stop_status so) ∙ five)
 never_five (Refused refusal) stop so five = omega (arith, sym (ap stop_status so) ∙ five)
 never_five ReadFault stop so five = omega (arith, sym (ap stop_status so) ∙ five)
@@ -163,7 +163,7 @@ never_five (Diverged d) stop so five = omega (arith, sym (ap stop_status so) ∙
 never_five (EventsLeft left) stop so five = omega (arith, sym (ap stop_status so) ∙ five)
 never_five NoMemory stop so five = omega (arith, sym (ap stop_status so) ∙ five)
 
-ended_at : (n : ℕ) (ended stop : Stop) → StopsSo ended stop → (12 ≡ n → ⊥) → stop_status stop ≡ n → stop_status ended ≡ n
+pub ended_at : (n : ℕ) (ended stop : Stop) → StopsSo ended stop → (12 ≡ n → ⊥) → stop_status stop ≡ n → stop_status ended ≡ n
 ended_at n Usage stop so other is = ap stop_status (sym so) ∙ is
 ended_at n (Refused refusal) stop so other is = ap stop_status (sym so) ∙ is
 ended_at n ReadFault stop so other is = ap stop_status (sym so) ∙ is
@@ -175,10 +175,10 @@ ended_at n (Diverged d) stop so other is = ap stop_status (sym so) ∙ is
 ended_at n (EventsLeft left) stop so other is = ap stop_status (sym so) ∙ is
 ended_at n NoMemory stop so other is = ap stop_status (sym so) ∙ is
 
-twelve_eight : ◌≡◌ {A = ℕ} 12 8 → ⊥
+pub twelve_eight : ◌≡◌ {A = ℕ} 12 8 → ⊥
 twelve_eight e = omega (arith, e)
 
-twelve_nine : ◌≡◌ {A = ℕ} 12 9 → ⊥
+pub twelve_nine : ◌≡◌ {A = ℕ} 12 9 → ⊥
 twelve_nine e = omega (arith, e)
 
 -- ---- The promise
@@ -208,7 +208,7 @@ wrote_nothing None b k l (inl all) = all
 wrote_nothing (Some bytes) b k l (inl all) = all ∙ ap (λ (xs : List ℕ). Some xs) (append-nil bytes)
 wrote_nothing a b k l (inr part) = absurd (omega (arith, part.1.1))
 
-cut_of : (line : List ℕ) (stop : Stop) (old mid : Streams) (contents : Option (List ℕ)) (faults : ℕ) → CutLine stop line old mid → Wrote mid.contents contents mid.sink_faults faults (stop_line stop) → stop_status stop ≡ 5 → TookPart old.contents contents line
+pub cut_of : (line : List ℕ) (stop : Stop) (old mid : Streams) (contents : Option (List ℕ)) (faults : ℕ) → CutLine stop line old mid → Wrote mid.contents contents mid.sink_faults faults (stop_line stop) → stop_status stop ≡ 5 → TookPart old.contents contents line
 unfolding stop_line
 cut_of line Usage old mid contents faults cut wrote five = absurd cut
 cut_of line (Refused refusal) old mid contents faults cut wrote five = absurd cut
@@ -221,7 +221,7 @@ cut_of line (Diverged d) old mid contents faults cut wrote five = absurd cut
 cut_of line (EventsLeft left) old mid contents faults cut wrote five = absurd cut
 cut_of line NoMemory old mid contents faults cut wrote five = absurd (omega (arith, five))
 
-cut_ends : (line : List ℕ) (stop : Stop) (status : ℕ) (old mid : Streams) → CutLine stop line old mid → status ≡ stop_status stop → (status ≡ 12) ⊎ (0 ≡ status_replayed status)
+pub cut_ends : (line : List ℕ) (stop : Stop) (status : ℕ) (old mid : Streams) → CutLine stop line old mid → status ≡ stop_status stop → (status ≡ 12) ⊎ (0 ≡ status_replayed status)
 cut_ends line Usage status old mid cut is = absurd cut
 cut_ends line (Refused refusal) status old mid cut is = absurd cut
 cut_ends line ReadFault status old mid cut is = absurd cut
@@ -234,11 +234,11 @@ cut_ends line (EventsLeft left) status old mid cut is = absurd cut
 cut_ends line NoMemory status old mid cut is = inl is
 
 -- nothing was written before the line
-wrote_alone : (stop : Stop) (old mid : Streams) (contents : Option (List ℕ)) (faults : ℕ) → Unwritten old mid → Wrote mid.contents contents mid.sink_faults faults (stop_line stop) → Wrote old.contents contents old.sink_faults faults (stop_line stop)
+pub wrote_alone : (stop : Stop) (old mid : Streams) (contents : Option (List ℕ)) (faults : ℕ) → Unwritten old mid → Wrote mid.contents contents mid.sink_faults faults (stop_line stop) → Wrote old.contents contents old.sink_faults faults (stop_line stop)
 wrote_alone stop old mid contents faults none wrote =
     subst (λ (c : Option (List ℕ)). Wrote c contents old.sink_faults faults (stop_line stop)) none.0 (subst (λ (n : ℕ). Wrote mid.contents contents n faults (stop_line stop)) none.1 wrote)
 
-cut_wrote : (line : List ℕ) (stop : Stop) (old mid : Streams) (contents : Option (List ℕ)) (faults : ℕ) → CutLine stop line old mid → Wrote mid.contents contents mid.sink_faults faults (stop_line stop) → (stop ≡ WriteFault) ⊎ Wrote old.contents contents old.sink_faults faults (stop_line stop)
+pub cut_wrote : (line : List ℕ) (stop : Stop) (old mid : Streams) (contents : Option (List ℕ)) (faults : ℕ) → CutLine stop line old mid → Wrote mid.contents contents mid.sink_faults faults (stop_line stop) → (stop ≡ WriteFault) ⊎ Wrote old.contents contents old.sink_faults faults (stop_line stop)
 cut_wrote line Usage old mid contents faults cut wrote = absurd cut
 cut_wrote line (Refused refusal) old mid contents faults cut wrote = absurd cut
 cut_wrote line ReadFault old mid contents faults cut wrote = absurd cut
@@ -251,7 +251,7 @@ cut_wrote line (EventsLeft left) old mid contents faults cut wrote = absurd cut
 cut_wrote line NoMemory old mid contents faults cut wrote = inr (wrote_alone NoMemory old mid contents faults cut wrote)
 
 -- of no switch
-cut_status : (line : List ℕ) (stop : Stop) (old mid : Streams) (n : ℕ) → CutLine stop line old mid → (5 ≡ n → ⊥) → (12 ≡ n → ⊥) → stop_status stop ≡ n → ⊥
+pub cut_status : (line : List ℕ) (stop : Stop) (old mid : Streams) (n : ℕ) → CutLine stop line old mid → (5 ≡ n → ⊥) → (12 ≡ n → ⊥) → stop_status stop ≡ n → ⊥
 cut_status line Usage old mid n cut five twelve is = cut
 cut_status line (Refused refusal) old mid n cut five twelve is = cut
 cut_status line ReadFault old mid n cut five twelve is = cut
@@ -278,10 +278,10 @@ gen_answers start count stop status old mid contents faults was now halts why pr
     (completes (Unit {0}) (IsNoSession (drawn start count)) (Some []) (faults_at old (seen_of was)) (faults_at (behind mid contents faults) (seen_of now)) stop (gen_cause start count stop status old mid contents faults was now halts why)
     (good_session (drawn start count) (Some []) is.input program session is.whole is.spelled) broke diverged none.none_failed)
 
--- what a replay would write behind its report
-would_halt : (ended : Stop) (report : List ℕ) (faults : ℕ) (Same : Type 0) → (IsEarly ended → Same × ((report ≡ []) × (faults ≡ 0)))
-    → Halts ended (stop_status ended) (streams (Some []) (Some []) 0 0) (streams (Some []) (Some report) 0 faults) (Some (report ++ stop_line ended)) faults
-would_halt ended report faults Same early = record {
+-- what a run would write behind its report
+pub would_halt : (told left : Option (List ℕ)) (i j : ℕ) (ended : Stop) (report : List ℕ) (faults : ℕ) (Same : Type 0) → (IsEarly ended → Same × ((report ≡ []) × (faults ≡ 0)))
+    → Halts ended (stop_status ended) (streams told (Some []) i 0) (streams left (Some report) j faults) (Some (report ++ stop_line ended)) faults
+would_halt told left i j ended report faults Same early = record {
   status_is = refl;
   never_fell = omega arith;
   never_fell_then = omega arith;
@@ -318,7 +318,7 @@ err_so start count old mid contents k was now report faults (Err ended) stop sta
   wanting = faults;
   is_replay =
       replay_err (drawn start count) (streams (Some []) (Some []) 0 0) (streams (Some []) (Some report) 0 faults) (Some (report ++ stop_line ended)) faults was now _ ended (stop_status ended)
-      (would_halt ended report faults (now ≡ was) replays.early) replays;
+      (would_halt (Some []) (Some []) 0 0 ended report faults (now ≡ was) replays.early) replays;
   ends_alike = ends_same ended stop status summed.0 halts.status_is;
   summary_is_exact = λ zero. absurd (not_zero stop (sym halts.status_is ∙ zero));
   summary_is_cut = λ five. absurd (never_five ended stop summed.0 (sym halts.status_is ∙ five));
@@ -340,7 +340,7 @@ gen_err start count old mid contents faults was now stop status halts ends = err
 
 -- ---- Of the code's parts
 
-early_map : {T : Type 0} (P Q : Type 0) (result : Result T Stop) → (P → Q) → IfErr result (λ s. IsEarly s → P) → IfErr result (λ s. IsEarly s → Q)
+pub early_map : {T : Type 0} (P Q : Type 0) (result : Result T Stop) → (P → Q) → IfErr result (λ s. IsEarly s → P) → IfErr result (λ s. IsEarly s → Q)
 early_map P Q (Ok x) to early = tt
 early_map P Q (Err stop) to early = λ is. to (early is)
 
@@ -361,7 +361,7 @@ of_store start count ended was now room fails old new is replays =
       early = early_map _ _ ended (λ same. (same.0, (ap (λ (s : Store). s.taken) same.1, ap (λ (s : Store). s.faults) same.1))) at.early;
     }
 
-cut_late : (P : Type 0) (line : List ℕ) (old new : Streams) (stop : Stop) → CutLine stop line old new → IsEarly stop → P
+pub cut_late : (P : Type 0) (line : List ℕ) (old new : Streams) (stop : Stop) → CutLine stop line old new → IsEarly stop → P
 cut_late P line old new Usage cut early = absurd cut
 cut_late P line old new (Refused refusal) cut early = absurd cut
 cut_late P line old new ReadFault cut early = absurd cut

@@ -17,3 +17,4 @@ mod Courses
 mod CommandEnds
 mod Promises
 mod Generated
+mod Recordings

@@ -73,7 +73,7 @@ refused_by Tells IsRefused stop status old mid contents faults was now halts why
       wrote_alone stop refused.0 status old mid contents faults halts refused.1,
     )
 
-answers : {Own : Type 0} (Tells : Type 0) (IsRefused : InputRefusal → List ℕ → Type 0) (stop : Stop) (status : ℕ) (old mid : Streams) (contents : Option (List ℕ)) (faults : ℕ) (was now : Seen Own) → Halts stop status old mid contents faults
+pub answers : {Own : Type 0} (Tells : Type 0) (IsRefused : InputRefusal → List ℕ → Type 0) (stop : Stop) (status : ℕ) (old mid : Streams) (contents : Option (List ℕ)) (faults : ℕ) (was now : Seen Own) → Halts stop status old mid contents faults
     → IsCause Tells IsRefused old.remaining (faults_at old was) (faults_at mid now) stop → ((refusal : InputRefusal) → IfSome old.remaining (IsRefused refusal) → ⊥) → (stop_status stop ≡ 8 → ⊥) → (stop_status stop ≡ 9 → ⊥)
     → NoneFailed (faults_at old was) (faults_at (behind mid contents faults) now) → IsAnswered status
 answers Tells IsRefused stop status old mid contents faults was now halts why good broke diverged none =

@@ -20,7 +20,7 @@ use Rattle.lego_model.specs.SessionLines.{SessionValue}
 use Rattle.session_text.specs.Loading.{given_by}
 use Rattle.crash_policy.specs.Order.{policy_of}
 use Rattle.command_words.specs.Commands.{command_in}
-use Rattle.command_words.specs.declared.command.Command.TheVariants.{Replay, Run, Gen}
+use Rattle.command_words.specs.declared.command.Command.TheVariants.{Replay, Run, Record, Gen}
 use Rattle.legosdn.specs.declared.stop.InputRefusal.{InputRefusal}
 use Rattle.legosdn.specs.Input.{ProgramValue, Spelling, program_in, run_policy}
 use Rattle.legosdn.specs.Said.{allowed_by, reference_over, WithEnough, LinesRun, MemoryRun, WritingRun}
@@ -37,6 +37,10 @@ IsReplay words = command_in words ≡ Some Replay
 -- or `run`, with a port and a number of rounds
 abbrev pub IsRun : List (List ℕ) → ℕ → ℕ → Type 0
 IsRun words port rounds = command_in words ≡ Some (Run port rounds)
+
+-- or `record`, with the same
+abbrev pub IsRecord : List (List ℕ) → ℕ → ℕ → Type 0
+IsRecord words port rounds = command_in words ≡ Some (Record port rounds)
 
 -- or `gen`, with a start and a count
 abbrev pub IsGen : List (List ℕ) → ℕ → ℕ → Type 0

@@ -7,4 +7,5 @@ pub mod Headline
 pub mod LinkFaults
 pub mod Live
 pub mod Drawn
+pub mod Recorded
 pub mod Promise

@@ -26,6 +26,7 @@ use Rattle.legosdn.specs.Headline.{IsNoSession, IsNoPolicy, Streams, streams, fa
 use Rattle.legosdn.specs.LinkFaults.{LostAtFaults}
 use Rattle.legosdn.specs.Live.{IsTaken, TellsInOrder, NoneStray, ServesWhole, ServesCut}
 use Rattle.legosdn.specs.Course.{CourseTo}
+use Rattle.legosdn.specs.Recorded.{Kept, Recording}
 
 -- ---- The input
 
@@ -202,6 +203,23 @@ pub record RunPromise {Own : Type 0} (Tells : Type 0) (rounds status : ℕ) (old
   pub good_input_is_answered : TellsInOrder Tells was now → (program : ProgramValue) → IsPolicy old.remaining program → NothingInTheWay old new was now → IsAnswered status
   pub statuses : RunStatuses status old new Stays
   pub takes_its_course : Tells → TakesItsCourse SpellsPolicy status was now old new
+
+-- ---- `record PORT ROUNDS`
+
+-- The promise of `record`: it is a `run`, of a report that is not written. In place of it the recording is written, where the run came to its end: the
+-- policy as it was read, and the session of what was kept, which has of a world that tells its own switches and what happened to it; where the sink
+-- failed, a part of that. At any other status the line of the stop is all that was written.
+pub record RecordPromise {Own : Type 0} (Tells : Type 0) (rounds status : ℕ) (old new : Streams) (was now : Seen Own) (kept : Kept) (Stays : Type 0) : Type 0 where
+  pub report : List ℕ
+  pub served : ℕ
+  pub wanting : ℕ
+  pub is_run : RunPromise Tells rounds served (streams old.remaining (Some []) old.source_faults 0) (streams new.remaining (Some report) new.source_faults wanting) was now Stays
+  pub ends_alike : (status ≡ 12) ⊎ (served ≡ status_replayed status)
+  pub recording_is_whole : status ≡ 0 → (bytes : List ℕ) × Recording Tells old.remaining new.remaining now kept bytes × (new.contents ≡ append_known old.contents bytes)
+  pub recording_is_cut : status ≡ 5 → (bytes : List ℕ) × Recording Tells old.remaining new.remaining now kept bytes × TookPart old.contents new.contents bytes
+  pub stop_has_its_cause : (status ≡ 0) ⊎ Stopped (IsCause Tells IsNoPolicy old.remaining (faults_at old was) (faults_at new now)) status
+      (λ stop. (stop ≡ WriteFault) ⊎ Wrote old.contents new.contents old.sink_faults new.sink_faults (stop_line stop))
+  pub good_input_is_answered : TellsInOrder Tells was now → (program : ProgramValue) → IsPolicy old.remaining program → NothingInTheWay old new was now → IsAnswered status
 
 -- Over a world whose switches can be parted with, whatever these do: no switch ends the run, since one that is at fault is parted with, and lost.
 abbrev pub NoSwitchEnds : ℕ → Type 0

@@ -21,8 +21,8 @@ use sim_world::SimWorld;
 use std::alloc::Global;
 use trace_world::Traced;
 
-/// How many bytes a report that is summed up has at most (64 MiB).
-const MOST_REPORT: usize = 67_108_864;
+/// How many bytes a report that is not written has at most (64 MiB).
+pub const MOST_REPORT: usize = 67_108_864;
 
 /// Gives the world the session that a start and a count draw; answers its program, that of an empty policy.
 fn draw(alloc: Global, start: u64, count: u32, sim: &mut SimWorld) -> Result<Program, Stop>
@@ -80,8 +80,8 @@ fn write_summary<K: Sink>(
     }
 }
 
-/// Gives the stop where the replay stopped. Where its report was not written, memory was wanting for that.
-fn stop_of_replay(stop: Stop) -> Stop
+/// Gives the stop where a run stopped whose report goes to memory. Where that was not written, memory was wanting for it.
+pub fn stop_of_replay(stop: Stop) -> Stop
     ensures { StopsSo stop result }
 {
     match stop {

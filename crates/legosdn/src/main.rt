@@ -1,7 +1,7 @@
 //! The program: it reads an input, runs a world, and writes the report. `replay` runs the session of the input in a simulated
-//! world. `run` runs the applications of a policy over the switches that connect.
+//! world. `run` runs the applications of a policy over the switches that connect, and `record` writes that down as a session.
 //!
-//! The call is `top::legosdn`, over any source, sink and worlds. Its clauses `replay` and `run` are the promises of the two
+//! The call is `top::legosdn`, over any source, sink and worlds. Its clauses `replay`, `run` and `record` are the promises of the
 //! commands, records of specs/Promise.antt: a field for each sentence of the README, and one for statuses. The others say
 //! what is so at every status, and before anything runs.
 //! docs/GUARANTEES.md says each in plain words, docs/SESSION.md describes input, report and statuses.
@@ -17,6 +17,7 @@ mod input;
 mod kept_source;
 mod live;
 mod policy;
+mod recorded_run;
 mod recording;
 mod settings;
 mod stop;
@@ -25,7 +26,7 @@ mod world;
 
 use crate::explaining::explain;
 use crate::kept_source::{KeptSource, MOST_EXPLAINED};
-use crate::recording::write_recording;
+use crate::recording::{is_record, write_recording};
 use crate::settings::{SettingFault, Settings, SystemClock};
 use crate::top::legosdn;
 use lego_io::{Sink, Source, StdSink, StdSource, write_all};
@@ -82,20 +83,25 @@ struct Console<S, K> {
     sink: K,
 }
 
-/// Returns this world, which is recorded where the environment asks for it.
+/// Tells whether a run is to be recorded: the environment asks for it, or the words do.
+fn is_kept(settings: &Settings, alloc: Global, words: &[String]) -> bool {
+    settings.is_recorded || is_record(alloc, words)
+}
+
+/// Returns this world, which is recorded where that is asked for.
 fn with_record<W: World + Drop>(
-    settings: &Settings,
+    is_kept: bool,
     alloc: Global,
     world: W,
 ) -> Result<Recorder<W>, AllocError> {
-    if settings.is_recorded {
+    if is_kept {
         Recorder::new(alloc, world)
     } else {
         Ok(Recorder::silent(alloc, world))
     }
 }
 
-/// Writes the recording of a run that has ended, where the environment asks for it. The world ends here.
+/// Writes the recording of a run that has ended, where the environment asks for one beside its report. The world ends here.
 fn end_of<S, K, E: Sink + Drop, L: Told + Drop>(
     settings: &Settings,
     alloc: Global,
@@ -114,7 +120,7 @@ fn end_of<S, K, E: Sink + Drop, L: Told + Drop>(
     }
 }
 
-/// Makes the call over a simulated world and another one, whose acts are told, and which is recorded, where the environment asks for it.
+/// Makes the call over a simulated world and another one, whose acts are told, and which is recorded, where that is asked for.
 ///
 /// Each world is made in a function of its own: to prove one that holds both takes a quarter of an hour.
 fn call_over<S: Source + Drop, K: Sink + Drop, E: Sink + Drop, L: Told + Drop>(
@@ -128,7 +134,8 @@ fn call_over<S: Source + Drop, K: Sink + Drop, E: Sink + Drop, L: Told + Drop>(
     requires new_world { IsNew sim.old }
     requires empty_world { given_of sim.old ≡ nothing_given }
 {
-    let recorder = with_record(settings, alloc, live)?;
+    let is_kept = is_kept(settings, alloc, &console.words);
+    let recorder = with_record(is_kept, alloc, live)?;
     let mut live = with_trace(settings, alloc, recorder, errors);
     let status = legosdn(
         alloc,
@@ -177,7 +184,7 @@ fn run_beside<
     if settings.is_traced {
         live.note_connections();
     }
-    if settings.is_recorded {
+    if is_kept(settings, alloc, &console.words) {
         live.keep_stimuli();
     }
     call_over(settings, alloc, console, sim, live, acts)
@@ -239,7 +246,7 @@ fn run(rt: &HostRuntime, settings: &Settings) -> Result<u8, AllocError> {
 /// Writes to standard error what the line of a refused input does not say of its policy.
 fn explain_input<S, K>(rt: &HostRuntime, console: &Console<S, K>) -> Result<(), AllocError> {
     let is_run = match console.words.first() {
-        Some(word) => word.as_str() == "run",
+        Some(word) => matches!(word.as_str(), "run" | "record"),
         None => false,
     };
     let Some(input) = console.source.kept() else {

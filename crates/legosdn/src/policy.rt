@@ -129,14 +129,27 @@ fn with_commands(program: Program) -> Result<Program, InputRefusal>
     Ok(program)
 }
 
-/// Reads an input to its end, as a policy, and gives the program that it starts.
-pub fn read_program<S: Source>(alloc: Global, source: &mut S) -> Result<Program, Stop>
-    ensures taken { IfOk result (λ program. Taken (program_value program) (S.remaining source.old) (S.remaining source.new)) }
-    ensures few { IfOk result (λ program. length program.apps.items ≤ 32) }
+/// A policy as it was read, and the program that it starts.
+#[derive(Drop, Debug)]
+pub struct ReadProgram {
+    /// Its text.
+    pub text: Vec<u8>,
+    /// What it starts.
+    pub program: Program,
+}
+
+/// Reads an input to its end, as a policy, and gives it with the program that it starts.
+pub fn read_program<S: Source>(alloc: Global, source: &mut S) -> Result<ReadProgram, Stop>
+    ensures taken { IfOk result (λ read. Taken (program_value read.program) (S.remaining source.old) (S.remaining source.new)) }
+    ensures text { IfOk result (λ read. IfSome (S.remaining source.old) (λ told. read.text.items ≡ told)) }
+    ensures few { IfOk result (λ read. length read.program.apps.items ≤ 32) }
     ensures why { IfErr result (IsReadCause IsNoPolicy (S.remaining source.old) (S.faults source.old) (S.faults source.new)) }
     ensures never_fell { NeverFell (S.faults source.old) (S.faults source.new) }
 {
     let input = read_input(alloc, source)?;
     let program = program_in(alloc, &input)?;
-    Ok(with_commands(program)?)
+    Ok(ReadProgram {
+        program: with_commands(program)?,
+        text: input,
+    })
 }

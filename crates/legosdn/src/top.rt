@@ -1,6 +1,6 @@
 //! The program as a call over a source, a sink and two worlds.
 
-ghost use Rattle.std.specs.Prelude.{◌≡◌, ◌≤◌, ◌∷◌, [], ℕ, None, length, map, Contains, IfOk, OnOk, IfErr, string_bytes};
+ghost use Rattle.std.specs.Prelude.{◌≡◌, ◌⊎◌, ◌≤◌, ◌∷◌, [], ℕ, None, length, map, Contains, IfOk, OnOk, IfErr, string_bytes};
 ghost use Rattle.std.specs.Result.{IsErrAnd};
 ghost use Rattle.crash_policy.specs.Policies.{app_value};
 ghost use Rattle.lego_io.specs.Count.{Rose, NeverFell};
@@ -17,16 +17,19 @@ ghost use Rattle.run_course.specs.Parts.{TakesCourse};
 ghost use Rattle.legosdn.specs.Course.{StandsAt};
 ghost use Rattle.legosdn.specs.Input.{program_of, program_value, session_of, spelled_to, read_by};
 ghost use Rattle.legosdn.specs.Stops.{stop_status, stop_line};
-ghost use Rattle.legosdn.specs.Headline.{IsReplay, IsRun, IsGen, IsNoSession, streams, IsReadCause, IsRunCause, IsEarly, Loaded, LosesByFaults, RunsAs, KeepsLines, Wrote, Replays};
+ghost use Rattle.legosdn.specs.Headline.{IsReplay, IsRun, IsRecord, IsGen, IsNoSession, streams, IsReadCause, IsRunCause, IsEarly, Loaded, LosesByFaults, RunsAs, KeepsLines, Wrote, Replays};
 ghost use Rattle.legosdn.specs.Live.{Serves, IsOfNoSwitch};
 ghost use Rattle.legosdn.specs.Drawn.{Generates};
+ghost use Rattle.legosdn.specs.Recorded.{Records};
 ghost use Rattle.legosdn.specs.LinkFaults.{LosesAsTold, TellsAsTold};
-ghost use Rattle.legosdn.specs.Promise.{ReplayPromise, GenPromise, RunPromise, NoSwitchEnds, AtEveryStatus, LiveAtEveryStatus};
+ghost use Rattle.legosdn.specs.Promise.{ReplayPromise, GenPromise, RunPromise, RecordPromise, NoSwitchEnds, AtEveryStatus, LiveAtEveryStatus};
 
 use crate::drawn::run_drawn;
 use crate::input::{cut, read_input};
 use crate::live::run_live;
 use crate::policy::{Program, program_in};
+use crate::recorded_run::run_recorded;
+use crate::recording::Recorded;
 use crate::stop::Stop;
 use crate::world::run_world;
 use command_words::{Command, read_words};
@@ -34,14 +37,13 @@ use crash_policy::AppRule;
 use lego_io::{Sink, Source};
 use net_guard::ChosenJudge;
 use of_types::limits::MOST_ROUNDS;
-use outside::World;
 use session_text::read_session;
 use sim_world::SimWorld;
 use std::alloc::{AllocError, Global};
 use trace_world::Traced;
 
 /// Gives the names of applications, in their order.
-fn app_names(alloc: Global, apps: &[AppRule]) -> Result<Vec<String>, AllocError>
+pub fn app_names(alloc: Global, apps: &[AppRule]) -> Result<Vec<String>, AllocError>
     ensures { IfOk result (λ all. map string_bytes all.items ≡ names (map app_value apps.now)) }
 {
     let mut names = Vec::new(alloc);
@@ -127,7 +129,7 @@ fn replay<S: Source, K: Sink, E: Sink + Drop>(
 }
 
 /// Runs the command that the words are.
-fn run<S: Source, K: Sink, E: Sink + Drop, W: World>(
+fn run<S: Source, K: Sink, E: Sink + Drop, W: Recorded>(
     alloc: Global,
     words: &[String],
     source: &mut S,
@@ -147,6 +149,10 @@ fn run<S: Source, K: Sink, E: Sink + Drop, W: World>(
         → Serves W.Tells rounds result (streams (S.remaining source.old) (K.contents sink.old) (S.faults source.old) (K.faults sink.old))
         (streams (S.remaining source.new) (K.contents sink.new) (S.faults source.new) (K.faults sink.new)) (W.seen live.old) (W.seen live.new) ((live.new ≡ live.old) × (sink.new ≡ sink.old)) }
     ensures run_leaves_sim { (port rounds : ℕ) → IsRun (map string_bytes words.now) port rounds → sim.new ≡ sim.old }
+    ensures records { (port rounds : ℕ) → IsRecord (map string_bytes words.now) port rounds
+        → Records W.Tells rounds result (streams (S.remaining source.old) (K.contents sink.old) (S.faults source.old) (K.faults sink.old))
+        (streams (S.remaining source.new) (K.contents sink.new) (S.faults source.new) (K.faults sink.new)) (W.seen live.old) (W.seen live.new) (W.kept live.new) (live.new ≡ live.old) }
+    ensures record_leaves_sim { (port rounds : ℕ) → IsRecord (map string_bytes words.now) port rounds → sim.new ≡ sim.old }
     ensures always { AtEveryStatus (spelled_to (command_in (map string_bytes words.now))) (read_by (command_in (map string_bytes words.now)) (S.remaining source.old)) (read_by (command_in (map string_bytes words.now)) (S.remaining source.new)) (seen_of sim.new) }
     ensures live_always { LiveAtEveryStatus W.Tells (W.seen live.old) (W.seen live.new) }
     ensures early { IfErr result (λ stop. IsEarly stop → (sim.new ≡ sim.old) × (live.new ≡ live.old) × (sink.new ≡ sink.old)) }
@@ -155,10 +161,14 @@ fn run<S: Source, K: Sink, E: Sink + Drop, W: World>(
         → IsErrAnd result (λ stop. Contains (2 ∷ 12 ∷ []) (stop_status stop) × (sim.new ≡ sim.old) × (live.new ≡ live.old) × (sink.new ≡ sink.old)) }
     ensures never_fell { NeverFell (K.faults sink.old) (K.faults sink.new) }
     ensures no_switch { (port rounds : ℕ) → IsRun (map string_bytes words.now) port rounds → W.CanPart → IfErr result IsOfNoSwitch }
+    ensures no_switch_recorded { (port rounds : ℕ) → IsRecord (map string_bytes words.now) port rounds → W.CanPart → IfErr result IsOfNoSwitch }
 {
     match read_words(alloc, words)? {
         Some(Command::Replay) => replay(alloc, source, sink, sim),
         Some(Command::Run { port, rounds }) => run_live(alloc, source, sink, live, port, rounds),
+        Some(Command::Record { port, rounds }) => {
+            run_recorded(alloc, source, sink, live, port, rounds)
+        }
         Some(Command::Gen { start, count }) => run_drawn(alloc, start, count, sink, sim),
         None => Err(Stop::Usage),
     }
@@ -178,14 +188,14 @@ pub fn halt<K: Sink>(sink: &mut K, stop: Stop) -> u8
 /// Runs one command: reads an input to its end, runs a world, and writes the report.
 ///
 /// `replay` runs the session of the input, with the applications of its policy, in the simulated world, and `run` the applications
-/// of a policy over the switches of the other world. `gen` replays a session that it draws, and writes one line in place of the report.
+/// of a policy over the switches of the other world. `record` does the same, and writes the session that does it again in place of the report. `gen` replays a session that it draws, and writes one line in place of the report.
 /// The simulated world may tell its acts in words; contracts see it without them. The answer is the status
 /// of the program: 0 where the whole report was written, 2 where
 /// the words are no command, 3 where the input is refused, 4 where the source failed, 5 where the sink failed, 6 where
 /// the world stays shut or fails, 8 where a switch broke, 9 where it diverged, 10 where events were left, 12 where memory
 /// ran out. A switch whose link fails is lost, and the run goes on;
 /// so it is with a switch at fault, where the world can part with it. At any status but 0 and 5 the last line that is written says why.
-pub fn legosdn<S: Source, K: Sink, E: Sink + Drop, W: World>(
+pub fn legosdn<S: Source, K: Sink, E: Sink + Drop, W: Recorded>(
     alloc: Global,
     words: &[String],
     source: &mut S,
@@ -195,7 +205,7 @@ pub fn legosdn<S: Source, K: Sink, E: Sink + Drop, W: World>(
 ) -> u8
     requires new_world { IsNew sim.old }
     requires empty_world { given_of sim.old ≡ nothing_given }
-    // The five sentences of the README and what statuses say, of `replay`, of `gen`, and of `run` over any world. A command leaves the world of the other one,
+    // The five sentences of the README and what statuses say, of `replay`, of `gen`, and of `run` and `record` over any world. A command leaves the world of the other one,
     // and `gen` the input too.
     ensures replay { (IsReplay (map string_bytes words.now) → ReplayPromise session_of result (streams (S.remaining source.old) (K.contents sink.old) (S.faults source.old) (K.faults sink.old))
         (streams (S.remaining source.new) (K.contents sink.new) (S.faults source.new) (K.faults sink.new)) sim.old sim.new)
@@ -204,9 +214,12 @@ pub fn legosdn<S: Source, K: Sink, E: Sink + Drop, W: World>(
     ensures run { (port rounds : ℕ) → IsRun (map string_bytes words.now) port rounds
         → RunPromise W.Tells rounds result (streams (S.remaining source.old) (K.contents sink.old) (S.faults source.old) (K.faults sink.old))
         (streams (S.remaining source.new) (K.contents sink.new) (S.faults source.new) (K.faults sink.new)) (W.seen live.old) (W.seen live.new) (live.new ≡ live.old) }
-    ensures leaves_other_world { (IsReplay (map string_bytes words.now) → live.new ≡ live.old) × ((start count : ℕ) → IsGen (map string_bytes words.now) start count → (live.new ≡ live.old) × (source.new ≡ source.old)) × ((port rounds : ℕ) → IsRun (map string_bytes words.now) port rounds → sim.new ≡ sim.old) }
-    // Where the switches of the other world can be parted with, none ends a `run`: statuses 8 and 9 never come.
-    ensures no_switch_ends_the_run { (port rounds : ℕ) → IsRun (map string_bytes words.now) port rounds → W.CanPart → NoSwitchEnds result }
+    ensures record { (port rounds : ℕ) → IsRecord (map string_bytes words.now) port rounds
+        → RecordPromise W.Tells rounds result (streams (S.remaining source.old) (K.contents sink.old) (S.faults source.old) (K.faults sink.old))
+        (streams (S.remaining source.new) (K.contents sink.new) (S.faults source.new) (K.faults sink.new)) (W.seen live.old) (W.seen live.new) (W.kept live.new) (live.new ≡ live.old) }
+    ensures leaves_other_world { (IsReplay (map string_bytes words.now) → live.new ≡ live.old) × ((start count : ℕ) → IsGen (map string_bytes words.now) start count → (live.new ≡ live.old) × (source.new ≡ source.old)) × ((port rounds : ℕ) → IsRun (map string_bytes words.now) port rounds ⊎ IsRecord (map string_bytes words.now) port rounds → sim.new ≡ sim.old) }
+    // Where the switches of the other world can be parted with, none ends a `run` or a `record`: statuses 8 and 9 never come.
+    ensures no_switch_ends_the_run { (port rounds : ℕ) → IsRun (map string_bytes words.now) port rounds ⊎ IsRecord (map string_bytes words.now) port rounds → W.CanPart → NoSwitchEnds result }
     // At every status, of each world.
     ensures at_every_status { AtEveryStatus (spelled_to (command_in (map string_bytes words.now))) (read_by (command_in (map string_bytes words.now)) (S.remaining source.old)) (read_by (command_in (map string_bytes words.now)) (S.remaining source.new)) (seen_of sim.new) × TellsAsTold (seen_of sim.new) }
     ensures live_at_every_status { LiveAtEveryStatus W.Tells (W.seen live.old) (W.seen live.new) }

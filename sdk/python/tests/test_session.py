@@ -234,7 +234,7 @@ class Texts(unittest.TestCase):
 
     def test_a_recording(self):
         """The policy and the comments stay; of the bytes of each step stands behind them what they say."""
-        policy = '# recording: of a run\n# FLOW_REMOVED of switches, which no line says: 2\n[[app]]\nname = "app"\n---\n'
+        policy = '# recording: of a run\n# FLOW_REMOVED of switches, which no line says: 2\n[[app]]\nname = "app"\n---\n# PORT_STATUS of switches, which no line says: 1\n'
         text = policy + "session 1\nswitch 1 4096 1,2\nstart app ready\nreply app x:0000001101000000000000000101120008000000000000000405000131 closed\n"
         words = policy + (
             "session 1\nswitch 1 ports 1,2 room 4096\nstart app ready\nreply app: x:0000001101000000000000000101120008000000000000000405000131; closed"

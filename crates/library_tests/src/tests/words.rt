@@ -9,6 +9,11 @@ const RUN: Command = Command::Run {
     rounds: 5,
 };
 
+const RECORD: Command = Command::Record {
+    port: 6653,
+    rounds: 5,
+};
+
 const GEN: Command = Command::Gen { start: 7, count: 0 };
 
 /// The last numbers that are taken.
@@ -18,12 +23,13 @@ const LAST: Command = Command::Gen {
 };
 
 /// Words, and the command that they are (docs/SESSION.md).
-const WORDS: [(&[&str], Option<Command>); 26] = [
+const WORDS: [(&[&str], Option<Command>); 29] = [
     (&["replay"], Some(Command::Replay)),
     (&["--", "replay"], Some(Command::Replay)),
     (&["replay", "--"], Some(Command::Replay)),
     (&["run", "6653", "5"], Some(RUN)),
     (&["run", "--", "6653", "5"], Some(RUN)),
+    (&["record", "6653", "5"], Some(RECORD)),
     (&["gen", "7", "0"], Some(GEN)),
     (&["--", "gen", "7", "0"], Some(GEN)),
     (&["gen", "18446744073709551615", "100000"], Some(LAST)),
@@ -41,6 +47,8 @@ const WORDS: [(&[&str], Option<Command>); 26] = [
     (&["run", "6653", "05"], None),
     (&["run", "6653", "+5"], None),
     (&["run", "6653", "-5"], None),
+    (&["record", "6653"], None),
+    (&["record", "6653", "0"], None),
     (&["replay", "--", "--"], None),
     (&["-"], None),
     (&[""], None),
@@ -61,6 +69,9 @@ fn reads_commands_alone(rt: HostRuntime) -> Result<(), Fail> {
     for (words, command) in &WORDS {
         assert!(rt; is_read_as(rt.alloc(), words, *command)?, "{words:?}");
     }
-    assert!(rt; usage_line() == "usage: legosdn replay, run PORT ROUNDS, gen START COUNT");
+    assert!(rt;
+        usage_line()
+            == "usage: legosdn replay, run PORT ROUNDS, record PORT ROUNDS, gen START COUNT"
+    );
     Ok(())
 }

@@ -1,36 +1,8 @@
-use Rattle.legosdn.specs.Input.{program_of}
-use Rattle.std.proofs.Common.{refl, sym, subst}
-use Rattle.legosdn.specs.Headline.{streams, IsNoPolicy}
-use Rattle.legosdn.specs.Live.{Taken}
-use Rattle.legosdn.proofs.CommandEnds.{serves_unread, serves_taken}
-use Rattle.legosdn.proofs.Promises.{idle_always}
-use Rattle.std.proofs.lemmas.Result.{err_from_is_err_and}
-use Rattle.legosdn.proofs.Statuses.{read_of_no_switch}
+use Rattle.legosdn.proofs.CommandEnds.{serves_ok, serves_err}
 use Rattle.legosdn.proofs.live.run_live.Goals as goal
 
-pub returns-in_err-program-clause-serves : goal.returns-in_err-program-clause-serves
-returns-in_err-program-clause-serves g c =
-    serves_unread g.W.World.Tells c.args.rounds (g.S.Source.remaining c.args.source.now) (g.S.Source.remaining c.read_program.new.source) (g.S.Source.faults c.args.source.now) (g.S.Source.faults c.read_program.new.source)
-    (g.K.Sink.faults c.args.sink.now) (g.W.World.seen c.args.live.now) (g.K.Sink.contents c.args.sink.now) _ c.in_err-program.field-0.0 c.from_residual.result c.from_residual.ensures.1 c.in_err-program.ensures.why (refl, refl)
+pub returns-in-Ok-clause-serves : goal.returns-in-Ok-clause-serves
+returns-in-Ok-clause-serves g c = serves_ok g.W.World.Tells c.args.rounds _ _ _ _ _ _ c.in-Ok.ensures.serves
 
 pub returns-clause-serves : goal.returns-clause-serves
-returns-clause-serves g c =
-    serves_taken g.W.World.Tells c.args.rounds (streams (g.S.Source.remaining c.args.source.now) (g.K.Sink.contents c.args.sink.now) (g.S.Source.faults c.args.source.now) (g.K.Sink.faults c.args.sink.now))
-    (streams (g.S.Source.remaining c.read_program.new.source) (g.K.Sink.contents c.run_world.new.sink) (g.S.Source.faults c.read_program.new.source) (g.K.Sink.faults c.run_world.new.sink)) (g.W.World.seen c.args.live.now) (g.W.World.seen c.run_world.new.world) _ c.run_world.result
-    (program_of c.deref.result.now c.in_ok-program.program.judge)
-    (subst (λ apps. Taken (program_of apps c.in_ok-program.program.judge) (g.S.Source.remaining c.args.source.now) (g.S.Source.remaining c.read_program.new.source)) (sym c.deref.ensures.value) c.in_ok-program.ensures.taken) c.run_world.ensures.runs c.run_world.ensures.course c.run_world.ensures.why
-
-pub returns-in_err-program-clause-always : goal.returns-in_err-program-clause-always
-returns-in_err-program-clause-always g c = idle_always g.W.World.Tells (g.W.World.seen c.args.live.now)
-
-pub returns-clause-always : goal.returns-clause-always
-returns-clause-always g c = record {
-  every_application_ended = c.run_world.ensures.ended;
-  no_stray_call = c.run_world.ensures.strays;
-  own_ids_ascend = λ tells. c.run_world.ensures.ids tells.told tells.untouched tells.order;
-}
-
-pub returns-in_err-program-clause-no_switch : goal.returns-in_err-program-clause-no_switch
-returns-in_err-program-clause-no_switch g c =
-    let p = err_from_is_err_and c.from_residual.result c.from_residual.ensures.1 in
-    λ can. rw (p.1, p.2) (read_of_no_switch IsNoPolicy (g.S.Source.remaining c.args.source.now) (g.S.Source.faults c.args.source.now) (g.S.Source.faults c.read_program.new.source) c.in_err-program.field-0.0 c.in_err-program.ensures.why)
+returns-clause-serves g c = serves_err g.W.World.Tells c.args.rounds _ _ _ _ _ c.in-Err.stop c.in-Err.ensures.serves

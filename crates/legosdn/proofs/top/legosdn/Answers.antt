@@ -1,4 +1,4 @@
-use Rattle.std.proofs.Common.{◌≡◌, ℕ, [], ◌∷◌, Some, Contains, map, string_bytes, sym, subst, ap, ◌∙◌, arith}
+use Rattle.std.proofs.Common.{inl, inr, ◌≡◌, ℕ, [], ◌∷◌, Some, Contains, map, string_bytes, sym, subst, ap, ◌∙◌, arith}
 use Rattle.lego_io.specs.Count.{Rose}
 use Rattle.lego_io.specs.laws.CountLaws.{Rose-before}
 use Rattle.sim_world.specs.World.{seen_of}
@@ -8,6 +8,7 @@ use Rattle.legosdn.proofs.CommandEnds.{by_command}
 use Rattle.legosdn.proofs.Statuses.{not_of_switch, is_early, is_usage, is_read_fault, is_write_fault, not_read, not_written}
 use Rattle.legosdn.proofs.Promises.{replay_ok, replay_err, run_ok, run_err}
 use Rattle.legosdn.proofs.Generated.{gen_ok, gen_err}
+use Rattle.legosdn.proofs.Recordings.{record_ok, record_err}
 use Rattle.legosdn.specs.Input.{session_of, drawn}
 use Rattle.legosdn.proofs.top.legosdn.Goals as goal
 
@@ -58,6 +59,23 @@ returns-in-Err-clause-run g c = λ port rounds is.
     })
     (λ same. ap g.W.World.seen same) (c.in-Err.ensures.serves port rounds is)
 
+pub returns-in-Ok-clause-record : goal.returns-in-Ok-clause-record
+returns-in-Ok-clause-record g c = λ port rounds is. record_ok g.W.World.Tells rounds _ _ (g.W.World.seen c.args.live.now) (g.W.World.seen c.run-ended.new.live) (g.W.Recorded.kept c.run-ended.new.live) (c.run-ended.new.live ≡ c.args.live.now) (c.in-Ok.ensures.records port rounds is)
+
+pub returns-in-Err-clause-record : goal.returns-in-Err-clause-record
+returns-in-Err-clause-record g c = λ port rounds is.
+    record_err g.W.World.Tells rounds (streams (g.S.Source.remaining c.args.source.now) (g.K.Sink.contents c.args.sink.now) (g.S.Source.faults c.args.source.now) (g.K.Sink.faults c.args.sink.now))
+    (streams (g.S.Source.remaining c.run-ended.new.source) (g.K.Sink.contents c.run-ended.new.sink) (g.S.Source.faults c.run-ended.new.source) (g.K.Sink.faults c.run-ended.new.sink)) (g.K.Sink.contents c.halt.new.sink) (g.K.Sink.faults c.halt.new.sink) (g.W.World.seen c.args.live.now) (g.W.World.seen c.run-ended.new.live)
+    (g.W.Recorded.kept c.run-ended.new.live) (c.run-ended.new.live ≡ c.args.live.now) c.in-Err.stop c.halt.result
+    (record {
+      status_is = c.halt.ensures.status;
+      never_fell = c.run-ended.ensures.never_fell;
+      never_fell_then = c.halt.ensures.never_fell;
+      line = c.halt.ensures.line;
+      still = λ early. let same = (c.in-Err.ensures.early early).2 in (ap g.K.Sink.contents same, ap g.K.Sink.faults same);
+    })
+    (λ same. ap g.W.World.seen same) (c.in-Err.ensures.records port rounds is)
+
 pub returns-in-Err-clause-usage : goal.returns-in-Err-clause-usage
 returns-in-Err-clause-usage g c = λ two. c.in-Err.ensures.usage (is_usage c.in-Err.stop (sym c.halt.ensures.status ∙ two))
 
@@ -84,6 +102,7 @@ returns-in-Err-clause-source_failed g c = λ four.
     (λ is. subst (IsCause (Unit {0}) (IsNoSession session_of) (g.S.Source.remaining c.args.source.now) (faults_of (g.S.Source.faults c.args.source.now) (g.K.Sink.faults c.args.sink.now) (seen_of c.args.sim.now)) (faults_of (g.S.Source.faults c.run-ended.new.source) (g.K.Sink.faults c.run-ended.new.sink) (seen_of c.run-ended.new.sim))) fault (c.in-Err.ensures.replays is).why)
     (λ start count is. subst (IsCause (Unit {0}) (IsNoSession (drawn start count)) (Some []) (faults_of (g.S.Source.faults c.args.source.now) (g.K.Sink.faults c.args.sink.now) (seen_of c.args.sim.now)) (faults_of (g.S.Source.faults c.run-ended.new.source) (g.K.Sink.faults c.run-ended.new.sink) (seen_of c.run-ended.new.sim))) fault (c.in-Err.ensures.generates start count is).why)
     (λ port rounds is. subst (IsCause g.W.World.Tells IsNoPolicy (g.S.Source.remaining c.args.source.now) (faults_of (g.S.Source.faults c.args.source.now) (g.K.Sink.faults c.args.sink.now) (g.W.World.seen c.args.live.now)) (faults_of (g.S.Source.faults c.run-ended.new.source) (g.K.Sink.faults c.run-ended.new.sink) (g.W.World.seen c.run-ended.new.live))) fault (c.in-Err.ensures.serves port rounds is).why)
+    (λ port rounds is. subst (IsCause g.W.World.Tells IsNoPolicy (g.S.Source.remaining c.args.source.now) (faults_of (g.S.Source.faults c.args.source.now) (g.K.Sink.faults c.args.sink.now) (g.W.World.seen c.args.live.now)) (faults_of (g.S.Source.faults c.run-ended.new.source) (g.K.Sink.faults c.run-ended.new.sink) (g.W.World.seen c.run-ended.new.live))) fault (c.in-Err.ensures.records port rounds is).why)
     (λ none. absurd (not_read c.in-Err.stop fault (c.in-Err.ensures.no_command none).0))
 
 pub returns-in-Err-clause-sink_failed : goal.returns-in-Err-clause-sink_failed
@@ -94,6 +113,7 @@ returns-in-Err-clause-sink_failed g c = λ five.
     (λ is. subst (IsCause (Unit {0}) (IsNoSession session_of) (g.S.Source.remaining c.args.source.now) (faults_of (g.S.Source.faults c.args.source.now) (g.K.Sink.faults c.args.sink.now) (seen_of c.args.sim.now)) (faults_of (g.S.Source.faults c.run-ended.new.source) (g.K.Sink.faults c.run-ended.new.sink) (seen_of c.run-ended.new.sim))) fault (c.in-Err.ensures.replays is).why)
     (λ start count is. subst (IsCause (Unit {0}) (IsNoSession (drawn start count)) (Some []) (faults_of (g.S.Source.faults c.args.source.now) (g.K.Sink.faults c.args.sink.now) (seen_of c.args.sim.now)) (faults_of (g.S.Source.faults c.run-ended.new.source) (g.K.Sink.faults c.run-ended.new.sink) (seen_of c.run-ended.new.sim))) fault (c.in-Err.ensures.generates start count is).why)
     (λ port rounds is. subst (IsCause g.W.World.Tells IsNoPolicy (g.S.Source.remaining c.args.source.now) (faults_of (g.S.Source.faults c.args.source.now) (g.K.Sink.faults c.args.sink.now) (g.W.World.seen c.args.live.now)) (faults_of (g.S.Source.faults c.run-ended.new.source) (g.K.Sink.faults c.run-ended.new.sink) (g.W.World.seen c.run-ended.new.live))) fault (c.in-Err.ensures.serves port rounds is).why)
+    (λ port rounds is. subst (IsCause g.W.World.Tells IsNoPolicy (g.S.Source.remaining c.args.source.now) (faults_of (g.S.Source.faults c.args.source.now) (g.K.Sink.faults c.args.sink.now) (g.W.World.seen c.args.live.now)) (faults_of (g.S.Source.faults c.run-ended.new.source) (g.K.Sink.faults c.run-ended.new.sink) (g.W.World.seen c.run-ended.new.live))) fault (c.in-Err.ensures.records port rounds is).why)
     (λ none. absurd (not_written c.in-Err.stop fault (c.in-Err.ensures.no_command none).0)))
     c.halt.ensures.never_fell
 
@@ -114,4 +134,18 @@ returns-in-Ok-clause-no_switch_ends_the_run g c = λ port rounds is can within. 
 
 pub returns-in-Err-clause-no_switch_ends_the_run : goal.returns-in-Err-clause-no_switch_ends_the_run
 returns-in-Err-clause-no_switch_ends_the_run g c = λ port rounds is can within.
-    not_of_switch c.in-Err.stop (c.in-Err.ensures.no_switch port rounds is can) (subst (λ (status : ℕ). Contains (8 ∷ 9 ∷ []) status) c.halt.ensures.status within)
+    not_of_switch c.in-Err.stop (elim is [ inl runs ↦ c.in-Err.ensures.no_switch port rounds runs can | inr records ↦ c.in-Err.ensures.no_switch_recorded port rounds records can ]) (subst (λ (status : ℕ). Contains (8 ∷ 9 ∷ []) status) c.halt.ensures.status within)
+
+pub returns-in-Ok-clause-leaves_other_world : goal.returns-in-Ok-clause-leaves_other_world
+returns-in-Ok-clause-leaves_other_world g c = (
+  c.in-Ok.ensures.replay_leaves_live,
+  c.in-Ok.ensures.gen_leaves_others,
+  λ port rounds is. elim is [ inl runs ↦ c.in-Ok.ensures.run_leaves_sim port rounds runs | inr records ↦ c.in-Ok.ensures.record_leaves_sim port rounds records ],
+)
+
+pub returns-in-Err-clause-leaves_other_world : goal.returns-in-Err-clause-leaves_other_world
+returns-in-Err-clause-leaves_other_world g c = (
+  c.in-Err.ensures.replay_leaves_live,
+  c.in-Err.ensures.gen_leaves_others,
+  λ port rounds is. elim is [ inl runs ↦ c.in-Err.ensures.run_leaves_sim port rounds runs | inr records ↦ c.in-Err.ensures.record_leaves_sim port rounds records ],
+)

@@ -10,6 +10,7 @@ use Rattle.sim_world.specs.World.{seen_of}
 use Rattle.legosdn.specs.Input.{session_of, spelled_to, read_by}
 use Rattle.legosdn.specs.Promise.{AtEveryStatus}
 use Rattle.legosdn.proofs.Generated.{generates_none, gen_usage}
+use Rattle.legosdn.proofs.Recordings.{records_none, record_usage}
 use Rattle.legosdn.proofs.top.run.Goals as goal
 
 pub returns-in_err-read_words-clause-replays : goal.returns-in_err-read_words-clause-replays
@@ -78,3 +79,27 @@ returns-in-Some-Gen-clause-live_always g c = idle_always g.W.World.Tells (g.W.Wo
 
 pub returns-in-Some-Gen-clause-usage : goal.returns-in-Some-Gen-clause-usage
 returns-in-Some-Gen-clause-usage g c = gen_usage _ c.in-Some-Gen.start c.in-Some-Gen.count _ _ _ _ c.run_drawn.result (c.run_drawn.ensures.generates None 0)
+
+pub returns-in_err-read_words-clause-records : goal.returns-in_err-read_words-clause-records
+returns-in_err-read_words-clause-records g c = λ port rounds is.
+    records_none g.W.World.Tells rounds (g.S.Source.remaining c.args.source.now) (g.K.Sink.contents c.args.sink.now) (g.S.Source.faults c.args.source.now) (g.K.Sink.faults c.args.sink.now) (g.W.World.seen c.args.live.now) (g.W.Recorded.kept c.args.live.now)
+    _ c.from_residual.result refl c.from_residual.ensures.1
+
+pub returns-in-Some-Record-clause-records : goal.returns-in-Some-Record-clause-records
+returns-in-Some-Record-clause-records g c = λ port rounds is.
+    let same : c.in-Some-Record.rounds ≡ rounds = search rules in
+    rw (sym same) c.run_recorded.ensures.records
+
+pub returns-in-Some-Record-clause-always : goal.returns-in-Some-Record-clause-always
+returns-in-Some-Record-clause-always g c = new_always _ _ _ c.args.sim.now c.requires.new
+
+pub returns-in_err-read_words-clause-no_switch_recorded : goal.returns-in_err-read_words-clause-no_switch_recorded
+returns-in_err-read_words-clause-no_switch_recorded g c =
+    let p = err_from_is_err_and c.from_residual.result c.from_residual.ensures.1 in
+    λ port rounds is can. rw (p.1, p.2) tt
+
+pub returns-in-Some-Record-clause-no_switch_recorded : goal.returns-in-Some-Record-clause-no_switch_recorded
+returns-in-Some-Record-clause-no_switch_recorded g c = λ port rounds is can. c.run_recorded.ensures.no_switch can
+
+pub returns-in-Some-Record-clause-usage : goal.returns-in-Some-Record-clause-usage
+returns-in-Some-Record-clause-usage g c = record_usage _ g.W.World.Tells c.in-Some-Record.rounds _ _ _ _ _ _ c.run_recorded.result c.run_recorded.ensures.records
