@@ -42,7 +42,7 @@ use Rattle.event_dispatch.specs.laws.SteadyLaws.{reads_none, quietly_none, quiet
 use Rattle.event_dispatch.specs.laws.PassesLaws.{SameNext, next_of, passes_number, so_far_none, so_far_then}
 use Rattle.event_dispatch.specs.laws.TurnPartLaws.{passes_over}
 use Rattle.event_dispatch.specs.laws.WhyLaws.{why_then}
-use Rattle.event_dispatch.specs.laws.DispatchStrayLaws.{reads_over, later_here}
+use Rattle.event_dispatch.specs.laws.DispatchStrayLaws.{reads_over, own_point, later_here}
 use Rattle.event_dispatch.specs.laws.NoEventLaws.{no_event_none}
 use Rattle.event_dispatch.specs.laws.TalkingLaws.{rests_at_once, goes_none}
 use Rattle.event_dispatch.specs.laws.LeftLaws.{left_none}
@@ -573,7 +573,7 @@ offer_none Tells event seen c m = record {
     talks = λ told rests. rests.at_once;
     of_turn = tt;
     left = λ told keeps order ready rests. inl (no_event_none seen);
-    later = λ told. calm_later (calm_none m.state.index seen);
+    later = λ told. own_point (calm_later (calm_none m.state.index seen));
     plain = record { plain = λ told keeps ready sound. inl tt };
   };
   why = tt;
@@ -590,7 +590,7 @@ offer_fails {event = event} fault old new c m takes later turn =
       talks = λ told rests. turn.talks.talks told rests.at_once (rests.rest_is alive).0 (rests.rest_is alive).1;
       of_turn = takes_of fault takes;
       left = λ told keeps order ready rests. turn.left.left told keeps order ready rests.at_once (rests.rest_is alive).1;
-      later = later;
+      later = λ told. own_point (later told);
       plain = turn.plain;
     }
   where
