@@ -318,7 +318,8 @@ impl Core {
     }
 }
 
-/// Gives an event to an application, where it has a turn at it. Answers whether the event goes no further.
+/// Gives an event to an application, where it has a turn at it. Answers whether the event goes no further. For an application
+/// that may be given other events in its place no memory is had yet.
 fn offer<'x, W: World, J: Judge>(
     core: &mut Core,
     world: &mut W,
@@ -341,6 +342,9 @@ fn offer<'x, W: World, J: Judge>(
         return Ok(false);
     }
     if event.body.len() > MOST_BODY {
+        return Err(Fault::NoMemory);
+    }
+    if app.replaces(event.kind) {
         return Err(Fault::NoMemory);
     }
     core.take_turn(world, app, judge, event)
