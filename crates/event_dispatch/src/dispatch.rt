@@ -345,9 +345,10 @@ fn offer<'x, W: World, J: Judge>(
         return Err(Fault::NoMemory);
     }
     if app.replaces(event.kind) {
-        return Err(Fault::NoMemory);
+        Err(Fault::NoMemory)
+    } else {
+        core.take_turn(world, app, judge, event)
     }
-    core.take_turn(world, app, judge, event)
 }
 
 /// Gives an event to the applications that have a turn at it, in order, until one that was done says that it goes no further.

@@ -25,6 +25,7 @@ use Rattle.crash_policy.specs.Asking.{is_given, rule_at}
 use Rattle.run_laws.specs.Engine.{Application, Engine, EachFrom, Focus, focus}
 use Rattle.run_laws.specs.Moves.{IsAtRest}
 use Rattle.run_laws.specs.Facts.{is_taking, says_stop, end_fails, TakesTurn, instead_if, TakesInstead, TakesEvent, Between, HasItsTurn, IsOffered, AreLeftOut, if_stopped, Offers}
+use Rattle.run_laws.specs.laws.HadLaws.{or_false}
 use Rattle.run_laws.specs.laws.OtherLaws.{calls-silent, silent-at-once}
 use Rattle.event_dispatch.specs.declared.fault.Fault.{Fault}
 use Rattle.event_dispatch.specs.declared.fault.Fault.TheVariants as faults
@@ -560,10 +561,6 @@ if_none true true rule event none = instead_none (rule_at rule event.kind) event
 if_none true false rule event none = refl
 if_none false alive rule event none = refl
 
-or_none : (b : Bool) → (b || false) ≡ b
-or_none true = refl
-or_none false = refl
-
 turn_alone : {Own : Type 0} (Tells : Type 0) (accepts : List TableView → Bool) (event : Event) (stops : Bool) (text : List ℕ) (old new : Seen Own) (e now_e : Focus)
     → is_replacing (rule_at now_e.rule event.kind) ≡ false → (t : TakesTurn Tells accepts event text old new e now_e) → stops ≡ says_stop t.end → TakesEvent Tells accepts event stops text old new e now_e
 turn_alone Tells accepts event stops text old new e now_e none t stops_is = record {
@@ -574,7 +571,7 @@ turn_alone Tells accepts event stops text old new e now_e none t stops_is = reco
   stopped = false;
   later_text = [];
   later = subst (λ (events : List Event). TakesInstead Tells accepts events false [] new new now_e now_e) (sym (if_none (end_fails t.end) now_e.alive now_e.rule event none)) (refl, refl, refl, refl);
-  stops_is = stops_is ∙ sym (or_none (says_stop t.end));
+  stops_is = stops_is ∙ sym (or_false (says_stop t.end));
   text_is = sym (append-nil text);
 }
 

@@ -39,6 +39,7 @@ use Rattle.run_laws.specs.laws.HoldingLaws.{holding_of, logged_of, one_move, mov
 use Rattle.run_laws.specs.laws.UndoHoldingLaws.{undo_moves}
 use Rattle.run_laws.specs.laws.AskedMessageLaws.{message_of, turn_asked}
 use Rattle.run_laws.specs.laws.TurnCallLaws.{call_of}
+use Rattle.run_laws.specs.laws.HadLaws.{or_false}
 use Rattle.run_laws.specs.laws.StartHoldingLaws.{focused, application_of, restarts_so, follows_so}
 
 -- ---- The messages of a turn
@@ -200,10 +201,6 @@ end_stops (ends.Failed why) unread (Failed cause) is = refl
 
 -- ---- What it is given in place of an event
 
-or_none : (b : Bool) → (b || false) ≡ b
-or_none true = refl
-or_none false = refl
-
 -- how it stands between two turns, where these keys were added
 abbrev turning_of : {Own : Type 0} → Focus → Turning Own → List (ℕ × Key) → course.Turning
 turning_of e t keys = record { app = record (focused e) { unread = t.rest; checkpoint = t.kept }; keys = keys; stops = t.stops; fails = t.fails }
@@ -215,19 +212,7 @@ one_behind e from (ends.Done stop) (Completed stops checkpoint rest) unread line
 one_behind e from (ends.Done stop) (Failed cause) unread line keys more mid mid_net is leaves = absurd is
 one_behind e from (ends.Failed why) (Completed stops checkpoint rest) unread line keys more mid mid_net is leaves = absurd is
 one_behind e from (ends.Failed why) (Failed cause) unread line keys more mid mid_net is leaves =
-    ap₂ (λ (left : List ℕ) (b : Bool). record { app = record (focused e) { unread = left; checkpoint = from.kept }; keys = keys ++ more; stops = b; fails = true }) (sym leaves) (sym (or_none from.stops))
-
--- the others have theirs here where they have theirs there
-unless_both : (end : TurnEnd) (unread : List ℕ) (outcome : Outcome) (Over Goes Left Offered : Type 0) → IsEnd end unread outcome → (Over → Left) → (Goes → Offered) → unless_failed end Over Goes → course.unless_failed outcome Left Offered
-unless_both (ends.Done stop) unread (Completed stops checkpoint rest) Over Goes Left Offered is over goes h = goes h
-unless_both (ends.Done stop) unread (Failed cause) Over Goes Left Offered is over goes h = absurd is
-unless_both (ends.Failed why) unread (Completed stops checkpoint rest) Over Goes Left Offered is over goes h = absurd is
-unless_both (ends.Failed why) unread (Failed cause) Over Goes Left Offered is over goes h = over h
-
--- so it is with the keys
-keys_both : (end : TurnEnd) (Over Goes : Type 0) (P : Type 0) → (Over → P) → (Goes → P) → unless_failed end Over Goes → P
-keys_both (ends.Done stop) Over Goes P over goes h = goes h
-keys_both (ends.Failed cause) Over Goes P over goes h = over h
+    ap₂ (λ (left : List ℕ) (b : Bool). record { app = record (focused e) { unread = left; checkpoint = from.kept }; keys = keys ++ more; stops = b; fails = true }) (sym leaves) (sym (or_false from.stops))
 
 record PlaysHeld {Own : Type 0} (e : Focus) (events : List Event) (log : List Logged) (keys : List (ℕ × Key)) (from to : Turning Own) : Type 0 where
   keys_then : List (ℕ × Key)
@@ -248,8 +233,11 @@ held_one e event events log keys from to mid mid_net (ends.Done stop) (Completed
     ap (λ (o : Outcome). course.behind_one o more (turning_of e from keys)) all.outcome_is ∙ one_behind e from (ends.Done stop) (Completed stops checkpoint rest) unread line keys more mid mid_net is leaves in
     record {
       keys_then = h.keys_then;
-      turns = (here, subst (λ (o : Outcome). course.unless_failed o ((holding_of to.seen to.net e.queue ≡ here.mid) × (turning_of e to h.keys_then ≡ turning_behind here)) (course.TurnsInstead e.events e.index events (turning_behind here) (turning_of e to h.keys_then) here.mid (holding_of to.seen to.net e.queue))) (sym all.outcome_is)
-          (subst (λ (t : course.Turning). course.TurnsInstead e.events e.index events t (turning_of e to h.keys_then) here.mid (holding_of to.seen to.net e.queue)) (sym behind) h.turns));
+      turns = (
+        here,
+        subst (λ (o : Outcome). course.unless_failed o ((holding_of to.seen to.net e.queue ≡ here.mid) × (turning_of e to h.keys_then ≡ turning_behind here)) (course.TurnsInstead e.events e.index events (turning_behind here) (turning_of e to h.keys_then) here.mid (holding_of to.seen to.net e.queue))) (sym all.outcome_is)
+            (subst (λ (t : course.Turning). course.TurnsInstead e.events e.index events t (turning_of e to h.keys_then) here.mid (holding_of to.seen to.net e.queue)) (sym behind) h.turns),
+      );
       logged = h.logged;
     }
 held_one e event events log keys from to mid mid_net (ends.Done stop) (Failed cause) unread line logged is leaves all on = absurd is
@@ -264,8 +252,11 @@ held_one e event events log keys from to mid mid_net (ends.Failed why) (Failed c
     ap (λ (o : Outcome). course.behind_one o more (turning_of e from keys)) all.outcome_is ∙ one_behind e from (ends.Failed why) (Failed cause) unread line keys more mid mid_net is leaves in
     record {
       keys_then = keys ++ more;
-      turns = (here, subst (λ (o : Outcome). course.unless_failed o ((holding_of to.seen to.net e.queue ≡ here.mid) × (turning_of e to (keys ++ more) ≡ turning_behind here)) (course.TurnsInstead e.events e.index events (turning_behind here) (turning_of e to (keys ++ more)) here.mid (holding_of to.seen to.net e.queue))) (sym all.outcome_is)
-          (ap (λ (t : Turning _). holding_of t.seen t.net e.queue) over, ap (λ (t : Turning _). turning_of e t (keys ++ more)) over ∙ sym behind));
+      turns = (
+        here,
+        subst (λ (o : Outcome). course.unless_failed o ((holding_of to.seen to.net e.queue ≡ here.mid) × (turning_of e to (keys ++ more) ≡ turning_behind here)) (course.TurnsInstead e.events e.index events (turning_behind here) (turning_of e to (keys ++ more)) here.mid (holding_of to.seen to.net e.queue))) (sym all.outcome_is)
+            (ap (λ (t : Turning _). holding_of t.seen t.net e.queue) over, ap (λ (t : Turning _). turning_of e t (keys ++ more)) over ∙ sym behind),
+      );
       logged = ap (λ (t : Turning _). t.net.log) over ∙ there;
     }
 

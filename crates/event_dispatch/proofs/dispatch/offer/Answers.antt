@@ -26,8 +26,8 @@ returns-then-replaces g c = record {
   parted = λ can. tt;
 }
 
-pub returns : goal.returns
-returns g c = record {
+pub returns-else-replaces : goal.returns-else-replaces
+returns-else-replaces g c = record {
   passes = c.take_turn.ensures.passes;
   done = offer_ended (g.J.Judge.accepts c.args.judge.now) c.args.event.now c.take_turn.result (g.W.World.seen c.args.world.now)
       (g.W.World.seen c.take_turn.new.world) c.args.core.now
