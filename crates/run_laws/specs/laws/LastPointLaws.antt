@@ -1,15 +1,14 @@
 -- Laws of the quiescent points of a run, at which an application is given its first event of a number.
-use Rattle.std.proofs.Common.{◌≡◌, ◌==◌, ◌&&◌, ℕ, Bool, true, false, not, List, [], ◌∷◌, ◌++◌, Option, Some, None, refl, sym, ap, ◌∙◌, subst, append_assoc, true≢false}
-use Rattle.std.specs.List.{list_any}
+use Rattle.std.proofs.Common.{◌≡◌, ℕ, false, List, [], ◌∷◌, ◌++◌, Option, Some, None, refl, sym, ap, ◌∙◌, subst, append_assoc, true≢false}
 use Rattle.std.specs.Option.{is_some}
 use Rattle.std.proofs.lemmas.List.{append-nil}
 use Rattle.of_types.specs.declared.journal.Act.TheVariants.{Stim, Started, Gave, Gone, Took, Ended, Sent, Got, Lost}
 use Rattle.outside.specs.declared.step.WorldStep.{WorldStep}
 use Rattle.outside.specs.declared.step.WorldStep.TheVariants.{Acted, TookInto, From, Joined, Left, Moment, Idle, End, Opened, NotOpened, NextFailed, SendLost, RecvLost, SendFailed, RecvFailed}
 use Rattle.outside.specs.Seen.{Seen}
-use Rattle.outside.specs.State.{event_number, is_event}
+use Rattle.outside.specs.State.{event_number}
 use Rattle.outside.specs.Quiescence.{is_quiescent, NoneQuiescent, NoneQuiescentLater, NoneQuiescentSince, IsLastQuiescent}
-use Rattle.run_course.specs.Points.{gives_numbered, was_given, is_first_given, is_point, NoPoints, NoPointsLater, NoPointSince, IsLastPoint}
+use Rattle.run_course.specs.Points.{is_first_given, is_point, NoPoints, NoPointsLater, NoPointSince, IsLastPoint}
 
 -- ---- Where no application is given an event, and no stimulus is begun
 

@@ -7,7 +7,7 @@ use Rattle.lego_model.specs.Places.{Place}
 use Rattle.lego_model.specs.Losses.{TurnLosses}
 use Rattle.lego_model.specs.Packets.{Play, fresh_play}
 use Rattle.lego_model.specs.Turns.{Played, turn_of}
-use Rattle.lego_model.specs.Controller.{App, Had, Run, Turned, table_of, next_reply, turn, had_at, given_to}
+use Rattle.lego_model.specs.Controller.{App, Had, Run, table_of, next_reply, turn, had_at, given_to}
 use Rattle.run_laws.specs.ReferenceTurn.{turned_by}
 
 -- ---- An event is given to one application after the other
