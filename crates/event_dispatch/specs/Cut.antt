@@ -10,7 +10,6 @@ use Rattle.outside.specs.Conforming.{Conforming}
 use Rattle.outside.specs.InOrder.{InOrder, BringMessages, MessagesSince}
 use Rattle.net_txn.specs.Net.{NetState}
 use Rattle.net_txn.specs.Abreast.{Abreast}
-use Rattle.app_visor.specs.CallsFor.{CalmLater}
 use Rattle.run_laws.specs.Cut.{CallsAmong}
 use Rattle.switch_laws.specs.Since.{Ready}
 use Rattle.lego_model.specs.AtOnce.{AtOnce}
@@ -34,7 +33,7 @@ use Rattle.event_dispatch.specs.Why.{served_by}
 use Rattle.run_laws.specs.Course.{IsPart, PartByPart}
 use Rattle.event_dispatch.specs.Shows.{application_of, engine_with, engine_of, stage_of}
 use Rattle.event_dispatch.specs.Talking.{KeepsTalking, GoesOnTalking}
-use Rattle.event_dispatch.specs.Steady.{Reads, NoPoint, AtMostThisPoint, NoneMoves}
+use Rattle.event_dispatch.specs.Steady.{Reads, NoPoint, AtMostThisPoint, OwnPoint, NoneMoves}
 use Rattle.event_dispatch.specs.Undone.{IsShort, DispatchLeft}
 use Rattle.std.specs.Io.KnownBytes.{append_known}
 use Rattle.event_dispatch.specs.Plain.{PlainTurn}
@@ -68,7 +67,7 @@ pub record OfferFails {Own : Type 0} (Tells : Type 0) (fault : Fault) (event : E
   pub talks : Tells → IsAtRest old m.state.index (application_of c.store m) → AtOnce m.state.index (journal new.history)
   pub of_turn : IsOfTurn fault (is_taking event (application_of c.store m))
   pub left : Tells → Conforming old → InOrder new → Ready old c.net → IsAtRest old m.state.index (application_of c.store m) → TablesLeft m.state.index m.rule.now.budget (IsShort fault) old new
-  pub later : Tells → CalmLater m.state.index old new
+  pub later : Tells → OwnPoint m.state.index old new
   pub plain : PlainTurn Tells old new c.net fault
 
 -- a fault ended the dispatch of an event behind some turns at it: it goes on with the dialogues up to there, and what it leaves of the tables

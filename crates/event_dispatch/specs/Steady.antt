@@ -6,7 +6,9 @@ use Rattle.outside.specs.declared.step.WorldStep.{WorldStep}
 use Rattle.outside.specs.Seen.{Seen, journal}
 use Rattle.outside.specs.State.{State, state, upcoming, is_running}
 use Rattle.outside.specs.InOrder.{InOrder, MessagesSince}
-use Rattle.outside.specs.Quiescence.{NoneQuiescentSince, IsLastQuiescent}
+use Rattle.outside.specs.Quiescence.{NoneQuiescentSince}
+use Rattle.run_course.specs.Points.{IsLastPoint}
+use Rattle.app_visor.specs.CallsFor.{CallsFor}
 use Rattle.net_txn.specs.Net.{NetState}
 use Rattle.net_txn.specs.LinkSteps.{MakesNoStrayCall}
 use Rattle.net_txn.specs.Abreast.{Abreast}
@@ -37,8 +39,13 @@ pub record NoPoint {Own : Type 0} (Tells : Type 0) (number : ℕ) (old new : See
 
 -- no quiescent point behind that one, where all was at rest there
 pub record AtMostThisPoint {Own : Type 0} (Tells : Type 0) (number : ℕ) (old new : Seen Own) : Type 0 where
-  pub last : Tells → InOrder new → NothingUnderWay (state old) → IsLastQuiescent old new
+  pub last : Tells → InOrder new → NothingUnderWay (state old) → IsLastPoint old new
   pub own : Tells → CallsAmong number old new
+
+-- no quiescent point behind that one, and no other application was called
+pub record OwnPoint {Own : Type 0} (app : ℕ) (old new : Seen Own) : Type 0 where
+  pub last : IsLastPoint old new
+  pub own : CallsFor app old new
 
 -- no packet was released since then
 pub record NoneReleased {Own : Type 0} (old new : Seen Own) : Type 0 where

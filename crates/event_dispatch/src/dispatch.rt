@@ -318,7 +318,8 @@ impl Core {
     }
 }
 
-/// Gives an event to an application, where it has a turn at it. Answers whether the event goes no further.
+/// Gives an event to an application, where it has a turn at it. Answers whether the event goes no further. For an application
+/// that may be given other events in its place no memory is had yet.
 fn offer<'x, W: World, J: Judge>(
     core: &mut Core,
     world: &mut W,
@@ -343,7 +344,11 @@ fn offer<'x, W: World, J: Judge>(
     if event.body.len() > MOST_BODY {
         return Err(Fault::NoMemory);
     }
-    core.take_turn(world, app, judge, event)
+    if app.replaces(event.kind) {
+        Err(Fault::NoMemory)
+    } else {
+        core.take_turn(world, app, judge, event)
+    }
 }
 
 /// Gives an event to the applications that have a turn at it, in order, until one that was done says that it goes no further.

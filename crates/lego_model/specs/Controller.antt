@@ -428,23 +428,14 @@ had_at allows event i a run = had_behind allows event i (turn allows run.events 
 
 -- ---- Dispatch
 
--- The applications from an index on that are alive and are given such events have their turns, until one that completed says stop.
+-- The applications from an index on that are alive and are given such events have their turns, until one says stop that completed them.
 unfoldable pub given_to : (List Place → Bool) → Event → ℕ → List App → Run → List App × Run
 given_to allows event i [] run = ([], run)
 given_to allows event i (a ∷ more) run =
     if a.alive && is_given a.rule event.kind then
-    (let turned = turn allows run.events run.moment event (next_turn run.losses.turns) run.places a in
-    let next = record run {
-      places = turned.release.places;
-      queue = run.queue ++ (turned.release.events ++ turned.left);
-      lines = run.lines ++ Ended i turned.outcome ∷ out_lines turned.release.packets ++ lost_lines (leavers turned.left) ++ restart_lines i turned.outcome turned.app;
-      released = run.released ++ turned.release.packets;
-      lost = run.lost ++ leavers turned.left;
-      losses = turn_fewer run.losses;
-      marks = marked turned.given run.events run.places run.marks;
-    } in
-    if says_stop turned.outcome then (turned.app.0 ∷ more, next)
-    else (let rest = given_to allows event (i + 1) more next in (turned.app.0 ∷ rest.0, rest.1)))
+    (let had = had_at allows event i a run in
+    if had.stops then (had.app ∷ more, had.run)
+    else (let rest = given_to allows event (i + 1) more had.run in (had.app ∷ rest.0, rest.1)))
     else (let rest = given_to allows event (i + 1) more run in (a ∷ rest.0, rest.1))
 
 -- an event takes the next number

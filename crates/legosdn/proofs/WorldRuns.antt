@@ -7,7 +7,7 @@ use Rattle.outside.specs.State.{at_first}
 use Rattle.outside.specs.Conforming.{Conforming}
 use Rattle.outside.specs.InOrder.{BringMessages, InOrder}
 use Rattle.outside.specs.laws.InOrderLaws.{in_order-Conforming, InOrder-front}
-use Rattle.outside.specs.Quiescence.{IsLastQuiescent}
+use Rattle.run_course.specs.Points.{IsLastPoint}
 use Rattle.lego_model.specs.UndoFaults.{AreExpectedOnLinks}
 use Rattle.net_txn.specs.LinkSteps.{MakesNoStrayCall}
 use Rattle.lego_model.specs.Places.{Place}
@@ -96,7 +96,7 @@ serves_part program Tells rounds old new a b end left is reads promises tells =
 -- ---- A run that a fault ends
 
 -- the world kept its word as far as a place where all bytes that came are messages
-conforms_at : {Own : Type 0} (seen last : Seen Own) → InOrder seen → seen.given ≡ last.given → IsLastQuiescent last seen → BringMessages last.history → Conforming last
+conforms_at : {Own : Type 0} (seen last : Seen Own) → InOrder seen → seen.given ≡ last.given → IsLastPoint last seen → BringMessages last.history → Conforming last
 conforms_at seen last order given quiet messages = in_order-Conforming last (InOrder-front last seen quiet.steps given quiet.history order) messages
 
 place_of : {Own : Type 0} (program : ProgramValue) (seen : Seen Own) (Short : Type 0) (Alike : Seen Own → Type 0) → InOrder seen → CutAt program.apps Short Alike seen → UpToPoint program seen Short Alike

@@ -5,7 +5,7 @@ use Rattle.lego_io.specs.Source.{ended}
 use Rattle.outside.specs.declared.step.WorldStep.TheVariants.{NotOpened}
 use Rattle.outside.specs.Seen.{Seen, journal}
 use Rattle.outside.specs.InOrder.{BringMessages}
-use Rattle.outside.specs.Quiescence.{IsLastQuiescent}
+use Rattle.run_course.specs.Points.{IsLastPoint}
 use Rattle.lego_model.specs.AtOnce.{AtOnce}
 use Rattle.sim_world.specs.Told.{without_links}
 use Rattle.sim_world.specs.Scripts.{Scripts, KeepsScripts}
@@ -202,7 +202,7 @@ pub record RunsPart (program : ProgramValue) (seen : Seen Scripts) (contents now
 pub record UpToPoint {Own : Type 0} (program : ProgramValue) (seen : Seen Own) (Short : Type 0) (Holds : Seen Own → Type 0) : Type 0 where
   pub last : Seen Own
   pub given : last.given ≡ seen.given
-  pub last_point : IsLastQuiescent last seen
+  pub last_point : IsLastPoint last seen
   pub messages : BringMessages last.history
   pub holds : Holds last
   pub tables : TablesBehind program.apps Short last seen

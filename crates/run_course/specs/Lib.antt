@@ -5,3 +5,4 @@ pub mod Applications
 pub mod Moves
 pub mod Turns
 pub mod Parts
+pub mod Points

@@ -12,7 +12,7 @@ use Rattle.outside.specs.declared.step.WorldStep.TheVariants.{Acted, TookInto, N
 use Rattle.outside.specs.Seen.{Seen, Longer, journal}
 use Rattle.outside.specs.Conforming.{Conforming}
 use Rattle.outside.specs.InOrder.{InOrder, BringMessages}
-use Rattle.outside.specs.Quiescence.{IsLastQuiescent}
+use Rattle.run_course.specs.Points.{IsLastPoint}
 use Rattle.run_laws.specs.Engine.{Engine}
 use Rattle.lego_model.specs.AfterFault.{TablesBehind}
 use Rattle.run_laws.specs.Moves.{Moved}
@@ -60,7 +60,7 @@ pub record CutAt {Own : Type 0} (rules : List AppValue) (Short : Type 0) (Alike 
   pub alike : Conforming last → Alike last
   pub at_once : Conforming last → (i : ℕ) → i < length rules → AtOnce i (journal seen.history)
   pub messages : InOrder seen → BringMessages last.history
-  pub last_point : InOrder seen → IsLastQuiescent last seen
+  pub last_point : InOrder seen → IsLastPoint last seen
   pub no_other_called : CallsAmong (length rules) last seen
   pub tables : InOrder seen → TablesBehind rules Short last seen
 

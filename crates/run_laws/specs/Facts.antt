@@ -261,11 +261,10 @@ pub record Between (Own : Type 0) : Type 0 where
   pub net : NetState
   pub queue : List Event
 
--- one has its turn, with calls for no other, and stops the event there or does not
+-- one has its turn, and those at what it is given in place of the event, with calls for no other, and stops the event there or does not
 pub record HasItsTurn {Own : Type 0} (Tells : Type 0) (accepts : List TableView → Bool) (event : Event) (number i : ℕ) (stops : Bool) (text : List ℕ) (from to : Between Own) (a now_a : Application) : Type 0 where
-  pub takes : TakesTurn Tells accepts event text from.seen to.seen (focus i a from.net from.queue number) (focus i now_a to.net to.queue number)
+  pub takes : TakesEvent Tells accepts event stops text from.seen to.seen (focus i a from.net from.queue number) (focus i now_a to.net to.queue number)
   pub own : Tells → CallsFor i from.seen to.seen
-  pub stops_is : stops ≡ says_stop takes.end
 
 -- or is passed over
 abbrev pub IsOffered : {Own : Type 0} → Type 0 → (List TableView → Bool) → Event → ℕ → ℕ → Bool → Bool → List ℕ → Between Own → Between Own → Application → Application → Type 0

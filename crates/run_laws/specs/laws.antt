@@ -14,6 +14,7 @@ pub mod FrameLaws
 pub mod ReferenceLaws
 pub mod LinkStepLaws
 pub mod PointLaws
+pub mod LastPointLaws
 pub mod CalmLaws
 pub mod ChainLaws
 pub mod DialogueLaws

@@ -19,8 +19,10 @@ use Rattle.outside.specs.laws.StateLaws.{Conforming-before}
 use Rattle.outside.specs.Conforming.{Conforming}
 use Rattle.outside.specs.InOrder.{InOrder}
 use Rattle.outside.specs.laws.InOrderLaws.{InOrder-before, messages-of}
-use Rattle.outside.specs.Quiescence.{NoneQuiescentSince, IsLastQuiescent}
-use Rattle.outside.specs.laws.QuiescenceLaws.{none_since-then, last_quiescent-of, last_quiescent-then}
+use Rattle.outside.specs.Quiescence.{NoneQuiescentSince}
+use Rattle.outside.specs.laws.QuiescenceLaws.{none_since-then, last_quiescent-of}
+use Rattle.run_course.specs.Points.{IsLastPoint}
+use Rattle.run_laws.specs.laws.LastPointLaws.{no_point_of, last_point_of, last_point_then}
 use Rattle.run_laws.specs.Engine.{Engine, rules_of}
 use Rattle.run_laws.specs.Facts.{is_taking, takes_next}
 use Rattle.run_laws.specs.Readings.{JudgesAlike}
@@ -182,7 +184,7 @@ record IsStop {Own : Type 0} (rules : List AppValue) (Tells Short : Type 0) (fir
   before : Continues Tells first last
   on : Continues Tells last stop
   keeps : InOrder last → Conforming last
-  quiet : Conforming last → InOrder stop → IsLastQuiescent last stop
+  quiet : Conforming last → InOrder stop → IsLastPoint last stop
   left : Conforming last → InOrder stop → TablesBehind rules Short last stop
 
 -- the later ones of such calls
@@ -209,7 +211,7 @@ cut_at {Tells = Tells} rules Alike first stop seen p last is said so =
       alike = so;
       at_once = λ keeps i few. p.talks.talks p.told i (said keeps i few);
       messages = λ order. messages-of last (is.keeps (InOrder-before p.told later order));
-      last_point = λ order. last_quiescent-then (is.quiet (is.keeps (InOrder-before p.told later order)) (InOrder-before p.told p.later order)) p.quiet;
+      last_point = λ order. last_point_then (is.quiet (is.keeps (InOrder-before p.told later order)) (InOrder-before p.told p.later order)) (no_point_of p.quiet);
       no_other_called = calls_behind first last seen p.told is.before later p.own;
       tables = λ order.
           behind_then last stop seen p.told is.on p.later (p.talks.no_event p.told) (p.none_moves.releases p.told) (p.none_moves.stay p.told) (is.left (is.keeps (InOrder-before p.told later order)) (InOrder-before p.told p.later order));
@@ -225,7 +227,7 @@ writing_at rules a b first stop seen p keeps so = record {
   alike = so;
   at_once = λ keeps i few. p.talks.talks p.told i ((so keeps).run.up_to.at_once i few);
   messages = λ order. messages-of stop (keeps (InOrder-before p.told p.later order));
-  last_point = λ order. last_quiescent-of p.quiet;
+  last_point = λ order. last_point_of (last_quiescent-of p.quiet);
   no_other_called = calls_behind first stop seen p.told p.before p.later p.own;
   tables = λ order. inl (p.talks.no_event p.told);
 }
@@ -250,7 +252,7 @@ within_none {last = last} {now_e = now_e} gone = record { here = last; here_engi
 
 start_alike : {Own : Type 0} {Tells : Type 0} {accepts : List TableView → Bool} {allows : List Place → Bool} {number : ℕ} {a b : Option (List ℕ)} {first stop seen : Seen Own} (rules : List AppValue) (p : Supposed rules Tells accepts allows first stop seen) → b ≡ a → KeepsTalking Tells first stop → NoPoint Tells number first stop → CutAlike rules allows seen a b
 start_alike {Tells = Tells} {allows = allows} {a = a} {b = b} {first = first} {stop = stop} {seen = seen} rules p same talks no_point =
-    let is : IsStop rules Tells (Unit {0}) first first stop = record { before = Continues-refl Tells first; on = p.before; keeps = keeps_first first p.opened; quiet = λ keeps order. last_quiescent-of (no_point.none_quiescent p.told); left = λ keeps order. inl (talks.no_event p.told) } in
+    let is : IsStop rules Tells (Unit {0}) first first stop = record { before = Continues-refl Tells first; on = p.before; keeps = keeps_first first p.opened; quiet = λ keeps order. last_point_of (last_quiescent-of (no_point.none_quiescent p.told)); left = λ keeps order. inl (talks.no_event p.told) } in
     cut_at rules (λ (last : Seen _). CutForMemory rules allows seen last a b) first stop seen p first is (λ keeps. speaks_on rules first stop (engine_at_first rules) p.told talks (settled-first rules first p.opened) (rules-first rules)) (λ keeps.
     none-so rules allows a b first seen p.opened (settled-first rules first p.opened) keeps (none-happened first seen (none_since-then (no_point.none_quiescent p.told) p.quiet) ∙ no-stimuli first p.opened) same)
 
@@ -454,7 +456,7 @@ last_stop {first = first} {stop = stop} {seen = seen} p n talks no_point = recor
   before = last_on p n;
   on = n.later;
   keeps = keeps_to first n.last p.told p.opened (last_on p n) (last_read p n);
-  quiet = λ keeps order. last_quiescent-of (no_point.none_quiescent p.told);
+  quiet = λ keeps order. last_point_of (last_quiescent-of (no_point.none_quiescent p.told));
   left = λ keeps order. inl (talks.no_event p.told);
 }
 

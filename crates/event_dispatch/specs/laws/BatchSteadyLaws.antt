@@ -26,6 +26,7 @@ use Rattle.net_txn.specs.laws.AbreastLaws.{links-begun, links-none_quiescent, ar
 use Rattle.net_txn.specs.laws.ReadLaws.{arrives_read}
 use Rattle.run_laws.specs.Cut.{CallsAmong}
 use Rattle.batch_laws.specs.Items.{Handles}
+use Rattle.run_laws.specs.laws.LastPointLaws.{last_point_of}
 use Rattle.event_dispatch.specs.declared.batch.Rest.{Rest}
 use Rattle.event_dispatch.specs.declared.engine_core.Core.{Core}
 use Rattle.event_dispatch.specs.Runs.{AreRead, Waits}
@@ -181,7 +182,7 @@ here_goes old now new net later so_far next goes = record {
 
 pub here_ends : {Own : Type 0} {number : ℕ} {Tells : Type 0} (old now new : Seen Own) (net : NetState) → Continues Tells now new → BatchPoint Tells number old now net → NextPoint Tells number now new → net.kept ≡ [] → AtMostThisPoint Tells number old new
 here_ends old now new net later so_far next none = record {
-  last = λ told order rest. last_by old now new told order next (so_far.here told (InOrder-before told later order) rest none);
+  last = λ told order rest. last_point_of (last_by old now new told order next (so_far.here told (InOrder-before told later order) rest none));
   own = λ told. calls_then (so_far.own told) (next.own told);
 }
 

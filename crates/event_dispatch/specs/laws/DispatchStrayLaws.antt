@@ -27,10 +27,11 @@ use Rattle.app_visor.specs.laws.OwnLaws.{own_calls, own_none_quiescent}
 use Rattle.app_visor.specs.laws.CalmLaws.{calm_links, later_then}
 use Rattle.app_visor.specs.laws.CallOrderLaws.{own_places, own_messages, own_abreast, abreast_joined, turn_abreast, turn_places, turn_messages, stops_abreast, stops_places}
 use Rattle.run_laws.specs.Cut.{CallsAmong}
+use Rattle.run_laws.specs.laws.LastPointLaws.{last_point_of}
 use Rattle.event_dispatch.specs.declared.closing.Closing.{Closing}
 use Rattle.event_dispatch.specs.declared.closing.Closing.TheVariants as closings
 use Rattle.event_dispatch.specs.Serves.{PlaysTurn}
-use Rattle.event_dispatch.specs.Steady.{NoStray, Reads, NoPoint, AtMostThisPoint}
+use Rattle.event_dispatch.specs.Steady.{NoStray, Reads, NoPoint, AtMostThisPoint, OwnPoint}
 use Rattle.event_dispatch.specs.laws.SteadyLaws.{abreast_as, calls_among, links_among}
 
 -- ---- The same views
@@ -92,7 +93,10 @@ later_own app small later told = calls_among app small (later told).own
 pub later_quietly : {Own : Type 0} {Tells : Type 0} {old mid new : Seen Own} (app : ℕ) → (Tells → CalmLater app old mid) → (Tells → NoneQuiescentSince mid new) → (Tells → OwnSteps app mid new) → Tells → CalmLater app old new
 later_quietly app later none own told = later_then (later told) (record { none_quiescent = none told; own = own_calls (own told) })
 
-pub later_here : {Own : Type 0} {number : ℕ} {Tells : Type 0} {old new : Seen Own} (app : ℕ) → app < number → (Tells → CalmLater app old new) → AtMostThisPoint Tells number old new
+pub own_point : {Own : Type 0} {app : ℕ} {old new : Seen Own} → CalmLater app old new → OwnPoint app old new
+own_point later = record { last = last_point_of later.last; own = later.own }
+
+pub later_here : {Own : Type 0} {number : ℕ} {Tells : Type 0} {old new : Seen Own} (app : ℕ) → app < number → (Tells → OwnPoint app old new) → AtMostThisPoint Tells number old new
 later_here app small later = record { last = λ told order rest. (later told).last; own = λ told. calls_among app small (later told).own }
 
 -- ---- A turn, and its undo

@@ -7,7 +7,10 @@ use Rattle.std.proofs.lemmas.Bool.{and_parts, cases_Bool, cases_eq}
 use Rattle.std.proofs.lemmas.List.{append-nil}
 use Rattle.flow_table.specs.View.{TableView}
 use Rattle.app_frames.specs.declared.frame.Event.{Event}
-use Rattle.crash_policy.specs.Policies.{app_value}
+use Rattle.crash_policy.specs.Policies.{AppValue, app_value}
+use Rattle.crash_policy.specs.declared.policy_file.Policy.{Policy}
+use Rattle.crash_policy.specs.declared.policy_file.Policy.TheVariants as policy
+use Rattle.lego_model.specs.Controller.{instead_by}
 use Rattle.lego_model.specs.AtOnce.{AtOnce}
 use Rattle.lego_model.specs.RunReport.{event_line}
 use Rattle.outside.specs.Seen.{Seen, Continues, journal}
@@ -18,10 +21,11 @@ use Rattle.net_txn.specs.laws.SaidLaws.{all_two}
 use Rattle.checkpoint_store.specs.Slots.{Slot}
 use Rattle.app_visor.specs.CallsFor.{CallsFor, CalmLater}
 use Rattle.app_visor.specs.laws.CalmLaws.{calm_none, calm_later}
-use Rattle.crash_policy.specs.Asking.{is_given}
-use Rattle.run_laws.specs.Engine.{Application, Engine, EachFrom, focus}
+use Rattle.crash_policy.specs.Asking.{is_given, rule_at}
+use Rattle.run_laws.specs.Engine.{Application, Engine, EachFrom, Focus, focus}
 use Rattle.run_laws.specs.Moves.{IsAtRest}
-use Rattle.run_laws.specs.Facts.{is_taking, says_stop, TakesTurn, Between, HasItsTurn, IsOffered, AreLeftOut, if_stopped, Offers}
+use Rattle.run_laws.specs.Facts.{is_taking, says_stop, end_fails, TakesTurn, instead_if, TakesInstead, TakesEvent, Between, HasItsTurn, IsOffered, AreLeftOut, if_stopped, Offers}
+use Rattle.run_laws.specs.laws.HadLaws.{or_false}
 use Rattle.run_laws.specs.laws.OtherLaws.{calls-silent, silent-at-once}
 use Rattle.event_dispatch.specs.declared.fault.Fault.{Fault}
 use Rattle.event_dispatch.specs.declared.fault.Fault.TheVariants as faults
@@ -30,7 +34,7 @@ use Rattle.event_dispatch.specs.declared.run.Managed.{Managed}
 use Rattle.event_dispatch.specs.declared.run.Run.{Run}
 use Rattle.event_dispatch.specs.Runs.{AreRead, StoreRests, CoreGoes, IsCountedTo, IsCountedBefore, AreBefore, AreNumbered, AreGoing, Going}
 use Rattle.event_dispatch.specs.Stored.{KeepsOthers}
-use Rattle.event_dispatch.specs.Shows.{application_of, engine_with, engine_of, Adds, queued_run}
+use Rattle.event_dispatch.specs.Shows.{application_of, focus_of, is_replacing, engine_with, engine_of, Adds, queued_run}
 use Rattle.event_dispatch.specs.Serves.{Notes, TurnNoted, stand, OfferNoted, AllOffered, IsDispatched}
 use Rattle.event_dispatch.specs.Passes.{Passes, PassesSoFar}
 use Rattle.event_dispatch.specs.Why.{served_by}
@@ -42,7 +46,7 @@ use Rattle.event_dispatch.specs.laws.SteadyLaws.{reads_none, quietly_none, quiet
 use Rattle.event_dispatch.specs.laws.PassesLaws.{SameNext, next_of, passes_number, so_far_none, so_far_then}
 use Rattle.event_dispatch.specs.laws.TurnPartLaws.{passes_over}
 use Rattle.event_dispatch.specs.laws.WhyLaws.{why_then}
-use Rattle.event_dispatch.specs.laws.DispatchStrayLaws.{reads_over, later_here}
+use Rattle.event_dispatch.specs.laws.DispatchStrayLaws.{reads_over, own_point, later_here}
 use Rattle.event_dispatch.specs.laws.NoEventLaws.{no_event_none}
 use Rattle.event_dispatch.specs.laws.TalkingLaws.{rests_at_once, goes_none}
 use Rattle.event_dispatch.specs.laws.LeftLaws.{left_none}
@@ -546,24 +550,51 @@ offer_passed Tells accepts event seen c m goes done failed passed = record {
   };
 }
 
+-- where it is given no other events in place of one, its turn is all that it has at it
+instead_none : (rule : Policy) (event : Event) → is_replacing rule ≡ false → instead_by rule event ≡ []
+instead_none policy.None event none = refl
+instead_none policy.Absolute event none = refl
+instead_none policy.Equivalence event none = absurd (true≢false none)
+
+if_none : (fails alive : Bool) (rule : AppValue) (event : Event) → is_replacing (rule_at rule event.kind) ≡ false → instead_if fails alive rule event ≡ []
+if_none true true rule event none = instead_none (rule_at rule event.kind) event none
+if_none true false rule event none = refl
+if_none false alive rule event none = refl
+
+turn_alone : {Own : Type 0} (Tells : Type 0) (accepts : List TableView → Bool) (event : Event) (stops : Bool) (text : List ℕ) (old new : Seen Own) (e now_e : Focus)
+    → is_replacing (rule_at now_e.rule event.kind) ≡ false → (t : TakesTurn Tells accepts event text old new e now_e) → stops ≡ says_stop t.end → TakesEvent Tells accepts event stops text old new e now_e
+turn_alone Tells accepts event stops text old new e now_e none t stops_is = record {
+  mid = new;
+  mid_e = now_e;
+  front_text = text;
+  takes = t;
+  stopped = false;
+  later_text = [];
+  later = subst (λ (events : List Event). TakesInstead Tells accepts events false [] new new now_e now_e) (sym (if_none (end_fails t.end) now_e.alive now_e.rule event none)) (refl, refl, refl, refl);
+  stops_is = stops_is ∙ sym (or_false (says_stop t.end));
+  text_is = sym (append-nil text);
+}
+
 -- it had its turn
 offer_taken : {Own : Type 0} {Tells : Type 0} {accepts : List TableView → Bool} {event : Event} {stops : Bool} (old new : Seen Own) (c now_c : Core)
-    (m now_m : Managed) → is_taking event (application_of c.store m) ≡ true → now_c.events ≡ c.events → now_m.state.index ≡ m.state.index
+    (m now_m : Managed) → is_taking event (application_of c.store m) ≡ true → is_replacing (rule_at (app_value m.rule.now) event.kind) ≡ false → now_c.events ≡ c.events → now_m.state.index ≡ m.state.index → now_m.rule ≡ m.rule
     → (Tells → CallsFor m.state.index old new)
     → TurnNoted Tells accepts event stops old new c now_c m now_m → OfferNoted Tells accepts event stops old new c now_c m now_m
-offer_taken {Tells = Tells} {accepts = accepts} {event = event} {stops = stops} old new c now_c m now_m takes events index own noted = record {
+offer_taken {Tells = Tells} {accepts = accepts} {event = event} {stops = stops} old new c now_c m now_m takes none events index rule own noted = record {
   text = noted.text;
-  offered = subst (λ (b : Bool). IsOffered Tells accepts event c.events m.state.index b stops noted.text (stand old c) (stand new now_c) (application_of c.store m) (application_of now_c.store now_m)) (sym takes) (has_turn now_m.state.index now_c.events index events noted.takes noted.stops_is);
+  offered = subst (λ (b : Bool). IsOffered Tells accepts event c.events m.state.index b stops noted.text (stand old c) (stand new now_c) (application_of c.store m) (application_of now_c.store now_m)) (sym takes)
+      (has_turn now_m.state.index now_c.events index events
+      (turn_alone Tells accepts event stops noted.text old new (focus_of c m) (focus_of now_c now_m) (rw rule none) noted.takes noted.stops_is));
   notes = noted.notes;
 }
   where
-    has_turn : (i k : ℕ) → i ≡ m.state.index → k ≡ c.events → (t : TakesTurn Tells accepts event noted.text old new (focus m.state.index (application_of c.store m) c.net c.queue c.events) (focus i (application_of now_c.store now_m) now_c.net now_c.queue k)) → stops ≡ says_stop t.end
+    has_turn : (i k : ℕ) → i ≡ m.state.index → k ≡ c.events → TakesEvent Tells accepts event stops noted.text old new (focus m.state.index (application_of c.store m) c.net c.queue c.events) (focus i (application_of now_c.store now_m) now_c.net now_c.queue k)
         → HasItsTurn Tells accepts event c.events m.state.index stops noted.text (stand old c) (stand new now_c) (application_of c.store m) (application_of now_c.store now_m)
-    has_turn i k at same t stopped =
-        let both : (x : TakesTurn Tells accepts event noted.text old new (focus m.state.index (application_of c.store m) c.net c.queue c.events) (focus m.state.index (application_of now_c.store now_m) now_c.net now_c.queue c.events)) × (stops ≡ says_stop x.end) =
-        subst (λ (q : ℕ × ℕ). (x : TakesTurn Tells accepts event noted.text old new (focus m.state.index (application_of c.store m) c.net c.queue c.events) (focus q.0 (application_of now_c.store now_m) now_c.net now_c.queue q.1)) × (stops ≡ says_stop x.end))
-        (ap₂ (λ (x y : ℕ). (x, y)) at same) (t, stopped) in
-        record { takes = both.0; own = own; stops_is = both.1 }
+    has_turn i k at same t = record {
+      takes = subst (λ (q : ℕ × ℕ). TakesEvent Tells accepts event stops noted.text old new (focus m.state.index (application_of c.store m) c.net c.queue c.events) (focus q.0 (application_of now_c.store now_m) now_c.net now_c.queue q.1))
+          (ap₂ (λ (x y : ℕ). (x, y)) at same) t;
+      own = own;
+    }
 
 -- it has none, or memory was wanting before it
 pub offer_none : {Own : Type 0} (Tells : Type 0) (event : Event) (seen : Seen Own) (c : Core) (m : Managed)
@@ -573,7 +604,7 @@ offer_none Tells event seen c m = record {
     talks = λ told rests. rests.at_once;
     of_turn = tt;
     left = λ told keeps order ready rests. inl (no_event_none seen);
-    later = λ told. calm_later (calm_none m.state.index seen);
+    later = λ told. own_point (calm_later (calm_none m.state.index seen));
     plain = record { plain = λ told keeps ready sound. inl tt };
   };
   why = tt;
@@ -590,7 +621,7 @@ offer_fails {event = event} fault old new c m takes later turn =
       talks = λ told rests. turn.talks.talks told rests.at_once (rests.rest_is alive).0 (rests.rest_is alive).1;
       of_turn = takes_of fault takes;
       left = λ told keeps order ready rests. turn.left.left told keeps order ready rests.at_once (rests.rest_is alive).1;
-      later = later;
+      later = λ told. own_point (later told);
       plain = turn.plain;
     }
   where
@@ -605,20 +636,20 @@ offer_fails {event = event} fault old new c m takes later turn =
 
 -- however it ended
 pub offer_ended : {Own : Type 0} {Tells : Type 0} (accepts : List TableView → Bool) (event : Event) (result : Result Bool Fault) (old new : Seen Own)
-    (c now_c : Core) (m now_m : Managed) → is_taking event (application_of c.store m) ≡ true → (Tells → CalmLater m.state.index old new)
+    (c now_c : Core) (m now_m : Managed) → is_taking event (application_of c.store m) ≡ true → is_replacing (rule_at (app_value m.rule.now) event.kind) ≡ false → (Tells → CalmLater m.state.index old new)
     → MatchResult result (λ stops. TurnDone Tells accepts event stops old new c now_c m now_m)
     (TurnFails Tells m.state.index m.rule.now.budget m.state.rest old new c.net)
     → MatchResult result (λ stops. OfferDone Tells accepts event stops old new c now_c m now_m) (OfferStops Tells event old new c m)
-offer_ended accepts event (Ok stops) old new c now_c m now_m takes later turn = record {
+offer_ended accepts event (Ok stops) old new c now_c m now_m takes none later turn = record {
   goes = turn.goes;
   events = turn.events;
   others = turn.others;
   counted = turn.counted;
   index = turn.index;
   rule = turn.rule;
-  offered = offer_taken old new c now_c m now_m takes turn.events turn.index (λ told. (later told).own) turn.turn;
+  offered = offer_taken old new c now_c m now_m takes none turn.events turn.index turn.rule (λ told. (later told).own) turn.turn;
 }
-offer_ended accepts event (Err fault) old new c now_c m now_m takes later turn = record { fails = offer_fails fault old new c m takes later turn; why = turn.why }
+offer_ended accepts event (Err fault) old new c now_c m now_m takes none later turn = record { fails = offer_fails fault old new c m takes later turn; why = turn.why }
 
 -- ---- The event, with its line
 

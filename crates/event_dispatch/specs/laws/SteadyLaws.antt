@@ -19,6 +19,7 @@ use Rattle.net_txn.specs.laws.LinkStrayLaws.{no_strays_none, no_strays_then}
 use Rattle.net_txn.specs.Views.{is_viewed}
 use Rattle.net_txn.specs.Abreast.{Abreast}
 use Rattle.net_txn.specs.LinkSteps.{is_link_step, AreLinkSteps, LinkSteps}
+use Rattle.run_laws.specs.laws.LastPointLaws.{last_point_of}
 use Rattle.app_visor.specs.CallsFor.{IsActFor, IsCallFor, CallsFor}
 use Rattle.run_laws.specs.Cut.{IsActAmong, IsCallAmong, CallsAmong}
 use Rattle.lego_model.specs.Journal.{released_in, released}
@@ -178,4 +179,4 @@ quietly_number {Tells = Tells} {old = old} {new = new} n m same all = subst (λ 
 
 -- no quiescent point behind one from which on there was none
 pub quietly_here : {Own : Type 0} {number : ℕ} {Tells : Type 0} {old new : Seen Own} → NoPoint Tells number old new → AtMostThisPoint Tells number old new
-quietly_here no_point = record { last = λ told order rest. last_quiescent-of (no_point.none_quiescent told); own = no_point.own }
+quietly_here no_point = record { last = λ told order rest. last_point_of (last_quiescent-of (no_point.none_quiescent told)); own = no_point.own }

@@ -126,8 +126,3 @@ pub turn_converses : {Own : Type 0} (Tells : Type 0) (accepts : List TableView �
 turn_converses Tells accepts event text old new e now_e told alive c turn =
     closed_converses Tells event.kind turn.end (handed turn.turns.outcome) turn.unread text (length e.net.log) old turn.mid new turn.mid_net e now_e told c.at_once
     (turn.turns.speaks told (event_is e.events e.net.moment event) c.at_once.last (c.rest_is alive).0 (c.rest_is alive).1) turn.closed
-
--- where it has one
-pub turn_goes_on : {Own : Type 0} (Tells : Type 0) (accepts : List TableView → Bool) (event : Event) (text : List ℕ) (old new : Seen Own) (e now_e : Focus) → Tells → takes_event e event ≡ true → Conversing old e
-    → TakesTurn Tells accepts event text old new e now_e → Conversing new now_e
-turn_goes_on Tells accepts event text old new e now_e told takes c turn = turn_converses Tells accepts event text old new e now_e told (takes_alive e event takes) c turn

@@ -36,7 +36,7 @@ use Rattle.app_visor.specs.declared.state.TurnEnd.TheVariants as ends
 use Rattle.switch_laws.specs.laws.OrderlyLaws.{orderly-whole}
 use Rattle.batch_laws.specs.Knowledge.{left_events}
 use Rattle.run_laws.specs.Engine.{Application, Engine, EachFrom, Focus, focus, apps_from, left_behind, behind, Shares, Stands, ahead, rules_of}
-use Rattle.run_laws.specs.Facts.{Between, between, Follows, all_told, IsClosed, is_taking, IsOffered, AreLeftOut, if_stopped, Offers, Dispatches}
+use Rattle.run_laws.specs.Facts.{Between, between, Follows, all_told, IsClosed, is_taking, end_fails, Turning, ClosesGroup, instead_if, TakesInstead, IsOffered, AreLeftOut, if_stopped, Offers, Dispatches}
 use Rattle.run_laws.specs.Moves.{IsAtRest, AtRest, Moves, Moved}
 use Rattle.run_laws.specs.ReferenceTurn.{numbered}
 use Rattle.run_laws.specs.LastReport.{lines_text}
@@ -296,11 +296,28 @@ closed_count Tells kind (ends.Failed cause) checkpoint unread text start mid new
     let still = follows_still Tells (rule_at e.rule kind) closed.later_text closed.undone new (all_told closed.undone_net e.queue (record e { rest = []; failed = e.failed + 1 })) now_e closed.follows in
     (still.events, (left_events closed.undone_net.left, still.queue))
 
+-- so it is with the turns at what is given in place of an event
+group_joins : {Own : Type 0} (Tells : Type 0) (fails : Bool) (number : ℕ) (text : List ℕ) (start : ℕ) (new : Seen Own) (t : Turning Own) (e now_e : Focus) → ClosesGroup fails Tells number text start new t e now_e → Joins e.queue now_e.queue
+group_joins Tells false number text start new t e now_e closed =
+    subst (λ (x : Focus). Joins e.queue x.queue) (sym closed.engine) (joins-then e.queue closed.queue (closed.queue ++ left_events closed.net.left)
+    (joins-then e.queue (e.queue ++ t.net.held.notices) closed.queue (t.net.held.notices, refl)
+    (release-joins Tells t.net.held.packets closed.commits.ended.sent t.seen new (committed start t.net) closed.net (e.queue ++ t.net.held.notices) closed.queue closed.commits.ended.all)) (left_events closed.net.left, refl))
+group_joins Tells true number text start new t e now_e closed = (left_events closed.undone_net.left, ap (λ (x : Focus). x.queue) closed.starts.engine)
+
+instead_joins : {Own : Type 0} (Tells : Type 0) (accepts : List TableView → Bool) (events : List Event) (stops : Bool) (text : List ℕ) (old new : Seen Own) (e now_e : Focus) → TakesInstead Tells accepts events stops text old new e now_e → Joins e.queue now_e.queue
+instead_joins Tells accepts [] stops text old new e now_e none = joins-none e.queue now_e.queue (ap (λ (x : Focus). x.queue) none.1)
+instead_joins Tells accepts (event ∷ events) stops text old new e now_e some =
+    let g = some.0 in
+    group_joins Tells g.turning.fails (length (event ∷ events)) text (length e.net.log) new g.turning e now_e g.closed
+
 offered-joins : {Own : Type 0} (Tells : Type 0) (accepts : List TableView → Bool) (event : Event) (number i : ℕ) (takes stops : Bool) (text : List ℕ) (from to : Between Own) (a now_a : Application) → IsOffered Tells accepts event number i takes stops text from to a now_a → Joins from.queue to.queue
 offered-joins Tells accepts event number i true stops text from to a now_a one =
     let e = focus i a from.net from.queue number in
-    let turn = one.takes in
-    (closed_count Tells event.kind turn.end (handed turn.turns.outcome) turn.unread text (length from.net.log) turn.mid to.seen turn.mid_net e (focus i now_a to.net to.queue number) turn.closed).1
+    let h = one.takes in
+    let takes = h.takes in
+    let turn = closed_count Tells event.kind takes.end (handed takes.turns.outcome) takes.unread h.front_text (length from.net.log) takes.mid h.mid takes.mid_net e h.mid_e takes.closed in
+    joins-then from.queue h.mid_e.queue to.queue turn.1
+    (instead_joins Tells accepts (instead_if (end_fails takes.end) h.mid_e.alive h.mid_e.rule event) h.stopped h.later_text h.mid to.seen h.mid_e (focus i now_a to.net to.queue number) h.later)
 offered-joins Tells accepts event number i false stops text from to a now_a passed = joins-none from.queue to.queue (ap (λ (x : Between _). x.queue) passed.0)
 
 later-joins : {Own : Type 0} (Tells : Type 0) (accepts : List TableView → Bool) (event : Event) (number i : ℕ) (more : List Application) (text : List ℕ) (mid to : Between Own) (later_apps : List Application) (stopped stops : Bool)

@@ -112,7 +112,7 @@ group_none allows i a r = refl
 abbrev had_with : Bool → Had → Had
 had_with stops h = record h { stops = stops || h.stops }
 
-or_false : (b : Bool) → (b || false) ≡ b
+pub or_false : (b : Bool) → (b || false) ≡ b
 or_false true = refl
 or_false false = refl
 

@@ -28,7 +28,7 @@ use Rattle.of_types.specs.Membership.{is_among}
 use Rattle.run_course.specs.Moves.{Holding, OfJoined, HoldsStill, Notes, tables_by, Changes, Queries, Releases, Loses, TakesBack, Takes, Joins, Leaves, Go, OneByOne, ItemMove, EndMove, keys_at}
 use Rattle.lego_model.specs.FlowQueries.{is_about, other_in, others_in}
 use Rattle.run_course.specs.Applications.{Application, listens}
-use Rattle.run_course.specs.Turns.{TalkMove, Talk, added_in, Closes, HasTurn, IsOffered, unless_stopped, Offers}
+use Rattle.run_course.specs.Turns.{TalkMove, Talk, Closes, Talks, keys_added, HasTurn, Turning, turning_at, unless_failed, turning_behind, TurnsInstead, GroupCloses, HasInstead, instead_in, IsOffered, unless_stopped, Offers}
 use Rattle.run_course.specs.Parts.{Standing, KeptComeFirst, Part, Goes}
 
 -- ---- Messages of some switches
@@ -252,12 +252,39 @@ closed_keeps kind (Completed stop handed left) added i app now_app from to stays
 closed_keeps kind (Failed cause) added i app now_app from to undone all =
     still_keep undone.noted to undone.still (notes_keep undone.undone undone.noted undone.notes (takes_back_keep added from undone.undone undone.takes_back all))
 
+talked_keeps : {Own : Type 0} {number : ℕ} {event : Event} {i : ℕ} {unread : List ℕ} (from to : Holding Own) → Talks number event i unread from to → OfJoined from from.kept → OfJoined to to.kept
+talked_keeps {i = i} from to t all = talks_keep i t.talk t.begun to t.talks (still_keep from t.begun t.given.still all)
+
 turn_keeps : {Own : Type 0} (number : ℕ) (event : Event) (i : ℕ) (app now_app : Application) (from to : Holding Own) → HasTurn number event i app now_app from to → OfJoined from from.kept → OfJoined to to.kept
 turn_keeps number event i app now_app from to turn all =
-    closed_keeps event.kind turn.outcome (added_in i turn.talk turn.begun turn.talked turn.talks) i app now_app turn.talked to turn.closes (talks_keep i turn.talk turn.begun turn.talked turn.talks (still_keep from turn.begun turn.given.still all))
+    closed_keeps event.kind turn.talks.outcome (keys_added turn.talks) i app now_app turn.talked to turn.closes (talked_keeps from turn.talked turn.talks all)
+
+-- turns in place of an event
+failed_keeps : (outcome : Outcome) (Over Goes Keeps : Type 0) → unless_failed outcome Over Goes → (Over → Keeps) → (Goes → Keeps) → Keeps
+failed_keeps (Completed stop handed left) Over Goes Keeps is over goes = goes is
+failed_keeps (Failed cause) Over Goes Keeps is over goes = over is
+
+instead_keep : {Own : Type 0} (number i : ℕ) (events : List Event) (t now_t : Turning) (from to : Holding Own) → TurnsInstead number i events t now_t from to → OfJoined from from.kept → OfJoined to to.kept
+instead_keep number i [] t now_t from to none all = subst (λ (h : Holding _). OfJoined h h.kept) (sym none.0) all
+instead_keep number i (event ∷ events) t now_t from to turns all =
+    let one = turns.0 in
+    let there = talked_keeps from one.mid one.talks all in
+    failed_keeps one.talks.outcome ((to ≡ one.mid) × (now_t ≡ turning_behind one)) (TurnsInstead number i events (turning_behind one) now_t one.mid to) (OfJoined to to.kept) turns.1
+    (λ over. subst (λ (h : Holding _). OfJoined h h.kept) (sym over.0) there) (λ goes. instead_keep number i events (turning_behind one) now_t one.mid to goes there)
+
+group_keeps : {Own : Type 0} (fails : Bool) (t : Turning) (i : ℕ) (app now_app : Application) (from to : Holding Own) → GroupCloses fails t i app now_app from to → OfJoined from from.kept → OfJoined to to.kept
+group_keeps false t i app now_app from to stays all = moves_keep EndMove end_keeps from to stays.moves all
+group_keeps true t i app now_app from to undone all =
+    still_keep undone.noted to undone.still (notes_keep undone.undone undone.noted undone.notes (takes_back_keep t.keys from undone.undone undone.takes_back all))
+
+has_instead_keeps : {Own : Type 0} (number i : ℕ) (events : List Event) (app now_app : Application) (stops : Bool) (from to : Holding Own) → HasInstead number i events app now_app stops from to → OfJoined from from.kept → OfJoined to to.kept
+has_instead_keeps number i [] app now_app stops from to none all = subst (λ (h : Holding _). OfJoined h h.kept) (sym none.0) all
+has_instead_keeps number i (event ∷ events) app now_app stops from to g all =
+    group_keeps g.turning.fails g.turning i app now_app g.talked to g.closes (instead_keep number i (event ∷ events) (turning_at app) g.turning from g.talked g.turns all)
 
 offered_keeps : {Own : Type 0} (number : ℕ) (event : Event) (i : ℕ) (listens : Bool) (apps : Application × Application) (stops : Bool) (from to : Holding Own) → IsOffered number event i listens apps stops from to → OfJoined from from.kept → OfJoined to to.kept
-offered_keeps number event i true apps stops from to offered all = turn_keeps number event i apps.0 apps.1 from to offered.0 all
+offered_keeps number event i true apps stops from to h all =
+    has_instead_keeps number i (instead_in h.turn.talks.outcome h.mid_app event) h.mid_app apps.1 h.stopped h.mid to h.instead (turn_keeps number event i apps.0 h.mid_app from h.mid h.turn all)
 offered_keeps number event i false apps stops from to offered all = subst (λ (h : Holding _). OfJoined h h.kept) (sym offered.0) all
 
 unless_keeps : (stops : Bool) (Out Goes Keeps : Type 0) → unless_stopped stops Out Goes → (Out → Keeps) → (Goes → Keeps) → Keeps

@@ -11,7 +11,7 @@ use Rattle.lego_model.specs.Places.{Place}
 use Rattle.lego_model.specs.Losses.{TurnLosses, Losses}
 use Rattle.lego_model.specs.Scripted.{AreFronts, AreStartFronts}
 use Rattle.lego_model.specs.Application.{names}
-use Rattle.lego_model.specs.Controller.{App, Run, turn, given_to}
+use Rattle.lego_model.specs.Controller.{App, Had, Run, had_at, given_to}
 use Rattle.lego_model.specs.RunReport.{name_of}
 use Rattle.lego_model.specs.ReferenceRun.{Said, AreFrontsOf}
 use Rattle.lego_model.specs.History.{starts_in, replies_in, own_acts, given_in, stimuli_in}
@@ -23,21 +23,17 @@ use Rattle.switch_laws.specs.Orderly.{OrderlySince}
 use Rattle.switch_laws.specs.laws.OrderlyLaws.{orderly-none, orderly-then}
 use Rattle.batch_laws.specs.Calm.{Calm}
 use Rattle.run_laws.specs.Engine.{Application, EachFrom, Focus, focus, app_with, apps_from, nothing, both_told, told_then, left_behind, behind, Shares, ahead}
-use Rattle.run_laws.specs.Facts.{Between, is_taking, end_fails, HasItsTurn, IsOffered, AreLeftOut, if_stopped, Offers}
+use Rattle.run_laws.specs.Facts.{Between, is_taking, HasItsTurn, IsOffered, AreLeftOut, if_stopped, Offers}
 use Rattle.run_laws.specs.LastReport.{lines_text}
 use Rattle.run_laws.specs.LinkSteps.{Silent}
 use Rattle.run_laws.specs.Moves.{TellsMore, IsAtRest}
 use Rattle.run_laws.specs.Readings.{JudgesAlike}
-use Rattle.run_laws.specs.ReferenceTurn.{after_turn}
-use Rattle.run_laws.specs.EventMoves.{TurnMoves}
-use Rattle.run_laws.specs.laws.DialogueLaws.{takes_alive, turn_goes_on}
-use Rattle.run_laws.specs.laws.HadLaws.{turned_of, turned-so, shares-so, lines-so}
+use Rattle.run_laws.specs.EventMoves.{HadMoves}
+use Rattle.run_laws.specs.laws.DialogueLaws.{takes_alive}
+use Rattle.run_laws.specs.laws.HadLaws.{had_moves, event_continues, event_converses, event_orderly}
 use Rattle.run_laws.specs.laws.MoveLaws.{apps-ext, behind-then, fronts-then, longer}
-use Rattle.run_laws.specs.laws.OrderlyRunLaws.{turn-continues, turn-orderly}
 use Rattle.run_laws.specs.laws.OtherLaws.{calls-silent, silent-none, silent-then, silent-acts, silent-given, silent-rests}
-use Rattle.run_laws.specs.laws.ReadRunLaws.{are-read}
 use Rattle.run_laws.specs.laws.ReferenceLaws.{given_none, given_passed, given_stop, given_on}
-use Rattle.run_laws.specs.laws.TurnMoveLaws.{turn_moves}
 
 -- ---- What is told of one application alone
 
@@ -187,40 +183,43 @@ module _ {Own : Type 0} (allows : List Place → Bool) (event : Event) (number i
     gives = passed-gives passed;
   }
 
--- ---- One has its turn
+-- ---- One has its turns
 
-abbrev told_by : {Own : Type 0} {allows : List Place → Bool} {event : Event} {stops fails : Bool} {text : List ℕ} {old new : Seen Own} {e now_e : Focus} → TurnMoves allows event stops fails text old new e now_e → Said
-told_by t = record { starts = t.starts; replies = t.reply ∷ [] }
+abbrev had_by : (List Place → Bool) → Event → ℕ → App → Run → Had
+had_by allows event i a r = had_at allows event i a r
+
+abbrev told_by : {Own : Type 0} {does : App → Run → Had} {stops : Bool} {text : List ℕ} {old new : Seen Own} {e now_e : Focus} → HadMoves does stops text old new e now_e → Said
+told_by t = record { starts = t.starts; replies = t.replies }
 
 -- ---- and stops the event there
 
-module _ {Own : Type 0} (allows : List Place → Bool) (event : Event) (number i : ℕ) (fails : Bool) (text : List ℕ) (from mid : Between Own) (a now_a : Application) (more : List Application) (takes : is_taking event a ≡ true) (keeps : Conforming from.seen)
-    (t : TurnMoves allows event true fails text from.seen mid.seen (focus i a from.net from.queue number) (focus i now_a mid.net mid.queue number)) (silent : (j : ℕ) → (j ≡ i → ⊥) → Silent j from.seen mid.seen) where
-  stop-gives : (said : ℕ → Said) (later : Losses) (r : Run) → AreFrontsOf (told_at i (told_by t)) said → Shares from.seen from.net from.queue number (ahead [] (t.losses ∷ []) later) r
+module _ {Own : Type 0} (allows : List Place → Bool) (event : Event) (number i : ℕ) (text : List ℕ) (from mid : Between Own) (a now_a : Application) (more : List Application) (takes : is_taking event a ≡ true)
+    (t : HadMoves (had_by allows event i) true text from.seen mid.seen (focus i a from.net from.queue number) (focus i now_a mid.net mid.queue number)) (silent : (j : ℕ) → (j ≡ i → ⊥) → Silent j from.seen mid.seen) where
+  stop-gives : (said : ℕ → Said) (later : Losses) (r : Run) → AreFrontsOf (told_at i (told_by t)) said → Shares from.seen from.net from.queue number (ahead [] t.turns later) r
       → IsGivenAlike number i (a ∷ more) (now_a ∷ more) text mid (behind (told_at i (told_by t)) said) later r (given_to allows event i (apps_from i from.seen (a ∷ more) said) r)
   stop-gives said later r fronts s =
       let here = fronts-here i (told_by t) said fronts in
-      let left = left_behind (told_by t) (said i) in
-      let turned = turned_of t.alike left.starts left.replies in
+      let x = app_with a (given_in i from.seen) (said i) in
+      let h = had_at allows event i x r in
+      let g = t.had (said i).starts (said i).replies later r here.0 here.1 s in
       subst (IsGivenAlike number i (a ∷ more) (now_a ∷ more) text mid (behind (told_at i (told_by t)) said) later r)
-      (sym (given_stop allows event i (app_with a (given_in i from.seen) (said i)) (apps_from (i + 1) from.seen more said) r takes turned
-      (turned-so allows event true fails text from.seen mid.seen (focus i a from.net from.queue number) (focus i now_a mid.net mid.queue number) t (said i).starts (said i).replies [] later r here.0 here.1 s) t.stops_is)) (record {
-        apps_is = ap₂ (λ (s : Said) (xs : List App). app_with now_a (given_in i mid.seen) s ∷ xs) (sym (behind-here i (told_by t) said))
+      (sym (given_stop allows event i x (apps_from (i + 1) from.seen more said) r takes h refl g.stops_is)) (record {
+        apps_is = ap₂ (λ (x : App) (xs : List App). x ∷ xs) (g.app_is ∙ ap (λ (s : Said). app_with now_a (given_in i mid.seen) s) (sym (behind-here i (told_by t) said)))
             (apps-ext (i + 1) from.seen mid.seen more said (behind (told_at i (told_by t)) said)
             (λ j le. (silent-given j from.seen mid.seen (silent j (λ same. omega (arith, le, same))), sym (behind-other i j (told_by t) said (λ same. omega (arith, le, same))))));
-        shares = shares-so allows event true fails text from.seen mid.seen (focus i a from.net from.queue number) (focus i now_a mid.net mid.queue number) t keeps left.starts left.replies [] later r s;
-        lines = λ known are. lines-so allows event true fails text from.seen mid.seen (focus i a from.net from.queue number) (focus i now_a mid.net mid.queue number) t known are.0 left.starts left.replies r;
+        shares = g.shares;
+        lines = λ known are. g.lines known (are.0 ∙ sym (ap (λ (rule : AppValue). rule.name) t.rule));
       })
 
   stop-offered : ((n : ℕ) → i < n → OrderlySince n from.seen mid.seen) → IsAtRest mid.seen i now_a → EachFrom (IsAtRest from.seen) (i + 1) more → OfferMoves allows event number i (a ∷ more) (now_a ∷ more) text from mid
   stop-offered orderly rests others = record {
     told = told_at i (told_by t);
-    turns = t.losses ∷ [];
-    given = t.tells.given;
-    read = tells-at i (told_by t) from.seen mid.seen (record { starts = t.tells.read_starts; replies = t.tells.read_replies }) silent;
-    stims = t.tells.read_stimuli;
-    rules = ap (λ (rule : AppValue). rule ∷ map (λ x. x.rule) more) t.alike.rule;
-    calm = t.alike.calm;
+    turns = t.turns;
+    given = t.given;
+    read = tells-at i (told_by t) from.seen mid.seen (record { starts = t.read_starts; replies = t.read_replies }) silent;
+    stims = t.read_stimuli;
+    rules = ap (λ (rule : AppValue). rule ∷ map (λ x. x.rule) more) t.rule;
+    calm = t.calm;
     still = λ j out. silent j (λ same. out (omega (arith, same)) (omega (arith, same)));
     untold = λ j out. told-other i j (told_by t) (λ same. out (omega (arith, same)) (omega (arith, same)));
     each = (rests, each-silent (i + 1) more from.seen mid.seen (λ j le. silent j (λ same. omega (arith, le, same))) others);
@@ -230,8 +229,12 @@ module _ {Own : Type 0} (allows : List Place → Bool) (event : Event) (number i
 
 -- ---- or lets it go on
 
-module _ {Own : Type 0} (allows : List Place → Bool) (event : Event) (number i : ℕ) (fails : Bool) (text later_text : List ℕ) (from mid to : Between Own) (a now_a : Application) (more later_apps : List Application) (takes : is_taking event a ≡ true) (keeps : Conforming from.seen)
-    (t : TurnMoves allows event false fails text from.seen mid.seen (focus i a from.net from.queue number) (focus i now_a mid.net mid.queue number)) (silent : (j : ℕ) → (j ≡ i → ⊥) → Silent j from.seen mid.seen)
+-- losses in some turns, and then in others
+ahead-parts : (first second : List TurnLosses) (later : Losses) → ahead [] (first ++ second) later ≡ ahead [] first (ahead [] second later)
+ahead-parts first second later = ap (λ (turns : List TurnLosses). record { batches = later.batches; turns = turns; last = later.last }) (append_assoc first second later.turns)
+
+module _ {Own : Type 0} (allows : List Place → Bool) (event : Event) (number i : ℕ) (text later_text : List ℕ) (from mid to : Between Own) (a now_a : Application) (more later_apps : List Application) (takes : is_taking event a ≡ true)
+    (t : HadMoves (had_by allows event i) false text from.seen mid.seen (focus i a from.net from.queue number) (focus i now_a mid.net mid.queue number)) (silent : (j : ℕ) → (j ≡ i → ⊥) → Silent j from.seen mid.seen)
     (m : OfferMoves allows event number (i + 1) more later_apps later_text mid to) where
   first_still : i + 1 ≤ i → i < i + 1 + length more → ⊥
   first_still le less = omega (arith, le)
@@ -243,42 +246,41 @@ module _ {Own : Type 0} (allows : List Place → Bool) (event : Event) (number i
       ∙ ap (λ (x : Said). left_behind x (behind (told_at i (told_by t)) said i)) (m.untold i first_still)
       ∙ behind-here i (told_by t) said
 
-  on-gives : (said : ℕ → Said) (later : Losses) (r : Run) → AreFrontsOf (told_then (told_at i (told_by t)) m.told) said → Shares from.seen from.net from.queue number (ahead [] (t.losses ∷ m.turns) later) r
+  on-gives : (said : ℕ → Said) (later : Losses) (r : Run) → AreFrontsOf (told_then (told_at i (told_by t)) m.told) said → Shares from.seen from.net from.queue number (ahead [] (t.turns ++ m.turns) later) r
       → IsGivenAlike number i (a ∷ more) (now_a ∷ later_apps) (text ++ later_text) to (behind (told_then (told_at i (told_by t)) m.told) said) later r (given_to allows event i (apps_from i from.seen (a ∷ more) said) r)
   on-gives said later r fronts s =
       let first = told_at i (told_by t) in
       let parts = fronts-then first m.told said fronts in
       let here = fronts-here i (told_by t) said parts.0 in
-      let left = left_behind (told_by t) (said i) in
-      let turned = turned_of t.alike left.starts left.replies in
-      let next = after_turn i turned r in
+      let x = app_with a (given_in i from.seen) (said i) in
+      let h = had_at allows event i x r in
+      let had = t.had (said i).starts (said i).replies (ahead [] m.turns later) r here.0 here.1 (subst (λ (l : Losses). Shares from.seen from.net from.queue number l r) (ahead-parts t.turns m.turns later) s) in
       let whole = behind (told_then first m.told) said in
       let others = apps_from (i + 1) from.seen more said in
       let others_are : apps_from (i + 1) mid.seen more (behind first said) ≡ others =
       sym (apps-ext (i + 1) from.seen mid.seen more said (behind first said)
       (λ j le. (silent-given j from.seen mid.seen (silent j (λ same. omega (arith, le, same))), sym (behind-other i j (told_by t) said (λ same. omega (arith, le, same)))))) in
-      let g = subst (λ (xs : List App). IsGivenAlike number (i + 1) more later_apps later_text to (behind m.told (behind first said)) later next (given_to allows event (i + 1) xs next)) others_are
-      (m.gives (behind first said) later next parts.1 (shares-so allows event false fails text from.seen mid.seen (focus i a from.net from.queue number) (focus i now_a mid.net mid.queue number) t keeps left.starts left.replies m.turns later r s)) in
+      let g = subst (λ (xs : List App). IsGivenAlike number (i + 1) more later_apps later_text to (behind m.told (behind first said)) later h.run (given_to allows event (i + 1) xs h.run)) others_are
+      (m.gives (behind first said) later h.run parts.1 had.shares) in
       subst (IsGivenAlike number i (a ∷ more) (now_a ∷ later_apps) (text ++ later_text) to whole later r)
-      (sym (given_on allows event i (app_with a (given_in i from.seen) (said i)) others r takes turned
-      (turned-so allows event false fails text from.seen mid.seen (focus i a from.net from.queue number) (focus i now_a mid.net mid.queue number) t (said i).starts (said i).replies m.turns later r here.0 here.1 s) t.stops_is)) (record {
+      (sym (given_on allows event i x others r takes h refl had.stops_is)) (record {
         apps_is = ap₂ (λ (x : App) (xs : List App). x ∷ xs)
-            (ap₂ (λ (given : List (List ℕ)) (s : Said). app_with now_a given s) (sym (silent-given i mid.seen to.seen (m.still i first_still))) (sym (left-first said)))
+            (had.app_is ∙ ap₂ (λ (given : List (List ℕ)) (s : Said). app_with now_a given s) (sym (silent-given i mid.seen to.seen (m.still i first_still))) (sym (left-first said)))
             (g.apps_is ∙ apps-ext (i + 1) to.seen to.seen later_apps (behind m.told (behind first said)) whole (λ j le. (refl, sym (behind-then first m.told said j))));
         shares = g.shares;
-        lines = λ known are. g.lines known are.1 ∙ ap (λ (lines : List ℕ). lines ++ later_text) (lines-so allows event false fails text from.seen mid.seen (focus i a from.net from.queue number) (focus i now_a mid.net mid.queue number) t known are.0 left.starts left.replies r)
+        lines = λ known are. g.lines known are.1 ∙ ap (λ (lines : List ℕ). lines ++ later_text) (had.lines known (are.0 ∙ sym (ap (λ (rule : AppValue). rule.name) t.rule)))
             ∙ append_assoc (lines_text known r.lines) text later_text;
       })
 
   on-offered : ((n : ℕ) → i < n → OrderlySince n from.seen mid.seen) → IsAtRest mid.seen i now_a → OfferMoves allows event number i (a ∷ more) (now_a ∷ later_apps) (text ++ later_text) from to
   on-offered orderly rests = record {
     told = told_then (told_at i (told_by t)) m.told;
-    turns = t.losses ∷ m.turns;
-    given = m.given ∙ t.tells.given;
+    turns = t.turns ++ m.turns;
+    given = m.given ∙ t.given;
     read = λ j. tells-then (told_at i (told_by t) j) (m.told j) (own_acts j from.seen) (own_acts j mid.seen) (own_acts j to.seen)
-        (tells-at i (told_by t) from.seen mid.seen (record { starts = t.tells.read_starts; replies = t.tells.read_replies }) silent j) (m.read j);
-    stims = m.stims ∙ t.tells.read_stimuli;
-    rules = ap₂ (λ (rule : AppValue) (rules : List AppValue). rule ∷ rules) t.alike.rule m.rules;
+        (tells-at i (told_by t) from.seen mid.seen (record { starts = t.read_starts; replies = t.read_replies }) silent j) (m.read j);
+    stims = m.stims ∙ t.read_stimuli;
+    rules = ap₂ (λ (rule : AppValue) (rules : List AppValue). rule ∷ rules) t.rule m.rules;
     calm = m.calm;
     still = λ j out. silent-then j from.seen mid.seen to.seen (silent j (λ same. out (omega (arith, same)) (omega (arith, same)))) (m.still j (λ le less. out (omega (arith, le)) (omega (arith, less))));
     untold = λ j out. ap₂ both_told (told-other i j (told_by t) (λ same. out (omega (arith, same)) (omega (arith, same)))) (m.untold j (λ le less. out (omega (arith, le)) (omega (arith, less))));
@@ -290,7 +292,7 @@ module _ {Own : Type 0} (allows : List Place → Bool) (event : Event) (number i
 -- ---- The history goes on
 
 offered-continue : {Own : Type 0} (Tells : Type 0) (accepts : List TableView → Bool) (event : Event) (number i : ℕ) (takes stops : Bool) (text : List ℕ) (from to : Between Own) (a now_a : Application) → IsOffered Tells accepts event number i takes stops text from to a now_a → Continues Tells from.seen to.seen
-offered-continue Tells accepts event number i true stops text from to a now_a turn = turn-continues Tells accepts event text from.seen to.seen (focus i a from.net from.queue number) (focus i now_a to.net to.queue number) turn.takes
+offered-continue Tells accepts event number i true stops text from to a now_a turn = event_continues Tells accepts event stops text from.seen to.seen (focus i a from.net from.queue number) (focus i now_a to.net to.queue number) turn.takes
 offered-continue Tells accepts event number i false stops text from to a now_a passed = subst (λ (x : Between _). Continues Tells from.seen x.seen) (sym passed.0) (Continues-refl Tells from.seen)
 
 later-continue : {Own : Type 0} (Tells : Type 0) (accepts : List TableView → Bool) (event : Event) (number i : ℕ) (more : List Application) (text : List ℕ) (mid to : Between Own) (later_apps : List Application) (stopped stops : Bool)
@@ -308,11 +310,9 @@ offers-continue Tells accepts event number i (a ∷ more) text from to now_apps 
 
 -- ---- The whole
 
--- what a turn is of, where all was at rest before it
+-- what its turns are of, where all was at rest before them
 record TurnAt {Own : Type 0} (allows : List Place → Bool) (event : Event) (number i : ℕ) (stops : Bool) (text : List ℕ) (from mid : Between Own) (a now_a : Application) : Type 0 where
-  keeps : Conforming from.seen
-  fails : Bool
-  moves : TurnMoves allows event stops fails text from.seen mid.seen (focus i a from.net from.queue number) (focus i now_a mid.net mid.queue number)
+  moves : HadMoves (had_by allows event i) stops text from.seen mid.seen (focus i a from.net from.queue number) (focus i now_a mid.net mid.queue number)
   silent : (j : ℕ) → (j ≡ i → ⊥) → Silent j from.seen mid.seen
   orderly : (n : ℕ) → i < n → OrderlySince n from.seen mid.seen
   rests : IsAtRest mid.seen i now_a
@@ -323,16 +323,14 @@ module _ {Own : Type 0} (Tells : Type 0) (accepts : List TableView → Bool) (al
   turn-at i stops text from mid a now_a takes keeps calm rests turn =
       let e = focus i a from.net from.queue number in
       let now_e = focus i now_a mid.net mid.queue number in
-      let reads = are-read i Tells accepts in
-      let moves = turn_moves Tells accepts allows event text from.seen mid.seen e now_e told keeps judges reads few (rests.life (takes_alive e event takes)) calm turn.takes in
-      let goes = turn_goes_on Tells accepts event text from.seen mid.seen e now_e told takes (record { at_once = rests.at_once; rest_is = rests.rest_is }) turn.takes in
+      let alive = takes_alive e event takes in
+      let moves = had_moves Tells accepts allows event stops text from.seen mid.seen e now_e told keeps judges few (rests.life alive) calm turn.takes in
+      let goes = event_converses Tells accepts event stops text from.seen mid.seen e now_e told alive (record { at_once = rests.at_once; rest_is = rests.rest_is }) turn.takes in
       record {
-        keeps = Conforming-before told (turn-continues Tells accepts event text from.seen mid.seen e now_e turn.takes) keeps;
-        fails = end_fails turn.takes.end;
-        moves = subst (λ (b : Bool). TurnMoves allows event b (end_fails turn.takes.end) text from.seen mid.seen e now_e) (sym turn.stops_is) moves;
+        moves = moves;
         silent = λ j other. calls-silent i j from.seen mid.seen (turn.own told) other;
-        orderly = λ n less. turn-orderly Tells accepts n event text from.seen mid.seen e now_e told less keeps calm reads turn.takes;
-        rests = record { life = moves.tells.life; at_once = goes.at_once; rest_is = goes.rest_is };
+        orderly = λ n less. event_orderly Tells accepts allows n event stops text from.seen mid.seen e now_e told less keeps judges few (rests.life alive) calm turn.takes;
+        rests = record { life = moves.life; at_once = goes.at_once; rest_is = goes.rest_is };
       }
 
   by-offer : (i : ℕ) (a now_a : Application) (more later_apps : List Application) (text later_text : List ℕ) (from mid to : Between Own) (takes stops stopped : Bool) → is_taking event a ≡ takes → Conforming to.seen → Calm from.seen from.net → IsAtRest from.seen i a → EachFrom (IsAtRest from.seen) (i + 1) more
@@ -344,12 +342,12 @@ module _ {Own : Type 0} (Tells : Type 0) (accepts : List TableView → Bool) (al
       subst (λ (x : Between Own). OfferMoves allows event number i (a ∷ more) (now_a ∷ later_apps) (text ++ later_text) from x) (sym out.0)
       (subst (λ (apps : List Application). OfferMoves allows event number i (a ∷ more) (now_a ∷ apps) (text ++ later_text) from mid) (sym out.2)
       (subst (λ (said : List ℕ). OfferMoves allows event number i (a ∷ more) (now_a ∷ more) said from mid) (sym (ap (λ (said : List ℕ). text ++ said) out.1 ∙ append-nil text))
-      (stop-offered allows event number i t.fails text from mid a now_a more takes t.keeps t.moves t.silent t.orderly t.rests others)))
+      (stop-offered allows event number i text from mid a now_a more takes t.moves t.silent t.orderly t.rests others)))
   by-offer i a now_a more later_apps text later_text from mid to true false stopped takes keeps calm rests others turn offers go =
       let keeps_mid = Conforming-before told (offers-continue Tells accepts event number (i + 1) more later_text mid to later_apps stopped offers) keeps in
       let t = turn-at i false text from mid a now_a takes keeps_mid calm rests turn in
-      let m = go (each-silent (i + 1) more from.seen mid.seen (λ j le. t.silent j (λ same. omega (arith, le, same))) others) t.moves.alike.calm offers in
-      on-offered allows event number i t.fails text later_text from mid to a now_a more later_apps takes t.keeps t.moves t.silent m t.orderly t.rests
+      let m = go (each-silent (i + 1) more from.seen mid.seen (λ j le. t.silent j (λ same. omega (arith, le, same))) others) t.moves.calm offers in
+      on-offered allows event number i text later_text from mid to a now_a more later_apps takes t.moves t.silent m t.orderly t.rests
   by-offer i a now_a more later_apps text later_text from mid to false true stopped passed keeps calm rests others off out go = absurd (true≢false off.2)
   by-offer i a now_a more later_apps text later_text from mid to false false stopped passed keeps calm rests others off offers go =
       let m = go (subst (λ (x : Between Own). EachFrom (IsAtRest x.seen) (i + 1) more) (sym off.0) others) (subst (λ (x : Between Own). Calm x.seen x.net) (sym off.0) calm) offers in

@@ -29,7 +29,7 @@ starts_unread {Tells = Tells} text old new e now_e told starts =
     let given = tries_given Tells e.index e.kept attempts starts.restarts.all old new told starts.restarts.are in
     subst (λ (r : List ℕ). HasGiven e.index r old.history new.history) (sym (ap (λ (f : Focus). f.rest) starts.engine ∙ ap (λ (o : Option (List ℕ)). unwrap_or o []) starts.restarts.found_is)) given
 
-restarts_so : {Own Tells : Type 0} (text : List ℕ) (old new : Seen Own) (e now_e : Focus) → Tells → StartsAgain Tells text old new e now_e → Restarts e.index (focused e) (focused now_e) old new
+pub restarts_so : {Own Tells : Type 0} (text : List ℕ) (old new : Seen Own) (e now_e : Focus) → Tells → StartsAgain Tells text old new e now_e → Restarts e.index (focused e) (focused now_e) old new
 restarts_so {Tells = Tells} text old new e now_e told starts =
     let restarts = starts.restarts in
     let tries = tries_told Tells e.index e.kept attempts restarts.all old new told restarts.are in
