@@ -8,14 +8,14 @@ ghost use Rattle.legosdn.specs.Live.{Taken, Serves, IsOfNoSwitch};
 ghost use Rattle.legosdn.specs.Promise.{LiveAtEveryStatus};
 
 use crate::policy::{ReadProgram, read_program};
+use crate::recording::Recorded;
 use crate::stop::Stop;
 use crate::world::run_world;
 use lego_io::{Sink, Source};
-use outside::World;
 use std::alloc::Global;
 
 /// Reads a policy to its end, and runs its applications over the switches of a world, for this many rounds at most; gives the policy.
-pub fn run_policy<S: Source, K: Sink, W: World>(
+pub fn run_policy<S: Source, K: Sink, W: Recorded>(
     alloc: Global,
     source: &mut S,
     sink: &mut K,
@@ -33,10 +33,12 @@ pub fn run_policy<S: Source, K: Sink, W: World>(
     ensures no_switch { W.CanPart → IfErr result IsOfNoSwitch }
 {
     let read = read_program(alloc, source)?;
+    let aside = live.aside();
     match run_world(
         alloc,
         &read.program.apps,
         &read.program.judge,
+        aside,
         sink,
         live,
         port,
@@ -48,7 +50,7 @@ pub fn run_policy<S: Source, K: Sink, W: World>(
 }
 
 /// Does what `run_policy` does, and gives nothing.
-pub fn run_live<S: Source, K: Sink, W: World>(
+pub fn run_live<S: Source, K: Sink, W: Recorded>(
     alloc: Global,
     source: &mut S,
     sink: &mut K,

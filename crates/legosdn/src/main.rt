@@ -14,6 +14,7 @@ ghost use Rattle.sim_world.specs.Building.{nothing_given, IsNew};
 mod drawn;
 mod explaining;
 mod input;
+mod judging;
 mod kept_source;
 mod live;
 mod policy;

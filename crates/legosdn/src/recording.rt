@@ -16,7 +16,7 @@ use of_types::ByteList;
 use outside::{Told, World};
 use session_record::Recorder;
 use std::alloc::{AllocError, Global};
-use trace_world::Traced;
+use trace_world::{Aside, Traced};
 
 /// The first line of a recording that stands among other things.
 const FIRST_LINE: &[u8] = b"# recording: a policy, and a session that does the run again\n";
@@ -36,6 +36,9 @@ pub trait Recorded: World {
     /// Comments on a text of this run, line by line: on what no line of a session can say, with its count.
     fn remarks(&self, session: &[u8]) -> Result<String, AllocError>
         ensures { IfOk result (λ remarks. AreRemarks (string_bytes remarks)) };
+
+    /// Hands out the place of what is told before the next act, if its acts are told.
+    fn aside(&self) -> Option<Aside>;
 }
 
 impl<W: Told + Drop, E: Sink + Drop> Recorded for Traced<Recorder<W>, E> {
@@ -47,6 +50,10 @@ impl<W: Told + Drop, E: Sink + Drop> Recorded for Traced<Recorder<W>, E> {
 
     fn remarks(&self, session: &[u8]) -> Result<String, AllocError> {
         self.world().remarks(session)
+    }
+
+    fn aside(&self) -> Option<Aside> {
+        Traced::aside(self)
     }
 }
 

@@ -105,7 +105,8 @@ pub fn simulate<K: Sink, E: Sink + Drop>(
     ensures ids { (seen_of sim.old).history ≡ [] → IsShortRun (seen_of sim.new) → OwnIdsAscend (seen_of sim.new) }
     ensures never_fell { NeverFell (K.faults sink.old) (K.faults sink.new) }
 {
-    let ended = run_world(alloc, apps, judge, sink, sim, 0, MOST_ROUNDS);
+    let aside = sim.aside();
+    let ended = run_world(alloc, apps, judge, aside, sink, sim, 0, MOST_ROUNDS);
     keeps_word(sim);
     ended
 }

@@ -13,6 +13,7 @@ ghost use Rattle.run_course.specs.Parts.{TakesCourse};
 ghost use Rattle.legosdn.specs.Course.{StandsAt};
 ghost use Rattle.legosdn.specs.Live.{TellsInOrder, ServesAs, NoneStray, IsOfNoSwitch};
 
+use crate::judging::ToldJudge;
 use crate::stop::Stop;
 use crash_policy::AppRule;
 use event_dispatch::{Served, serve};
@@ -20,14 +21,16 @@ use lego_io::Sink;
 use net_guard::ChosenJudge;
 use outside::World;
 use std::alloc::Global;
+use trace_world::Aside;
 
 /// Runs the applications of a policy in a world to its end, for this many rounds at most, and writes the report. A turn whose
-/// tables the judge refuses is undone. The world is opened at the port.
+/// tables the judge refuses is undone, and what they are refused for is told aside. The world is opened at the port.
 #[tactic(auto, using(crate::proofs::Causes::switch_cause))]
 pub fn run_world<K: Sink, W: World>(
     alloc: Global,
     apps: &[AppRule],
     judge: &ChosenJudge,
+    aside: Option<Aside>,
     sink: &mut K,
     world: &mut W,
     port: u16,
@@ -46,7 +49,12 @@ pub fn run_world<K: Sink, W: World>(
     ensures never_fell { NeverFell (K.faults sink.old) (K.faults sink.new) }
     ensures no_switch { W.CanPart → IfErr result IsOfNoSwitch }
 {
-    match serve(alloc, apps, world, judge, sink, port, rounds) {
+    let judge = ToldJudge {
+        alloc,
+        judge,
+        aside,
+    };
+    match serve(alloc, apps, world, &judge, sink, port, rounds) {
         Served::Ended { .. } => Ok(()),
         Served::WriteFault => Err(Stop::WriteFault),
         Served::Shut => Err(Stop::Shut),

@@ -4,6 +4,7 @@ pub mod Considering
 pub mod Numbers
 pub mod Hops
 pub mod EditSteps
+pub mod CrowdedSteps
 pub mod Searching
 pub mod Addresses
 pub mod Carried

@@ -8,4 +8,5 @@ pub mod Values
 pub mod Found
 pub mod Carrying
 pub mod Judging
+pub mod Refusing
 pub mod laws

@@ -6,6 +6,7 @@ ghost use Rattle.net_guard.specs.Bits.{Marks};
 ghost use Rattle.net_guard.specs.Links.{guarded_by};
 ghost use Rattle.net_guard.specs.Leading.{is_viewed};
 ghost use Rattle.net_guard.specs.Carrying.{ComesBackNowhere};
+ghost use Rattle.net_guard.specs.Refusing.{IsRefusedBy};
 ghost use Rattle.net_guard.specs.Found.{IsFoundFor, IsLoopFound, IsFirstFound, IsFree, is_free};
 
 use crate::edits::first_edit;
@@ -13,6 +14,7 @@ use crate::found::Found;
 use crate::hop::{Hop, hops_of};
 use crate::leading::viewed;
 use crate::looping::least_on_loop;
+use crate::refusal::Refusal;
 use crate::scope::Scope;
 use crate::values::least_from;
 use flow_table::{Judge, TableView};
@@ -107,6 +109,19 @@ impl Guard {
         match first_edit(self.hops.as_slice(), tables) {
             Some((dpid, position)) => Some(Found::Edit { dpid, position }),
             None => loop_in(self.field, self.hops.as_slice(), tables),
+        }
+    }
+
+    /// Says what these tables are refused for, if they are; takes no memory.
+    pub fn refusal(&self, tables: &[TableView]) -> Option<Refusal>
+        ensures { IsRefusedBy self.now (plains tables.now) result }
+    {
+        match self.first_found(tables) {
+            Some(found) => Some(Refusal::Guarded {
+                field: self.field,
+                found,
+            }),
+            None => None,
         }
     }
 }

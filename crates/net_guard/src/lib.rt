@@ -6,7 +6,7 @@
 //! true exactly where nothing does (`value`, `free`), and then no packet that each switch forwards by the row that it takes
 //! (`rows_taken_are_hit`) comes back to a place where it was (`comes_back`). Where rows name no other field, each loop is the way of some packet
 //! (`loops_are_walked`). Neither takes memory. `ChosenJudge` is the one judge of a program: all tables, a quota
-//! for each table, or a guard.
+//! for each table, or a guard; `ChosenJudge::refusal` answers what stands first against tables that it refuses.
 #![tactic(auto)]
 
 mod bits;
@@ -19,6 +19,7 @@ mod laws;
 mod leading;
 mod looping;
 mod quota;
+mod refusal;
 mod scope;
 mod taking;
 mod values;
@@ -29,4 +30,5 @@ pub use guard_rule::{GuardField, GuardRule, Link};
 pub use hop::Hop;
 pub use laws::{loops_are_walked, rows_taken_are_hit};
 pub use quota::{ChosenJudge, Quota};
+pub use refusal::Refusal;
 pub use scope::Scope;

@@ -1,5 +1,6 @@
 //! The lines of what happened.
 
+use crate::aside::Aside;
 use app_frames::{
     AppFrame, AppFrameError, FrameFault, HostFrame, MOST_CHECKPOINT_BYTES, decode_app, decode_host,
 };
@@ -24,6 +25,8 @@ pub(crate) struct Scribe<K> {
     lives: BTreeMap<u32, Option<BytesMut>>,
     /// The switches that are joined, as far as there is memory for them.
     joined: BTreeSet<Dpid>,
+    /// What another part of the program leaves here is told before the next act.
+    aside: Option<Aside>,
 }
 
 /// The front of a buffer: so many bytes, or all where it has fewer.
@@ -33,12 +36,29 @@ fn front(buf: &[u8], count: usize) -> &[u8] {
 
 impl<K: Sink + Drop> Scribe<K> {
     /// Returns a writer of lines that has heard nothing yet.
-    pub(crate) fn new(alloc: Global, sink: K) -> Scribe<K> {
+    pub(crate) fn new(alloc: Global, sink: K, aside: Option<Aside>) -> Scribe<K> {
         Scribe {
             alloc,
             sink,
             lives: BTreeMap::new(alloc),
             joined: BTreeSet::new(alloc),
+            aside,
+        }
+    }
+
+    /// Hands out the place of what is told before the next act, if there is one.
+    pub(crate) fn aside(&self) -> Option<Aside> {
+        match &self.aside {
+            Some(aside) => aside.again(),
+            None => None,
+        }
+    }
+
+    /// Takes what was left to be told before this act.
+    fn take_aside(&self) -> Option<String> {
+        match &self.aside {
+            Some(aside) => aside.take(),
+            None => None,
         }
     }
 
@@ -47,8 +67,11 @@ impl<K: Sink + Drop> Scribe<K> {
         self.sink
     }
 
-    /// Writes the line, where there is memory for it.
+    /// Writes the line, where there is memory for it, behind what was left aside.
     fn write(&mut self, line: Result<String, AllocError>) {
+        if let Some(earlier) = self.take_aside() {
+            let _ = write_all(&mut self.sink, earlier.as_bytes());
+        }
         if let Ok(line) = line {
             let _ = write_all(&mut self.sink, line.as_bytes());
         }

@@ -3,6 +3,7 @@
 ghost use Rattle.std.specs.Prelude.{◌≡◌, ◌<◌};
 ghost use Rattle.std.specs.Borrow.{Lends, sem};
 
+use crate::aside::Aside;
 use crate::scribe::Scribe;
 use lego_io::Sink;
 use of_types::{Dpid, WorldStim};
@@ -32,13 +33,13 @@ impl<W, K> Model for Traced<W, K> {
 impl<W: World + Drop, K: Sink + Drop> Traced<W, K> {
     ghost use Rattle.trace_world.specs.contracts.traced.Traced.{the_row};
 
-    /// Returns this world, whose acts are told from now on. Takes no memory.
+    /// Returns this world, whose acts are told from now on. Where memory is short, it has no place for what is told between them.
     pub fn new(alloc: Global, world: W, sink: K) -> Traced<W, K>
         ensures { result ≡ world }
     {
         Traced {
             world,
-            scribe: Scribe::new(alloc, sink),
+            scribe: Scribe::new(alloc, sink, Aside::new(alloc)),
             is_silent: false,
         }
     }
@@ -49,7 +50,7 @@ impl<W: World + Drop, K: Sink + Drop> Traced<W, K> {
     {
         Traced {
             world,
-            scribe: Scribe::new(alloc, sink),
+            scribe: Scribe::new(alloc, sink, None),
             is_silent: true,
         }
     }
@@ -67,6 +68,11 @@ impl<W: World + Drop, K: Sink + Drop> Traced<W, K> {
         ensures* writes_back { sem 𝓛 (Lends (the_row W.row K.row) W.row self.entry result (λ w. w)) }
     {
         &mut self.world
+    }
+
+    /// Hands out the place where another part of the program leaves what is told before the next act; none where this world is silent.
+    pub fn aside(&self) -> Option<Aside> {
+        self.scribe.aside()
     }
 
     /// Gives back the world and the sink. Takes no memory.

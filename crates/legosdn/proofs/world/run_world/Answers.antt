@@ -30,8 +30,8 @@ returns-in-NextFault-clause-runs g c = λ tells.
     lines_place (program_of c.args.apps.now c.args.judge.now) (g.W.World.seen c.serve.new.world) (g.K.Sink.contents c.args.sink.now) (g.K.Sink.contents c.serve.new.sink) tells.order
     (cut_as (program_of c.args.apps.now c.args.judge.now) g.W.World.Tells (g.W.World.seen c.args.world.now) (g.W.World.seen c.serve.new.world) (g.K.Sink.contents c.args.sink.now) (g.K.Sink.contents c.serve.new.sink) c.serve.result served.NextFault c.in-NextFault.is c.serve.ensures.reference_run_until_fault tells)
 
-pub returns-in-NoMemory-clause-runs : goal.returns-in-NoMemory-clause-runs
-returns-in-NoMemory-clause-runs g c = λ tells.
+pub returns-clause-runs : goal.returns-clause-runs
+returns-clause-runs g c = λ tells.
     memory_place (program_of c.args.apps.now c.args.judge.now) (g.W.World.seen c.serve.new.world) (g.K.Sink.contents c.args.sink.now) (g.K.Sink.contents c.serve.new.sink) tells.order
     (cut_as (program_of c.args.apps.now c.args.judge.now) g.W.World.Tells (g.W.World.seen c.args.world.now) (g.W.World.seen c.serve.new.world) (g.K.Sink.contents c.args.sink.now) (g.K.Sink.contents c.serve.new.sink) c.serve.result served.NoMemory c.in-NoMemory.is c.serve.ensures.reference_run_until_fault tells)
 
@@ -65,8 +65,8 @@ returns-in-NextFault-clause-strays g c =
     none_stray (program_of c.args.apps.now c.args.judge.now) g.W.World.Tells c.args.rounds (g.W.World.seen c.args.world.now) (g.W.World.seen c.serve.new.world) (g.K.Sink.contents c.args.sink.now) (g.K.Sink.contents c.serve.new.sink) c.serve.result c.serve.ensures.continues
     c.serve.ensures.no_stray_call c.serve.ensures.all_bytes_are_messages c.serve.ensures.reference_run c.serve.ensures.reference_run_until_fault
 
-pub returns-in-NoMemory-clause-strays : goal.returns-in-NoMemory-clause-strays
-returns-in-NoMemory-clause-strays g c =
+pub returns-clause-strays : goal.returns-clause-strays
+returns-clause-strays g c =
     none_stray (program_of c.args.apps.now c.args.judge.now) g.W.World.Tells c.args.rounds (g.W.World.seen c.args.world.now) (g.W.World.seen c.serve.new.world) (g.K.Sink.contents c.args.sink.now) (g.K.Sink.contents c.serve.new.sink) c.serve.result c.serve.ensures.continues
     c.serve.ensures.no_stray_call c.serve.ensures.all_bytes_are_messages c.serve.ensures.reference_run c.serve.ensures.reference_run_until_fault
 
@@ -90,8 +90,8 @@ returns-in-Shut-clause-course g c = λ told. shut_course (map app_value c.args.a
 pub returns-in-NextFault-clause-course : goal.returns-in-NextFault-clause-course
 returns-in-NextFault-clause-course g c = λ told. next_course (map app_value c.args.apps.now) (g.W.World.seen c.args.world.now) (g.W.World.seen c.serve.new.world) (g.K.Sink.contents c.args.sink.now) (g.K.Sink.contents c.serve.new.sink) c.serve.result c.serve.ensures.kept_messages_come_first told c.in-NextFault.is
 
-pub returns-in-NoMemory-clause-course : goal.returns-in-NoMemory-clause-course
-returns-in-NoMemory-clause-course g c = λ told. memory_course (map app_value c.args.apps.now) (g.W.World.seen c.args.world.now) (g.W.World.seen c.serve.new.world) (g.K.Sink.contents c.args.sink.now) (g.K.Sink.contents c.serve.new.sink) c.serve.result c.serve.ensures.kept_messages_come_first told c.in-NoMemory.is
+pub returns-clause-course : goal.returns-clause-course
+returns-clause-course g c = λ told. memory_course (map app_value c.args.apps.now) (g.W.World.seen c.args.world.now) (g.W.World.seen c.serve.new.world) (g.K.Sink.contents c.args.sink.now) (g.K.Sink.contents c.serve.new.sink) c.serve.result c.serve.ensures.kept_messages_come_first told c.in-NoMemory.is
 
 pub returns-in-Txn-clause-course : goal.returns-in-Txn-clause-course
 returns-in-Txn-clause-course g c = λ told. switch_course (map app_value c.args.apps.now) (g.W.World.seen c.args.world.now) (g.W.World.seen c.serve.new.world) (g.K.Sink.contents c.args.sink.now) (g.K.Sink.contents c.serve.new.sink) c.serve.result c.serve.ensures.kept_messages_come_first told c.in-Txn.fault c.from.result c.in-Txn.is c.from.ensures
