@@ -1,5 +1,5 @@
 -- What the judges refuse tables for. All of this is our own.
-use Rattle.std.specs.Prelude.{◌≡◌, if◌then◌else◌, ℕ, List, [], ◌∷◌, length, nat_le, Option, Some, None}
+use Rattle.std.specs.Prelude.{◌≡◌, if◌then◌else◌, ℕ, List, [], ◌∷◌, length, nat_le, Option, Some, None, is_some}
 use Rattle.flow_table.specs.View.{TableView}
 use Rattle.net_guard.specs.declared.refusal.Refusal.{Refusal}
 use Rattle.net_guard.specs.declared.refusal.Refusal.TheVariants.{Crowded, Guarded}
@@ -12,14 +12,10 @@ use Rattle.net_guard.specs.Found.{IsFirstFound}
 unfoldable pub crowded_in : ℕ → TableView → Option Refusal
 crowded_in most t = if nat_le (length t.rows) most then None else Some (Crowded t.dpid (length t.rows) most)
 
-abbrev pub or_later : Option Refusal → Option Refusal → Option Refusal
-or_later None later = later
-or_later (Some x) later = Some x
-
 -- the first of them
 unfoldable pub first_crowded : ℕ → List TableView → Option Refusal
 first_crowded most [] = None
-first_crowded most (t ∷ ts) = or_later (crowded_in most t) (first_crowded most ts)
+first_crowded most (t ∷ ts) = if is_some (crowded_in most t) then crowded_in most t else first_crowded most ts
 
 -- by a guard: what it finds first, and its field
 abbrev pub IsRefusedBy : Rule → List TableView → Option Refusal → Type 0
