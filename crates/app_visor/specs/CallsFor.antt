@@ -1,5 +1,5 @@
 -- Histories that go on with calls for one application, and none for another. All of this is our own.
-use Rattle.std.specs.Prelude.{◌≡◌, ℕ, List, ◌++◌, map}
+use Rattle.std.specs.Prelude.{◌≡◌, ◌⊎◌, ℕ, Bool, List, [], ◌∷◌, ◌++◌, map}
 use Rattle.std.specs.List.{AllByRecursion}
 use Rattle.of_types.specs.declared.journal.Act.{Act}
 use Rattle.of_types.specs.declared.journal.Act.TheVariants.{Started, Gave, Gone, Took, Ended}
@@ -8,6 +8,7 @@ use Rattle.outside.specs.declared.step.WorldStep.TheVariants.{Acted, TookInto, N
 use Rattle.outside.specs.Seen.{Seen}
 use Rattle.outside.specs.Quiescence.{NoneQuiescentSince, IsLastQuiescent}
 use Rattle.journal_laws.specs.Readings.{Calls}
+use Rattle.lego_model.specs.Journal.{give_act}
 use Rattle.app_visor.specs.Talks.{step_of}
 
 abbrev pub IsActFor : ℕ → Act → Type 0
@@ -46,3 +47,14 @@ pub record Calmly {Own : Type 0} (app : ℕ) (old new : Seen Own) : Type 0 where
 pub record CalmLater {Own : Type 0} (app : ℕ) (old new : Seen Own) : Type 0 where
   pub last : IsLastQuiescent old new
   pub own : CallsFor app old new
+
+-- It was given this frame, or was gone.
+pub record IsGiven {Own : Type 0} (app : ℕ) (frame : List ℕ) (old new : Seen Own) : Type 0 where
+  pub given : Bool
+  pub history : new.history ≡ old.history ++ step_of (give_act given app frame) ∷ []
+
+-- So it began, or memory was wanting before; and it went on with no call for another application, and no point was quiescent since then.
+pub record CalmBehind {Own : Type 0} (app : ℕ) (frame : List ℕ) (old new : Seen Own) : Type 0 where
+  pub mid : Seen Own
+  pub begins : (mid.history ≡ old.history) ⊎ IsGiven app frame old mid
+  pub calm : Calmly app mid new

@@ -9,7 +9,7 @@ ghost use Rattle.lego_model.specs.AtOnce.{Before, before, Passes};
 ghost use Rattle.net_txn.specs.Causes.{IsPlain};
 ghost use Rattle.app_visor.specs.Dialogues.{LeadsOn, Talks};
 ghost use Rattle.app_visor.specs.Beats.{Stops, Leads, Stays};
-ghost use Rattle.app_visor.specs.CallsFor.{Calmly, CalmLater};
+ghost use Rattle.app_visor.specs.CallsFor.{Calmly, CalmBehind};
 ghost use Rattle.app_frames.specs.declared.frame.AppFrame.TheVariants as frames;
 ghost use Rattle.outside.specs.Seen.{Continues};
 ghost use Rattle.app_visor.specs.Turns.{IsShort, turn_end, handed_at, with_handed, TurnsFrom, StagesTurn, FramePlayed, Plays, done_as, cause_of, unread_after};
@@ -226,8 +226,8 @@ pub fn turn<W: World, J: Judge>(
     ensures err { IfErr result (λ fault. Stops W.Tells app.old.index (W.seen world.old) (W.seen world.new) txn.old.net.now txn.new.net.now fault) }
     // Then too the turn goes on with the dialogue, where the application runs.
     ensures talks { OnErr result (W.Tells → (s : Before) → s.running ≡ true → Passes s.unread app.old.rest → Talks app.old.index s (W.seen world.old) (W.seen world.new)) }
-    // However it ended, no other application was called, and no point behind the one where it began was quiescent.
-    ensures later { W.Tells → CalmLater app.old.index (W.seen world.old) (W.seen world.new) }
+    // However it ended, the application was given the event at first, no other was called, and no point behind the one where it began was quiescent.
+    ensures later { W.Tells → CalmBehind app.old.index (event_frame number txn.old.net.now.moment event.now) (W.seen world.old) (W.seen world.new) }
     ensures continues { Continues W.Tells (W.seen world.old) (W.seen world.new) }
     // Where the world's switches can be parted with, one at fault is lost, and a fault is one of memory.
     ensures parted { W.CanPart → IfErr result IsPlain }

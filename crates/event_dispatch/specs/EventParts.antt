@@ -8,7 +8,7 @@ use Rattle.event_dispatch.specs.declared.engine_core.Core.{Core}
 use Rattle.event_dispatch.specs.declared.fault.Fault.{Fault}
 use Rattle.event_dispatch.specs.declared.run.Managed.{Managed}
 use Rattle.event_dispatch.specs.declared.run.Run.{Run}
-use Rattle.event_dispatch.specs.Runs.{CoreGoes, IsCountedTo, AreGoing, Going}
+use Rattle.event_dispatch.specs.Runs.{CoreGoes, AreGoing, Going}
 use Rattle.event_dispatch.specs.Shows.{engine_of}
 use Rattle.event_dispatch.specs.Serves.{OfferNoted, AllOffered, IsDispatched, DispatchesOldest, DispatchesWaiting}
 use Rattle.event_dispatch.specs.Stored.{KeepsOthers}
@@ -23,7 +23,6 @@ pub record OfferDone {Own : Type 0} (Tells : Type 0) (accepts : List TableView �
   pub goes : CoreGoes now_c
   pub events : now_c.events ≡ c.events
   pub others : KeepsOthers m.state.index c.store now_c.store
-  pub counted : IsCountedTo c.events now_m
   pub index : now_m.state.index ≡ m.state.index
   pub rule : now_m.rule ≡ m.rule
   pub offered : OfferNoted Tells accepts event stops old new c now_c m now_m

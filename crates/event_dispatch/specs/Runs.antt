@@ -1,6 +1,5 @@
--- How many rounds a run has at most. A run so far: there is room for an undo, no more turns of an application ended than there were events,
--- the index of each is its place, the messages that are kept were read, nothing is staged, and each switch that was lost is told. All of this is
--- our own.
+-- How many rounds a run has at most. A run so far: there is room for an undo, the index of each application is its place, the messages that are
+-- kept were read, nothing is staged, and each switch that was lost is told. All of this is our own.
 use Rattle.std.specs.Prelude.{◌≡◌, ◌==◌, ◌<◌, ◌≤◌, ◌+◌, ℕ, false, List, [], ◌∷◌, length, IsOk}
 use Rattle.std.specs.List.{AllByRecursion}
 use Rattle.of_types.specs.Fields.{number_at}
@@ -29,19 +28,6 @@ pub record CoreGoes (c : Core) : Type 0 where
   pub store : StoreRests c.store
   pub left : c.net.left ≡ []
 
--- of an application no more turns ended than there were events
-pub record IsCountedTo (events : ℕ) (m : Managed) : Type 0 where
-  pub done : m.done ≤ events
-  pub failed : m.failed ≤ events
-
--- and fewer, where an event is being dispatched at which it had no turn yet
-pub record IsCountedBefore (events : ℕ) (m : Managed) : Type 0 where
-  pub done : m.done < events
-  pub failed : m.failed < events
-
-abbrev pub AreBefore : ℕ → List Managed → Type 0
-AreBefore events apps = AllByRecursion (IsCountedBefore events) apps
-
 -- the place of each is its index, from one on
 abbrev pub AreNumbered : ℕ → List Managed → Type 0
 AreNumbered i [] = Unit {0}
@@ -50,7 +36,6 @@ AreNumbered i (m ∷ more) = (m.state.index ≡ i) × AreNumbered (i + 1) more
 -- what is kept, with applications
 pub record AreGoing (c : Core) (apps : List Managed) : Type 0 where
   pub core : CoreGoes c
-  pub counted : AllByRecursion (IsCountedTo c.events) apps
   pub numbered : AreNumbered 0 apps
   pub number : length c.store ≡ length apps
 

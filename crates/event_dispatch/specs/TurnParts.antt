@@ -15,7 +15,7 @@ use Rattle.event_dispatch.specs.declared.closing.Closing.{Closing}
 use Rattle.event_dispatch.specs.declared.engine_core.Core.{Core}
 use Rattle.event_dispatch.specs.declared.fault.Fault.{Fault}
 use Rattle.event_dispatch.specs.declared.run.Managed.{Managed}
-use Rattle.event_dispatch.specs.Runs.{AreRead, StoreRests, CoreGoes, IsCountedTo, SameManaged, Waits}
+use Rattle.event_dispatch.specs.Runs.{AreRead, StoreRests, CoreGoes, SameManaged, Waits}
 use Rattle.event_dispatch.specs.Serves.{Starts, Leaves, GoesOn, end_of, Closes, TurnNoted}
 use Rattle.event_dispatch.specs.Stored.{KeepsSlots, KeepsOthers, PlaysStaged, HoldsTurn}
 use Rattle.event_dispatch.specs.Talking.{TurnTalks}
@@ -75,7 +75,6 @@ pub record TurnDone {Own : Type 0} (Tells : Type 0) (accepts : List TableView �
   pub goes : CoreGoes now_c
   pub events : now_c.events ≡ c.events
   pub others : KeepsOthers m.state.index c.store now_c.store
-  pub counted : IsCountedTo c.events now_m
   pub index : now_m.state.index ≡ m.state.index
   pub rule : now_m.rule ≡ m.rule
   pub turn : TurnNoted Tells accepts event stops old new c now_c m now_m
@@ -116,6 +115,5 @@ pub record CloseDone {Own : Type 0} (Tells : Type 0) (kind : EventKind) (closing
   pub goes : CoreGoes now_c
   pub events : now_c.events ≡ c.events
   pub store : now_c.store ≡ c.store
-  pub counted : IsCountedTo c.events now_m
   pub stops : stopped ≡ says_stop (end_of closing)
   pub closes : Closes Tells kind closing old new c now_c m now_m

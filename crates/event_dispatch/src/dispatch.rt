@@ -1,6 +1,6 @@
 //! Events, given to the application one after the other.
 
-ghost use Rattle.std.specs.Prelude.{◌≡◌, ◌^◌, ◌<◌, ◌≤◌, [], ◌++◌, length, IfOk, IfErr, OnOk, MatchResult};
+ghost use Rattle.std.specs.Prelude.{◌≡◌, ◌+◌, ◌^◌, ◌<◌, ◌≤◌, [], ◌++◌, length, IfOk, IfErr, OnOk, MatchResult};
 ghost use Rattle.lego_io.specs.Count.{NeverFell};
 ghost use Rattle.app_frames.specs.declared.frame.HostFrame.TheVariants as host;
 ghost use Rattle.app_frames.specs.Frames.{HostFits};
@@ -10,7 +10,7 @@ ghost use Rattle.lego_model.specs.RunReport.{turn_line as turn_line_of, gone_lin
 ghost use Rattle.run_laws.specs.Facts.{out_text, starts_text};
 ghost use Rattle.event_dispatch.specs.Passes.{Passes, PassesQuietly};
 ghost use Rattle.event_dispatch.specs.Lines.{OnlyNotes};
-ghost use Rattle.event_dispatch.specs.Runs.{AreRead, StoreRests, CoreGoes, AreGoing, AreBefore, Going};
+ghost use Rattle.event_dispatch.specs.Runs.{AreRead, StoreRests, CoreGoes, AreGoing, Going};
 ghost use Rattle.event_dispatch.specs.Stored.{closes_slot};
 ghost use Rattle.event_dispatch.specs.Plain.{IsPlainEnd};
 ghost use Rattle.event_dispatch.specs.TurnParts.{TurnFails, PlayDone, PlayKeeps, HoldDone, HoldFails, HoldKeeps, TurnDone, StartDone, StartKeeps, LeaveDone, GoOnDone, CloseDone, CloseKeeps};
@@ -127,6 +127,16 @@ fn hold_turn<W: World, J: Judge>(
     let closing = play_turn(world, net, queue, store, app, occasion);
     close_store(store, index, &closing);
     closing
+}
+
+/// Counts so many turns more. More than eight bytes can count are more than the report could tell.
+fn counted(turns: u64, more: u64) -> Result<u64, AllocError>
+    ensures { MatchResult result (λ all. all ≡ turns + more) (λ _. 2 ^ 64 ≤ turns + more) }
+{
+    match turns.checked_add(more) {
+        Some(all) => Ok(all),
+        None => Err(AllocError),
+    }
 }
 
 impl Core {
@@ -247,8 +257,6 @@ impl Core {
         kind: EventKind,
         closing: Closing,
     ) -> Result<bool, AllocError>
-        requires done { app.old.done < self.old.events }
-        requires failed { app.old.failed < self.old.events }
         requires room { 1 ≤ self.old.net.room }
         requires place { app.old.state.index < length self.old.store }
         requires read { AreRead self.old.net.kept }
@@ -260,7 +268,7 @@ impl Core {
         let name = app.rule.name.as_str();
         match closing {
             Closing::Done { stop, out } => {
-                app.done += 1;
+                app.done = counted(app.done, 1)?;
                 self.note_done(
                     name,
                     if stop { TurnWord::Stop } else { TurnWord::Done },
@@ -270,7 +278,7 @@ impl Core {
                 Ok(stop)
             }
             Closing::Failed(cause) => {
-                app.failed += 1;
+                app.failed = counted(app.failed, 1)?;
                 self.note_turn(name, TurnWord::Failed(cause))?;
                 self.tell_lost()?;
                 self.go_on(world, app, kind)?;
@@ -288,8 +296,6 @@ impl Core {
         event: &'x Event,
     ) -> Result<bool, Fault>
         requires goes { CoreGoes self.old }
-        requires done { app.old.done < self.old.events }
-        requires failed { app.old.failed < self.old.events }
         requires place { app.old.state.index < length self.old.store }
         requires fits { HostFits (host.Event self.old.events self.old.net.moment event.now) }
         ensures passes { Passes W.Tells (length self.old.store) (W.seen world.old) (W.seen world.new) self.old.net self.new.net result }
@@ -329,8 +335,6 @@ fn offer<'x, W: World, J: Judge>(
 ) -> Result<bool, Fault>
     requires goes { CoreGoes core.old }
     requires few { core.old.events < 2 ^ 64 }
-    requires done { app.old.done < core.old.events }
-    requires failed { app.old.failed < core.old.events }
     requires place { app.old.state.index < length core.old.store }
     ensures passes { Passes W.Tells (length core.old.store) (W.seen world.old) (W.seen world.new) core.old.net core.new.net result }
     ensures done { MatchResult result (λ stops. OfferDone W.Tells (J.accepts judge.now) event.now stops (W.seen world.old) (W.seen world.new) core.old core.new
@@ -360,7 +364,6 @@ fn offer_all<'x, W: World, J: Judge>(
     event: &'x Event,
 ) -> Result<(), Fault>
     requires going { AreGoing core.old apps.old.items }
-    requires before { AreBefore core.old.events apps.old.items }
     requires few { core.old.events < 2 ^ 64 }
     ensures passes { Passes W.Tells (length core.old.store) (W.seen world.old) (W.seen world.new) core.old.net core.new.net result }
     ensures done { MatchResult result (λ _. OffersDone W.Tells (J.accepts judge.now) event.now (W.seen world.old) (W.seen world.new) core.old core.new

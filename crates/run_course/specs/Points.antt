@@ -1,17 +1,18 @@
 -- Quiescent points of a run: those before a stimulus, and those before an application is given its first event of a number. An application may be
 -- given several events of one number, since what it is given in place of an event has the number of that event: between their turns there is no
--- such point. All of this is our own.
+-- such point, also where it was gone at the first of them. All of this is our own.
 use Rattle.std.specs.Prelude.{◌≡◌, ◌==◌, ◌&&◌, ℕ, Bool, true, false, not, List, [], ◌∷◌, ◌++◌, Option, Some, None}
 use Rattle.std.specs.List.{list_any}
-use Rattle.of_types.specs.declared.journal.Act.TheVariants.{Stim, Gave}
+use Rattle.of_types.specs.declared.journal.Act.TheVariants.{Stim, Gave, Gone}
 use Rattle.outside.specs.declared.step.WorldStep.{WorldStep}
 use Rattle.outside.specs.declared.step.WorldStep.TheVariants.{Acted}
 use Rattle.outside.specs.Seen.{Seen}
 use Rattle.outside.specs.State.{event_number, is_event}
 
--- the step gives the application an event of the number
+-- the step gives the application an event of the number, or was to, and it was gone
 abbrev pub gives_numbered : ℕ → ℕ → WorldStep → Bool
 gives_numbered app number (Acted (Gave to bytes)) = to == app && is_event number (event_number bytes)
+gives_numbered app number (Acted (Gone to bytes)) = to == app && is_event number (event_number bytes)
 gives_numbered app number other = false
 
 -- one of these steps did

@@ -1,7 +1,7 @@
 -- Laws of histories that go on with no call for another application and no quiescent point: what a turn is made of, behind its event.
 use Rattle.std.specs.Prelude.{◌≡◌, ℕ, Bool, true, false, List, [], ◌∷◌, ◌++◌, refl}
 use Rattle.std.specs.List.{AllByRecursion}
-use Rattle.std.proofs.Common.{sym, ap, ◌∙◌, append_assoc, true≢false}
+use Rattle.std.proofs.Common.{sym, ap, ◌∙◌, append_assoc, true≢false, subst, inl, inr}
 use Rattle.std.proofs.lemmas.List.{append-nil}
 use Rattle.of_types.specs.declared.journal.Act.TheVariants.{Stim, Started, Gave, Gone, Took, Ended, Sent, Got, Lost}
 use Rattle.app_frames.specs.declared.frame.Answer.{Answer}
@@ -17,7 +17,7 @@ use Rattle.app_visor.specs.Talks.{step_of, Told, Wants}
 use Rattle.lego_model.specs.Journal.{give_act}
 use Rattle.app_visor.specs.Reads.{Comes, Breaks}
 use Rattle.app_visor.specs.declared.came.Came.{Came}
-use Rattle.app_visor.specs.CallsFor.{IsCallFor, CallsFor, Calmly, CalmLater}
+use Rattle.app_visor.specs.CallsFor.{IsCallFor, CallsFor, Calmly, CalmLater, IsGiven, CalmBehind}
 use Rattle.app_visor.specs.laws.OwnLaws.{own_wanting, own_given, own_comes, own_breaking, own_calm, event_for}
 
 -- ---- Calls for one application
@@ -51,13 +51,30 @@ pub later_then : {Own : Type 0} {app : ℕ} {old mid new : Seen Own} → CalmLat
 later_then first second = record { last = last_quiescent-then first.last second.none_quiescent; own = calls_then first.own second.own }
 
 -- the event was given, or could not be
-pub later_given : {Own : Type 0} {Tells : Type 0} {old new : Seen Own} (app : ℕ) (given : Bool) (frame : List ℕ) → Told Tells (give_act given app frame) old new → Tells → CalmLater app old new
-later_given app given frame told tells =
-    let steps = step_of (give_act given app frame) ∷ [] in
+pub given_so : {Own : Type 0} {Tells : Type 0} {old new : Seen Own} {app : ℕ} (given : Bool) (frame : List ℕ) {sent : List ℕ} → sent ≡ frame → Told Tells (give_act given app sent) old new → Tells → IsGiven app frame old new
+given_so {old = old} {new = new} {app = app} given frame is told tells =
+    record { given = given; history = subst (λ (bytes : List ℕ). new.history ≡ old.history ++ step_of (give_act given app bytes) ∷ []) is (told.history tells) }
+
+given_later : {Own : Type 0} {old new : Seen Own} (app : ℕ) (frame : List ℕ) → IsGiven app frame old new → CalmLater app old new
+given_later app frame is =
+    let steps = step_of (give_act is.given app frame) ∷ [] in
     record {
-      last = record { steps = steps; history = told.history tells; none_later = tt };
-      own = record { steps = steps; history = told.history tells; all = (event_for app given frame, tt) };
+      last = record { steps = steps; history = is.history; none_later = tt };
+      own = record { steps = steps; history = is.history; all = (event_for app is.given frame, tt) };
     }
+
+wanting_later : {Own : Type 0} {old new : Seen Own} (app : ℕ) → new.history ≡ old.history → CalmLater app old new
+wanting_later {old = old} app same = record {
+  last = record { steps = []; history = same ∙ sym (append-nil old.history); none_later = tt };
+  own = record { steps = []; history = same ∙ sym (append-nil old.history); all = tt };
+}
+
+-- no point behind the one where it began
+pub behind_later : {Own : Type 0} {app : ℕ} {frame : List ℕ} {old new : Seen Own} → CalmBehind app frame old new → CalmLater app old new
+behind_later {app = app} {frame = frame} behind = elim behind.begins [
+  | inl same ↦ later_then (wanting_later app same) behind.calm
+  | inr is ↦ later_then (given_later app frame is) behind.calm
+]
 
 -- ---- What they are
 

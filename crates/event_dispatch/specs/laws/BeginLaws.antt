@@ -1,6 +1,5 @@
 -- Laws of the start: applications of which nothing has happened, and that they are started, one after the other.
 use Rattle.std.specs.Prelude.{◌≡◌, ℕ, zero, suc, ◌+◌, ◌<◌, ◌≤◌, false, List, [], ◌∷◌, ◌++◌, length, take, drop, map, get_or, set, replicate, Ok, refl}
-use Rattle.std.specs.List.{AllByRecursion}
 use Rattle.std.proofs.Common.{sym, ap, ap₂, ◌∙◌, subst, append_assoc, add-one, arith}
 use Rattle.std.proofs.lemmas.List.{append-nil, take_more}
 use Rattle.app_frames.specs.declared.frame.Event.{Event}
@@ -17,7 +16,7 @@ use Rattle.run_laws.specs.Facts.{StartsAgain, StartsOne, StartsFrom}
 use Rattle.run_laws.specs.First.{net_at_first, app_at_first, engine_at_first}
 use Rattle.event_dispatch.specs.declared.engine_core.Core.{Core}
 use Rattle.event_dispatch.specs.declared.run.Managed.{Managed}
-use Rattle.event_dispatch.specs.Runs.{AreRead, StoreRests, CoreGoes, IsCountedTo, AreNumbered, AreGoing, IsFresh, AreFresh, Waits}
+use Rattle.event_dispatch.specs.Runs.{AreRead, StoreRests, CoreGoes, AreNumbered, AreGoing, IsFresh, AreFresh, Waits}
 use Rattle.event_dispatch.specs.Shows.{application_of, focus_of, engine_with, Stays}
 use Rattle.event_dispatch.specs.Serves.{Notes, AllStarted}
 use Rattle.event_dispatch.specs.Passes.{PassesQuietly, PassesQuietlySoFar}
@@ -51,12 +50,6 @@ fresh_numbered i [] (m ∷ apps) fresh = absurd fresh
 fresh_numbered i (rule ∷ rules) [] fresh = absurd fresh
 fresh_numbered i (rule ∷ rules) (m ∷ apps) fresh = (ap (λ s. s.index) fresh.0.state_is, fresh_numbered (i + 1) rules apps fresh.1)
 
-fresh_counted : (i : ℕ) (rules : List AppRule) (apps : List Managed) (events : ℕ) → AreFresh i rules apps → AllByRecursion (IsCountedTo events) apps
-fresh_counted i [] [] events fresh = tt
-fresh_counted i [] (m ∷ apps) events fresh = absurd fresh
-fresh_counted i (rule ∷ rules) [] events fresh = absurd fresh
-fresh_counted i (rule ∷ rules) (m ∷ apps) events fresh = (record { done = omega (arith, fresh.0.done); failed = omega (arith, fresh.0.failed) }, fresh_counted (i + 1) rules apps events fresh.1)
-
 pub fresh_length : (i : ℕ) (rules : List AppRule) (apps : List Managed) → AreFresh i rules apps → length apps ≡ length rules
 fresh_length i [] [] fresh = refl
 fresh_length i [] (m ∷ apps) fresh = absurd fresh
@@ -89,7 +82,6 @@ fresh_apps n i (rule ∷ rules) (m ∷ apps) fresh = ap₂ (λ (a : Application)
 pub fresh_going : (n : ℕ) (rules : List AppRule) (c : Core) (apps : List Managed) → CoreGoes c → n ≡ length rules → c.store ≡ replicate n empty_slot → AreFresh 0 rules apps → AreGoing c apps
 fresh_going n rules c apps goes is store fresh = record {
   core = goes;
-  counted = fresh_counted 0 rules apps c.events fresh;
   numbered = fresh_numbered 0 rules apps fresh;
   number = ap (λ (slots : List Slot). length slots) store ∙ empty_length n ∙ is ∙ sym (fresh_length 0 rules apps fresh);
 }
@@ -147,7 +139,6 @@ pub record StartsSoFar {Own : Type 0} (Tells : Type 0) (n : ℕ) (old now : Seen
   pub number_is : length c.store ≡ length now_apps
   pub waits : Waits c now_c
   pub stays : Stays c now_c
-  pub counted : AllByRecursion (IsCountedTo c.events) (front ++ drop n apps)
   pub numbered : AreNumbered 0 (front ++ drop n apps)
   pub text : List ℕ
   pub started : StartsFrom Tells 0 (map (application_of c.store) (take n apps)) text old now c.net c.queue c.events (map (application_of c.store) front)
@@ -162,7 +153,6 @@ starts_first Tells seen c apps going = record {
   number_is = going.number;
   waits = record { room = refl; events = refl; store = refl; left = λ none. none };
   stays = record { net = refl; queue = refl; events = refl; store = refl };
-  counted = going.counted;
   numbered = going.numbered;
   text = [];
   started = (refl, refl, refl);
@@ -206,9 +196,6 @@ module _ {Own A F : Type 0} {Tells : Type 0} {x : A} (n : ℕ) (old now new : Se
   numbered_now : AreNumbered 0 (so_far.front ++ m ∷ past_it)
   numbered_now = subst (λ (ms : List Managed). AreNumbered 0 (so_far.front ++ ms)) split so_far.numbered
 
-  counted_now : AllByRecursion (IsCountedTo c.events) (so_far.front ++ m ∷ past_it)
-  counted_now = subst (λ (ms : List Managed). AllByRecursion (IsCountedTo c.events) (so_far.front ++ ms)) split so_far.counted
-
   now_apps_are : set now_apps n now_m ≡ so_far.front ++ now_m ∷ past_it
   now_apps_are = ap (λ (ms : List Managed). set ms n now_m) (so_far.now_is ∙ ap (λ (ms : List Managed). so_far.front ++ ms) split) ∙ set_at so_far.front past_it n m now_m so_far.here
 
@@ -234,13 +221,6 @@ module _ {Own A F : Type 0} {Tells : Type 0} {x : A} (n : ℕ) (old now new : Se
     own = λ told. subst (λ (i : ℕ). CallsFor i now new) at_place (own_calls (keeps.own told));
   }
 
-  counted_set : AllByRecursion (IsCountedTo c.events) (so_far.front ++ now_m ∷ past_it)
-  counted_set = set_counted so_far.front past_it counted_now
-    where
-      set_counted : (xs ys : List Managed) → AllByRecursion (IsCountedTo c.events) (xs ++ m ∷ ys) → AllByRecursion (IsCountedTo c.events) (xs ++ now_m ∷ ys)
-      set_counted [] ys all = (record { done = subst (λ (k : ℕ). k ≤ c.events) (sym keeps.same.done) all.0.done; failed = subst (λ (k : ℕ). k ≤ c.events) (sym keeps.same.failed) all.0.failed }, all.1)
-      set_counted (x ∷ xs) ys all = (all.0, set_counted xs ys all.1)
-
   length_now : length c.store ≡ length (set now_apps n now_m)
   length_now = so_far.number_is ∙ ap (λ (ms : List Managed). length ms) (so_far.now_is ∙ ap (λ (ms : List Managed). so_far.front ++ ms) split) ∙ same_length so_far.front past_it ∙ ap (λ (ms : List Managed). length ms) (sym now_apps_are)
     where
@@ -256,7 +236,6 @@ module _ {Own A F : Type 0} {Tells : Type 0} {x : A} (n : ℕ) (old now new : Se
     number_is = length_now;
     waits = waits_then c now_c later_c so_far.waits done.waits;
     stays = stays_later;
-    counted = subst (λ (ms : List Managed). AllByRecursion (IsCountedTo c.events) ms) (sym (append_assoc so_far.front (now_m ∷ []) past_it)) counted_set;
     numbered = subst (λ (ms : List Managed). AreNumbered 0 ms) (sym (append_assoc so_far.front (now_m ∷ []) past_it)) (numbered_set 0 so_far.front m now_m past_it keeps.same.index numbered_now);
     text = so_far.text ++ done.starts.text;
     started = subst (λ (items : List Application). StartsFrom Tells 0 items (so_far.text ++ done.starts.text) old new c.net c.queue c.events (map (application_of c.store) (so_far.front ++ now_m ∷ [])))
@@ -311,7 +290,6 @@ module _ {Own : Type 0} {Tells : Type 0} (n : ℕ) (old now : Seen Own) (c now_c
       store = start_rests so_far goes.store;
       left = ap (λ (net : NetState). net.left) so_far.stays.net ∙ goes.left;
     };
-    counted = subst (λ (ms : List Managed). AllByRecursion (IsCountedTo now_c.events) ms) (sym so_far.now_is) (subst (λ (k : ℕ). AllByRecursion (IsCountedTo k) (so_far.front ++ drop n apps)) (sym so_far.stays.events) so_far.counted);
     numbered = subst (λ (ms : List Managed). AreNumbered 0 ms) (sym so_far.now_is) so_far.numbered;
     number = ap (λ (slots : List Slot). length slots) so_far.stays.store ∙ so_far.number_is;
   }

@@ -17,7 +17,6 @@ use Rattle.outside.specs.Seen.{Seen, Continues, journal}
 use Rattle.outside.specs.laws.SeenLaws.{Continues-refl}
 use Rattle.net_txn.specs.laws.RowLaws.{any_of_map}
 use Rattle.net_txn.specs.Net.{NetState}
-use Rattle.net_txn.specs.laws.SaidLaws.{all_two}
 use Rattle.checkpoint_store.specs.Slots.{Slot}
 use Rattle.app_visor.specs.CallsFor.{CallsFor, CalmLater}
 use Rattle.app_visor.specs.laws.CalmLaws.{calm_none, calm_later}
@@ -32,7 +31,7 @@ use Rattle.event_dispatch.specs.declared.fault.Fault.TheVariants as faults
 use Rattle.event_dispatch.specs.declared.engine_core.Core.{Core}
 use Rattle.event_dispatch.specs.declared.run.Managed.{Managed}
 use Rattle.event_dispatch.specs.declared.run.Run.{Run}
-use Rattle.event_dispatch.specs.Runs.{AreRead, StoreRests, CoreGoes, IsCountedTo, IsCountedBefore, AreBefore, AreNumbered, AreGoing, Going}
+use Rattle.event_dispatch.specs.Runs.{AreRead, StoreRests, CoreGoes, AreNumbered, AreGoing, Going}
 use Rattle.event_dispatch.specs.Stored.{KeepsOthers}
 use Rattle.event_dispatch.specs.Shows.{application_of, focus_of, is_replacing, engine_with, engine_of, Adds, queued_run}
 use Rattle.event_dispatch.specs.Serves.{Notes, TurnNoted, stand, OfferNoted, AllOffered, IsDispatched}
@@ -153,15 +152,6 @@ others_kept : (k : ℕ) (slots now_slots : List Slot) (apps : List Managed) → 
 others_kept k slots now_slots [] keeps apart = refl
 others_kept k slots now_slots (m ∷ apps) keeps apart = ap₂ (λ (a : Application) (items : List Application). a ∷ items) (same_kept k slots now_slots m keeps apart.0) (others_kept k slots now_slots apps keeps apart.1)
 
-counted_before : (events : ℕ) (apps : List Managed) → AreBefore events apps → AllByRecursion (IsCountedTo events) apps
-counted_before events [] all = tt
-counted_before events (m ∷ apps) all = (record { done = omega (arith, all.0.done); failed = omega (arith, all.0.failed) }, counted_before events apps all.1)
-
--- none ended more turns than events before this one
-pub before_of : (events now_events : ℕ) (apps : List Managed) → now_events ≡ events + 1 → AllByRecursion (IsCountedTo events) apps → AreBefore now_events apps
-before_of events now_events [] is all = tt
-before_of events now_events (m ∷ apps) is all = (record { done = omega (arith, is, all.0.done); failed = omega (arith, is, all.0.failed) }, before_of events now_events apps is all.1)
-
 -- ---- Offers behind one another
 
 no_stop : (stops : Bool) (Stopped Goes : Type 0) → (Stopped → true ≡ false) → if_stopped stops Stopped Goes → (stops ≡ false) × Goes
@@ -222,8 +212,6 @@ pub record OffersSoFar {Own : Type 0} (Tells : Type 0) (accepts : List TableView
   pub events : now_c.events ≡ c.events
   pub number : length now_c.store ≡ length c.store
   pub number_is : length c.store ≡ length now_apps
-  pub counted : AllByRecursion (IsCountedTo c.events) front
-  pub before : AreBefore c.events (drop n apps)
   pub numbered : AreNumbered 0 (front ++ drop n apps)
   pub kept : map (application_of now_c.store) (drop n apps) ≡ map (application_of c.store) (drop n apps)
   pub text : List ℕ
@@ -231,8 +219,8 @@ pub record OffersSoFar {Own : Type 0} (Tells : Type 0) (accepts : List TableView
   pub notes : Notes text c now_c
   pub passes : PassesSoFar Tells (length c.store) old now c.net now_c.net
 
-pub offers_first : {Own : Type 0} (Tells : Type 0) (accepts : List TableView → Bool) (event : Event) (seen : Seen Own) (c : Core) (apps : List Managed) → AreGoing c apps → AreBefore c.events apps → OffersSoFar Tells accepts event 0 seen seen c c apps apps
-offers_first Tells accepts event seen c apps going before = record {
+pub offers_first : {Own : Type 0} (Tells : Type 0) (accepts : List TableView → Bool) (event : Event) (seen : Seen Own) (c : Core) (apps : List Managed) → AreGoing c apps → OffersSoFar Tells accepts event 0 seen seen c c apps apps
+offers_first Tells accepts event seen c apps going = record {
   front = [];
   now_is = refl;
   here = refl;
@@ -240,8 +228,6 @@ offers_first Tells accepts event seen c apps going before = record {
   events = refl;
   number = refl;
   number_is = going.number;
-  counted = tt;
-  before = before;
   numbered = going.numbered;
   kept = refl;
   text = [];
@@ -261,9 +247,6 @@ pub next_index : {Own Tells : Type 0} {accepts : List TableView → Bool} {event
 next_index {apps = apps} n m so_far split =
     let at = numbered_at 0 so_far.front m (drop (suc n) apps) (subst (λ (ms : List Managed). AreNumbered 0 (so_far.front ++ ms)) split so_far.numbered) in
     omega (arith, at, so_far.here)
-
-pub next_before : {Own Tells : Type 0} {accepts : List TableView → Bool} {event : Event} {old now : Seen Own} {c now_c : Core} {apps now_apps : List Managed} (n : ℕ) (m : Managed) → OffersSoFar Tells accepts event n old now c now_c apps now_apps → drop n apps ≡ m ∷ drop (suc n) apps → IsCountedBefore now_c.events m
-next_before {c = c} n m so_far split = subst (λ (k : ℕ). IsCountedBefore k m) (sym so_far.events) (subst (λ (ms : List Managed). AreBefore c.events ms) split so_far.before).0
 
 pub next_place : {Own Tells : Type 0} {accepts : List TableView → Bool} {event : Event} {old now : Seen Own} {c now_c : Core} {apps now_apps : List Managed} (n : ℕ) (m : Managed) → OffersSoFar Tells accepts event n old now c now_c apps now_apps → n < length now_apps → m ≡ get_or now_apps n m → m.state.index < length now_c.store
 next_place n m so_far less is =
@@ -316,12 +299,6 @@ module _ {Own : Type 0} {Tells : Type 0} {accepts : List TableView → Bool} {ev
   now_apps_are : set now_apps n now_m ≡ so_far.front ++ now_m ∷ past_it
   now_apps_are = ap (λ (ms : List Managed). set ms n now_m) (so_far.now_is ∙ ap (λ (ms : List Managed). so_far.front ++ ms) split) ∙ set_at so_far.front (drop (suc n) apps) n m now_m so_far.here
 
-  counted_now : IsCountedTo c.events now_m
-  counted_now = subst (λ (k : ℕ). IsCountedTo k now_m) so_far.events done.counted
-
-  before_rest : AreBefore c.events past_it
-  before_rest = (subst (λ (ms : List Managed). AreBefore c.events ms) split so_far.before).1
-
   notes_now : Notes (so_far.text ++ done.offered.text) c later_c
   notes_now = done.offered.notes ∙ ap (λ (xs : List ℕ). xs ++ done.offered.text) so_far.notes ∙ append_assoc c.lines.items so_far.text done.offered.text
 
@@ -338,9 +315,6 @@ module _ {Own : Type 0} {Tells : Type 0} {accepts : List TableView → Bool} {ev
   going_now : AreGoing later_c (set now_apps n now_m)
   going_now = record {
     core = done.goes;
-    counted = subst (λ (ms : List Managed). AllByRecursion (IsCountedTo later_c.events) ms) (sym now_apps_are)
-        (subst (λ (k : ℕ). AllByRecursion (IsCountedTo k) (so_far.front ++ now_m ∷ past_it)) (sym (done.events ∙ so_far.events))
-        (all_two (IsCountedTo c.events) so_far.front (now_m ∷ past_it) so_far.counted (counted_now, counted_before c.events past_it before_rest)));
     numbered = subst (λ (ms : List Managed). AreNumbered 0 ms) (sym now_apps_are) (numbered_set 0 so_far.front m now_m past_it done.index numbered_now);
     number = number_now ∙ length_now;
   }
@@ -355,8 +329,6 @@ module _ {Own : Type 0} {Tells : Type 0} {accepts : List TableView → Bool} {ev
     events = done.events ∙ so_far.events;
     number = number_now;
     number_is = length_now;
-    counted = all_two (IsCountedTo c.events) so_far.front (now_m ∷ []) so_far.counted (counted_now, tt);
-    before = before_rest;
     numbered = subst (λ (ms : List Managed). AreNumbered 0 ms) (sym (append_assoc so_far.front (now_m ∷ []) past_it)) (numbered_set 0 so_far.front m now_m past_it done.index numbered_now);
     kept = kept_later;
     text = so_far.text ++ done.offered.text;
@@ -427,7 +399,6 @@ module _ {Own : Type 0} {Tells : Type 0} {accepts : List TableView → Bool} {ev
   going_all : AreGoing now_c now_apps
   going_all = record {
     core = so_far.goes;
-    counted = subst (λ (ms : List Managed). AllByRecursion (IsCountedTo now_c.events) ms) (sym front_is) (subst (λ (k : ℕ). AllByRecursion (IsCountedTo k) so_far.front) (sym so_far.events) so_far.counted);
     numbered = subst (λ (ms : List Managed). AreNumbered 0 ms) (sym so_far.now_is) so_far.numbered;
     number = so_far.number ∙ so_far.number_is;
   }
@@ -533,13 +504,12 @@ module _ {Own : Type 0} {Tells : Type 0} {accepts : List TableView → Bool} {ev
 
 -- it is passed over
 pub offer_passed : {Own : Type 0} (Tells : Type 0) (accepts : List TableView → Bool) (event : Event) (seen : Seen Own) (c : Core) (m : Managed) → CoreGoes c
-    → m.done < c.events → m.failed < c.events → is_taking event (application_of c.store m) ≡ false
+    → is_taking event (application_of c.store m) ≡ false
     → OfferDone Tells accepts event false seen seen c c m m
-offer_passed Tells accepts event seen c m goes done failed passed = record {
+offer_passed Tells accepts event seen c m goes passed = record {
   goes = goes;
   events = refl;
   others = record { number = refl; others = λ i other. refl };
-  counted = record { done = omega (arith, done); failed = omega (arith, failed) };
   index = refl;
   rule = refl;
   offered = record {
@@ -644,7 +614,6 @@ offer_ended accepts event (Ok stops) old new c now_c m now_m takes none later tu
   goes = turn.goes;
   events = turn.events;
   others = turn.others;
-  counted = turn.counted;
   index = turn.index;
   rule = turn.rule;
   offered = offer_taken old new c now_c m now_m takes none turn.events turn.index turn.rule (λ told. (later told).own) turn.turn;
@@ -668,13 +637,9 @@ module _ (event : Event) (r : Run) (c : Core) (adds : Adds (event_line (r.core.e
       store = subst (λ (slots : List Slot). StoreRests slots) (sym adds.stays.store) going.core.store;
       left = ap (λ (net : NetState). net.left) adds.stays.net ∙ going.core.left;
     };
-    counted = counted_before c.events r.apps.items (before_of r.core.events c.events r.apps.items adds.stays.events going.counted);
     numbered = going.numbered;
     number = ap (λ (slots : List Slot). length slots) adds.stays.store ∙ going.number;
   }
-
-  pub noted_before : AreGoing r.core r.apps.items → AreBefore c.events r.apps.items
-  noted_before going = before_of r.core.events c.events r.apps.items adds.stays.events going.counted
 
   pub noted_number : length c.store ≡ length r.core.store
   noted_number = ap (λ (slots : List Slot). length slots) adds.stays.store
@@ -747,7 +712,6 @@ module _ (event : Event) (r : Run) (c : Core) (adds : Adds (event_line (r.core.e
 pub going_queued : (queue : List Event) (r : Run) → Going r → Going (queued_run queue r)
 going_queued queue r going = record {
   core = record { room = going.core.room; read = going.core.read; store = going.core.store; left = going.core.left };
-  counted = going.counted;
   numbered = going.numbered;
   number = going.number;
 }

@@ -2,7 +2,6 @@
 use Rattle.std.proofs.Common.{◌≡◌, ℕ, ◌+◌, ◌-◌, ◌^◌, ◌<◌, ◌≤◌, Bool, true, false, List, [], ◌∷◌, ◌++◌, length, map, drop, Option, Some, None, refl, sym, ap, ap₂, ◌∙◌, subst, arith, inl, inr}
 use Rattle.std.specs.Prelude.{slice_get}
 use Rattle.std.specs.Io.KnownBytes.{append_known}
-use Rattle.std.specs.List.{AllByRecursion}
 use Rattle.std.proofs.lemmas.List.{append-nil, length-append, length-map}
 use Rattle.of_types.specs.declared.journal.WorldStim.{WorldStim}
 use Rattle.flow_table.specs.View.{TableView}
@@ -32,7 +31,7 @@ use Rattle.event_dispatch.specs.declared.batch.Rest.{Rest}
 use Rattle.event_dispatch.specs.declared.batch.Rest.TheVariants as rests
 use Rattle.event_dispatch.specs.declared.engine_core.Core.{Core}
 use Rattle.event_dispatch.specs.declared.run.Run.{Run}
-use Rattle.event_dispatch.specs.Runs.{AreRead, StoreRests, IsCountedTo, Going, Waits}
+use Rattle.event_dispatch.specs.Runs.{AreRead, StoreRests, Going, Waits}
 use Rattle.event_dispatch.specs.Batch.{standing_of, BatchShown}
 use Rattle.run_laws.specs.Facts.{Dispatches, StartsAll}
 use Rattle.run_laws.specs.Course.{BatchTaken, PartByPart}
@@ -250,7 +249,6 @@ going_written r then_c mid_c going first read second same = record {
     store = subst StoreRests (sym (second.store ∙ first.store)) going.core.store;
     left = second.left (first.left going.core.left);
   };
-  counted = subst (λ (n : ℕ). AllByRecursion (IsCountedTo n) r.apps.items) (sym (second.events ∙ first.events)) going.counted;
   numbered = going.numbered;
   number = ap (λ (slots : List Slot). length slots) (second.store ∙ first.store) ∙ going.number;
 }
@@ -333,7 +331,6 @@ going_stays r now_c going waits same = record {
     store = subst StoreRests (sym waits.store) going.core.store;
     left = waits.left going.core.left;
   };
-  counted = subst (λ (n : ℕ). AllByRecursion (IsCountedTo n) r.apps.items) (sym waits.events) going.counted;
   numbered = going.numbered;
   number = ap (λ (slots : List Slot). length slots) waits.store ∙ going.number;
 }

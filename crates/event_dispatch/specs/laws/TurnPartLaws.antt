@@ -1,5 +1,5 @@
 -- Laws of what the parts of a turn and of a start leave.
-use Rattle.std.proofs.Common.{◌≡◌, ◌<◌, ◌≤◌, ◌+◌, ℕ, Bool, false, List, ◌++◌, length, Result, Ok, Err, OnOk, refl, sym, ap, ap₂, ◌∙◌, subst, append_assoc, arith, true≢false}
+use Rattle.std.proofs.Common.{◌≡◌, ◌<◌, ◌≤◌, ◌+◌, ℕ, Bool, false, List, ◌++◌, length, Result, Ok, Err, OnOk, refl, sym, ap, ap₂, ◌∙◌, subst, append_assoc, true≢false}
 use Rattle.std.specs.Prelude.{IsErr, IfOk, MatchResult, Vec}
 use Rattle.std.specs.Global.{Global}
 use Rattle.flow_table.specs.View.{TableView}
@@ -23,7 +23,7 @@ use Rattle.event_dispatch.specs.declared.closing.Closing.TheVariants as closings
 use Rattle.event_dispatch.specs.declared.engine_core.Core.{Core}
 use Rattle.event_dispatch.specs.declared.fault.Fault.{Fault}
 use Rattle.event_dispatch.specs.declared.run.Managed.{Managed}
-use Rattle.event_dispatch.specs.Runs.{AreRead, StoreRests, CoreGoes, SameManaged}
+use Rattle.event_dispatch.specs.Runs.{AreRead, StoreRests, CoreGoes}
 use Rattle.event_dispatch.specs.Shows.{application_of, focus_of, name_of}
 use Rattle.net_txn.specs.Leaving.{none_left}
 use Rattle.event_dispatch.specs.Lines.{OnlyNotes, LostTold}
@@ -124,19 +124,17 @@ module _ {text : List ℕ} {c mid_c now_c : Core} (noted : OnlyNotes text c mid_
       told_events told_store
 
   -- it was done
-  pub done_so : {Own : Type 0} {Tells : Type 0} {out : Vec (ℕ × ℕ) Global} (kind : EventKind) (stop : Bool) (seen : Seen Own) (m : Managed) → m.done < c.events
-      → m.failed < c.events
+  pub done_so : {Own : Type 0} {Tells : Type 0} {out : Vec (ℕ × ℕ) Global} (kind : EventKind) (stop : Bool) (seen : Seen Own) (m : Managed) (turns : ℕ) → turns ≡ m.done + 1
       → 1 ≤ c.net.room → AreRead c.net.kept → StoreRests c.store → text ≡ turn_line (name_of m) (turn_word (ends.Done stop)) ++ out_text out.items
-      → CloseDone Tells kind (closings.Done stop out) stop seen seen c now_c m (record m { done = m.done + 1 })
-  done_so {out = out} kind stop seen m done failed room read store is = record {
+      → CloseDone Tells kind (closings.Done stop out) stop seen seen c now_c m (record m { done = turns })
+  done_so {out = out} kind stop seen m turns more room read store is = record {
     goes = told_goes room read store;
     events = told_events;
     store = told_store;
-    counted = record { done = omega (arith, told_events, done); failed = omega (arith, told_events, failed) };
     stops = refl;
     closes = record {
       seen = refl;
-      engine = told_focus (record m { done = m.done + 1 });
+      engine = told_focus (record m { done = turns }) ∙ ap (λ (n : ℕ). all_told c.net c.queue (record (focus_of c m) { done = n })) more;
       notes = told_lines ∙ ap (λ (xs : List ℕ). c.lines.items ++ (xs ++ lost_text c.net.left)) is
           ∙ ap (λ (xs : List ℕ). c.lines.items ++ xs)
           (append_assoc (turn_line (name_of m) (turn_word (ends.Done stop))) (out_text out.items) (lost_text c.net.left));
@@ -144,13 +142,11 @@ module _ {text : List ℕ} {c mid_c now_c : Core} (noted : OnlyNotes text c mid_
   }
 
   -- it failed, and the application goes by its policy
-  pub failed_so : {Own : Type 0} {Tells : Type 0} {old new : Seen Own} {later_c : Core} (kind : EventKind) (cause : Cause) (m now_m : Managed)
-      → m.done < c.events → m.failed < c.events
+  pub failed_so : {Own : Type 0} {Tells : Type 0} {old new : Seen Own} {later_c : Core} (kind : EventKind) (cause : Cause) (m now_m : Managed) (turns : ℕ) → turns ≡ m.failed + 1
       → 1 ≤ c.net.room → AreRead c.net.kept → StoreRests c.store → text ≡ turn_line (name_of m) (words.Failed cause)
-      → SameManaged (record m { failed = m.failed + 1 }) now_m
-      → GoOnDone Tells kind old new now_c later_c (record m { failed = m.failed + 1 }) now_m
+      → GoOnDone Tells kind old new now_c later_c (record m { failed = turns }) now_m
       → CloseDone Tells kind (closings.Failed cause) false old new c later_c m now_m
-  failed_so {Tells = Tells} {old = old} {new = new} {later_c = later_c} kind cause m now_m done failed room read store is same goes =
+  failed_so {Tells = Tells} {old = old} {new = new} {later_c = later_c} kind cause m now_m turns more room read store is goes =
       let core = told_goes room read store in
       record {
         goes = record {
@@ -161,12 +157,11 @@ module _ {text : List ℕ} {c mid_c now_c : Core} (noted : OnlyNotes text c mid_
         };
         events = goes.waits.events ∙ told_events;
         store = goes.waits.store ∙ told_store;
-        counted = record { done = omega (arith, same.done, done); failed = omega (arith, same.failed, failed) };
         stops = refl;
         closes = record {
           text = goes.goes_on.text;
           follows = subst (λ (e : Focus). Follows Tells (rule_at (app_value m.rule.now) kind) goes.goes_on.text old new e (focus_of later_c now_m))
-              (told_focus (record m { failed = m.failed + 1 })) goes.goes_on.follows;
+              (told_focus (record m { failed = turns }) ∙ ap (λ (n : ℕ). all_told c.net c.queue (record (focus_of c m) { failed = n })) more) goes.goes_on.follows;
           notes = goes.goes_on.notes ∙ ap (λ (xs : List ℕ). xs ++ goes.goes_on.text) told_lines ∙ append_assoc c.lines.items (text ++ lost_text c.net.left)
               goes.goes_on.text
               ∙ ap (λ (xs : List ℕ). c.lines.items ++ xs) (append_assoc text (lost_text c.net.left) goes.goes_on.text)

@@ -1,4 +1,4 @@
-use Rattle.std.proofs.Common.{ℕ, refl, ap, ◌∙◌}
+use Rattle.std.proofs.Common.{ℕ, refl, ap, ◌∙◌, inl, inr}
 use Rattle.std.proofs.lemmas.Result.{err_from_is_err_and}
 use Rattle.lego_model.specs.Controller.{event_frame}
 use Rattle.outside.specs.laws.SeenLaws.{Continues-refl, Continues-trans}
@@ -9,7 +9,7 @@ use Rattle.app_visor.specs.laws.BeatLaws.{Leads-refl, Leads-trans, Leads-continu
 use Rattle.app_visor.specs.laws.PlayLaws.{turns_gone, turns_given, leads_turn, leads_told}
 use Rattle.journal_laws.specs.laws.FrameLaws.{event_is}
 use Rattle.app_visor.specs.laws.LeadsOnLaws.{leads_on_here, leads_on_wanting, leads_on_event, leads_on_turned, talks_of}
-use Rattle.app_visor.specs.laws.CalmLaws.{calm_none, calm_wanting, calm_later, later_given, later_then}
+use Rattle.app_visor.specs.laws.CalmLaws.{calm_none, calm_wanting, given_so}
 use Rattle.net_txn.specs.Causes.{IsPlain}
 use Rattle.app_visor.proofs.turning.turn.Goals as goal
 
@@ -145,28 +145,70 @@ returns-in_err-end-2-clause-talks g c =
     old mid new told tells spelled (event_is c.args.number c.args.txn.now.net.now.moment c.args.event.now) (c.in_ok-intake.ensures ∙ c.as_slice.ensures ∙ c.replace-rest.ensures.value) runs passes (leads_on_turned c.in_ok-end.ensures.ok tells)))
 
 pub returns-in_err-frame-clause-later : goal.returns-in_err-frame-clause-later
-returns-in_err-frame-clause-later g c = λ tells. calm_later (calm_none c.args.app.now.index (g.W.World.seen c.args.world.now))
+returns-in_err-frame-clause-later g c = λ tells. record {
+  mid = g.W.World.seen c.args.world.now;
+  begins = inl refl;
+  calm = calm_none c.args.app.now.index (g.W.World.seen c.args.world.now);
+}
 
 pub returns-in_err-intake-clause-later : goal.returns-in_err-intake-clause-later
-returns-in_err-intake-clause-later g c = λ tells. calm_later (calm_none c.args.app.now.index (g.W.World.seen c.args.world.now))
+returns-in_err-intake-clause-later g c = λ tells. record {
+  mid = g.W.World.seen c.args.world.now;
+  begins = inl refl;
+  calm = calm_none c.args.app.now.index (g.W.World.seen c.args.world.now);
+}
 
 pub returns-in_err-give-clause-later : goal.returns-in_err-give-clause-later
-returns-in_err-give-clause-later g c = λ tells. calm_later (calm_wanting c.args.app.now.index c.in_err-give.ensures.err tells)
+returns-in_err-give-clause-later g c = λ tells. record {
+  mid = g.W.World.seen c.args.world.now;
+  begins = inl refl;
+  calm = calm_wanting c.args.app.now.index c.in_err-give.ensures.err tells;
+}
 
 pub returns-then-not-branch-clause-later : goal.returns-then-not-branch-clause-later
-returns-then-not-branch-clause-later g c = λ tells. later_given c.args.app.now.index c.in_ok-give.field-0 c.as_slice-2.result.now c.in_ok-give.ensures.ok tells
+returns-then-not-branch-clause-later g c =
+    let spelled = c.as_slice-2.ensures ∙ c.in_ok-frame.ensures ∙ ap (λ (m : ℕ). event_frame c.args.number m c.args.event.now) c.moment.ensures in
+    λ tells. record {
+      mid = g.W.World.seen c.give.new.world;
+      begins = inr (given_so c.in_ok-give.field-0 (event_frame c.args.number c.args.txn.now.net.now.moment c.args.event.now) spelled c.in_ok-give.ensures.ok tells);
+      calm = calm_none c.args.app.now.index (g.W.World.seen c.give.new.world);
+    }
 
 pub returns-in_err-end-clause-later : goal.returns-in_err-end-clause-later
-returns-in_err-end-clause-later g c = λ tells. later_then (later_given c.args.app.now.index c.in_ok-give.field-0 c.as_slice-2.result.now c.in_ok-give.ensures.ok tells) (c.play_all.ensures.calm tells)
+returns-in_err-end-clause-later g c =
+    let spelled = c.as_slice-2.ensures ∙ c.in_ok-frame.ensures ∙ ap (λ (m : ℕ). event_frame c.args.number m c.args.event.now) c.moment.ensures in
+    λ tells. record {
+      mid = g.W.World.seen c.give.new.world;
+      begins = inr (given_so c.in_ok-give.field-0 (event_frame c.args.number c.args.txn.now.net.now.moment c.args.event.now) spelled c.in_ok-give.ensures.ok tells);
+      calm = c.play_all.ensures.calm tells;
+    }
 
 pub returns-in_err-rest-clause-later : goal.returns-in_err-rest-clause-later
-returns-in_err-rest-clause-later g c = λ tells. later_then (later_given c.args.app.now.index c.in_ok-give.field-0 c.as_slice-2.result.now c.in_ok-give.ensures.ok tells) (c.play_all.ensures.calm tells)
+returns-in_err-rest-clause-later g c =
+    let spelled = c.as_slice-2.ensures ∙ c.in_ok-frame.ensures ∙ ap (λ (m : ℕ). event_frame c.args.number m c.args.event.now) c.moment.ensures in
+    λ tells. record {
+      mid = g.W.World.seen c.give.new.world;
+      begins = inr (given_so c.in_ok-give.field-0 (event_frame c.args.number c.args.txn.now.net.now.moment c.args.event.now) spelled c.in_ok-give.ensures.ok tells);
+      calm = c.play_all.ensures.calm tells;
+    }
 
 pub returns-in_err-end-2-clause-later : goal.returns-in_err-end-2-clause-later
-returns-in_err-end-2-clause-later g c = λ tells. later_then (later_given c.args.app.now.index c.in_ok-give.field-0 c.as_slice-2.result.now c.in_ok-give.ensures.ok tells) (c.play_all.ensures.calm tells)
+returns-in_err-end-2-clause-later g c =
+    let spelled = c.as_slice-2.ensures ∙ c.in_ok-frame.ensures ∙ ap (λ (m : ℕ). event_frame c.args.number m c.args.event.now) c.moment.ensures in
+    λ tells. record {
+      mid = g.W.World.seen c.give.new.world;
+      begins = inr (given_so c.in_ok-give.field-0 (event_frame c.args.number c.args.txn.now.net.now.moment c.args.event.now) spelled c.in_ok-give.ensures.ok tells);
+      calm = c.play_all.ensures.calm tells;
+    }
 
 pub returns-clause-later : goal.returns-clause-later
-returns-clause-later g c = λ tells. later_then (later_given c.args.app.now.index c.in_ok-give.field-0 c.as_slice-2.result.now c.in_ok-give.ensures.ok tells) (c.play_all.ensures.calm tells)
+returns-clause-later g c =
+    let spelled = c.as_slice-2.ensures ∙ c.in_ok-frame.ensures ∙ ap (λ (m : ℕ). event_frame c.args.number m c.args.event.now) c.moment.ensures in
+    λ tells. record {
+      mid = g.W.World.seen c.give.new.world;
+      begins = inr (given_so c.in_ok-give.field-0 (event_frame c.args.number c.args.txn.now.net.now.moment c.args.event.now) spelled c.in_ok-give.ensures.ok tells);
+      calm = c.play_all.ensures.calm tells;
+    }
 
 pub returns-in_err-frame-clause-parted : goal.returns-in_err-frame-clause-parted
 returns-in_err-frame-clause-parted g c =

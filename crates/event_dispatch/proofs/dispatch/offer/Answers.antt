@@ -8,7 +8,7 @@ pub returns-then-not-takes : goal.returns-then-not-takes
 returns-then-not-takes g c = record {
   passes = passes_none g.W.World.Tells (g.W.World.seen c.args.world.now) c.args.core.now.net c.args.core.now.net (Ok false) (same_next _);
   done = offer_passed g.W.World.Tells (g.J.Judge.accepts c.args.judge.now) c.args.event.now (g.W.World.seen c.args.world.now) c.args.core.now c.args.app.now
-      c.requires.goes c.requires.done c.requires.failed (sym (c.if-not-takes.ensures c.args.core.now.store));
+      c.requires.goes (sym (c.if-not-takes.ensures c.args.core.now.store));
   parted = λ can. tt;
 }
 

@@ -1,26 +1,18 @@
 use Rattle.std.proofs.Common.{Ok, length, arith}
 use Rattle.event_dispatch.specs.EventParts.{OffersStop}
 use Rattle.event_dispatch.specs.laws.PassesLaws.{same_next, at_fault, passes_then, passes_fails, passes_as, passes_number}
-use Rattle.event_dispatch.specs.laws.OfferLaws.{offers_first, next_split, next_before, next_place, offers_on, offers_end, all_offered, offers_stop_at}
+use Rattle.event_dispatch.specs.laws.OfferLaws.{offers_first, next_split, next_place, offers_on, offers_end, all_offered, offers_stop_at}
 use Rattle.event_dispatch.specs.Plain.{IsPlainEnd}
 use Rattle.event_dispatch.specs.laws.CutLaws.{if_err}
 use Rattle.event_dispatch.proofs.dispatch.offer_all.Goals as goal
 
 pub loop-at-init : goal.loop-at-init
 loop-at-init g c =
-    offers_first g.W.World.Tells (g.J.Judge.accepts c.args.judge.now) c.args.event.now (g.W.World.seen c.args.world.now) c.args.core.now c.args.apps.now.items c.requires.going c.requires.before
+    offers_first g.W.World.Tells (g.J.Judge.accepts c.args.judge.now) c.args.event.now (g.W.World.seen c.args.world.now) c.args.core.now c.args.apps.now.items c.requires.going
 
 pub offer-requires-clause-place : goal.offer-requires-clause-place
 offer-requires-clause-place g c =
     next_place c.loop-at.at c.index_mut.result.now c.loop-at.invariant (omega (arith, c.loop-at-test.true, c.len-at-end.ensures, c.loop-at.invariant.number_is, c.requires.going.number)) c.index_mut.ensures.value
-
-pub offer-requires-clause-done : goal.offer-requires-clause-done
-offer-requires-clause-done g c =
-    (next_before c.loop-at.at c.index_mut.result.now c.loop-at.invariant (next_split c.loop-at.at c.index_mut.result.now c.loop-at.invariant (omega (arith, c.loop-at-test.true, c.len-at-end.ensures, c.loop-at.invariant.number_is, c.requires.going.number)) c.index_mut.ensures.value)).done
-
-pub offer-requires-clause-failed : goal.offer-requires-clause-failed
-offer-requires-clause-failed g c =
-    (next_before c.loop-at.at c.index_mut.result.now c.loop-at.invariant (next_split c.loop-at.at c.index_mut.result.now c.loop-at.invariant (omega (arith, c.loop-at-test.true, c.len-at-end.ensures, c.loop-at.invariant.number_is, c.requires.going.number)) c.index_mut.ensures.value)).failed
 
 pub returns-in_err-offer : goal.returns-in_err-offer
 returns-in_err-offer g c = record {

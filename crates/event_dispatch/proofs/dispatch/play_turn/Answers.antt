@@ -1,5 +1,6 @@
 use Rattle.std.proofs.Common.{rules, refl, sym, subst}
 use Rattle.journal_laws.specs.laws.FrameLaws.{event_is}
+use Rattle.app_visor.specs.laws.CalmLaws.{behind_later}
 use Rattle.outside.specs.laws.SeenLaws.{Continues-trans}
 use Rattle.event_dispatch.specs.TurnParts.{TurnFails}
 use Rattle.event_dispatch.specs.Why.{fault_of, ended_by}
@@ -23,7 +24,7 @@ returns-in_ok-out-in-Ok-Done-clause-keeps g c = record {
   index = c.turn.ensures.index;
   alive = c.turn.ensures.alive;
   slots = keeps_handed c.args.app.now.index _ c.args.store.now c.turn.new.store c.requires.place c.in-Ok-Done.ensures.ok.staged_is;
-  later = later_links c.turn.ensures.later c.in_ok-out-in-Ok-Done.ensures.commits.links;
+  later = later_links (λ told. behind_later (c.turn.ensures.later told)) c.in_ok-out-in-Ok-Done.ensures.commits.links;
 }
 
 pub returns-in_ok-out-in-Ok-Done-clause-done : goal.returns-in_ok-out-in-Ok-Done-clause-done
@@ -46,7 +47,7 @@ returns-in_ok-abort-in-Ok-Failed-clause-keeps g c = record {
   index = c.turn.ensures.index;
   alive = c.turn.ensures.alive;
   slots = keeps_handed c.args.app.now.index _ c.args.store.now c.turn.new.store c.requires.place c.in-Ok-Failed.ensures.ok.staged_is;
-  later = later_links c.turn.ensures.later c.abort.ensures.undoes.links;
+  later = later_links (λ told. behind_later (c.turn.ensures.later told)) c.abort.ensures.undoes.links;
 }
 
 pub returns-in_ok-abort-in-Ok-Failed-clause-done : goal.returns-in_ok-abort-in-Ok-Failed-clause-done
@@ -69,7 +70,7 @@ returns-in_err-out-in-Ok-Done-clause-keeps g c = record {
   index = c.turn.ensures.index;
   alive = c.turn.ensures.alive;
   slots = keeps_handed c.args.app.now.index _ c.args.store.now c.turn.new.store c.requires.place c.in-Ok-Done.ensures.ok.staged_is;
-  later = later_links c.turn.ensures.later c.in_err-out-in-Ok-Done.ensures.commits.links;
+  later = later_links (λ told. behind_later (c.turn.ensures.later told)) c.in_err-out-in-Ok-Done.ensures.commits.links;
 }
 
 pub returns-in_err-out-in-Ok-Done-clause-passes : goal.returns-in_err-out-in-Ok-Done-clause-passes
@@ -110,7 +111,7 @@ returns-in_err-abort-in-Ok-Failed-clause-keeps g c = record {
   index = c.turn.ensures.index;
   alive = c.turn.ensures.alive;
   slots = keeps_handed c.args.app.now.index _ c.args.store.now c.turn.new.store c.requires.place c.in-Ok-Failed.ensures.ok.staged_is;
-  later = later_links c.turn.ensures.later c.abort.ensures.undoes.links;
+  later = later_links (λ told. behind_later (c.turn.ensures.later told)) c.abort.ensures.undoes.links;
 }
 
 pub returns-in_err-abort-in-Ok-Failed-clause-passes : goal.returns-in_err-abort-in-Ok-Failed-clause-passes
@@ -149,7 +150,7 @@ returns-in-Err-clause-keeps g c = record {
   index = c.turn.ensures.index;
   alive = c.turn.ensures.alive;
   slots = keeps_same c.args.app.now.index c.args.store.now c.turn.new.store c.in-Err.ensures.err_store;
-  later = later_links c.turn.ensures.later c.abort-in-Err.ensures.undoes.links;
+  later = later_links (λ told. behind_later (c.turn.ensures.later told)) c.abort-in-Err.ensures.undoes.links;
 }
 
 pub returns-in-Err-clause-passes : goal.returns-in-Err-clause-passes

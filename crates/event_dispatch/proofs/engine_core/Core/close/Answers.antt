@@ -1,4 +1,4 @@
-use Rattle.std.proofs.Common.{◌≡◌, ◌+◌, ℕ, Bool, List, ◌++◌, Ok, false, ap, ap₂, sym, subst, ◌∙◌, refl}
+use Rattle.std.proofs.Common.{◌≡◌, ℕ, Bool, List, ◌++◌, Ok, false, ap, ap₂, sym, subst, ◌∙◌, refl}
 use Rattle.lego_model.specs.RunReport.{turn_line}
 use Rattle.lego_model.specs.declared.turn.TurnWord.{TurnWord}
 use Rattle.lego_model.specs.declared.turn.TurnWord.TheVariants as words
@@ -15,11 +15,18 @@ use Rattle.event_dispatch.specs.laws.WhyLaws.{waits_then}
 use Rattle.event_dispatch.proofs.engine_core.Core.close.Goals as goal
 use Rattle.event_dispatch.proofs.engine_core.Core.close.Goals.{then-stop, else-stop}
 
-pub returns-in_err-note_done-in-Done : goal.returns-in_err-note_done-in-Done
-returns-in_err-note_done-in-Done g c = record {
+pub returns-in_err-app-in-Done : goal.returns-in_err-app-in-Done
+returns-in_err-app-in-Done g c = record {
   passes = quiet_not g.W.World.Tells (g.W.World.seen c.args.world.now) c.args.self.now.net _ c.from_residual.result c.from_residual.ensures.0;
   keeps = record { index = refl; rule = refl; own = λ told. own_none c.args.app.now.state.index (g.W.World.seen c.args.world.now) };
   done = if_not _ c.from_residual.result c.from_residual.ensures.0;
+}
+
+pub returns-in_err-note_done-in-Done : goal.returns-in_err-note_done-in-Done
+returns-in_err-note_done-in-Done g c = record {
+  passes = quiet_not g.W.World.Tells (g.W.World.seen c.args.world.now) c.args.self.now.net _ c.from_residual-in_err-note_done-in-Done.result c.from_residual-in_err-note_done-in-Done.ensures.0;
+  keeps = record { index = refl; rule = refl; own = λ told. own_none c.args.app.now.state.index (g.W.World.seen c.args.world.now) };
+  done = if_not _ c.from_residual-in_err-note_done-in-Done.result c.from_residual-in_err-note_done-in-Done.ensures.0;
 }
 
 pub returns-in_err-tell_lost-in-Done : goal.returns-in_err-tell_lost-in-Done
@@ -43,6 +50,13 @@ returns-in_ok-tell_lost-in-Done-clause-passes g c =
 pub returns-in_ok-tell_lost-in-Done-clause-keeps : goal.returns-in_ok-tell_lost-in-Done-clause-keeps
 returns-in_ok-tell_lost-in-Done-clause-keeps g c =
     record { index = refl; rule = refl; own = λ told. own_none c.args.app.now.state.index (g.W.World.seen c.args.world.now) }
+
+pub returns-in_err-app-in-Failed : goal.returns-in_err-app-in-Failed
+returns-in_err-app-in-Failed g c = record {
+  passes = quiet_not g.W.World.Tells (g.W.World.seen c.args.world.now) c.args.self.now.net _ c.from_residual-in_err-app-in-Failed.result c.from_residual-in_err-app-in-Failed.ensures.0;
+  keeps = record { index = refl; rule = refl; own = λ told. own_none c.args.app.now.state.index (g.W.World.seen c.args.world.now) };
+  done = if_not _ c.from_residual-in_err-app-in-Failed.result c.from_residual-in_err-app-in-Failed.ensures.0;
+}
 
 pub returns-in_err-note_turn-in-Failed : goal.returns-in_err-note_turn-in-Failed
 returns-in_err-note_turn-in-Failed g c = record {
@@ -103,8 +117,8 @@ returns-in_ok-tell_lost-in-Done-clause-done g c =
     let text = ap₂ (λ (name : List ℕ) (w : TurnWord). turn_line name w ++ out_text c.deref.result.now) c.as_str-name.ensures.value word
     ∙ ap (λ (out : List (ℕ × ℕ)). turn_line (name_of c.args.app.now) (turn_word (ends.Done stop)) ++ out_text out) c.deref.ensures.value in
     subst (λ (end : Closing). CloseDone g.W.World.Tells c.args.kind end stop seen seen c.args.self.now c.tell_lost.new.self c.args.app.now
-    (record c.args.app.now { done = c.args.app.now.done + 1 })) (sym c.in-Done.is)
-    (done_so c.in_ok-note_done-in-Done.ensures c.in_ok-tell_lost-in-Done.ensures c.args.kind stop seen c.args.app.now c.requires.done c.requires.failed
+    (record c.args.app.now { done = c.in_ok-app-in-Done.field-0 })) (sym c.in-Done.is)
+    (done_so c.in_ok-note_done-in-Done.ensures c.in_ok-tell_lost-in-Done.ensures c.args.kind stop seen c.args.app.now c.in_ok-app-in-Done.field-0 c.in_ok-app-in-Done.ensures
     c.requires.room c.requires.read c.requires.store text)
 
 pub returns-in_ok-go_on-in-Failed-clause-done : goal.returns-in_ok-go_on-in-Failed-clause-done
@@ -112,6 +126,6 @@ returns-in_ok-go_on-in-Failed-clause-done g c =
     subst (λ (end : Closing). CloseDone g.W.World.Tells c.args.kind end false (g.W.World.seen c.args.world.now) (g.W.World.seen c.go_on.new.world)
     c.args.self.now c.go_on.new.self c.args.app.now c.go_on.new.app) (sym c.in-Failed.is)
     (failed_so c.in_ok-note_turn-in-Failed.ensures c.in_ok-tell_lost-in-Failed.ensures c.args.kind c.in-Failed.cause c.args.app.now c.go_on.new.app
-    c.requires.done c.requires.failed c.requires.room c.requires.read c.requires.store
-    (ap (λ (name : List ℕ). turn_line name (words.Failed c.in-Failed.cause)) c.as_str-name.ensures.value) c.go_on.ensures.keeps.same
+    c.in_ok-app-in-Failed.field-0 c.in_ok-app-in-Failed.ensures c.requires.room c.requires.read c.requires.store
+    (ap (λ (name : List ℕ). turn_line name (words.Failed c.in-Failed.cause)) c.as_str-name.ensures.value)
     c.in_ok-go_on-in-Failed.ensures.done)

@@ -63,7 +63,6 @@ returns g c = record {
     events = c.in_ok-close.ensures.done.events;
     others = subst (λ (slots : List Slot). KeepsOthers c.args.app.now.state.index c.args.self.now.store slots) (sym c.in_ok-close.ensures.done.store)
         c.hold_turn.ensures.keeps.others;
-    counted = c.in_ok-close.ensures.done.counted;
     index = c.close.ensures.keeps.index ∙ c.hold_turn.ensures.keeps.index;
     rule = c.close.ensures.keeps.rule;
     turn = turn_is g.W.World.Tells (g.J.Judge.accepts c.args.judge.now) c.args.event.now c.in_ok-closing.closing c.in_ok-close.field-0

@@ -2,7 +2,7 @@ use Rattle.std.proofs.Common.{ℕ, ◌+◌, List, subst}
 use Rattle.event_dispatch.specs.declared.fault.Fault.TheVariants as faults
 use Rattle.event_dispatch.specs.EventParts.{DispatchStops}
 use Rattle.event_dispatch.specs.Shows.{Adds}
-use Rattle.event_dispatch.specs.laws.OfferLaws.{noted_going, noted_before, dispatch_ended, dispatch_passes, dispatch_short}
+use Rattle.event_dispatch.specs.laws.OfferLaws.{noted_going, dispatch_ended, dispatch_passes, dispatch_short}
 use Rattle.event_dispatch.specs.laws.PassesLaws.{at_fault, passes_not}
 use Rattle.event_dispatch.specs.Plain.{IsPlainEnd}
 use Rattle.event_dispatch.specs.laws.CutLaws.{if_err}
@@ -30,10 +30,6 @@ returns-in_err-note g c = record {
 pub offer_all-requires-clause-going : goal.offer_all-requires-clause-going
 offer_all-requires-clause-going g c =
     noted_going c.args.event.now c.args.self.now c.note.new.self (subst (λ (t : List ℕ). Adds t (record c.args.self.now.core { events = c.args.self.now.core.events + 1 }) c.note.new.self) c.in_ok-line.ensures c.in_ok-note.ensures.adds) c.requires.going
-
-pub offer_all-requires-clause-before : goal.offer_all-requires-clause-before
-offer_all-requires-clause-before g c =
-    noted_before c.args.event.now c.args.self.now c.note.new.self (subst (λ (t : List ℕ). Adds t (record c.args.self.now.core { events = c.args.self.now.core.events + 1 }) c.note.new.self) c.in_ok-line.ensures c.in_ok-note.ensures.adds) c.requires.going
 
 pub returns : goal.returns
 returns g c = record {
