@@ -6,20 +6,20 @@ use Rattle.outside.specs.declared.faults.StartFault.{StartFault}
 use Rattle.outside.specs.declared.faults.StartFault.TheVariants as starting
 use Rattle.outside.specs.declared.faults.GiveFault.{GiveFault}
 use Rattle.outside.specs.declared.faults.GiveFault.TheVariants as giving
-use Rattle.outside.specs.Seen.{Seen, NoneFell, AreCounts, with_short}
+use Rattle.outside.specs.Seen.{Seen, IfShown, NoneFell, AreCounts, with_short}
 
 -- nothing is seen to happen
 pub record Still {Own : Type 0} (Tells : Type 0) (old new : Seen Own) : Type 0 where
   pub given : new.given ≡ old.given
   pub none_fell : NoneFell old.counts new.counts
-  pub told : Tells → (new.history ≡ old.history) × AreCounts old.given.declared old.counts new.counts
+  pub told : Tells → (new.history ≡ old.history) × IfShown old (AreCounts old.given.declared old.counts new.counts)
 
 -- nothing but want of memory
 pub record Shorted {Own : Type 0} (Tells : Type 0) (old new : Seen Own) : Type 0 where
   pub given : new.given ≡ old.given
   pub none_fell : NoneFell old.counts new.counts
   pub short : Rose old.counts.shorts new.counts.shorts
-  pub told : Tells → (new.history ≡ old.history) × AreCounts old.given.declared (with_short old.counts) new.counts
+  pub told : Tells → (new.history ≡ old.history) × IfShown old (AreCounts old.given.declared (with_short old.counts) new.counts)
 
 abbrev pub Tried : {Own T : Type 0} → Type 0 → Result T Short → Seen Own → Seen Own → Type 0
 Tried Tells (Ok x) old new = Still Tells old new

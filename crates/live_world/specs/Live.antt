@@ -1,5 +1,5 @@
 -- What is seen of a live world: its counts alone. It tells nothing. Our own choice.
-use Rattle.std.specs.Prelude.{[]}
+use Rattle.std.specs.Prelude.{false, []}
 use Rattle.outside.specs.Seen.{Counts, Seen}
 use Rattle.live_world.specs.declared.counts.FaultCounts.{FaultCounts}
 use Rattle.live_world.specs.Faults.{link_faults_of, shorts_of}
@@ -19,7 +19,7 @@ live_counts counts = record {
 
 abbrev pub live_seen : FaultCounts → Seen (Unit {0})
 live_seen counts = record {
-  given = record { declared = []; stimuli = []; fails = []; own = tt };
+  given = record { declared = []; stimuli = []; fails = []; own = tt; shows = false };
   history = [];
   counts = live_counts counts;
 }

@@ -1,7 +1,8 @@
 -- What each call of a world does to what is seen of it: one record a call, over what was seen before it and after it. The first
 -- fields hold in every world: what it was given stays, no count falls, each fault comes only with its own count, and what stands in a
--- buffer is what the answer says. `told` holds in the worlds that tell: what the call appends to the history, which counts move, and
--- that a call out of place fails. All of this is our own choice but for the messages of OpenFlow 1.0.0.
+-- buffer is what the answer says. `told` holds in the worlds that tell: what the call appends to the history, and that nothing is sent
+-- to a switch that is not joined. Where such a world also shows what it is (`IfShown`), it says which counts move, what comes next, and
+-- that each call out of place fails. All of this is our own choice but for the messages of OpenFlow 1.0.0.
 use Rattle.std.specs.Prelude.{◌≡◌, ℕ, ◌≤◌, ◌↔◌, Bool, true, false, not, List, [], ◌∷◌, ◌++◌, length, take, Option, Some, None, Result, Ok, Err, IsTrue, IsErr, IsErrOf, IfOk, IfSome, slice_get}
 use Rattle.lego_io.specs.Count.{raised, Rose}
 use Rattle.of_types.specs.Fields.{number_at}
@@ -25,7 +26,7 @@ use Rattle.outside.specs.declared.item.Taken.{Taken}
 use Rattle.outside.specs.declared.item.Taken.TheVariants as gave
 use Rattle.outside.specs.declared.step.WorldStep.{WorldStep}
 use Rattle.outside.specs.declared.step.WorldStep.TheVariants.{Acted, TookInto, From, Joined, Left, Moment, Idle, End, Opened, NotOpened, NextFailed, SendLost, RecvLost, SendFailed, RecvFailed}
-use Rattle.outside.specs.Seen.{Counts, Seen, NoneFell, AreCounts, with_stray, with_short, with_short_of, with_link_fault}
+use Rattle.outside.specs.Seen.{Counts, Seen, IfShown, NoneFell, AreCounts, with_stray, with_short, with_short_of, with_link_fault}
 use Rattle.outside.specs.State.{State, after_steps, state, is_running, is_joined, has_waiting, upcoming}
 use Rattle.of_wire.specs.Handshake.{IsFeaturesOf}
 
@@ -72,8 +73,8 @@ open_counts (Err opening.Short) c = with_short c
 -- A second call is out of place.
 pub record ToldOpen {Own T : Type 0} (old new : Seen Own) (result : Result T OpenFault) : Type 0 where
   pub history : new.history ≡ old.history ++ open_steps result
-  pub counts : AreCounts old.given.declared (with_stray (state old).opened (open_counts result old.counts)) new.counts
-  pub out_of_place : IsTrue (state old).opened → IsErr result
+  pub counts : IfShown old (AreCounts old.given.declared (with_stray (state old).opened (open_counts result old.counts)) new.counts)
+  pub out_of_place : IfShown old (IsTrue (state old).opened → IsErr result)
 
 pub record Opens {Own T : Type 0} (Tells : Type 0) (old new : Seen Own) (result : Result T OpenFault) : Type 0 where
   pub given : new.given ≡ old.given
@@ -117,11 +118,11 @@ IsOver s = (s.begun ≡ false) × (s.to_come ≡ [])
 -- `begun` is the stimulus that the call begins, if it begins one: the next one of those to come.
 pub record ToldNext {Own : Type 0} (old new : Seen Own) (result : Result Item NextFault) (buf : List ℕ) : Type 0 where
   pub begun : Option WorldStim
-  pub to_come : IfSome begun (λ x. slice_get (state old).to_come 0 ≡ Some x)
+  pub to_come : IfShown old (IfSome begun (λ x. slice_get (state old).to_come 0 ≡ Some x))
   pub history : new.history ≡ old.history ++ next_steps begun result buf
-  pub counts : AreCounts old.given.declared (next_counts result old.counts) new.counts
-  pub idle : IfOk result (λ item. (item ≡ items.Idle) ↔ IsIdle (after_steps (stim_steps begun) (state old)))
-  pub over : IfOk result (λ item. (item ≡ items.End) ↔ IsOver (after_steps (stim_steps begun) (state old)))
+  pub counts : IfShown old (AreCounts old.given.declared (next_counts result old.counts) new.counts)
+  pub idle : IfShown old (IfOk result (λ item. (item ≡ items.Idle) ↔ IsIdle (after_steps (stim_steps begun) (state old))))
+  pub over : IfShown old (IfOk result (λ item. (item ≡ items.End) ↔ IsOver (after_steps (stim_steps begun) (state old))))
 
 pub record Nexts {Own : Type 0} (Tells : Type 0) (old new : Seen Own) (result : Result Item NextFault) (buf : List ℕ) : Type 0 where
   pub given : new.given ≡ old.given
@@ -146,8 +147,8 @@ start_counts (Err starting.Short) c = with_short c
 -- A start of an application that was started and not ended is out of place.
 pub record ToldStart {Own T : Type 0} (app : ℕ) (old new : Seen Own) (result : Result T StartFault) : Type 0 where
   pub history : new.history ≡ old.history ++ start_steps app result
-  pub counts : AreCounts old.given.declared (with_stray (is_running app (state old)) (start_counts result old.counts)) new.counts
-  pub out_of_place : IsTrue (is_running app (state old)) → IsErr result
+  pub counts : IfShown old (AreCounts old.given.declared (with_stray (is_running app (state old)) (start_counts result old.counts)) new.counts)
+  pub out_of_place : IfShown old (IsTrue (is_running app (state old)) → IsErr result)
 
 pub record Starts {Own T : Type 0} (Tells : Type 0) (app : ℕ) (old new : Seen Own) (result : Result T StartFault) : Type 0 where
   pub given : new.given ≡ old.given
@@ -171,8 +172,8 @@ give_counts (Err giving.Short) c = with_short c
 -- A call for an application that was not started, or was ended since, is out of place.
 pub record ToldGive {Own T : Type 0} (app : ℕ) (bytes : List ℕ) (old new : Seen Own) (result : Result T GiveFault) : Type 0 where
   pub history : new.history ≡ old.history ++ give_steps app bytes result
-  pub counts : AreCounts old.given.declared (with_stray (not (is_running app (state old))) (give_counts result old.counts)) new.counts
-  pub out_of_place : is_running app (state old) ≡ false → IsErr result
+  pub counts : IfShown old (AreCounts old.given.declared (with_stray (not (is_running app (state old))) (give_counts result old.counts)) new.counts)
+  pub out_of_place : IfShown old (is_running app (state old) ≡ false → IsErr result)
 
 pub record Gives {Own T : Type 0} (Tells : Type 0) (app : ℕ) (bytes : List ℕ) (old new : Seen Own) (result : Result T GiveFault) : Type 0 where
   pub given : new.given ≡ old.given
@@ -198,8 +199,8 @@ take_counts (Err short) c = with_short c
 -- A call for an application that was not started, or was ended since, is out of place, and answers Closed.
 pub record ToldTake {Own : Type 0} (app : ℕ) (old new : Seen Own) (result : Result Taken Short) (buf : List ℕ) : Type 0 where
   pub history : new.history ≡ old.history ++ take_steps app result buf
-  pub counts : AreCounts old.given.declared (with_stray (not (is_running app (state old))) (take_counts result old.counts)) new.counts
-  pub out_of_place : is_running app (state old) ≡ false → IfOk result (λ what. what ≡ gave.Closed)
+  pub counts : IfShown old (AreCounts old.given.declared (with_stray (not (is_running app (state old))) (take_counts result old.counts)) new.counts)
+  pub out_of_place : IfShown old (is_running app (state old) ≡ false → IfOk result (λ what. what ≡ gave.Closed))
 
 pub record Takes {Own : Type 0} (Tells : Type 0) (app : ℕ) (old new : Seen Own) (result : Result Taken Short) (buf : List ℕ) : Type 0 where
   pub given : new.given ≡ old.given
@@ -218,7 +219,7 @@ end_steps app false = []
 
 pub record ToldEnd {Own : Type 0} (app : ℕ) (old new : Seen Own) : Type 0 where
   pub history : new.history ≡ old.history ++ end_steps app (is_running app (state old))
-  pub counts : AreCounts old.given.declared old.counts new.counts
+  pub counts : IfShown old (AreCounts old.given.declared old.counts new.counts)
 
 pub record Ends {Own : Type 0} (Tells : Type 0) (app : ℕ) (old new : Seen Own) : Type 0 where
   pub given : new.given ≡ old.given
@@ -245,7 +246,7 @@ link_counts d (Err linking.Short) c = with_short_of d c
 -- A call for a switch that is not joined is out of place; one that fails for a switch that is joined loses it.
 pub record ToldSend {Own T : Type 0} (d : ℕ) (frame : List ℕ) (old new : Seen Own) (result : Result T LinkFault) : Type 0 where
   pub history : new.history ≡ old.history ++ send_steps d frame (is_joined d (state old)) result
-  pub counts : AreCounts old.given.declared (with_stray (not (is_joined d (state old))) (link_counts d result old.counts)) new.counts
+  pub counts : IfShown old (AreCounts old.given.declared (with_stray (not (is_joined d (state old))) (link_counts d result old.counts)) new.counts)
   pub out_of_place : is_joined d (state old) ≡ false → IsErr result
 
 pub record Sends {Own T : Type 0} (Tells : Type 0) (d : ℕ) (frame : List ℕ) (old new : Seen Own) (result : Result T LinkFault) : Type 0 where
@@ -275,8 +276,8 @@ can_receive d s = has_waiting d s
 -- it.
 pub record ToldReceive {Own : Type 0} (d : ℕ) (old new : Seen Own) (result : Result ℕ LinkFault) (buf : List ℕ) : Type 0 where
   pub history : new.history ≡ old.history ++ receive_steps d (is_joined d (state old)) result buf
-  pub counts : AreCounts old.given.declared (with_stray (not (can_receive d (state old))) (link_counts d result old.counts)) new.counts
-  pub out_of_place : can_receive d (state old) ≡ false → IsErr result
+  pub counts : IfShown old (AreCounts old.given.declared (with_stray (not (can_receive d (state old))) (link_counts d result old.counts)) new.counts)
+  pub out_of_place : IfShown old (can_receive d (state old) ≡ false → IsErr result)
 
 pub record Receives {Own : Type 0} (Tells : Type 0) (d : ℕ) (old new : Seen Own) (result : Result ℕ LinkFault) (buf : List ℕ) : Type 0 where
   pub given : new.given ≡ old.given

@@ -1,5 +1,5 @@
 -- What is seen of a world in which nothing happens.
-use Rattle.std.specs.Prelude.{ℕ, []}
+use Rattle.std.specs.Prelude.{ℕ, false, []}
 use Rattle.outside.specs.Seen.{Counts, Seen}
 
 -- each count is this one
@@ -18,7 +18,7 @@ all_counts n = record {
 
 abbrev pub mute_seen : ℕ → Seen (Unit {0})
 mute_seen faults = record {
-  given = record { declared = []; stimuli = []; fails = []; own = tt };
+  given = record { declared = []; stimuli = []; fails = []; own = tt; shows = false };
   history = [];
   counts = all_counts faults;
 }

@@ -1,5 +1,5 @@
 -- What is seen of the outside of a controller: what it was given, its history, and its counts. All of this is our own choice.
-use Rattle.std.specs.Prelude.{◌≡◌, ℕ, ◌==◌, Bool, List, ◌++◌, Option, Some, None, if◌then◌else◌, IsTrue}
+use Rattle.std.specs.Prelude.{◌≡◌, ℕ, ◌==◌, Bool, true, List, ◌++◌, Option, Some, None, if◌then◌else◌, IsTrue}
 use Rattle.std.specs.List.{list_any, filter_map}
 use Rattle.of_types.specs.declared.journal.Act.{Act}
 use Rattle.of_types.specs.declared.journal.Act.TheVariants.{Took, Got, Lost}
@@ -13,12 +13,14 @@ use Rattle.outside.specs.declared.step.WorldStep.TheVariants.{Acted, TookInto, F
 -- ---- What is seen
 
 -- What a world was given, and never changes: its switches, by number ascending, the stimuli of the whole run, the calls that are
--- to fail, and what else it was given, as the scripts of applications.
+-- to fail, and what else it was given, as the scripts of applications. `shows`: the world is a model that is known whole, so its
+-- counts are exact, and what happens next is one of the stimuli. A world of real switches can tell its history and shows nothing.
 pub record Given (Own : Type 0) : Type 0 where
   pub declared : List Declared
   pub stimuli : List WorldStim
   pub fails : List FailCall
   pub own : Own
+  pub shows : Bool
 
 -- How often each fault came. Those of links, and one of those of memory, are counted for each switch by its number.
 pub record Counts : Type 0 where
@@ -36,6 +38,10 @@ pub record Seen (Own : Type 0) : Type 0 where
   pub given : Given Own
   pub history : List WorldStep
   pub counts : Counts
+
+-- what holds in a world that is known whole
+abbrev pub IfShown : {Own : Type 0} → Seen Own → Type 0 → Type 0
+IfShown seen A = seen.given.shows ≡ true → A
 
 -- ---- The journal
 

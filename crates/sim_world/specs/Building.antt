@@ -1,5 +1,5 @@
 -- What a simulated world is given before anything happens. All of this is our own choice.
-use Rattle.std.specs.Prelude.{◌≡◌, ℕ, List, [], ◌∷◌, ◌++◌, nat_lt, if◌then◌else◌}
+use Rattle.std.specs.Prelude.{◌≡◌, ℕ, true, List, [], ◌∷◌, ◌++◌, nat_lt, if◌then◌else◌}
 use Rattle.std.specs.List.{AllByRecursion}
 use Rattle.of_types.specs.declared.journal.WorldStim.{WorldStim}
 use Rattle.app_frames.specs.declared.script.ScriptStep.{ScriptStep}
@@ -49,7 +49,7 @@ with_stimuli stimuli given = record given { stimuli = given.stimuli ++ stimuli }
 -- ---- Nothing
 
 abbrev pub nothing_given : Given Scripts
-nothing_given = record { declared = []; stimuli = []; fails = []; own = record { starts = []; replies = [] } }
+nothing_given = record { declared = []; stimuli = []; fails = []; own = record { starts = []; replies = [] }; shows = true }
 
 -- ---- What may be given
 

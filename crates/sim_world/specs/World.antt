@@ -41,7 +41,7 @@ unfoldable pub all_declared : State → List Declared
 all_declared s = map (λ l. l.declared) s.links
 
 unfoldable pub given_of : WorldData → Given Scripts
-given_of w = record { declared = all_declared w.state; stimuli = w.stimuli; fails = w.fails; own = w.scripts }
+given_of w = record { declared = all_declared w.state; stimuli = w.stimuli; fails = w.fails; own = w.scripts; shows = true }
 
 -- what is seen of it
 unfoldable pub seen_of : WorldData → Seen Scripts

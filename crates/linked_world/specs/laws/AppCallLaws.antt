@@ -195,9 +195,9 @@ starts_by see app old new result is by out =
       short = λ e. subst (λ (c : Counts). Rose (total inner.shorts old.counts.shorts) c.shorts) (sym counts) (total-Rose_own inner.shorts old.counts.shorts _ (start_short stray result old.counts is.fit e));
       told = λ told. record {
         history = history_by see _ _ _ old new by;
-        counts = AreCounts-same _ _ _ (counts ∙ stray_seen stray (start_count result old.counts) inner ∙ ap (with_stray stray) (start_seen result old.counts inner)
+        counts = λ shown. AreCounts-same _ _ _ (counts ∙ stray_seen stray (start_count result old.counts) inner ∙ ap (with_stray stray) (start_seen result old.counts inner)
             ∙ ap (λ (b : Bool). with_stray b (start_counts result (with_apps old.counts inner))) (sym (runs_by see app old is told)));
-        out_of_place = λ e. out (subst IsTrue (runs_by see app old is told) e);
+        out_of_place = λ shown. λ e. out (subst IsTrue (runs_by see app old is told) e);
       };
     }
 
@@ -265,9 +265,9 @@ gives_by see app bytes old new result is by out =
       short = λ e. subst (λ (c : Counts). Rose (total inner.shorts old.counts.shorts) c.shorts) (sym counts) (total-Rose_own inner.shorts old.counts.shorts _ (give_short stray result old.counts is.fit e));
       told = λ told. record {
         history = history_by see _ _ _ old new by;
-        counts = AreCounts-same _ _ _ (counts ∙ stray_seen stray (give_count result old.counts) inner ∙ ap (with_stray stray) (give_seen result old.counts inner)
+        counts = λ shown. AreCounts-same _ _ _ (counts ∙ stray_seen stray (give_count result old.counts) inner ∙ ap (with_stray stray) (give_seen result old.counts inner)
             ∙ ap (λ (b : Bool). with_stray (not b) (give_counts result (with_apps old.counts inner))) (sym (runs_by see app old is told)));
-        out_of_place = λ e. out (sym (runs_by see app old is told) ∙ e);
+        out_of_place = λ shown. λ e. out (sym (runs_by see app old is told) ∙ e);
       };
     }
 
@@ -347,9 +347,9 @@ takes_by see app old new result buf is by taken out =
       short = λ e. subst (λ (c : Counts). Rose (total inner.shorts old.counts.shorts) c.shorts) (sym counts) (total-Rose_own inner.shorts old.counts.shorts _ (take_short stray result old.counts is.fit e));
       told = λ told. record {
         history = history_by see _ _ _ old new by;
-        counts = AreCounts-same _ _ _ (counts ∙ stray_seen stray (take_count result old.counts) inner ∙ ap (with_stray stray) (take_seen result old.counts inner)
+        counts = λ shown. AreCounts-same _ _ _ (counts ∙ stray_seen stray (take_count result old.counts) inner ∙ ap (with_stray stray) (take_seen result old.counts inner)
             ∙ ap (λ (b : Bool). with_stray (not b) (take_counts result (with_apps old.counts inner))) (sym (runs_by see app old is told)));
-        out_of_place = λ e. out (sym (runs_by see app old is told) ∙ e);
+        out_of_place = λ shown. λ e. out (sym (runs_by see app old is told) ∙ e);
       };
     }
 
@@ -392,7 +392,7 @@ ends_by see app old new is by =
       none_fell = rw counts (NoneFell-own old.counts old.counts inner (none_fell old.counts));
       told = λ told. record {
         history = history_by see _ _ _ old new by ∙ ap (λ (b : Bool). (seen_of see old).history ++ end_steps app b) (sym (runs_by see app old is told));
-        counts = AreCounts-same _ _ _ counts;
+        counts = λ shown. AreCounts-same _ _ _ counts;
       };
     }
 

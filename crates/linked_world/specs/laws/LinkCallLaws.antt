@@ -127,9 +127,9 @@ Opens-linked {notes = notes} {apps = apps} {old = old} {new = new} {result = res
       let opened : (state (seen_with notes apps old)).opened ≡ (state old).opened = opened-side (state (seen_with notes apps old)) (state old) side in
       record {
         history = goes_on notes apps old new (open_steps result) (stands.grows told) t.history (open_links result);
-        counts = rw (opened, ← open_counts-apps result apps old.counts, ← stray-apps (state old).opened apps (open_counts result old.counts))
-            (AreCounts-apps old.given.declared apps (with_stray (state old).opened (open_counts result old.counts)) new.counts t.counts);
-        out_of_place = λ is. t.out_of_place (subst IsTrue opened is);
+        counts = λ shown. rw (opened, ← open_counts-apps result apps old.counts, ← stray-apps (state old).opened apps (open_counts result old.counts))
+            (AreCounts-apps old.given.declared apps (with_stray (state old).opened (open_counts result old.counts)) new.counts (t.counts shown));
+        out_of_place = λ shown. λ is. t.out_of_place shown (subst IsTrue opened is);
       };
 }
 
@@ -163,12 +163,12 @@ Nexts-linked {notes = notes} {apps = apps} {old = old} {new = new} {result = res
       side-steps (stim_steps t.begun) here (state old) side in
       record {
         begun = t.begun;
-        to_come = subst (λ (xs : List WorldStim). IfSome t.begun (λ x. slice_get xs 0 ≡ Some x)) (sym (to_come-side here (state old) side)) t.to_come;
+        to_come = λ shown. subst (λ (xs : List WorldStim). IfSome t.begun (λ x. slice_get xs 0 ≡ Some x)) (sym (to_come-side here (state old) side)) (t.to_come shown);
         history = goes_on notes apps old new (next_steps t.begun result buf) (stands.grows told) t.history (next_links t.begun result buf);
-        counts = rw (← next_counts-apps result apps old.counts)
-            (AreCounts-apps old.given.declared apps (next_counts result old.counts) new.counts t.counts);
-        idle = subst (λ (P : Type 0). IfOk result (λ item. (item ≡ items.Idle) ↔ P)) (sym (idle-side (after_steps (stim_steps t.begun) here) (after_steps (stim_steps t.begun) (state old)) begun)) t.idle;
-        over = subst (λ (P : Type 0). IfOk result (λ item. (item ≡ items.End) ↔ P)) (sym (over-side (after_steps (stim_steps t.begun) here) (after_steps (stim_steps t.begun) (state old)) begun)) t.over;
+        counts = λ shown. rw (← next_counts-apps result apps old.counts)
+            (AreCounts-apps old.given.declared apps (next_counts result old.counts) new.counts (t.counts shown));
+        idle = λ shown. subst (λ (P : Type 0). IfOk result (λ item. (item ≡ items.Idle) ↔ P)) (sym (idle-side (after_steps (stim_steps t.begun) here) (after_steps (stim_steps t.begun) (state old)) begun)) (t.idle shown);
+        over = λ shown. subst (λ (P : Type 0). IfOk result (λ item. (item ≡ items.End) ↔ P)) (sym (over-side (after_steps (stim_steps t.begun) here) (after_steps (stim_steps t.begun) (state old)) begun)) (t.over shown);
       };
 }
 
@@ -200,8 +200,8 @@ Sends-linked {notes = notes} {apps = apps} {d = d} {frame = frame} {old = old} {
       joined-side d (state (seen_with notes apps old)) (state old) (side-woven notes apps old (stands.grows told)) in
       record {
         history = rw joined (goes_on notes apps old new (send_steps d frame (is_joined d (state old)) result) (stands.grows told) t.history (send_links d frame (is_joined d (state old)) result));
-        counts = rw (joined, ← link_counts-apps d result apps old.counts, ← stray-apps (not (is_joined d (state old))) apps (link_counts d result old.counts))
-            (AreCounts-apps old.given.declared apps (with_stray (not (is_joined d (state old))) (link_counts d result old.counts)) new.counts t.counts);
+        counts = λ shown. rw (joined, ← link_counts-apps d result apps old.counts, ← stray-apps (not (is_joined d (state old))) apps (link_counts d result old.counts))
+            (AreCounts-apps old.given.declared apps (with_stray (not (is_joined d (state old))) (link_counts d result old.counts)) new.counts (t.counts shown));
         out_of_place = λ is. t.out_of_place (sym joined ∙ is);
       };
 }
@@ -232,9 +232,9 @@ Receives-linked {notes = notes} {apps = apps} {d = d} {old = old} {new = new} {r
       let can : can_receive d here ≡ can_receive d (state old) = receive-side d here (state old) side in
       record {
         history = rw joined (goes_on notes apps old new (receive_steps d (is_joined d (state old)) result buf) (stands.grows told) t.history (receive_links d (is_joined d (state old)) result buf));
-        counts = rw (can, ← link_counts-apps d result apps old.counts, ← stray-apps (not (can_receive d (state old))) apps (link_counts d result old.counts))
-            (AreCounts-apps old.given.declared apps (with_stray (not (can_receive d (state old))) (link_counts d result old.counts)) new.counts t.counts);
-        out_of_place = λ is. t.out_of_place (sym can ∙ is);
+        counts = λ shown. rw (can, ← link_counts-apps d result apps old.counts, ← stray-apps (not (can_receive d (state old))) apps (link_counts d result old.counts))
+            (AreCounts-apps old.given.declared apps (with_stray (not (can_receive d (state old))) (link_counts d result old.counts)) new.counts (t.counts shown));
+        out_of_place = λ shown. λ is. t.out_of_place shown (sym can ∙ is);
       };
 }
 

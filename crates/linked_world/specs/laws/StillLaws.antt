@@ -121,11 +121,15 @@ take_alike declared (Err short) a b are = short_alike declared a b are
 
 -- ---- Still
 
+-- a world that is known whole stays one
+shown_behind : {Own : Type 0} {a b : Seen Own} → b.given ≡ a.given → a.given.shows ≡ true → b.given.shows ≡ true
+shown_behind given shown = ap (λ (g : _). g.shows) given ∙ shown
+
 pub still_none : {Own : Type 0} (Tells : Type 0) (a : Seen Own) → Still Tells a a
 still_none Tells a = record {
   given = refl;
   none_fell = NoneFell-refl a.counts;
-  told = λ told. (refl, AreCounts-refl a.given.declared a.counts);
+  told = λ told. (refl, λ shown. AreCounts-refl a.given.declared a.counts);
 }
 
 declared_same : {Own : Type 0} {Tells : Type 0} {a b : Seen Own} → Still Tells a b → b.given.declared ≡ a.given.declared
@@ -142,8 +146,8 @@ still_twice {a = a} {b = b} {c = c} first second = record {
   none_fell = NoneFell-trans a.counts b.counts c.counts first.none_fell second.none_fell;
   told = λ told. (
     (second.told told).0 ∙ (first.told told).0,
-    AreCounts-trans a.given.declared a.counts b.counts c.counts (first.told told).1
-        (subst (λ (d : List Declared). AreCounts d b.counts c.counts) (declared_same first) (second.told told).1),
+    λ shown. AreCounts-trans a.given.declared a.counts b.counts c.counts ((first.told told).1 shown)
+        (subst (λ (d : List Declared). AreCounts d b.counts c.counts) (declared_same first) ((second.told told).1 (shown_behind first.given shown))),
   );
 }
 
@@ -154,9 +158,9 @@ still_shorted {a = a} {b = b} {c = c} first second = record {
   short = Rose-after a.counts.shorts b.counts.shorts c.counts.shorts first.none_fell.shorts second.short;
   told = λ told. (
     (second.told told).0 ∙ (first.told told).0,
-    AreCounts-trans a.given.declared (with_short a.counts) (with_short b.counts) c.counts
-        (short_alike a.given.declared a.counts b.counts (first.told told).1)
-        (subst (λ (d : List Declared). AreCounts d (with_short b.counts) c.counts) (declared_same first) (second.told told).1),
+    λ shown. AreCounts-trans a.given.declared (with_short a.counts) (with_short b.counts) c.counts
+        (short_alike a.given.declared a.counts b.counts ((first.told told).1 shown))
+        (subst (λ (d : List Declared). AreCounts d (with_short b.counts) c.counts) (declared_same first) ((second.told told).1 (shown_behind first.given shown))),
   );
 }
 
@@ -167,8 +171,8 @@ shorted_still {a = a} {b = b} {c = c} first second = record {
   short = Rose-before a.counts.shorts b.counts.shorts c.counts.shorts first.none_fell.shorts first.short second.none_fell.shorts;
   told = λ told. (
     (second.told told).0 ∙ (first.told told).0,
-    AreCounts-trans a.given.declared (with_short a.counts) b.counts c.counts (first.told told).1
-        (subst (λ (d : List Declared). AreCounts d b.counts c.counts) (ap (λ (g : _). g.declared) first.given) (second.told told).1),
+    λ shown. AreCounts-trans a.given.declared (with_short a.counts) b.counts c.counts ((first.told told).1 shown)
+        (subst (λ (d : List Declared). AreCounts d b.counts c.counts) (ap (λ (g : _). g.declared) first.given) ((second.told told).1 (shown_behind first.given shown))),
   );
 }
 
@@ -189,11 +193,11 @@ starts_behind {app = app} {a = a} {b = b} {c = c} result still call = record {
       let runs : is_running app (state b) ≡ is_running app (state a) = ap (is_running app) (state_same told still) in
       record {
         history = t.history ∙ ap (λ (xs : List WorldStep). xs ++ start_steps app result) (still.told told).0;
-        counts = AreCounts-trans a.given.declared (with_stray (is_running app (state a)) (start_counts result a.counts)) (with_stray (is_running app (state a)) (start_counts result b.counts)) c.counts
-            (stray_alike a.given.declared (is_running app (state a)) (start_counts result a.counts) (start_counts result b.counts) (start_alike a.given.declared result a.counts b.counts (still.told told).1))
+        counts = λ shown. AreCounts-trans a.given.declared (with_stray (is_running app (state a)) (start_counts result a.counts)) (with_stray (is_running app (state a)) (start_counts result b.counts)) c.counts
+            (stray_alike a.given.declared (is_running app (state a)) (start_counts result a.counts) (start_counts result b.counts) (start_alike a.given.declared result a.counts b.counts ((still.told told).1 shown)))
             (subst (λ (d : List Declared). AreCounts d (with_stray (is_running app (state a)) (start_counts result b.counts)) c.counts) (declared_same still)
-            (subst (λ (s : Bool). AreCounts b.given.declared (with_stray s (start_counts result b.counts)) c.counts) runs t.counts));
-        out_of_place = λ is. t.out_of_place (subst IsTrue (sym runs) is);
+            (subst (λ (s : Bool). AreCounts b.given.declared (with_stray s (start_counts result b.counts)) c.counts) runs (t.counts (shown_behind still.given shown))));
+        out_of_place = λ shown. λ is. t.out_of_place (shown_behind still.given shown) (subst IsTrue (sym runs) is);
       };
 }
 
@@ -209,11 +213,11 @@ gives_behind {app = app} {bytes = bytes} {a = a} {b = b} {c = c} result still ca
       let stray = not (is_running app (state a)) in
       record {
         history = t.history ∙ ap (λ (xs : List WorldStep). xs ++ give_steps app bytes result) (still.told told).0;
-        counts = AreCounts-trans a.given.declared (with_stray stray (give_counts result a.counts)) (with_stray stray (give_counts result b.counts)) c.counts
-            (stray_alike a.given.declared stray (give_counts result a.counts) (give_counts result b.counts) (give_alike a.given.declared result a.counts b.counts (still.told told).1))
+        counts = λ shown. AreCounts-trans a.given.declared (with_stray stray (give_counts result a.counts)) (with_stray stray (give_counts result b.counts)) c.counts
+            (stray_alike a.given.declared stray (give_counts result a.counts) (give_counts result b.counts) (give_alike a.given.declared result a.counts b.counts ((still.told told).1 shown)))
             (subst (λ (d : List Declared). AreCounts d (with_stray stray (give_counts result b.counts)) c.counts) (declared_same still)
-            (subst (λ (s : Bool). AreCounts b.given.declared (with_stray (not s) (give_counts result b.counts)) c.counts) runs t.counts));
-        out_of_place = λ is. t.out_of_place (runs ∙ is);
+            (subst (λ (s : Bool). AreCounts b.given.declared (with_stray (not s) (give_counts result b.counts)) c.counts) runs (t.counts (shown_behind still.given shown))));
+        out_of_place = λ shown. λ is. t.out_of_place (shown_behind still.given shown) (runs ∙ is);
       };
 }
 
@@ -231,11 +235,11 @@ takes_behind {app = app} {a = a} {b = b} {c = c} {buf = buf} result still call =
       let stray = not (is_running app (state a)) in
       record {
         history = t.history ∙ ap (λ (xs : List WorldStep). xs ++ take_steps app result buf) (still.told told).0;
-        counts = AreCounts-trans a.given.declared (with_stray stray (take_counts result a.counts)) (with_stray stray (take_counts result b.counts)) c.counts
-            (stray_alike a.given.declared stray (take_counts result a.counts) (take_counts result b.counts) (take_alike a.given.declared result a.counts b.counts (still.told told).1))
+        counts = λ shown. AreCounts-trans a.given.declared (with_stray stray (take_counts result a.counts)) (with_stray stray (take_counts result b.counts)) c.counts
+            (stray_alike a.given.declared stray (take_counts result a.counts) (take_counts result b.counts) (take_alike a.given.declared result a.counts b.counts ((still.told told).1 shown)))
             (subst (λ (d : List Declared). AreCounts d (with_stray stray (take_counts result b.counts)) c.counts) (declared_same still)
-            (subst (λ (s : Bool). AreCounts b.given.declared (with_stray (not s) (take_counts result b.counts)) c.counts) runs t.counts));
-        out_of_place = λ is. t.out_of_place (runs ∙ is);
+            (subst (λ (s : Bool). AreCounts b.given.declared (with_stray (not s) (take_counts result b.counts)) c.counts) runs (t.counts (shown_behind still.given shown))));
+        out_of_place = λ shown. λ is. t.out_of_place (shown_behind still.given shown) (runs ∙ is);
       };
 }
 
@@ -248,8 +252,8 @@ ends_behind {app = app} {a = a} {b = b} {c = c} still call = record {
       record {
         history = t.history ∙ ap (λ (s : _). b.history ++ end_steps app (is_running app s)) (state_same told still)
             ∙ ap (λ (xs : List WorldStep). xs ++ end_steps app (is_running app (state a))) (still.told told).0;
-        counts = AreCounts-trans a.given.declared a.counts b.counts c.counts (still.told told).1
-            (subst (λ (d : List Declared). AreCounts d b.counts c.counts) (declared_same still) t.counts);
+        counts = λ shown. AreCounts-trans a.given.declared a.counts b.counts c.counts ((still.told told).1 shown)
+            (subst (λ (d : List Declared). AreCounts d b.counts c.counts) (declared_same still) (t.counts (shown_behind still.given shown)));
       };
 }
 
@@ -265,8 +269,8 @@ starts_before {app = app} {a = a} {b = b} {c = c} result call still = record {
       let t = call.told told in
       record {
         history = (still.told told).0 ∙ t.history;
-        counts = AreCounts-trans a.given.declared (with_stray (is_running app (state a)) (start_counts result a.counts)) b.counts c.counts t.counts
-            (subst (λ (d : List Declared). AreCounts d b.counts c.counts) (ap (λ (g : _). g.declared) call.given) (still.told told).1);
+        counts = λ shown. AreCounts-trans a.given.declared (with_stray (is_running app (state a)) (start_counts result a.counts)) b.counts c.counts (t.counts shown)
+            (subst (λ (d : List Declared). AreCounts d b.counts c.counts) (ap (λ (g : _). g.declared) call.given) ((still.told told).1 (shown_behind call.given shown)));
         out_of_place = t.out_of_place;
       };
 }
@@ -281,8 +285,8 @@ gives_before {app = app} {a = a} {b = b} {c = c} result call still = record {
       let t = call.told told in
       record {
         history = (still.told told).0 ∙ t.history;
-        counts = AreCounts-trans a.given.declared (with_stray (not (is_running app (state a))) (give_counts result a.counts)) b.counts c.counts t.counts
-            (subst (λ (d : List Declared). AreCounts d b.counts c.counts) (ap (λ (g : _). g.declared) call.given) (still.told told).1);
+        counts = λ shown. AreCounts-trans a.given.declared (with_stray (not (is_running app (state a))) (give_counts result a.counts)) b.counts c.counts (t.counts shown)
+            (subst (λ (d : List Declared). AreCounts d b.counts c.counts) (ap (λ (g : _). g.declared) call.given) ((still.told told).1 (shown_behind call.given shown)));
         out_of_place = t.out_of_place;
       };
 }
@@ -315,8 +319,8 @@ starts_short {app = app} {a = a} {b = b} short runs = record {
   short = λ is. short.short;
   told = λ told. record {
     history = none_more b.history a.history (short.told told).0;
-    counts = unstrayed a.given.declared (is_running app (state a)) (with_short a.counts) b.counts (runs told) (short.told told).1;
-    out_of_place = λ is. refl;
+    counts = λ shown. unstrayed a.given.declared (is_running app (state a)) (with_short a.counts) b.counts (runs told) ((short.told told).1 shown);
+    out_of_place = λ shown. λ is. refl;
   };
 }
 
@@ -330,8 +334,8 @@ gives_short {app = app} {a = a} {b = b} short runs = record {
   short = λ is. short.short;
   told = λ told. record {
     history = none_more b.history a.history (short.told told).0;
-    counts = unstrayed a.given.declared (not (is_running app (state a))) (with_short a.counts) b.counts (ap not (runs told)) (short.told told).1;
-    out_of_place = λ is. refl;
+    counts = λ shown. unstrayed a.given.declared (not (is_running app (state a))) (with_short a.counts) b.counts (ap not (runs told)) ((short.told told).1 shown);
+    out_of_place = λ shown. λ is. refl;
   };
 }
 
@@ -346,7 +350,7 @@ takes_short {app = app} {a = a} {b = b} answer short runs = record {
   short = λ is. short.short;
   told = λ told. record {
     history = none_more b.history a.history (short.told told).0;
-    counts = unstrayed a.given.declared (not (is_running app (state a))) (with_short a.counts) b.counts (ap not (runs told)) (short.told told).1;
-    out_of_place = λ is. tt;
+    counts = λ shown. unstrayed a.given.declared (not (is_running app (state a))) (with_short a.counts) b.counts (ap not (runs told)) ((short.told told).1 shown);
+    out_of_place = λ shown. λ is. tt;
   };
 }

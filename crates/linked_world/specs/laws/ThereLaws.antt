@@ -83,7 +83,7 @@ Gives-there {notes = notes} {apps = apps} {app = app} {bytes = bytes} {old = old
   none_fell = NoneFell-apps apps old.counts new.counts call.none_fell;
   told = λ told. (
     same_history notes apps old new (give_steps app bytes (give_answer (Ok true))) (stands.grows told) (give_apps app bytes (give_answer (Ok true))) (call.told told).history,
-    there_counts old.given.declared apps (not (is_running app (state old))) (give_counts (give_answer (Ok true)) old.counts) new.counts (ap not (stands.runs told app is)) (call.told told).counts,
+    λ shown. there_counts old.given.declared apps (not (is_running app (state old))) (give_counts (give_answer (Ok true)) old.counts) new.counts (ap not (stands.runs told app is)) ((call.told told).counts shown),
   );
 }
 Gives-there {notes = notes} {apps = apps} {app = app} {bytes = bytes} {old = old} {new = new} (Ok false) stands is call = record {
@@ -91,7 +91,7 @@ Gives-there {notes = notes} {apps = apps} {app = app} {bytes = bytes} {old = old
   none_fell = NoneFell-apps apps old.counts new.counts call.none_fell;
   told = λ told. (
     same_history notes apps old new (give_steps app bytes (give_answer (Ok false))) (stands.grows told) (give_apps app bytes (give_answer (Ok false))) (call.told told).history,
-    there_counts old.given.declared apps (not (is_running app (state old))) (give_counts (give_answer (Ok false)) old.counts) new.counts (ap not (stands.runs told app is)) (call.told told).counts,
+    λ shown. there_counts old.given.declared apps (not (is_running app (state old))) (give_counts (give_answer (Ok false)) old.counts) new.counts (ap not (stands.runs told app is)) ((call.told told).counts shown),
   );
 }
 Gives-there {notes = notes} {apps = apps} {app = app} {bytes = bytes} {old = old} {new = new} (Err short) stands is call = record {
@@ -100,8 +100,8 @@ Gives-there {notes = notes} {apps = apps} {app = app} {bytes = bytes} {old = old
   short = total-Rose old.counts.shorts new.counts.shorts apps.shorts (call.short refl);
   told = λ told. (
     same_history notes apps old new (give_steps app bytes (give_answer (Err short))) (stands.grows told) (give_apps app bytes (give_answer (Err short))) (call.told told).history,
-    subst (λ (c : Counts). AreCounts old.given.declared c (with_apps apps new.counts)) (short-apps apps old.counts)
-        (there_counts old.given.declared apps (not (is_running app (state old))) (give_counts (give_answer (Err short)) old.counts) new.counts (ap not (stands.runs told app is)) (call.told told).counts),
+    λ shown. subst (λ (c : Counts). AreCounts old.given.declared c (with_apps apps new.counts)) (short-apps apps old.counts)
+        (there_counts old.given.declared apps (not (is_running app (state old))) (give_counts (give_answer (Err short)) old.counts) new.counts (ap not (stands.runs told app is)) ((call.told told).counts shown)),
   );
 }
 
@@ -132,8 +132,8 @@ Takes-there {notes = notes} {apps = apps} {app = app} {old = old} {new = new} {b
   none_fell = NoneFell-apps apps old.counts new.counts call.none_fell;
   told = λ told. (
     same_history notes apps old new (take_steps app (Ok taken) buf) (stands.grows told) (take_apps app (Ok taken) buf) (call.told told).history,
-    subst (λ (c : Counts). AreCounts old.given.declared c (with_apps apps new.counts)) (take_seen_there (Ok taken) apps old.counts taken refl)
-        (there_counts old.given.declared apps (not (is_running app (state old))) (take_counts (Ok taken) old.counts) new.counts (ap not (stands.runs told app is)) (call.told told).counts),
+    λ shown. subst (λ (c : Counts). AreCounts old.given.declared c (with_apps apps new.counts)) (take_seen_there (Ok taken) apps old.counts taken refl)
+        (there_counts old.given.declared apps (not (is_running app (state old))) (take_counts (Ok taken) old.counts) new.counts (ap not (stands.runs told app is)) ((call.told told).counts shown)),
   );
 }
 Takes-there {notes = notes} {apps = apps} {app = app} {old = old} {new = new} {buf = buf} (Err short) stands is call = record {
@@ -142,8 +142,8 @@ Takes-there {notes = notes} {apps = apps} {app = app} {old = old} {new = new} {b
   short = total-Rose old.counts.shorts new.counts.shorts apps.shorts (call.short refl);
   told = λ told. (
     same_history notes apps old new (take_steps app (Err short) buf) (stands.grows told) (take_apps app (Err short) buf) (call.told told).history,
-    subst (λ (c : Counts). AreCounts old.given.declared c (with_apps apps new.counts)) (short-apps apps old.counts)
-        (there_counts old.given.declared apps (not (is_running app (state old))) (take_counts (Err short) old.counts) new.counts (ap not (stands.runs told app is)) (call.told told).counts),
+    λ shown. subst (λ (c : Counts). AreCounts old.given.declared c (with_apps apps new.counts)) (short-apps apps old.counts)
+        (there_counts old.given.declared apps (not (is_running app (state old))) (take_counts (Err short) old.counts) new.counts (ap not (stands.runs told app is)) ((call.told told).counts shown)),
   );
 }
 
@@ -197,7 +197,7 @@ Ends-there {notes = notes} {apps = apps} {app = app} {old = old} {new = new} sta
   none_fell = NoneFell-apps apps old.counts new.counts call.none_fell;
   told = λ told. (
     same_history notes apps old new (end_steps app (is_running app (state old))) (stands.grows told) (end_apps app (is_running app (state old))) (call.told told).history,
-    AreCounts-apps old.given.declared apps old.counts new.counts (call.told told).counts,
+    λ shown. AreCounts-apps old.given.declared apps old.counts new.counts ((call.told told).counts shown),
   );
 }
 
@@ -238,7 +238,7 @@ start_there {notes = notes} {apps = apps} {app = app} {old = old} {new = new} (O
   none_fell = NoneFell-apps apps old.counts new.counts call.none_fell;
   told = λ told. (
     same_history notes apps old new (start_steps app (start_answer (Ok true))) (stands.grows told) (start_apps app (start_answer (Ok true))) (call.told told).history,
-    there_counts old.given.declared apps (is_running app (state old)) (start_counts (start_answer (Ok true)) old.counts) new.counts (none told) (call.told told).counts,
+    λ shown. there_counts old.given.declared apps (is_running app (state old)) (start_counts (start_answer (Ok true)) old.counts) new.counts (none told) ((call.told told).counts shown),
   );
 }
 start_there {notes = notes} {apps = apps} {app = app} {old = old} {new = new} (Ok false) stands none call = record {
@@ -246,7 +246,7 @@ start_there {notes = notes} {apps = apps} {app = app} {old = old} {new = new} (O
   none_fell = NoneFell-apps apps old.counts new.counts call.none_fell;
   told = λ told. (
     same_history notes apps old new (start_steps app (start_answer (Ok false))) (stands.grows told) (start_apps app (start_answer (Ok false))) (call.told told).history,
-    there_counts old.given.declared apps (is_running app (state old)) (start_counts (start_answer (Ok false)) old.counts) new.counts (none told) (call.told told).counts,
+    λ shown. there_counts old.given.declared apps (is_running app (state old)) (start_counts (start_answer (Ok false)) old.counts) new.counts (none told) ((call.told told).counts shown),
   );
 }
 start_there {notes = notes} {apps = apps} {app = app} {old = old} {new = new} (Err short) stands none call = record {
@@ -255,8 +255,8 @@ start_there {notes = notes} {apps = apps} {app = app} {old = old} {new = new} (E
   short = total-Rose old.counts.shorts new.counts.shorts apps.shorts (call.short refl);
   told = λ told. (
     same_history notes apps old new (start_steps app (start_answer (Err short))) (stands.grows told) (start_apps app (start_answer (Err short))) (call.told told).history,
-    subst (λ (c : Counts). AreCounts old.given.declared c (with_apps apps new.counts)) (short-apps apps old.counts)
-        (there_counts old.given.declared apps (is_running app (state old)) (start_counts (start_answer (Err short)) old.counts) new.counts (none told) (call.told told).counts),
+    λ shown. subst (λ (c : Counts). AreCounts old.given.declared c (with_apps apps new.counts)) (short-apps apps old.counts)
+        (there_counts old.given.declared apps (is_running app (state old)) (start_counts (start_answer (Err short)) old.counts) new.counts (none told) ((call.told told).counts shown)),
   );
 }
 
@@ -383,7 +383,7 @@ shorted_by {Tells = Tells} see old new is wanted =
       given = refl;
       none_fell = NoneFell-own old.counts (short_count old.counts) inner (short_fell old.counts is.fit);
       short = total-Rose_own inner.shorts old.counts.shorts (raised old.counts.shorts) (rises old.counts.shorts is.fit.shorts);
-      told = λ told. (refl, AreCounts-same _ _ _ (short_seen old.counts inner));
+      told = λ told. (refl, λ shown. AreCounts-same _ _ _ (short_seen old.counts inner));
     })
 
 pub shorted_stands : {Own W : Type 0} {Tells : Type 0} (see : W → Seen Own) (old new : Linkage W) → IsLinkage Tells see old → Wanted old new → IsLinkage Tells see new

@@ -402,7 +402,7 @@ declared_more d w = declared-insert_link (link_at_first w.fails d) w.state.links
 
 switch_given : (d : Declared) (w : WorldData) → given_of (switch_more d w) ≡ with_switch d (given_of w)
 unfolding given_of
-switch_given d w = ap (λ (ds : List Declared). record { declared = ds; stimuli = w.stimuli; fails = w.fails; own = w.scripts }) (declared_more d w)
+switch_given d w = ap (λ (ds : List Declared). record { declared = ds; stimuli = w.stimuli; fails = w.fails; own = w.scripts; shows = true }) (declared_more d w)
 
 first_more : (g : Given Scripts) (d : Declared) → switch_state g.fails d (at_first g) ≡ at_first (with_switch d g)
 unfolding at_first
@@ -546,7 +546,7 @@ fail_declared f w = declared_in-with_link f.of (fails_at f.number) (λ l. refl) 
 
 fail_given : (f : FailCall) (w : WorldData) → given_of (link_fail_more f w) ≡ with_fail f (given_of w)
 unfolding given_of
-fail_given f w = ap (λ (ds : List Declared). record { declared = ds; stimuli = w.stimuli; fails = w.fails ++ f ∷ []; own = w.scripts }) (fail_declared f w)
+fail_given f w = ap (λ (ds : List Declared). record { declared = ds; stimuli = w.stimuli; fails = w.fails ++ f ∷ []; own = w.scripts; shows = true }) (fail_declared f w)
 
 pub Gets-link_fail : (f : FailCall) (w : WorldData) → is_link_call f.kind ≡ true → AreDeclaredFrom 1 (given_of w).declared → IsNew w → Gets (with_fail f) w (link_fail_more f w)
 Gets-link_fail f w link are is = record {

@@ -82,8 +82,8 @@ Opens_by old new result stands does =
       short = λ is. rw does.moves.tally (open_short d old.state.opened result old.tally stands.tally is);
       told = λ told. record {
         history = does.moves.history;
-        counts = rw (stray, does.moves.tally) (open_are d old.state.opened result old.tally stands.tally);
-        out_of_place = λ is. does.out_of_place (rw (← stray) is);
+        counts = λ shown. rw (stray, does.moves.tally) (open_are d old.state.opened result old.tally stands.tally);
+        out_of_place = λ shown. λ is. does.out_of_place (rw (← stray) is);
       };
     }
 
@@ -136,11 +136,11 @@ Nexts_by old new result buf stands does =
       short = λ is. rw does.moves.tally (next_short result d old.tally stands.tally is);
       told = λ told. record {
         begun = does.begun;
-        to_come = rw (ap (λ (s : State). s.to_come) stands.state) does.to_come;
+        to_come = λ shown. rw (ap (λ (s : State). s.to_come) stands.state) does.to_come;
         history = does.moves.history;
-        counts = rw does.moves.tally (next_are d result old.tally stands.tally);
-        idle = rw (idle_same (stim_steps does.begun) (state (seen_of old)) old.state same) does.idle;
-        over = rw (over_same (stim_steps does.begun) (state (seen_of old)) old.state same) does.over;
+        counts = λ shown. rw does.moves.tally (next_are d result old.tally stands.tally);
+        idle = λ shown. rw (idle_same (stim_steps does.begun) (state (seen_of old)) old.state same) does.idle;
+        over = λ shown. rw (over_same (stim_steps does.begun) (state (seen_of old)) old.state same) does.over;
       };
     }
 
@@ -182,8 +182,8 @@ Starts_by app old new result stands does =
       short = λ is. rw does.moves.tally (start_short d (is_running app old.state) result old.tally stands.tally is);
       told = λ told. record {
         history = does.moves.history;
-        counts = rw (runs, does.moves.tally) (start_are d (is_running app old.state) result old.tally stands.tally);
-        out_of_place = λ is. does.out_of_place (rw (← runs) is);
+        counts = λ shown. rw (runs, does.moves.tally) (start_are d (is_running app old.state) result old.tally stands.tally);
+        out_of_place = λ shown. λ is. does.out_of_place (rw (← runs) is);
       };
     }
 
@@ -225,8 +225,8 @@ Gives_by app bytes old new result stands does =
       short = λ is. rw does.moves.tally (give_short d (not (is_running app old.state)) result old.tally stands.tally is);
       told = λ told. record {
         history = does.moves.history;
-        counts = rw (runs, does.moves.tally) (give_are d (not (is_running app old.state)) result old.tally stands.tally);
-        out_of_place = λ is. does.out_of_place (rw (← runs) is);
+        counts = λ shown. rw (runs, does.moves.tally) (give_are d (not (is_running app old.state)) result old.tally stands.tally);
+        out_of_place = λ shown. λ is. does.out_of_place (rw (← runs) is);
       };
     }
 
@@ -278,8 +278,8 @@ Takes_by app old new result buf stands does =
       short = λ is. rw does.moves.tally (take_short d (not (is_running app old.state)) result old.tally stands.tally is);
       told = λ told. record {
         history = does.moves.history;
-        counts = rw (runs, does.moves.tally) (take_are d (not (is_running app old.state)) result old.tally stands.tally);
-        out_of_place = λ is. does.out_of_place (rw (← runs) is);
+        counts = λ shown. rw (runs, does.moves.tally) (take_are d (not (is_running app old.state)) result old.tally stands.tally);
+        out_of_place = λ shown. λ is. does.out_of_place (rw (← runs) is);
       };
     }
 
@@ -295,7 +295,7 @@ Ends_by app old new stands moves =
       none_fell = rw moves.tally (counted-none d false old.tally stands.tally).none_fell;
       told = λ told. record {
         history = rw runs moves.history;
-        counts = rw moves.tally (counts-none d false old.tally stands.tally);
+        counts = λ shown. rw moves.tally (counts-none d false old.tally stands.tally);
       };
     }
 
@@ -360,7 +360,7 @@ Sends_by d frame old new result stands does =
       short_of = λ is. rw does.moves.tally (link_short_of ds stray d result old.tally stands.tally is);
       told = λ told. record {
         history = does.moves.history ∙ ap (λ (b : Bool). old.history ++ send_steps d frame b result) (sym joined);
-        counts = rw (joined, does.moves.tally) (link_are ds stray d result old.tally stands.tally);
+        counts = λ shown. rw (joined, does.moves.tally) (link_are ds stray d result old.tally stands.tally);
         out_of_place = λ is. does.out_of_place (rw (← joined) is);
       };
     }
@@ -381,8 +381,8 @@ Receives_by d old new result buf stands does =
       short_of = λ is. rw does.moves.tally (link_short_of ds stray d result old.tally stands.tally is);
       told = λ told. record {
         history = does.moves.history ∙ ap (λ (b : Bool). old.history ++ receive_steps d b result buf) (sym joined);
-        counts = rw (waits, does.moves.tally) (link_are ds stray d result old.tally stands.tally);
-        out_of_place = λ is. does.out_of_place (rw (← waits) is);
+        counts = λ shown. rw (waits, does.moves.tally) (link_are ds stray d result old.tally stands.tally);
+        out_of_place = λ shown. λ is. does.out_of_place (rw (← waits) is);
       };
     }
 
