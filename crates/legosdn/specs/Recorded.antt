@@ -3,7 +3,7 @@
 use Rattle.std.specs.Prelude.{◌≡◌, ◌==◌, ℕ, ◌-◌, Bool, true, List, [], ◌∷◌, ◌++◌, length, Option, Some, None, IfSome, Result, Ok, Err, IfErr, slice_get, if◌then◌else◌}
 use Rattle.std.specs.Io.KnownBytes.{append_known}
 use Rattle.crash_policy.specs.Policies.{AppValue}
-use Rattle.outside.specs.Seen.{Seen}
+use Rattle.outside.specs.Seen.{Seen, Shown}
 use Rattle.lego_model.specs.Application.{names}
 use Rattle.session_record.specs.Deeds.{Deed}
 use Rattle.session_record.specs.Texts.{IsText}
@@ -36,13 +36,13 @@ whole_lines text = if ends_line (slice_get text (length text - 1)) then text els
 unfoldable pub recording_text : List ℕ → List ℕ → List ℕ → List ℕ
 recording_text policy remarks session = ((whole_lines policy ++ 45 ∷ 45 ∷ 45 ∷ 10 ∷ []) ++ remarks) ++ session
 
--- These bytes are the recording of a run of such applications, under a policy of this text. Of a world that tells, the session has its switches, and what
--- happened to it.
+-- These bytes are the recording of a run of such applications, under a policy of this text. Of a world that tells and shows what it is, the session has its switches, and
+-- what happened to it.
 pub record IsRecording {Own : Type 0} (Tells : Type 0) (seen : Seen Own) (apps : List AppValue) (policy : List ℕ) (kept : Kept) (bytes : List ℕ) : Type 0 where
   pub remarks : List ℕ
   pub are_remarks : AreRemarks remarks
   pub session : List ℕ
-  pub is_text : IsText Tells seen (names apps) kept.deeds kept.losses session
+  pub is_text : IsText (Shown Tells seen) seen (names apps) kept.deeds kept.losses session
   pub spelled : bytes ≡ recording_text policy remarks session
 
 -- the same of the applications that were taken, under the policy that the source told

@@ -2,6 +2,7 @@
 
 ghost use Rattle.std.specs.Prelude.{◌≡◌, ◌-◌, length, map, IfOk, slice_get, string_bytes};
 ghost use Rattle.crash_policy.specs.Policies.{app_value};
+ghost use Rattle.outside.specs.Seen.{Shown};
 ghost use Rattle.session_record.specs.Texts.{IsText};
 ghost use Rattle.session_record.specs.Remarks.{AreRemarks};
 ghost use Rattle.legosdn.specs.Recorded.{Kept, ends_line, recording_text, IsRecording};
@@ -31,7 +32,7 @@ pub trait Recorded: World {
 
     /// Spells the run so far as a session that does it again. The application with index i has the name at position i.
     fn session(&self, names: &[String]) -> Result<ByteList, AllocError>
-        ensures { IfOk result (IsText Self.Tells (Self.seen self.now) (map (λ s. string_bytes s) names.now) (kept self.now).deeds (kept self.now).losses) };
+        ensures { IfOk result (IsText (Shown Self.Tells (Self.seen self.now)) (Self.seen self.now) (map (λ s. string_bytes s) names.now) (kept self.now).deeds (kept self.now).losses) };
 
     /// Comments on a text of this run, line by line: on what no line of a session can say, with its count.
     fn remarks(&self, session: &[u8]) -> Result<String, AllocError>

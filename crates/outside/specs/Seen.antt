@@ -43,6 +43,10 @@ pub record Seen (Own : Type 0) : Type 0 where
 abbrev pub IfShown : {Own : Type 0} → Seen Own → Type 0 → Type 0
 IfShown seen A = seen.given.shows ≡ true → A
 
+-- it tells, and is known whole
+abbrev pub Shown : {Own : Type 0} → Type 0 → Seen Own → Type 0
+Shown Tells seen = Tells × (seen.given.shows ≡ true)
+
 -- ---- The journal
 
 -- the act of a step; items other than messages are none, and so are failed calls, but those by which a switch is lost

@@ -1,7 +1,7 @@
 //! What it takes to do a run again.
 
 ghost use Rattle.std.specs.Prelude.{◌≡◌, IfOk, slice_get};
-ghost use Rattle.outside.specs.Seen.{journal};
+ghost use Rattle.outside.specs.Seen.{Shown, journal};
 ghost use Rattle.outside.specs.Stimuli.{stimuli};
 
 use crate::world::World;
@@ -43,13 +43,13 @@ impl Decl {
 
 /// A world that hands out what it takes to do a run again: what happened to it, and its switches.
 ///
-/// Each is a copy on demand, since a world may keep its stimuli packed. Of a world that tells nothing, nothing is promised.
+/// Each is a copy on demand, since a world may keep its stimuli packed. Of a world that does not show what it is, nothing is promised.
 pub trait Told: World {
     /// Copies the stimulus of this number, counted from 0, of those that were begun so far, if there were as many.
     fn stimulus(&self, alloc: Global, number: usize) -> Result<Option<WorldStim>, AllocError>
-        ensures { Self.Tells → IfOk result (λ x. x ≡ slice_get (stimuli (journal (Self.seen self.now).history)) number) };
+        ensures { Shown Self.Tells (Self.seen self.now) → IfOk result (λ x. x ≡ slice_get (stimuli (journal (Self.seen self.now).history)) number) };
 
     /// Copies the switches that the world was given, in order.
     fn declared(&self, alloc: Global) -> Result<Vec<Decl>, AllocError>
-        ensures { Self.Tells → IfOk result (λ all. all.items ≡ (Self.seen self.now).given.declared) };
+        ensures { Shown Self.Tells (Self.seen self.now) → IfOk result (λ all. all.items ≡ (Self.seen self.now).given.declared) };
 }

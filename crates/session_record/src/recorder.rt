@@ -8,6 +8,7 @@ ghost use Rattle.outside.specs.Calls.{most_message, Starts, Gives, Takes, Sends,
 ghost use Rattle.session_record.specs.Deeds.{Notes};
 ghost use Rattle.session_record.specs.Calls.{start_deeds, give_deeds, take_deeds, NotesLink, NotesParting};
 ghost use Rattle.session_record.specs.Texts.{IsText};
+ghost use Rattle.outside.specs.Seen.{Shown};
 ghost use Rattle.session_record.specs.Remarks.{AreRemarks};
 
 use crate::deed::DeedKind;
@@ -105,7 +106,7 @@ fn text_of<W: Told>(
     log: &Log,
     losses: &[(Dpid, u64)],
 ) -> Result<ByteList, AllocError>
-    ensures { IfOk result (IsText W.Tells (W.seen world.now) (map (λ s. string_bytes s) names.now) log.now losses.now) }
+    ensures { IfOk result (IsText (Shown W.Tells (W.seen world.now)) (W.seen world.now) (map (λ s. string_bytes s) names.now) log.now losses.now) }
 {
     let found = log.deeds()?;
     let text = whole_text(alloc, world, names, found.0, found.1, losses)?;
@@ -153,7 +154,7 @@ impl<W: Told + Drop> Recorder<W> {
     /// Spells the run so far as a session that does it again. The application with index i has the name at position i. `AllocError`
     /// also once memory was refused while the run was recorded.
     pub fn text(&self, names: &[String]) -> Result<ByteList, AllocError>
-        ensures spelled { IfOk result (IsText W.Tells (W.seen self.now.world) (map (λ s. string_bytes s) names.now) self.now.log self.now.links.losses.items) }
+        ensures spelled { IfOk result (IsText (Shown W.Tells (W.seen self.now.world)) (W.seen self.now.world) (map (λ s. string_bytes s) names.now) self.now.log self.now.links.losses.items) }
         ensures whole { OnOk result (self.now.links.is_short ≡ false) }
     {
         let losses = self.links.losses()?;

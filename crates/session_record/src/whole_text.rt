@@ -5,6 +5,7 @@ ghost use Rattle.session_record.specs.Deeds.{deeds_in};
 ghost use Rattle.session_record.specs.Lines.{lines_text, SwitchLine};
 ghost use Rattle.session_record.specs.Recording.{fault_line};
 ghost use Rattle.session_record.specs.Texts.{Spells, NextTold, AllTold};
+ghost use Rattle.outside.specs.Seen.{Shown};
 
 use crate::app_lines::push_apps;
 use crate::line_words::{push_fault, push_switch};
@@ -43,7 +44,7 @@ fn push_next<W: Told>(
     world: &W,
     number: usize,
 ) -> Result<bool, AllocError>
-    ensures { IfOk result (λ more. NextTold W.Tells (W.seen world.now) number more (string_bytes out.old) (string_bytes out.new)) }
+    ensures { IfOk result (λ more. NextTold (Shown W.Tells (W.seen world.now)) (W.seen world.now) number more (string_bytes out.old) (string_bytes out.new)) }
 {
     match world.stimulus(alloc, number)? {
         Some(stimulus) => {
@@ -56,7 +57,7 @@ fn push_next<W: Told>(
 
 /// Appends the lines of all stimuli of a world.
 fn push_stimuli<W: Told>(alloc: Global, out: &mut String, world: &W) -> Result<(), AllocError>
-    ensures { OnOk result (AllTold W.Tells (W.seen world.now) (string_bytes out.old) (string_bytes out.new)) }
+    ensures { OnOk result (AllTold (Shown W.Tells (W.seen world.now)) (W.seen world.now) (string_bytes out.old) (string_bytes out.new)) }
 {
     for number in 0..usize::MAX {
         if !push_next(alloc, out, world, number)? {
@@ -82,7 +83,7 @@ pub(crate) fn whole_text<W: Told>(
     bytes: &[u8],
     losses: &[(Dpid, u64)],
 ) -> Result<ByteList, AllocError>
-    ensures { IfOk result (λ text. Spells W.Tells (W.seen world.now) (map (λ s. string_bytes s) names.now) (deeds_in bytes.now deeds.now) losses.now text) }
+    ensures { IfOk result (λ text. Spells (Shown W.Tells (W.seen world.now)) (W.seen world.now) (map (λ s. string_bytes s) names.now) (deeds_in bytes.now deeds.now) losses.now text) }
 {
     let mut out = String::from_str(alloc, "session 1\n")?;
     let switches = world.declared(alloc)?;
