@@ -122,8 +122,8 @@ take_alike declared (Err short) a b are = short_alike declared a b are
 -- ---- Still
 
 -- a world that is known whole stays one
-shown_behind : {Own : Type 0} {a b : Seen Own} → b.given ≡ a.given → a.given.shows ≡ true → b.given.shows ≡ true
-shown_behind given shown = ap (λ (g : _). g.shows) given ∙ shown
+shown_behind : {Own : Type 0} (a b : Seen Own) → b.given ≡ a.given → a.given.shows ≡ true → b.given.shows ≡ true
+shown_behind a b given shown = ap (λ (g : _). g.shows) given ∙ shown
 
 pub still_none : {Own : Type 0} (Tells : Type 0) (a : Seen Own) → Still Tells a a
 still_none Tells a = record {
@@ -147,7 +147,7 @@ still_twice {a = a} {b = b} {c = c} first second = record {
   told = λ told. (
     (second.told told).0 ∙ (first.told told).0,
     λ shown. AreCounts-trans a.given.declared a.counts b.counts c.counts ((first.told told).1 shown)
-        (subst (λ (d : List Declared). AreCounts d b.counts c.counts) (declared_same first) ((second.told told).1 (shown_behind first.given shown))),
+        (subst (λ (d : List Declared). AreCounts d b.counts c.counts) (declared_same first) ((second.told told).1 (shown_behind a b first.given shown))),
   );
 }
 
@@ -160,7 +160,7 @@ still_shorted {a = a} {b = b} {c = c} first second = record {
     (second.told told).0 ∙ (first.told told).0,
     λ shown. AreCounts-trans a.given.declared (with_short a.counts) (with_short b.counts) c.counts
         (short_alike a.given.declared a.counts b.counts ((first.told told).1 shown))
-        (subst (λ (d : List Declared). AreCounts d (with_short b.counts) c.counts) (declared_same first) ((second.told told).1 (shown_behind first.given shown))),
+        (subst (λ (d : List Declared). AreCounts d (with_short b.counts) c.counts) (declared_same first) ((second.told told).1 (shown_behind a b first.given shown))),
   );
 }
 
@@ -172,7 +172,7 @@ shorted_still {a = a} {b = b} {c = c} first second = record {
   told = λ told. (
     (second.told told).0 ∙ (first.told told).0,
     λ shown. AreCounts-trans a.given.declared (with_short a.counts) b.counts c.counts ((first.told told).1 shown)
-        (subst (λ (d : List Declared). AreCounts d b.counts c.counts) (ap (λ (g : _). g.declared) first.given) ((second.told told).1 (shown_behind first.given shown))),
+        (subst (λ (d : List Declared). AreCounts d b.counts c.counts) (ap (λ (g : _). g.declared) first.given) ((second.told told).1 (shown_behind a b first.given shown))),
   );
 }
 
@@ -196,8 +196,8 @@ starts_behind {app = app} {a = a} {b = b} {c = c} result still call = record {
         counts = λ shown. AreCounts-trans a.given.declared (with_stray (is_running app (state a)) (start_counts result a.counts)) (with_stray (is_running app (state a)) (start_counts result b.counts)) c.counts
             (stray_alike a.given.declared (is_running app (state a)) (start_counts result a.counts) (start_counts result b.counts) (start_alike a.given.declared result a.counts b.counts ((still.told told).1 shown)))
             (subst (λ (d : List Declared). AreCounts d (with_stray (is_running app (state a)) (start_counts result b.counts)) c.counts) (declared_same still)
-            (subst (λ (s : Bool). AreCounts b.given.declared (with_stray s (start_counts result b.counts)) c.counts) runs (t.counts (shown_behind still.given shown))));
-        out_of_place = λ shown. λ is. t.out_of_place (shown_behind still.given shown) (subst IsTrue (sym runs) is);
+            (subst (λ (s : Bool). AreCounts b.given.declared (with_stray s (start_counts result b.counts)) c.counts) runs (t.counts (shown_behind a b still.given shown))));
+        out_of_place = λ shown. λ is. t.out_of_place (shown_behind a b still.given shown) (subst IsTrue (sym runs) is);
       };
 }
 
@@ -216,8 +216,8 @@ gives_behind {app = app} {bytes = bytes} {a = a} {b = b} {c = c} result still ca
         counts = λ shown. AreCounts-trans a.given.declared (with_stray stray (give_counts result a.counts)) (with_stray stray (give_counts result b.counts)) c.counts
             (stray_alike a.given.declared stray (give_counts result a.counts) (give_counts result b.counts) (give_alike a.given.declared result a.counts b.counts ((still.told told).1 shown)))
             (subst (λ (d : List Declared). AreCounts d (with_stray stray (give_counts result b.counts)) c.counts) (declared_same still)
-            (subst (λ (s : Bool). AreCounts b.given.declared (with_stray (not s) (give_counts result b.counts)) c.counts) runs (t.counts (shown_behind still.given shown))));
-        out_of_place = λ shown. λ is. t.out_of_place (shown_behind still.given shown) (runs ∙ is);
+            (subst (λ (s : Bool). AreCounts b.given.declared (with_stray (not s) (give_counts result b.counts)) c.counts) runs (t.counts (shown_behind a b still.given shown))));
+        out_of_place = λ shown. λ is. t.out_of_place (shown_behind a b still.given shown) (runs ∙ is);
       };
 }
 
@@ -238,8 +238,8 @@ takes_behind {app = app} {a = a} {b = b} {c = c} {buf = buf} result still call =
         counts = λ shown. AreCounts-trans a.given.declared (with_stray stray (take_counts result a.counts)) (with_stray stray (take_counts result b.counts)) c.counts
             (stray_alike a.given.declared stray (take_counts result a.counts) (take_counts result b.counts) (take_alike a.given.declared result a.counts b.counts ((still.told told).1 shown)))
             (subst (λ (d : List Declared). AreCounts d (with_stray stray (take_counts result b.counts)) c.counts) (declared_same still)
-            (subst (λ (s : Bool). AreCounts b.given.declared (with_stray (not s) (take_counts result b.counts)) c.counts) runs (t.counts (shown_behind still.given shown))));
-        out_of_place = λ shown. λ is. t.out_of_place (shown_behind still.given shown) (runs ∙ is);
+            (subst (λ (s : Bool). AreCounts b.given.declared (with_stray (not s) (take_counts result b.counts)) c.counts) runs (t.counts (shown_behind a b still.given shown))));
+        out_of_place = λ shown. λ is. t.out_of_place (shown_behind a b still.given shown) (runs ∙ is);
       };
 }
 
@@ -253,7 +253,7 @@ ends_behind {app = app} {a = a} {b = b} {c = c} still call = record {
         history = t.history ∙ ap (λ (s : _). b.history ++ end_steps app (is_running app s)) (state_same told still)
             ∙ ap (λ (xs : List WorldStep). xs ++ end_steps app (is_running app (state a))) (still.told told).0;
         counts = λ shown. AreCounts-trans a.given.declared a.counts b.counts c.counts ((still.told told).1 shown)
-            (subst (λ (d : List Declared). AreCounts d b.counts c.counts) (declared_same still) (t.counts (shown_behind still.given shown)));
+            (subst (λ (d : List Declared). AreCounts d b.counts c.counts) (declared_same still) (t.counts (shown_behind a b still.given shown)));
       };
 }
 
@@ -270,7 +270,7 @@ starts_before {app = app} {a = a} {b = b} {c = c} result call still = record {
       record {
         history = (still.told told).0 ∙ t.history;
         counts = λ shown. AreCounts-trans a.given.declared (with_stray (is_running app (state a)) (start_counts result a.counts)) b.counts c.counts (t.counts shown)
-            (subst (λ (d : List Declared). AreCounts d b.counts c.counts) (ap (λ (g : _). g.declared) call.given) ((still.told told).1 (shown_behind call.given shown)));
+            (subst (λ (d : List Declared). AreCounts d b.counts c.counts) (ap (λ (g : _). g.declared) call.given) ((still.told told).1 (shown_behind a b call.given shown)));
         out_of_place = t.out_of_place;
       };
 }
@@ -286,7 +286,7 @@ gives_before {app = app} {a = a} {b = b} {c = c} result call still = record {
       record {
         history = (still.told told).0 ∙ t.history;
         counts = λ shown. AreCounts-trans a.given.declared (with_stray (not (is_running app (state a))) (give_counts result a.counts)) b.counts c.counts (t.counts shown)
-            (subst (λ (d : List Declared). AreCounts d b.counts c.counts) (ap (λ (g : _). g.declared) call.given) ((still.told told).1 (shown_behind call.given shown)));
+            (subst (λ (d : List Declared). AreCounts d b.counts c.counts) (ap (λ (g : _). g.declared) call.given) ((still.told told).1 (shown_behind a b call.given shown)));
         out_of_place = t.out_of_place;
       };
 }
