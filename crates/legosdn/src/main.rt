@@ -40,6 +40,7 @@ use std::env::Env;
 use std::net::Net;
 use std::process::{ExitCode, Processes, SystemProcess};
 use std::{env, io};
+use telling_world::Telling;
 use trace_world::Traced;
 
 /// The status where a setting of the environment is none, as where the words are no command.
@@ -137,7 +138,7 @@ fn call_over<S: Source + Drop, K: Sink + Drop, E: Sink + Drop, L: Told + Drop>(
 {
     let is_kept = is_kept(settings, alloc, &console.words);
     let recorder = with_record(is_kept, alloc, live)?;
-    let mut live = with_trace(settings, alloc, recorder, errors);
+    let mut live = Telling::new(alloc, with_trace(settings, alloc, recorder, errors));
     let status = legosdn(
         alloc,
         &console.words,
@@ -146,7 +147,7 @@ fn call_over<S: Source + Drop, K: Sink + Drop, E: Sink + Drop, L: Told + Drop>(
         sim,
         &mut live,
     );
-    end_of(settings, alloc, console, live);
+    end_of(settings, alloc, console, live.into_world());
     Ok(status)
 }
 

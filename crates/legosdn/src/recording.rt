@@ -17,6 +17,7 @@ use of_types::ByteList;
 use outside::{Told, World};
 use session_record::Recorder;
 use std::alloc::{AllocError, Global};
+use telling_world::Telling;
 use trace_world::{Aside, Traced};
 
 /// The first line of a recording that stands among other things.
@@ -55,6 +56,24 @@ impl<W: Told + Drop, E: Sink + Drop> Recorded for Traced<Recorder<W>, E> {
 
     fn aside(&self) -> Option<Aside> {
         Traced::aside(self)
+    }
+}
+
+impl<W: Recorded + Drop> Recorded for Telling<W> {
+    ghost kept = { λ t. W.kept t.world };
+
+    #[tactic(auto, using(session_record::specs::laws::SpelledLaws::text_unshown))]
+    fn session(&self, names: &[String]) -> Result<ByteList, AllocError> {
+        self.shows_nothing();
+        self.world().session(names)
+    }
+
+    fn remarks(&self, session: &[u8]) -> Result<String, AllocError> {
+        self.world().remarks(session)
+    }
+
+    fn aside(&self) -> Option<Aside> {
+        self.world().aside()
     }
 }
 

@@ -1,11 +1,14 @@
 -- What is written piece by piece is the text of the lines.
-use Rattle.std.specs.Prelude.{◌≡◌, ◌==◌, ℕ, ◌+◌, ◌-◌, Bool, true, false, cond, List, [], ◌∷◌, ◌++◌, length, take, codes, refl, if◌then◌else◌}
+use Rattle.std.specs.Prelude.{◌≡◌, ◌==◌, ℕ, ◌+◌, ◌-◌, Bool, true, false, cond, List, Option, [], ◌∷◌, ◌++◌, length, take, codes, refl, if◌then◌else◌}
 use Rattle.std.specs.List.{flat_map, concat}
+use Rattle.std.proofs.lemmas.Bool.{false≢true}
 use Rattle.std.proofs.Common.{sym, ap, ◌∙◌, arith, append_assoc, length-append}
 use Rattle.app_frames.specs.declared.cause.Tried.{Tried}
 use Rattle.app_frames.specs.declared.script.ScriptStep.{ScriptStep}
 use Rattle.lego_model.specs.Journal.{Untold}
 use Rattle.lego_model.specs.RunReport.{line_of, start_line}
+use Rattle.outside.specs.Seen.{Seen, Shown}
+use Rattle.session_record.specs.Texts.{IsText}
 use Rattle.session_record.specs.Deeds.{Deed, of_app, attempts, parts, pieces, end_from}
 use Rattle.session_record.specs.Lines.{SessionLine, step_text, steps_text, reply_text, line_text, lines_text}
 use Rattle.session_record.specs.Recording.{start_told, played_size, bytes_step, steps_within, end_steps, turn_pieces, left_behind, turn_steps, turn_lines, part_lines, attempt_lines, app_lines, lines_by_name}
@@ -118,3 +121,20 @@ whole_pushed a b c d =
     lines_joined (a ++ b ++ c) d
     ∙ ap (λ (r : List ℕ). r ++ lines_text d) (lines_joined (a ++ b) c)
     ∙ ap (λ (r : List ℕ). (r ++ lines_text c) ++ lines_text d) (lines_joined a b)
+
+-- ---- A world that shows nothing
+
+-- a text that another world within it spells is one of such a world
+pub text_unshown : {Own Other : Type 0} {A : Type 0} (Tells : Type 0) (seen : Seen Own) (other : Seen Other) (names : List (List ℕ)) (log : Option (List Deed)) (losses : List (ℕ × ℕ)) (text : List ℕ)
+    → seen.given.shows ≡ false → IsText A other names log losses text → IsText (Shown Tells seen) seen names log losses text
+text_unshown Tells seen other names log losses text unshown is = record {
+  deeds = is.deeds;
+  kept = is.kept;
+  spelled = record {
+    switches = is.spelled.switches;
+    stimuli = is.spelled.stimuli;
+    own_switches = λ shown. absurd (false≢true (sym unshown ∙ shown.1));
+    own_stimuli = λ shown. absurd (false≢true (sym unshown ∙ shown.1));
+    spelled = is.spelled.spelled;
+  };
+}

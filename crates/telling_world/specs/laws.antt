@@ -1,0 +1,3 @@
+pub mod JoinedLaws
+pub mod StoryLaws
+pub mod NoteLaws
