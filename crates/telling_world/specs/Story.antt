@@ -1,6 +1,6 @@
 -- What is told of a world by its calls and their answers alone: which messages and bytes went to and fro, which switches joined, left and
 -- were lost, which applications were started and ended. All of this is our own choice.
-use Rattle.std.specs.Prelude.{◌≡◌, ◌≢◌, ℕ, ◌^◌, ◌<◌, ◌≤◌, Bool, true, false, List, [], ◌∷◌, ◌++◌, length, Option, Some, None, Result, Ok, Err}
+use Rattle.std.specs.Prelude.{◌≡◌, ◌⊎◌, ◌≢◌, ℕ, ◌^◌, ◌<◌, ◌≤◌, Bool, true, false, List, [], ◌∷◌, ◌++◌, length, Option, Some, None, Result, Ok, Err}
 use Rattle.std.proofs.Common.{zero, suc}
 use Rattle.of_types.specs.Membership.{is_among}
 use Rattle.of_types.specs.declared.journal.WorldStim.{WorldStim}
@@ -30,7 +30,7 @@ use Rattle.telling_world.specs.declared.note.Note.TheVariants as notes
 use Rattle.of_types.specs.declared.journal.Act.TheVariants.{Stim, Started, Gave, Gone, Sent, Got}
 use Rattle.of_types.specs.declared.journal.TookWhat.TheVariants as what
 use Rattle.outside.specs.State.{state, is_running, is_joined}
-use Rattle.outside.specs.Calls.{unsent, unreceived, open_steps, next_steps, start_steps, give_steps, take_steps, end_steps, send_steps, receive_steps}
+use Rattle.outside.specs.Calls.{unsent, unreceived, Nexts, Sends, open_steps, next_steps, start_steps, give_steps, take_steps, end_steps, send_steps, receive_steps}
 
 -- ---- What such a world was given
 
@@ -245,6 +245,19 @@ ListsAsLost d other old new = new ≡ old
 -- Of these switches it was told that they joined, and not that they left or were lost.
 abbrev pub AreJoined : List ℕ → StoryData → Type 0
 AreJoined listed story = (d : ℕ) → d < 2 ^ 64 → is_joined d (state (seen_of story)) ≡ is_among d listed
+
+-- ---- What is passed on
+
+-- the world within tells this next, which is passed on, but for want of memory
+pub record PassesItem {Own : Type 0} (Tells : Type 0) (old new : Seen Own) (answer : Result Item NextFault) (buf : List ℕ) : Type 0 where
+  pub told : Result Item NextFault
+  pub nexts : Nexts Tells old new told buf
+  pub passed : (answer ≡ told) ⊎ (answer ≡ Err coming.Short)
+
+-- A message for a switch that is joined is sent by the world within; for another one nothing is seen there.
+abbrev pub PassesMessage : {Own T : Type 0} → Type 0 → ℕ → List ℕ → Bool → Seen Own → Seen Own → Result T LinkFault → Type 0
+PassesMessage Tells d frame true old new answer = Sends Tells d frame old new answer
+PassesMessage Tells d frame false old new answer = new ≡ old
 
 -- ---- The world
 

@@ -4,8 +4,10 @@ ghost use Rattle.std.specs.Prelude.{◌≡◌, ◌⊎◌, ◌<◌, ◌≤◌, �
 ghost use Rattle.of_types.specs.Membership.{is_among};
 ghost use Rattle.of_wire.specs.Reading.{reading_of};
 ghost use Rattle.outside.specs.declared.faults.NextFault.TheVariants.{Short as ShortNext};
-ghost use Rattle.outside.specs.Calls.{most_message};
-ghost use Rattle.telling_world.specs.Story.{untold, seen_of, ListsAsTold, ListsAsLost};
+ghost use Rattle.outside.specs.State.{state, is_joined};
+ghost use Rattle.outside.specs.Calls.{most_message, Opens, Nexts, Starts, Gives, Takes, Ends, Sends, Receives, PartsWith};
+ghost use Rattle.outside.specs.Parting.{TellsMessage, GivesMessage};
+ghost use Rattle.telling_world.specs.Story.{untold, seen_of, ListsAsTold, ListsAsLost, PassesItem, PassesMessage};
 
 use crate::joined::Joined;
 use crate::story::Story;
@@ -111,14 +113,22 @@ impl<W: World> World for Telling<W> {
     ghost seen = { λ t. seen_of t.story };
 
     #[tactic(auto, using(crate::specs::laws::StoryLaws::opened_so, crate::specs::laws::StoryLaws::opened_story))]
-    fn open(&mut self, port: u16) -> Result<(), OpenFault> {
+    fn open(&mut self, port: u16) -> Result<(), OpenFault>
+        ensures told { Opens (Unit {0}) (seen_of self.old.story) (seen_of self.new.story) result }
+        ensures within { Opens W.Tells (W.seen self.old.world) (W.seen self.new.world) result }
+    {
         let answer = self.world.open(port);
         self.story.opened(&answer);
         answer
     }
 
-    #[tactic(auto, using(crate::specs::laws::StoryLaws::came_so, crate::specs::laws::StoryLaws::came_story, crate::specs::laws::StoryLaws::holds_item))]
-    fn next(&mut self, buf: &mut [u8]) -> Result<Item, NextFault> {
+    #[tactic(auto, using(crate::specs::laws::StoryLaws::came_so, crate::specs::laws::StoryLaws::came_story, crate::specs::laws::StoryLaws::holds_item, crate::specs::laws::StoryLaws::passed_item))]
+    fn next(&mut self, buf: &mut [u8]) -> Result<Item, NextFault>
+        requires { most_message ≤ length buf.old }
+        ensures told { Nexts (Unit {0}) (seen_of self.old.story) (seen_of self.new.story) result buf.new }
+        ensures message { W.CanPart → TellsMessage result buf.new }
+        ensures within { PassesItem W.Tells (W.seen self.old.world) (W.seen self.new.world) result buf.new }
+    {
         let answer = self.world.next(buf);
         let answer = follow(&mut self.joined, answer);
         self.story.came(&answer, buf);
@@ -126,34 +136,51 @@ impl<W: World> World for Telling<W> {
     }
 
     #[tactic(auto, using(crate::specs::laws::StoryLaws::started_so, crate::specs::laws::StoryLaws::started_story))]
-    fn start(&mut self, app: u32, words: &[String]) -> Result<(), StartFault> {
+    fn start(&mut self, app: u32, words: &[String]) -> Result<(), StartFault>
+        ensures told { Starts (Unit {0}) app (seen_of self.old.story) (seen_of self.new.story) result }
+        ensures within { Starts W.Tells app (W.seen self.old.world) (W.seen self.new.world) result }
+    {
         let answer = self.world.start(app, words);
         self.story.started(app, &answer);
         answer
     }
 
     #[tactic(auto, using(crate::specs::laws::StoryLaws::gave_so, crate::specs::laws::StoryLaws::gave_story))]
-    fn give(&mut self, app: u32, bytes: &[u8]) -> Result<(), GiveFault> {
+    fn give(&mut self, app: u32, bytes: &[u8]) -> Result<(), GiveFault>
+        ensures told { Gives (Unit {0}) app bytes.now (seen_of self.old.story) (seen_of self.new.story) result }
+        ensures within { Gives W.Tells app bytes.now (W.seen self.old.world) (W.seen self.new.world) result }
+    {
         let answer = self.world.give(app, bytes);
         self.story.gave(app, bytes, &answer);
         answer
     }
 
     #[tactic(auto, using(crate::specs::laws::StoryLaws::took_so, crate::specs::laws::StoryLaws::took_story, crate::specs::laws::StoryLaws::holds_taken))]
-    fn take(&mut self, app: u32, buf: &mut [u8]) -> Result<Taken, Short> {
+    fn take(&mut self, app: u32, buf: &mut [u8]) -> Result<Taken, Short>
+        requires { 0 < length buf.old }
+        ensures told { Takes (Unit {0}) app (seen_of self.old.story) (seen_of self.new.story) result buf.new }
+        ensures within { Takes W.Tells app (W.seen self.old.world) (W.seen self.new.world) result buf.new }
+    {
         let answer = self.world.take(app, buf);
         self.story.took(app, &answer, buf);
         answer
     }
 
     #[tactic(auto, using(crate::specs::laws::StoryLaws::ended_so, crate::specs::laws::StoryLaws::ended_story))]
-    fn end(&mut self, app: u32) {
+    fn end(&mut self, app: u32)
+        ensures told { Ends (Unit {0}) app (seen_of self.old.story) (seen_of self.new.story) }
+        ensures within { Ends W.Tells app (W.seen self.old.world) (W.seen self.new.world) }
+    {
         self.world.end(app);
         self.story.ended(app);
     }
 
-    #[tactic(auto, using(crate::specs::laws::StoryLaws::sent_so, crate::specs::laws::StoryLaws::sent_story))]
-    fn send(&mut self, dpid: Dpid, frame: &[u8]) -> Result<(), LinkFault> {
+    #[tactic(auto, using(crate::specs::laws::StoryLaws::sent_so, crate::specs::laws::StoryLaws::sent_story, crate::specs::laws::StoryLaws::passed_message))]
+    fn send(&mut self, dpid: Dpid, frame: &[u8]) -> Result<(), LinkFault>
+        requires { IsOk (reading_of frame.now) }
+        ensures told { Sends (Unit {0}) dpid frame.now (seen_of self.old.story) (seen_of self.new.story) result }
+        ensures within { PassesMessage W.Tells dpid frame.now (is_joined dpid (state (seen_of self.old.story))) (W.seen self.old.world) (W.seen self.new.world) result }
+    {
         let answer = if self.joined.holds(dpid) {
             self.world.send(dpid, frame)
         } else {
@@ -165,7 +192,12 @@ impl<W: World> World for Telling<W> {
     }
 
     #[tactic(auto, using(crate::specs::laws::StoryLaws::received_so, crate::specs::laws::StoryLaws::received_story, crate::specs::laws::StoryLaws::holds_message))]
-    fn recv(&mut self, dpid: Dpid, buf: &mut [u8]) -> Result<usize, LinkFault> {
+    fn recv(&mut self, dpid: Dpid, buf: &mut [u8]) -> Result<usize, LinkFault>
+        requires { most_message ≤ length buf.old }
+        ensures told { Receives (Unit {0}) dpid (seen_of self.old.story) (seen_of self.new.story) result buf.new }
+        ensures message { W.CanPart → GivesMessage result buf.new }
+        ensures within { Receives W.Tells dpid (W.seen self.old.world) (W.seen self.new.world) result buf.new }
+    {
         let answer = self.world.recv(dpid, buf);
         lose(&mut self.joined, dpid, &answer);
         self.story.received(dpid, &answer, buf);
@@ -177,7 +209,10 @@ impl<W: World> World for Telling<W> {
     }
 
     #[tactic(auto, using(crate::specs::laws::StoryLaws::sent_so, crate::specs::laws::StoryLaws::sent_story))]
-    fn part(&mut self, dpid: Dpid) {
+    fn part(&mut self, dpid: Dpid)
+        ensures told { PartsWith (Unit {0}) dpid (seen_of self.old.story) (seen_of self.new.story) }
+        ensures within { W.CanPart → PartsWith W.Tells dpid (W.seen self.old.world) (W.seen self.new.world) }
+    {
         self.world.part(dpid);
         let answer: Result<(), LinkFault> = Err(LinkFault::Failed);
         lose(&mut self.joined, dpid, &answer);

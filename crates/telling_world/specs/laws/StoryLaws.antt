@@ -27,14 +27,14 @@ use Rattle.of_types.specs.Membership.{is_among}
 use Rattle.std.specs.List.{list_any}
 use Rattle.flow_table.specs.Switch.{Declared}
 use Rattle.outside.specs.laws.LinkKeptLaws.{steps-declared}
-use Rattle.outside.specs.Seen.{Counts, IfShown, NoneFell, raised_at, with_short, with_short_of, with_link_fault}
+use Rattle.outside.specs.Seen.{Seen, Counts, IfShown, NoneFell, raised_at, with_short, with_short_of, with_link_fault}
 use Rattle.outside.specs.State.{state, at_first, after_act, after_step, after_steps, switch_of, is_running, is_joined}
 use Rattle.outside.specs.Calls.{unsent, unreceived, item_step, start_steps, give_steps, take_steps, end_steps, Opens, open_steps, Nexts, next_steps, IsItemIn, Starts, Gives, Takes, IsTakenIn, Ends, Sends, send_steps, Receives, receive_steps, IsMessageIn}
 use Rattle.outside.specs.laws.SeenLaws.{NoneFell-refl, NoneFell-trans}
 use Rattle.outside.specs.laws.StateLaws.{state-append}
 use Rattle.telling_world.specs.Story.{Trouble}
 use Rattle.telling_world.specs.Story.Trouble.{Shut, NextFailed as Untellable, NotStarted, Closing, Silence, Wanting, ShortOf, Failing}
-use Rattle.telling_world.specs.Story.{StoryData, HoldsItem, HoldsTaken, Lists, ListsAsTold, ListsAsLost, AreJoined, told_given, untold, told_more, counted, counts_of, seen_of, opened, came, started, gave, took, ended, sent, received, begun_by, open_troubles, next_troubles, start_troubles, give_troubles, take_troubles, link_troubles}
+use Rattle.telling_world.specs.Story.{StoryData, PassesItem, PassesMessage, HoldsItem, HoldsTaken, Lists, ListsAsTold, ListsAsLost, AreJoined, told_given, untold, told_more, counted, counts_of, seen_of, opened, came, started, gave, took, ended, sent, received, begun_by, open_troubles, next_troubles, start_troubles, give_troubles, take_troubles, link_troubles}
 use Rattle.telling_world.specs.laws.JoinedLaws.{Moves, AllStay, goes-moved, goes-stayed, has_link, numbered_at, declared_first, none_first, sent_stays, got_stays, from_stays, idle_stays, end_stays, failed_stays, unsent_moves, unreceived_moves, join_moves, leave_moves, moment_stays}
 
 -- ---- A count that is kept in 64 bits
@@ -515,3 +515,14 @@ pub followed_item : (Tells : Type 0) (answer followed : Result Item NextFault) (
     → IfOk followed (λ item. IsItemIn Tells item buf)
 followed_item Tells answer followed buf (inl same) in_buf = subst (λ (r : Result Item NextFault). IfOk r (λ item. IsItemIn Tells item buf)) (sym same) in_buf
 followed_item Tells answer followed buf (inr short) in_buf = subst (λ (r : Result Item NextFault). IfOk r (λ item. IsItemIn Tells item buf)) (sym short) tt
+
+-- ---- What is passed on
+
+pub passed_item : {Own : Type 0} (Tells : Type 0) (old new : Seen Own) (told answer : Result Item NextFault) (buf : List ℕ) → Nexts Tells old new told buf → (answer ≡ told) ⊎ (answer ≡ Err coming.Short)
+    → PassesItem Tells old new answer buf
+passed_item Tells old new told answer buf nexts passed = record { told = told; nexts = nexts; passed = passed }
+
+-- a message for a switch of the list is passed on, and no other one
+pub passed_message : {Own T : Type 0} (Tells : Type 0) (d : ℕ) (frame : List ℕ) (listed : List ℕ) (story : StoryData) (old new : Seen Own) (answer : Result T LinkFault) → AreJoined listed story → d < 2 ^ 64
+    → PassesMessage Tells d frame (is_among d listed) old new answer → PassesMessage Tells d frame (is_joined d (state (seen_of story))) old new answer
+passed_message Tells d frame listed story old new answer are few passes = subst (λ (b : Bool). PassesMessage Tells d frame b old new answer) (sym (are d few)) passes

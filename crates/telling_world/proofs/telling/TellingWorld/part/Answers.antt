@@ -9,7 +9,7 @@ invariant_of-self g c =
     subst (AreJoined c.lose.new.joined) (sym c.sent.ensures)
     (sent_story {T = Unit {0}} c.self.inside.joined c.lose.new.joined c.args.dpid [] (Err linking.Failed) c.self.inside.story c.self.invariant c.lose.ensures)
 
-pub returns : goal.returns
-returns g c =
-    λ can. rw (c.sent.ensures, ← c.self.view_is)
+pub returns-clause-told : goal.returns-clause-told
+returns-clause-told g c =
+    rw (c.sent.ensures, ← c.self.view_is)
     (sent_so {T = Unit {0}} c.self.inside.joined c.args.dpid [] (Err linking.Failed) c.self.inside.story c.self.invariant c.ranges.dpid.fits (λ out. refl))
