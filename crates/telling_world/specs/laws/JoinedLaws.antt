@@ -49,17 +49,17 @@ goes-stayed n joined old new goes stay e few = stay e ∙ goes e few
 
 -- ---- Messages
 
-told_joined : (r : Result Envelope WireFault) (o : Option SwitchState) → is_some (switch_told r o) ≡ is_some o
-told_joined (Ok e) None = refl
-told_joined (Ok e) (Some s) = refl
-told_joined (Err fault) o = refl
-
 pub sent_stays : (d : ℕ) (bytes : List ℕ) (s : State) → AllStay s (after_step (Acted (Sent d bytes)) s)
 sent_stays d bytes s e =
     elim (cases_eq d e) [
       | inl same ↦ subst (λ (n : ℕ). is_joined n (after_step (Acted (Sent d bytes)) s) ≡ is_joined n s) same (ap (λ (o : Option SwitchState). is_some o) (switch_of-sent d bytes s) ∙ told_joined (reading_of bytes) (switch_of d s))
       | inr other ↦ ap (λ (o : Option SwitchState). is_some o) (switch_of-sent_other d e bytes s (λ same. other (sym same)))
     ]
+  where
+    told_joined : (r : Result Envelope WireFault) (o : Option SwitchState) → is_some (switch_told r o) ≡ is_some o
+    told_joined (Ok e) None = refl
+    told_joined (Ok e) (Some s) = refl
+    told_joined (Err fault) o = refl
 
 pub got_stays : (d : ℕ) (bytes : List ℕ) (s : State) → AllStay s (after_step (Acted (Got d bytes)) s)
 got_stays d bytes s e =
@@ -153,17 +153,16 @@ join_moves d bytes s has = record {
   other = λ e other. ap (λ (o : Option Link). is_some (switch_in o)) (link_of-other d e (link_joined s.moment) (keeps_joined s.moment) other s.links);
 }
 
-left_out : (o : Option Link) → is_some (switch_in (option_map link_left o)) ≡ false
-unfolding link_left
-left_out None = refl
-left_out (Some l) = refl
-
 pub leave_moves : (d : ℕ) (s : State) → Moves d false s (after_steps (Acted (Stim (Leave d)) ∷ Left d ∷ []) s)
-unfolding switch_of after_step after_act after_stim
+unfolding switch_of after_step after_act after_stim link_left
 leave_moves d s = record {
   same = ap (λ (o : Option Link). is_some (switch_in o)) (link_of-same d link_left keeps_left s.links) ∙ left_out (link_of d s.links);
   other = λ e other. ap (λ (o : Option Link). is_some (switch_in o)) (link_of-other d e link_left keeps_left other s.links);
 }
+  where
+    left_out : (o : Option Link) → is_some (switch_in (option_map link_left o)) ≡ false
+    left_out None = refl
+    left_out (Some l) = refl
 
 mapped_at : (e : ℕ) (change : Link → Link) → KeepsDeclared change → (l : Link) (ls : List Link) → link_of e (map change ls) ≡ option_map change (link_of e ls)
     → (here : Bool) → (l.declared.dpid == e) ≡ here → link_of e (change l ∷ map change ls) ≡ option_map change (if here then Some l else link_of e ls)
@@ -174,19 +173,18 @@ link_of-map : (e : ℕ) (change : Link → Link) → KeepsDeclared change → (l
 link_of-map e change keeps [] = refl
 link_of-map e change keeps (l ∷ ls) = mapped_at e change keeps l ls (link_of-map e change keeps ls) (l.declared.dpid == e) refl
 
-stimulated_in : (x : Stimulus) (o : Option Link) → is_some (switch_in (option_map (link_stimulated x) o)) ≡ is_some (switch_in o)
-unfolding link_stimulated
-stimulated_in x None = refl
-stimulated_in x (Some l) = stays l.switch
-  where
-    stays : (o : Option SwitchState) → is_some (option_map (after_stimulus x) o) ≡ is_some o
-    stays None = refl
-    stays (Some s) = refl
-
 pub moment_stays : (t : ℕ) (s : State) → AllStay s (after_steps (Acted (Stim (At t)) ∷ Moment t ∷ []) s)
-unfolding switch_of after_step after_act after_stim
+unfolding switch_of after_step after_act after_stim link_stimulated
 moment_stays t s e =
     ap (λ (o : Option Link). is_some (switch_in o)) (link_of-map e (link_stimulated (Advance t)) (keeps_stimulated (Advance t)) s.links) ∙ stimulated_in (Advance t) (link_of e s.links)
+  where
+    stays : (x : Stimulus) (o : Option SwitchState) → is_some (option_map (after_stimulus x) o) ≡ is_some o
+    stays x None = refl
+    stays x (Some s) = refl
+
+    stimulated_in : (x : Stimulus) (o : Option Link) → is_some (switch_in (option_map (link_stimulated x) o)) ≡ is_some (switch_in o)
+    stimulated_in x None = refl
+    stimulated_in x (Some l) = stays x l.switch
 
 pub idle_stays : (s : State) → AllStay s (after_steps (Idle ∷ []) s)
 unfolding switch_of after_step

@@ -82,9 +82,6 @@ pub record Grown (old new : Counts) : Type 0 where
   pub fell : NoneFell old new
   pub kept : AreKept new
 
-grown_none : (c : Counts) → AreKept c → Grown c c
-grown_none c k = record { fell = NoneFell-refl c; kept = k }
-
 grown_shut : (c : Counts) → AreKept c → Grown c (record c { shuts = raised c.shuts })
 grown_shut c k = record {
   fell = record { shuts = (raised_risen c.shuts k.shuts).never_fell; next_faults = omega arith; starts_failed = omega arith; closings = omega arith; silences = omega arith; link_faults = λ e. omega arith; shorts = omega arith; shorts_of = λ e. omega arith; strays = omega arith };
