@@ -1,1 +1,3 @@
 pub mod VotingLaws
+pub mod LifeLaws
+pub mod BackedLaws
