@@ -17,7 +17,8 @@ use Rattle.frame_votes.specs.declared.ballot.Place.{Place}
 use Rattle.frame_votes.specs.declared.ballot.Place.TheVariants.{First, Second, Third}
 use Rattle.frame_votes.specs.Votes.{Given, Polled, voted, after_vote, out, copy_at, with_copy}
 use Rattle.frame_votes.specs.laws.VoteLaws.{Lives, AllFollow, TwoBegin}
-use Rattle.vote_world.specs.Voting.{copy_number}
+use Rattle.vote_world.specs.Voting.{copy_number, Voting}
+use Rattle.std.specs.Option.{unwrap_or}
 
 -- ---- A life
 
@@ -140,3 +141,49 @@ abbrev pub found_in : Result (Option (List ℕ)) Short → List ℕ
 found_in (Ok (Some frame)) = frame
 found_in (Ok None) = []
 found_in (Err short) = []
+
+-- ---- An application
+
+-- the number is of no copy of the application
+abbrev pub Elsewhere : Bool → ℕ → ℕ → Type 0
+Elsewhere true first n = Apart first n
+Elsewhere false first n = n ≢ first
+
+-- no lives go on but those of its copies
+pub record Leaves {Own W : Type 0} (Tells : Type 0) (see : W → Seen Own) (three : Bool) (first : ℕ) (before after : Linkage W) : Type 0 where
+  pub others : Tells → (n : ℕ) → Elsewhere three first n → life_in n (see after.links).history ≡ life_in n (see before.links).history
+  pub running : after.running ≡ before.running
+
+-- The application gives these bytes, where it has three copies of what two of them gave: it goes on being backed, with what is left to
+-- be taken.
+pub record AppGoes {Own W : Type 0} (Tells : Type 0) (see : W → Seen Own) (bytes : List ℕ) (old new : Voting) (before after : Linkage W) : Type 0 where
+  pub first : new.first ≡ old.first
+  pub three : new.three ≡ old.three
+  pub backed : Tells → old.three ≡ true → (given : List ℕ) → Backed old.first (given ++ old.left) old.ballot (see before.links).history
+      → Backed old.first (given ++ (bytes ++ new.left)) new.ballot (see after.links).history
+  pub leaves : Leaves Tells see old.three old.first before after
+
+-- The copies were started, or not all of them: each that is in begins its life.
+pub record AppBegins {Own W : Type 0} (Tells : Type 0) (see : W → Seen Own) (old new : Voting) (before after : Linkage W) : Type 0 where
+  pub first : new.first ≡ old.first
+  pub three : new.three ≡ old.three
+  pub left : new.left ≡ []
+  pub fresh : Tells → old.three ≡ true → old.first + 2 ≤ 2 ^ 32 - 1 → AllFollow [] (lives_of old.first (see after.links).history) new.ballot
+  pub leaves : Leaves Tells see old.three old.first before after
+
+-- Where nothing is left of the last vote, the next whole frames of the copies are voted: what is given then, and what is left, is the frame
+-- that two of the copies which are in gave, each behind what was given so far. A copy that gave another one, or none, is out.
+pub record Polls (given bytes : List ℕ) (lives : Lives) (old new : Voting) : Type 0 where
+  pub waits : old.left ≢ [] → (bytes ++ new.left ≡ old.left) × (new.ballot ≡ old.ballot)
+  pub votes : old.left ≡ [] → bytes ++ new.left ≡ unwrap_or (voted (behind given lives old.ballot)) []
+  pub ballot : old.left ≡ [] → new.ballot ≡ after_vote (behind given lives old.ballot)
+
+-- what was taken, if anything
+abbrev pub what_in : Result TookWhat Short → List ℕ
+what_in (Ok what) = bytes_in what
+what_in (Err short) = []
+
+-- It is so of what was given so far, where that is backed.
+abbrev pub IsPolled : {Own W : Type 0} → Type 0 → (W → Seen Own) → List ℕ → Voting → Voting → Linkage W → Linkage W → Type 0
+IsPolled Tells see bytes old new before after =
+    Tells → old.three ≡ true → (given : List ℕ) → Backed old.first (given ++ old.left) old.ballot (see before.links).history → Polls given bytes (lives_of old.first (see after.links).history) old new

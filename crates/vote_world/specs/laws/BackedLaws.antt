@@ -23,13 +23,13 @@ second_is first few = omega (arith, few)
 third_is : (first : ℕ) → first + 2 ≤ 2 ^ 32 - 1 → copy_number first Third ≡ first + 2
 third_is first few = omega (arith, few)
 
-first_second : (first : ℕ) → first + 2 ≤ 2 ^ 32 - 1 → copy_number first First ≢ copy_number first Second
+pub first_second : (first : ℕ) → first + 2 ≤ 2 ^ 32 - 1 → copy_number first First ≢ copy_number first Second
 first_second first few e = absurd (omega (arith, few, e, second_is first few))
 
-first_third : (first : ℕ) → first + 2 ≤ 2 ^ 32 - 1 → copy_number first First ≢ copy_number first Third
+pub first_third : (first : ℕ) → first + 2 ≤ 2 ^ 32 - 1 → copy_number first First ≢ copy_number first Third
 first_third first few e = absurd (omega (arith, few, e, third_is first few))
 
-second_third_differ : (first : ℕ) → first + 2 ≤ 2 ^ 32 - 1 → copy_number first Second ≢ copy_number first Third
+pub second_third_differ : (first : ℕ) → first + 2 ≤ 2 ^ 32 - 1 → copy_number first Second ≢ copy_number first Third
 second_third_differ first few e = absurd (omega (arith, few, e, second_is first few, third_is first few))
 
 -- ---- One copy
@@ -104,7 +104,7 @@ backed_goes first so_far old new before after go backed = record {
 none_more : (first : ℕ) (so_far : List ℕ) (ballot : Polled) (history : List WorldStep) → Backed first so_far ballot history → Backed first (so_far ++ []) ballot history
 none_more first so_far ballot history backed = subst (λ (xs : List ℕ). Backed first xs ballot history) (sym (append-nil so_far)) backed
 
-none_less : (first : ℕ) (so_far : List ℕ) (ballot : Polled) (history : List WorldStep) → Backed first (so_far ++ []) ballot history → Backed first so_far ballot history
+pub none_less : (first : ℕ) (so_far : List ℕ) (ballot : Polled) (history : List WorldStep) → Backed first (so_far ++ []) ballot history → Backed first so_far ballot history
 none_less first so_far ballot history backed = subst (λ (xs : List ℕ). Backed first xs ballot history) (append-nil so_far) backed
 
 -- ---- Calls, one behind another
