@@ -191,9 +191,11 @@ impl Copies {
     }
 
     /// Ends the copies that are in; nothing is left to be taken.
+    #[tactic(auto, using(crate::specs::laws::AppLaws::ends_app))]
     pub(crate) fn end<W: World>(&mut self, linked: &mut Linked<W>)
         ensures seen { Still W.Tells (seen_of W.seen linked.old) (seen_of W.seen linked.new) }
         ensures rests { Rests W.Tells W.seen linked.old linked.new }
+        ensures goes { AppGoes W.Tells W.seen [] self.old self.new linked.old linked.new }
         ensures ended { self.new ≡ record self.old { ballot = none_in; left = [] } }
     {
         end_all(linked, self.first, &mut self.ballot);

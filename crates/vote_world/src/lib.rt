@@ -7,6 +7,7 @@
 mod copies;
 mod copy;
 mod polling;
+mod voters;
 mod world;
 
 pub use copies::Copies;
