@@ -24,102 +24,6 @@ pub(crate) struct Voters<W: World> {
     pub(crate) copies: Vec<Copies>,
 }
 
-/// Starts the copies of an application, and tells whether enough were started.
-#[tactic(auto, using(linked_world::specs::laws::StillLaws::still_none, crate::specs::laws::LifeLaws::rests_none))]
-fn begin<W: World>(
-    linked: &mut Linked<W>,
-    copies: &mut [Copies],
-    app: u32,
-    words: &[String],
-) -> Result<bool, Short>
-    ensures seen { Tried W.Tells result (seen_of W.seen linked.old) (seen_of W.seen linked.new) }
-    ensures size { length copies.new ≡ length copies.old }
-    ensures others { (i : ℕ) → i ≢ app → slice_get copies.new i ≡ slice_get copies.old i }
-    ensures here { IfSome (slice_get copies.old app) (λ o. IfSome (slice_get copies.new app) (λ n. AppBegins W.Tells W.seen o n linked.old linked.new)) }
-    ensures none { slice_get copies.old app ≡ None → Rests W.Tells W.seen linked.old linked.new }
-{
-    let place = app as usize;
-    if place < copies.len() {
-        copies[place].begin(linked, words)
-    } else {
-        Ok(false)
-    }
-}
-
-/// Gives bytes to the copies of an application, and tells whether enough are in then.
-#[tactic(auto, using(linked_world::specs::laws::StillLaws::still_none, crate::specs::laws::LifeLaws::rests_none))]
-fn give<W: World>(
-    linked: &mut Linked<W>,
-    copies: &mut [Copies],
-    app: u32,
-    bytes: &[u8],
-) -> Result<bool, Short>
-    ensures seen { Tried W.Tells result (seen_of W.seen linked.old) (seen_of W.seen linked.new) }
-    ensures size { length copies.new ≡ length copies.old }
-    ensures others { (i : ℕ) → i ≢ app → slice_get copies.new i ≡ slice_get copies.old i }
-    ensures here { IfSome (slice_get copies.old app) (λ o. IfSome (slice_get copies.new app) (λ n. AppGoes W.Tells W.seen [] o n linked.old linked.new)) }
-    ensures none { slice_get copies.old app ≡ None → Rests W.Tells W.seen linked.old linked.new }
-{
-    let place = app as usize;
-    if place < copies.len() {
-        copies[place].give(linked, bytes)
-    } else {
-        Ok(false)
-    }
-}
-
-/// Takes what the copies of an application voted.
-#[tactic(auto, using(linked_world::specs::laws::StillLaws::still_none, crate::specs::laws::LifeLaws::rests_none))]
-fn take<W: World>(
-    alloc: Global,
-    linked: &mut Linked<W>,
-    copies: &mut [Copies],
-    app: u32,
-    buf: &mut [u8],
-) -> Result<TookWhat, Short>
-    requires { 0 < length buf.old }
-    ensures seen { Tried W.Tells result (seen_of W.seen linked.old) (seen_of W.seen linked.new) }
-    ensures takeable { IfOk result (λ what. IsTakeable what (length buf.new)) }
-    ensures size { length copies.new ≡ length copies.old }
-    ensures others { (i : ℕ) → i ≢ app → slice_get copies.new i ≡ slice_get copies.old i }
-    ensures here { IfSome (slice_get copies.old app) (λ o. IfSome (slice_get copies.new app) (λ n. AppGoes W.Tells W.seen (what_in result) o n linked.old linked.new)) }
-    ensures none { slice_get copies.old app ≡ None → Rests W.Tells W.seen linked.old linked.new }
-    ensures polls { IfOk result (λ what. IfSome (slice_get copies.old app) (λ o. IfSome (slice_get copies.new app) (λ n. IsPolled W.Tells W.seen (bytes_in what) o n linked.old linked.new))) }
-{
-    let place = app as usize;
-    if place < copies.len() {
-        copies[place].take(alloc, linked, buf)
-    } else {
-        Ok(TookWhat::Closed)
-    }
-}
-
-/// Ends the copies of an application.
-#[tactic(auto, using(linked_world::specs::laws::StillLaws::still_none, crate::specs::laws::LifeLaws::rests_none))]
-fn end<W: World>(linked: &mut Linked<W>, copies: &mut [Copies], app: u32)
-    ensures seen { Still W.Tells (seen_of W.seen linked.old) (seen_of W.seen linked.new) }
-    ensures size { length copies.new ≡ length copies.old }
-    ensures others { (i : ℕ) → i ≢ app → slice_get copies.new i ≡ slice_get copies.old i }
-    ensures here { IfSome (slice_get copies.old app) (λ o. IfSome (slice_get copies.new app) (λ n. AppGoes W.Tells W.seen [] o n linked.old linked.new)) }
-    ensures none { slice_get copies.old app ≡ None → Rests W.Tells W.seen linked.old linked.new }
-{
-    let place = app as usize;
-    if place < copies.len() {
-        copies[place].end(linked);
-    }
-}
-
-/// Ends the copies of an application that could not be started or given bytes.
-#[tactic(auto, using(linked_world::specs::laws::StillLaws::still_none))]
-fn end_unless<W: World>(linked: &mut Linked<W>, copies: &mut [Copies], app: u32, stands: bool)
-    ensures seen { Still W.Tells (seen_of W.seen linked.old) (seen_of W.seen linked.new) }
-    ensures keeps { Keeps W.Tells W.seen linked.old copies.old linked.new copies.new }
-{
-    if !stands {
-        end(linked, copies, app);
-    }
-}
-
 impl<W: World> Voters<W> {
     /// Opens the other world.
     pub(crate) fn open(&mut self, port: u16) -> Result<(), OpenFault>
@@ -199,8 +103,88 @@ impl<W: World> Voters<W> {
         ensures seen { Ends W.Tells app (seen_of W.seen self.old.linked) (seen_of W.seen self.new.linked) }
         ensures keeps { Keeps W.Tells W.seen self.old.linked self.old.copies.items self.new.linked self.new.copies.items }
     {
-        end(&mut self.linked, &mut self.copies, app);
+        self.end_copies(app);
         self.linked.end(app);
+    }
+
+    /// Starts the copies of an application, and tells whether enough were started.
+    #[tactic(auto, using(linked_world::specs::laws::StillLaws::still_none, crate::specs::laws::LifeLaws::rests_none))]
+    fn start_copies(&mut self, app: u32, words: &[String]) -> Result<bool, Short>
+        ensures seen { Tried W.Tells result (seen_of W.seen self.old.linked) (seen_of W.seen self.new.linked) }
+        ensures size { length self.new.copies.items ≡ length self.old.copies.items }
+        ensures others { (i : ℕ) → i ≢ app → slice_get self.new.copies.items i ≡ slice_get self.old.copies.items i }
+        ensures here { IfSome (slice_get self.old.copies.items app) (λ o. IfSome (slice_get self.new.copies.items app) (λ n. AppBegins W.Tells W.seen o n self.old.linked self.new.linked)) }
+        ensures none { slice_get self.old.copies.items app ≡ None → Rests W.Tells W.seen self.old.linked self.new.linked }
+    {
+        let place = app as usize;
+        if place < self.copies.len() {
+            self.copies[place].begin(&mut self.linked, words)
+        } else {
+            Ok(false)
+        }
+    }
+
+    /// Gives bytes to the copies of an application, and tells whether enough are in then.
+    #[tactic(auto, using(linked_world::specs::laws::StillLaws::still_none, crate::specs::laws::LifeLaws::rests_none))]
+    fn give_copies(&mut self, app: u32, bytes: &[u8]) -> Result<bool, Short>
+        ensures seen { Tried W.Tells result (seen_of W.seen self.old.linked) (seen_of W.seen self.new.linked) }
+        ensures size { length self.new.copies.items ≡ length self.old.copies.items }
+        ensures others { (i : ℕ) → i ≢ app → slice_get self.new.copies.items i ≡ slice_get self.old.copies.items i }
+        ensures here { IfSome (slice_get self.old.copies.items app) (λ o. IfSome (slice_get self.new.copies.items app) (λ n. AppGoes W.Tells W.seen [] o n self.old.linked self.new.linked)) }
+        ensures none { slice_get self.old.copies.items app ≡ None → Rests W.Tells W.seen self.old.linked self.new.linked }
+    {
+        let place = app as usize;
+        if place < self.copies.len() {
+            self.copies[place].give(&mut self.linked, bytes)
+        } else {
+            Ok(false)
+        }
+    }
+
+    /// Takes what the copies of an application voted.
+    #[tactic(auto, using(linked_world::specs::laws::StillLaws::still_none, crate::specs::laws::LifeLaws::rests_none))]
+    fn take_copies(&mut self, app: u32, buf: &mut [u8]) -> Result<TookWhat, Short>
+        requires { 0 < length buf.old }
+        ensures seen { Tried W.Tells result (seen_of W.seen self.old.linked) (seen_of W.seen self.new.linked) }
+        ensures takeable { IfOk result (λ what. IsTakeable what (length buf.new)) }
+        ensures size { length self.new.copies.items ≡ length self.old.copies.items }
+        ensures others { (i : ℕ) → i ≢ app → slice_get self.new.copies.items i ≡ slice_get self.old.copies.items i }
+        ensures here { IfSome (slice_get self.old.copies.items app) (λ o. IfSome (slice_get self.new.copies.items app) (λ n. AppGoes W.Tells W.seen (what_in result) o n self.old.linked self.new.linked)) }
+        ensures none { slice_get self.old.copies.items app ≡ None → Rests W.Tells W.seen self.old.linked self.new.linked }
+        ensures polls { IfOk result (λ what. IfSome (slice_get self.old.copies.items app) (λ o. IfSome (slice_get self.new.copies.items app) (λ n. IsPolled W.Tells W.seen (bytes_in what) o n self.old.linked self.new.linked))) }
+    {
+        let place = app as usize;
+        if place < self.copies.len() {
+            self.copies[place].take(self.alloc, &mut self.linked, buf)
+        } else {
+            Ok(TookWhat::Closed)
+        }
+    }
+
+    /// Ends the copies of an application.
+    #[tactic(auto, using(linked_world::specs::laws::StillLaws::still_none, crate::specs::laws::LifeLaws::rests_none))]
+    fn end_copies(&mut self, app: u32)
+        ensures seen { Still W.Tells (seen_of W.seen self.old.linked) (seen_of W.seen self.new.linked) }
+        ensures size { length self.new.copies.items ≡ length self.old.copies.items }
+        ensures others { (i : ℕ) → i ≢ app → slice_get self.new.copies.items i ≡ slice_get self.old.copies.items i }
+        ensures here { IfSome (slice_get self.old.copies.items app) (λ o. IfSome (slice_get self.new.copies.items app) (λ n. AppGoes W.Tells W.seen [] o n self.old.linked self.new.linked)) }
+        ensures none { slice_get self.old.copies.items app ≡ None → Rests W.Tells W.seen self.old.linked self.new.linked }
+    {
+        let place = app as usize;
+        if place < self.copies.len() {
+            self.copies[place].end(&mut self.linked);
+        }
+    }
+
+    /// Ends the copies of an application that could not be started or given bytes.
+    #[tactic(auto, using(linked_world::specs::laws::StillLaws::still_none))]
+    fn end_copies_unless(&mut self, app: u32, stands: bool)
+        ensures seen { Still W.Tells (seen_of W.seen self.old.linked) (seen_of W.seen self.new.linked) }
+        ensures keeps { Keeps W.Tells W.seen self.old.linked self.old.copies.items self.new.linked self.new.copies.items }
+    {
+        if !stands {
+            self.end_copies(app);
+        }
     }
 
     /// Starts an application that does not run, and its copies before.
@@ -210,7 +194,7 @@ impl<W: World> Voters<W> {
         ensures seen { Starts W.Tells app (seen_of W.seen self.old.linked) (seen_of W.seen self.new.linked) result }
         ensures keeps { Keeps W.Tells W.seen self.old.linked self.old.copies.items self.new.linked self.new.copies.items }
     {
-        match begin(&mut self.linked, &mut self.copies, app, words) {
+        match self.start_copies(app, words) {
             Ok(ready) => self.begun(app, ready),
             Err(_) => Err(StartFault::Short),
         }
@@ -222,7 +206,7 @@ impl<W: World> Voters<W> {
         ensures seen { Gives W.Tells app bytes.now (seen_of W.seen self.old.linked) (seen_of W.seen self.new.linked) result }
         ensures keeps { Keeps W.Tells W.seen self.old.linked self.old.copies.items self.new.linked self.new.copies.items }
     {
-        match give(&mut self.linked, &mut self.copies, app, bytes) {
+        match self.give_copies(app, bytes) {
             Ok(enough) => self.given(app, bytes, enough),
             Err(_) => Err(GiveFault::Short),
         }
@@ -237,7 +221,7 @@ impl<W: World> Voters<W> {
         ensures keeps { Keeps W.Tells W.seen self.old.linked self.old.copies.items self.new.linked self.new.copies.items }
         ensures voted { IsVotings W.Tells W.seen (record { linked = self.old.linked; copies = self.old.copies.items }) → IfOk result (λ taken. W.Tells → TakesOf W.seen app (taken_in (Ok taken) buf.new) (record { linked = self.old.linked; copies = self.old.copies.items }) (record { linked = self.new.linked; copies = self.new.copies.items })) }
     {
-        match take(self.alloc, &mut self.linked, &mut self.copies, app, buf) {
+        match self.take_copies(app, buf) {
             Ok(what) => Ok(self.linked.take(app, what, buf)),
             Err(short) => Err(short),
         }
@@ -250,7 +234,7 @@ impl<W: World> Voters<W> {
         ensures keeps { (W.Tells → IsFresh W.seen app self.old.linked self.old.copies.items) → Keeps W.Tells W.seen self.old.linked self.old.copies.items self.new.linked self.new.copies.items }
     {
         let started = self.linked.start(app, ready);
-        end_unless(&mut self.linked, &mut self.copies, app, started.is_ok());
+        self.end_copies_unless(app, started.is_ok());
         started
     }
 
@@ -262,7 +246,7 @@ impl<W: World> Voters<W> {
     {
         let given = self.linked.give(app, bytes, enough);
         let stands = !matches!(given, Err(GiveFault::Short));
-        end_unless(&mut self.linked, &mut self.copies, app, stands);
+        self.end_copies_unless(app, stands);
         given
     }
 }
