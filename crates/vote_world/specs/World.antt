@@ -1,12 +1,10 @@
 -- A world whose applications vote: what holds of it over all calls, where the other world tells. All of this is our own choice.
-use Rattle.std.specs.Prelude.{◌≡◌, ◌≢◌, ℕ, ◌+◌, ◌-◌, ◌^◌, ◌<◌, ◌≤◌, Bool, true, false, List, [], ◌∷◌, ◌++◌, Option, Some, None, Result, Ok, Err, IfOk, IfSome, slice_get}
+use Rattle.std.specs.Prelude.{◌≡◌, ℕ, ◌+◌, ◌-◌, ◌^◌, ◌<◌, ◌≤◌, true, List, [], ◌++◌, Some, slice_get}
 use Rattle.of_types.specs.Membership.{is_among}
-use Rattle.outside.specs.declared.faults.Short.{Short}
-use Rattle.outside.specs.declared.item.Taken.{Taken}
 use Rattle.outside.specs.Seen.{Seen}
 use Rattle.linked_world.specs.Linked.{Linkage, seen_of}
 use Rattle.vote_world.specs.Voting.{Voting, copies_in}
-use Rattle.vote_world.specs.Lives.{life_in, lives_of, Backed, Polls, taken_in}
+use Rattle.vote_world.specs.Lives.{life_in, lives_of, Backed, Polls}
 
 -- the world as data: the other world with what is noted of applications, and the applications
 pub record Votings (W : Type 0) : Type 0 where

@@ -1,12 +1,12 @@
 -- What an application gives stays backed by its copies.
-use Rattle.std.specs.Prelude.{◌≡◌, ◌≢◌, ℕ, ◌+◌, ◌-◌, ◌^◌, ◌≤◌, Bool, true, false, List, [], ◌∷◌, ◌++◌, Option, Some, None, Result, Ok, Err, IfOk, OnOk, OnErr, ◌⊎◌, refl}
+use Rattle.std.specs.Prelude.{◌≡◌, ◌≢◌, ℕ, ◌+◌, ◌-◌, ◌^◌, ◌≤◌, Bool, true, false, List, [], ◌++◌, Option, Some, None, Result, Ok, Err, IfOk, OnOk, OnErr, ◌⊎◌, refl}
 use Rattle.std.specs.Option.{unwrap_or}
 use Rattle.std.proofs.Common.{sym, ap, ◌∙◌, subst, append_assoc, inl, inr}
 use Rattle.std.proofs.lemmas.Bool.{false≢true}
 use Rattle.std.proofs.lemmas.List.{append-nil}
 use Rattle.frame_votes.specs.declared.ballot.Place.{Place}
 use Rattle.frame_votes.specs.declared.ballot.Place.TheVariants.{First, Second, Third}
-use Rattle.frame_votes.specs.Votes.{Given, Polled, voted, after_vote, out, copy_at, with_copy}
+use Rattle.frame_votes.specs.Votes.{Given, Polled, with_copy}
 use Rattle.frame_votes.specs.laws.VoteLaws.{Follows, Lives, AllFollow, Begins as Front, TwoBegin}
 use Rattle.of_types.specs.declared.journal.TookWhat.{TookWhat}
 use Rattle.of_types.specs.declared.journal.TookWhat.TheVariants as took
@@ -16,7 +16,7 @@ use Rattle.outside.specs.Seen.{Seen}
 use Rattle.linked_world.specs.Linked.{Linkage}
 use Rattle.linked_world.specs.laws.ThereLaws.{was_started}
 use Rattle.vote_world.specs.Voting.{Voting, copy_number, entered, none_in, Passes}
-use Rattle.vote_world.specs.Lives.{life_in, lives_of, Backed, behind, VotesBehind, Rests, Touches, Begins, Apart, AllStay, Goes, found_in, Elsewhere, Leaves, AppGoes, AppBegins, Polls, IsPolled, bytes_in, what_in}
+use Rattle.vote_world.specs.Lives.{life_in, lives_of, Backed, VotesBehind, Rests, Touches, Begins, AllStay, Goes, found_in, Leaves, AppGoes, AppBegins, Polls, IsPolled, bytes_in, what_in}
 use Rattle.vote_world.specs.laws.BackedLaws.{fresh, goes_stay, none_stay, none_less, first_second, first_third, second_third_differ}
 
 -- ---- Other lives
@@ -84,7 +84,7 @@ ends_app Tells see old new x y is rests = record {
   three = ap (λ (v : Voting). v.three) is;
   backed = λ told three given backed.
       let stays = none_less old.first (given ++ old.left) none_in (see y.links).history
-          ((goes_stay Tells see old.first old.ballot none_in x y (none_stay old.ballot none_in refl) rests).backed told (given ++ old.left) backed) in
+      ((goes_stay Tells see old.first old.ballot none_in x y (none_stay old.ballot none_in refl) rests).backed told (given ++ old.left) backed) in
       subst (λ (v : Voting). Backed old.first (given ++ v.left) v.ballot (see y.links).history) (sym is) (ended_backed old.first given old.left none_in (see y.links).history stays);
   leaves = rests_leave Tells see old.three old.first x y rests;
 }
@@ -165,7 +165,7 @@ taken_goes Tells see bytes old mid new x y z goes same is rests = record {
   three = ap (λ (v : Voting). v.three) is ∙ goes.three;
   backed = λ told three given backed.
       let stays = none_less old.first (given ++ mid.left) mid.ballot (see z.links).history
-          ((goes_stay Tells see old.first mid.ballot mid.ballot y z (record { first = inl refl; second = inl refl; third = inl refl }) rests).backed told (given ++ mid.left) (goes.backed told three given backed)) in
+      ((goes_stay Tells see old.first mid.ballot mid.ballot y z (record { first = inl refl; second = inl refl; third = inl refl }) rests).backed told (given ++ mid.left) (goes.backed told three given backed)) in
       subst (λ (p : Polled). Backed old.first (given ++ (bytes ++ new.left)) p (see z.links).history) (sym (ap (λ (v : Voting). v.ballot) is))
       (same_backed old.first (given ++ mid.left) (given ++ (bytes ++ new.left)) mid.ballot (see z.links).history (ap (λ (xs : List ℕ). given ++ xs) same) stays);
   leaves = leaves_rest Tells see old.three old.first x y z goes.leaves rests;

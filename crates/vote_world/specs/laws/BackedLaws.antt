@@ -1,19 +1,19 @@
 -- What is voted stays backed by lives that go on.
-use Rattle.std.specs.Prelude.{◌≡◌, ◌≢◌, ℕ, ◌+◌, ◌-◌, ◌^◌, ◌≤◌, Bool, true, false, List, [], ◌∷◌, ◌++◌, length, take, drop, Option, Some, None, Result, Ok, Err, IfOk, OnOk, OnErr, ◌⊎◌, refl}
+use Rattle.std.specs.Prelude.{◌≡◌, ◌≢◌, ℕ, ◌+◌, ◌-◌, ◌^◌, ◌≤◌, Bool, true, false, List, [], ◌++◌, length, take, drop, Option, Some, None, Result, Ok, Err, IfOk, OnOk, OnErr, ◌⊎◌, refl}
 use Rattle.std.proofs.Common.{sym, ap, ◌∙◌, subst, arith, append_assoc, inl, inr}
 use Rattle.std.proofs.lemmas.Bool.{cases_Bool, cases_eq, false≢true}
 use Rattle.std.proofs.lemmas.List.{append-nil, drop_at}
 use Rattle.frame_votes.specs.declared.ballot.Place.{Place}
 use Rattle.frame_votes.specs.declared.ballot.Place.TheVariants.{First, Second, Third}
-use Rattle.frame_votes.specs.Votes.{Given, Polled, front_of, front_in, agreed, settled, settled_if, of_two, voted, after_vote, out, copy_at, with_copy}
+use Rattle.frame_votes.specs.Votes.{Given, Polled, front_in, agreed, settled, of_two, voted, after_vote, out, with_copy}
 use Rattle.frame_votes.specs.laws.VoteLaws.{Follows, Lives, AllFollow, Begins as Front, TwoBegin, two_gave}
 use Rattle.outside.specs.declared.faults.Short.{Short}
 use Rattle.outside.specs.declared.step.WorldStep.{WorldStep}
 use Rattle.outside.specs.Seen.{Seen}
 use Rattle.linked_world.specs.Linked.{Linkage}
 use Rattle.linked_world.specs.laws.ThereLaws.{was_started}
-use Rattle.vote_world.specs.Voting.{copy_number, entered, none_in, Hears, HearsAt, Heard}
-use Rattle.vote_world.specs.Lives.{life_in, lives_of, Backed, behind, VotesBehind, Rests, Touches, GoesOn, Begins, piece_in, Apart, Stays, AllStay, Keeps, Goes, found_in}
+use Rattle.vote_world.specs.Voting.{copy_number, entered, none_in, Hears, Heard}
+use Rattle.vote_world.specs.Lives.{life_in, lives_of, Backed, behind, VotesBehind, Rests, GoesOn, Begins, piece_in, Stays, AllStay, Keeps, Goes, found_in}
 
 -- ---- Numbers
 
@@ -300,9 +300,9 @@ same_votes so_far lives p follow =
     let two = same_front so_far lives.second p.second follow.second in
     let three = same_front so_far lives.third p.third follow.third in
     let frame : voted p ≡ voted (behind so_far lives p) =
-        sym (ap (λ (o : Option (List ℕ)). of_two o (front_in (behind_copy so_far lives.second p.second.is_in)) (front_in (behind_copy so_far lives.third p.third.is_in))) one
-        ∙ ap (λ (o : Option (List ℕ)). of_two (front_in p.first) o (front_in (behind_copy so_far lives.third p.third.is_in))) two
-        ∙ ap (λ (o : Option (List ℕ)). of_two (front_in p.first) (front_in p.second) o) three) in
+    sym (ap (λ (o : Option (List ℕ)). of_two o (front_in (behind_copy so_far lives.second p.second.is_in)) (front_in (behind_copy so_far lives.third p.third.is_in))) one
+    ∙ ap (λ (o : Option (List ℕ)). of_two (front_in p.first) o (front_in (behind_copy so_far lives.third p.third.is_in))) two
+    ∙ ap (λ (o : Option (List ℕ)). of_two (front_in p.first) (front_in p.second) o) three) in
     record {
       frame = frame;
       ballot = sym (

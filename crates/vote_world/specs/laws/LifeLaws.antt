@@ -1,9 +1,8 @@
 -- What each call of an application does to lives.
-use Rattle.std.specs.Prelude.{◌≡◌, ◌≢◌, ◌==◌, ℕ, Bool, true, false, List, [], ◌∷◌, ◌++◌, take, Result, Ok, Err, refl}
+use Rattle.std.specs.Prelude.{◌≡◌, ◌≢◌, ℕ, Bool, true, false, List, [], ◌∷◌, ◌++◌, Result, Ok, Err, refl}
 use Rattle.std.proofs.Common.{sym, ap, ◌∙◌, subst}
 use Rattle.std.proofs.lemmas.Bool.{ne_eqb, eq-eqb, false≢true}
 use Rattle.std.proofs.lemmas.List.{append-nil}
-use Rattle.of_types.specs.declared.journal.TookWhat.TheVariants as took
 use Rattle.outside.specs.declared.faults.Short.{Short}
 use Rattle.outside.specs.declared.faults.StartFault.{StartFault}
 use Rattle.outside.specs.declared.faults.StartFault.TheVariants as starting
@@ -14,11 +13,11 @@ use Rattle.outside.specs.declared.item.Taken.TheVariants as gave
 use Rattle.outside.specs.declared.step.WorldStep.{WorldStep}
 use Rattle.outside.specs.Seen.{Seen}
 use Rattle.outside.specs.State.{state, is_running}
-use Rattle.outside.specs.Calls.{Starts, start_steps, Gives, give_steps, Takes, take_steps, Ends, end_steps}
+use Rattle.outside.specs.Calls.{start_steps, Gives, give_steps, Takes, take_steps, Ends, end_steps}
 use Rattle.linked_world.specs.Linked.{Linkage}
-use Rattle.linked_world.specs.Still.{start_answer, give_answer}
+use Rattle.linked_world.specs.Still.{start_answer}
 use Rattle.linked_world.specs.laws.ThereLaws.{Restarts, was_started}
-use Rattle.vote_world.specs.Lives.{life_after, life_from, life_in, taken_in, Rests, Touches, GoesOn, Begins, piece_in}
+use Rattle.vote_world.specs.Lives.{life_after, life_from, life_in, taken_in, Rests, Touches, GoesOn, Begins}
 
 from-append : (n : ℕ) (life : List ℕ) (xs ys : List WorldStep) → life_from n life (xs ++ ys) ≡ life_from n (life_from n life xs) ys
 unfolding life_from

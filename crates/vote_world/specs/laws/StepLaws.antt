@@ -1,9 +1,7 @@
 -- What calls of this world do to the lives that it and the other world tell.
-use Rattle.std.specs.Prelude.{◌≡◌, ◌≢◌, ◌==◌, ℕ, Bool, true, false, not, ◌&&◌, List, [], ◌∷◌, ◌++◌, length, take, Option, Some, None, Result, Ok, Err, IsOk, refl}
-use Rattle.std.proofs.Common.{sym, ap, ◌∙◌, subst}
-use Rattle.std.proofs.lemmas.Bool.{cases_Bool, cases_eq, false≢true, ne_eqb, eq-eqb}
-use Rattle.std.proofs.lemmas.List.{append-nil}
-use Rattle.of_types.specs.Membership.{is_among}
+use Rattle.std.specs.Prelude.{◌≡◌, ◌≢◌, ℕ, Bool, true, false, List, [], ◌∷◌, ◌++◌, Option, Some, None, Result, Ok, Err, refl}
+use Rattle.std.proofs.Common.{sym, ap, ◌∙◌}
+use Rattle.std.proofs.lemmas.Bool.{eq-eqb}
 use Rattle.of_types.specs.declared.journal.TookWhat.{TookWhat}
 use Rattle.of_types.specs.declared.journal.WorldStim.{WorldStim}
 use Rattle.outside.specs.declared.faults.Short.{Short}
@@ -23,8 +21,7 @@ use Rattle.outside.specs.declared.step.WorldStep.{WorldStep}
 use Rattle.outside.specs.declared.step.WorldStep.TheVariants.{TookInto}
 use Rattle.outside.specs.Seen.{Seen}
 use Rattle.outside.specs.State.{state, is_running, is_joined}
-use Rattle.outside.specs.Calls.{Opens, open_steps, Nexts, next_steps, stim_steps, item_step, Starts, start_steps, Gives, give_steps, Takes, take_steps, Ends, end_steps, Sends, send_steps, unsent, Receives, receive_steps, unreceived}
-use Rattle.linked_world.specs.Linked.{Linkage, seen_of, running_after}
+use Rattle.outside.specs.Calls.{Opens, open_steps, Nexts, next_steps, stim_steps, item_step, Starts, start_steps, Gives, give_steps, Takes, take_steps, Ends, end_steps, Sends, send_steps, Receives, receive_steps}
 use Rattle.vote_world.specs.Lives.{life_from, life_in, bytes_in, taken_in}
 use Rattle.vote_world.specs.laws.LifeLaws.{in-append, give_rests, start_rests, start_begins, take_rests, take_goes, end_rests}
 

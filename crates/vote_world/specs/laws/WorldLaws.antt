@@ -1,12 +1,11 @@
 -- Each call keeps what holds of the world.
-use Rattle.std.specs.Prelude.{◌≡◌, ◌≢◌, ◌==◌, ℕ, ◌+◌, ◌-◌, ◌*◌, ◌^◌, ◌<◌, ◌≤◌, ◌⊎◌, Bool, true, false, not, List, [], ◌∷◌, ◌++◌, length, filter, Option, Some, None, Result, Ok, Err, IfOk, IfSome, IsOk, slice_get, refl}
+use Rattle.std.specs.Prelude.{◌≡◌, ◌≢◌, ◌==◌, ℕ, ◌+◌, ◌-◌, ◌*◌, ◌^◌, ◌<◌, ◌≤◌, ◌⊎◌, Bool, true, false, List, [], ◌∷◌, ◌++◌, length, Option, Some, None, Result, Ok, Err, IfSome, IsOk, slice_get, refl}
 use Rattle.std.proofs.Common.{zero, suc, sym, ap, ◌∙◌, subst, arith, append_assoc, inl, inr}
-use Rattle.std.proofs.lemmas.Bool.{cases_Bool, cases_eq, false≢true, ne_eqb, eqb-true}
+use Rattle.std.proofs.lemmas.Bool.{cases_Bool, cases_eq, false≢true, ne_eqb}
 use Rattle.std.proofs.lemmas.List.{append-nil}
 use Rattle.std.proofs.lemmas.Option.{slice_get_cases, same_Some}
 use Rattle.of_types.specs.Membership.{is_among}
 use Rattle.of_types.specs.declared.journal.TookWhat.{TookWhat}
-use Rattle.of_types.specs.declared.journal.TookWhat.TheVariants as took
 use Rattle.frame_votes.specs.declared.ballot.Place.{Place}
 use Rattle.frame_votes.specs.declared.ballot.Place.TheVariants.{First, Second, Third}
 use Rattle.frame_votes.specs.Votes.{Polled}
@@ -17,8 +16,8 @@ use Rattle.outside.specs.Seen.{Seen}
 use Rattle.linked_world.specs.Linked.{Linkage, seen_of, running_after, running_without, in_place}
 use Rattle.linked_world.specs.Still.{Still, Shorted}
 use Rattle.vote_world.specs.Voting.{Voting, copy_number, copies_in, numbered}
-use Rattle.vote_world.specs.Lives.{life_in, lives_of, Backed, Rests, Elsewhere, Leaves, AppGoes, AppBegins, Polls, IsPolled, bytes_in, what_in, taken_in}
-use Rattle.vote_world.specs.World.{Votings, AreNumbered, given_by, IsVotedOf, IsVotings, TakesVoted, TakesOf, Keeps, IsFresh}
+use Rattle.vote_world.specs.Lives.{life_in, lives_of, Backed, Rests, Elsewhere, Leaves, AppGoes, AppBegins, Polls, IsPolled, bytes_in, taken_in}
+use Rattle.vote_world.specs.World.{AreNumbered, given_by, IsVotedOf, IsVotings, TakesOf, Keeps, IsFresh}
 use Rattle.vote_world.specs.laws.StepLaws.{SameLives, opens_same, nexts_same, sends_same, receives_same, gives_same, ends_same, starts_others, starts_failed, starts_fresh, takes_others, takes_more, taken_is}
 use Rattle.outside.specs.declared.faults.OpenFault.{OpenFault}
 use Rattle.outside.specs.declared.faults.NextFault.{NextFault}
@@ -299,8 +298,7 @@ at_moves {W = W} Tells see app x y old new at_app none own = record {
   numbers = λ i v is. elim (cases_eq i app) [
     | inl same ↦ elim (found_at (λ o n. Leaving {W = W} Tells see x y o n) app old new at_app) [
       | inl found ↦
-          let v_is : found.then ≡ v = same_some found.then v (sym found.is_then ∙ subst (λ (k : ℕ). slice_get new k ≡ Some v) same is) in
-          (
+          let v_is : found.then ≡ v = same_some found.then v (sym found.is_then ∙ subst (λ (k : ℕ). slice_get new k ≡ Some v) same is) in (
             found.was,
             subst (λ (k : ℕ). slice_get old k ≡ Some found.was) (sym same) found.is_was,
             ap (λ (v : Voting). v.first) (sym v_is) ∙ found.by.first,
@@ -378,8 +376,7 @@ began_fresh {W = W} Tells see app x y old new at_app are told = λ v is three. e
         few = few;
         two = inl ((lives.first, refl), (lives.second, refl));
         follow = begins.fresh told three_was few;
-      } in
-      (
+      } in (
         subst (λ (w : Voting). Backed w.first [] w.ballot (see y.links).history) v_is (subst (λ (n : ℕ). Backed n [] found.then.ballot (see y.links).history) (sym begins.first) backed),
         ap (λ (w : Voting). w.left) (sym v_is) ∙ begins.left,
       )
@@ -404,10 +401,10 @@ started_keeps Tells see app x y copies (Ok z) seen links running fresh =
       own = λ told i differ. starts_others Tells app _ _ (Ok z) seen told i differ;
       running = λ i differ runs. among_last i app x.running differ (sym (ap (is_among i) running) ∙ runs);
     }) (λ told are here. λ v is three runs.
-      let first = fresh told v is three in
-      let nothing : life_in app (seen_of see y).history ++ v.left ≡ [] = ap (λ (xs : List ℕ). xs ++ v.left) (starts_fresh Tells app _ _ z seen told) ∙ first.1 in
-      subst (λ (so_far : List ℕ). Backed v.first so_far v.ballot (see y.links).history) (sym nothing)
-      (backed_same v.first [] v.ballot (see x.links).history (see y.links).history (λ place. same_links Tells see x y links told (copy_number v.first place)) first.0))
+    let first = fresh told v is three in
+    let nothing : life_in app (seen_of see y).history ++ v.left ≡ [] = ap (λ (xs : List ℕ). xs ++ v.left) (starts_fresh Tells app _ _ z seen told) ∙ first.1 in
+    subst (λ (so_far : List ℕ). Backed v.first so_far v.ballot (see y.links).history) (sym nothing)
+    (backed_same v.first [] v.ballot (see x.links).history (see y.links).history (λ place. same_links Tells see x y links told (copy_number v.first place)) first.0))
 started_keeps Tells see app x y copies (Err fault) seen links running fresh = links_keep Tells see x y copies (same_links Tells see x y links) (starts_failed Tells app _ _ fault seen) running
 
 -- ---- An end

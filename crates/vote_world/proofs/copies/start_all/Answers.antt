@@ -1,5 +1,3 @@
-use Rattle.frame_votes.specs.declared.ballot.Place.TheVariants.{First, Second, Third}
-use Rattle.std.proofs.Common.{subst, sym}
 use Rattle.vote_world.specs.laws.AppLaws.{touches_first, leaves_three}
 use Rattle.vote_world.proofs.copies.start_all.Goals as goal
 

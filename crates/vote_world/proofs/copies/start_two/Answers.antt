@@ -1,5 +1,5 @@
-use Rattle.frame_votes.specs.declared.ballot.Place.TheVariants.{First, Second, Third}
-use Rattle.vote_world.specs.laws.AppLaws.{two_fresh, touches_place, leaves_twice}
+use Rattle.frame_votes.specs.declared.ballot.Place.TheVariants.{Second, Third}
+use Rattle.vote_world.specs.laws.AppLaws.{touches_place, leaves_twice}
 use Rattle.vote_world.proofs.copies.start_two.Goals as goal
 
 pub returns-in-Ok-clause-leaves : goal.returns-in-Ok-clause-leaves

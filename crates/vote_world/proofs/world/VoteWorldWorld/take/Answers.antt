@@ -1,4 +1,3 @@
-
 use Rattle.vote_world.proofs.world.VoteWorldWorld.take.Goals as goal
 
 pub returns-clause-voted : goal.returns-clause-voted
