@@ -170,7 +170,7 @@ other_runs other app (a ∷ rest) differ is =
       ])
     ]
 
-none_runs : (app : ℕ) (running : List ℕ) → is_among app (running_without app running) ≡ false
+pub none_runs : (app : ℕ) (running : List ℕ) → is_among app (running_without app running) ≡ false
 none_runs app [] = refl
 none_runs app (a ∷ rest) =
     elim (cases_Bool (a == app)) [

@@ -1,23 +1,21 @@
 -- What an application gives stays backed by its copies.
-use Rattle.std.specs.Prelude.{◌≡◌, ◌≢◌, ℕ, ◌+◌, ◌-◌, ◌^◌, ◌≤◌, Bool, true, false, List, [], ◌++◌, Option, Some, None, Result, Ok, Err, IfOk, OnOk, OnErr, ◌⊎◌, refl}
-use Rattle.std.specs.Option.{unwrap_or}
+use Rattle.std.specs.Prelude.{◌≡◌, ℕ, Bool, true, false, List, [], ◌++◌, Result, Ok, Err, IfOk, OnErr, refl}
 use Rattle.std.proofs.Common.{sym, ap, ◌∙◌, subst, append_assoc, inl, inr}
 use Rattle.std.proofs.lemmas.Bool.{false≢true}
 use Rattle.std.proofs.lemmas.List.{append-nil}
 use Rattle.frame_votes.specs.declared.ballot.Place.{Place}
 use Rattle.frame_votes.specs.declared.ballot.Place.TheVariants.{First, Second, Third}
-use Rattle.frame_votes.specs.Votes.{Given, Polled, with_copy}
-use Rattle.frame_votes.specs.laws.VoteLaws.{Follows, Lives, AllFollow, Begins as Front, TwoBegin}
+use Rattle.frame_votes.specs.Votes.{Polled}
+use Rattle.frame_votes.specs.laws.VoteLaws.{Lives, AllFollow, Begins as Front, TwoBegin}
 use Rattle.of_types.specs.declared.journal.TookWhat.{TookWhat}
 use Rattle.of_types.specs.declared.journal.TookWhat.TheVariants as took
 use Rattle.outside.specs.declared.faults.Short.{Short}
 use Rattle.outside.specs.declared.step.WorldStep.{WorldStep}
 use Rattle.outside.specs.Seen.{Seen}
 use Rattle.linked_world.specs.Linked.{Linkage}
-use Rattle.linked_world.specs.laws.ThereLaws.{was_started}
-use Rattle.vote_world.specs.Voting.{Voting, copy_number, entered, none_in, Passes}
-use Rattle.vote_world.specs.Lives.{life_in, lives_of, Backed, VotesBehind, Rests, Touches, Begins, AllStay, Goes, found_in, Leaves, AppGoes, AppBegins, Polls, IsPolled, bytes_in, what_in}
-use Rattle.vote_world.specs.laws.BackedLaws.{fresh, goes_stay, none_stay, none_less, first_second, first_third, second_third_differ}
+use Rattle.vote_world.specs.Voting.{Voting, copy_number, none_in, Passes}
+use Rattle.vote_world.specs.Lives.{life_in, lives_of, Backed, Rests, Touches, Leaves, AppGoes, Polls, IsPolled, bytes_in, what_in}
+use Rattle.vote_world.specs.laws.BackedLaws.{goes_stay, none_stay, none_less}
 
 -- ---- Other lives
 
@@ -43,17 +41,6 @@ touches_first Tells see false first x y touches = record { others = λ told n ot
 
 same_backed : (first : ℕ) (so_far then_so_far : List ℕ) (ballot : Polled) (history : List WorldStep) → then_so_far ≡ so_far → Backed first so_far ballot history → Backed first then_so_far ballot history
 same_backed first so_far then_so_far ballot history same backed = subst (λ (xs : List ℕ). Backed first xs ballot history) (sym same) backed
-
-pub stays_app : {Own W : Type 0} (Tells : Type 0) (see : W → Seen Own) (old new : Voting) (ballot : Polled) (x y : Linkage W)
-    → AllStay old.ballot ballot → new ≡ (record old { ballot = ballot }) → Rests Tells see x y → AppGoes Tells see [] old new x y
-stays_app Tells see old new ballot x y stay is rests = record {
-  first = ap (λ (v : Voting). v.first) is;
-  three = ap (λ (v : Voting). v.three) is;
-  backed = λ told three given backed.
-      subst (λ (v : Voting). Backed old.first (given ++ v.left) v.ballot (see y.links).history) (sym is)
-      (none_less old.first (given ++ old.left) ballot (see y.links).history ((goes_stay Tells see old.first old.ballot ballot x y stay rests).backed told (given ++ old.left) backed));
-  leaves = rests_leave Tells see old.three old.first x y rests;
-}
 
 shorter : (front more life : List ℕ) → Front (front ++ more) life → Front front life
 shorter front more life begins = (more ++ begins.0, begins.1 ∙ append_assoc front more begins.0)
@@ -89,67 +76,7 @@ ends_app Tells see old new x y is rests = record {
   leaves = rests_leave Tells see old.three old.first x y rests;
 }
 
-pub app_twice : {Own W : Type 0} (Tells : Type 0) (see : W → Seen Own) (a b c : Voting) (x y z : Linkage W) → AppGoes Tells see [] a b x y → AppGoes Tells see [] b c y z → AppGoes Tells see [] a c x z
-app_twice {W = W} Tells see a b c x y z one two = record {
-  first = two.first ∙ one.first;
-  three = two.three ∙ one.three;
-  backed = λ told three given backed.
-      subst (λ (n : ℕ). Backed n (given ++ c.left) c.ballot (see z.links).history) one.first
-      (two.backed told (one.three ∙ three) given (subst (λ (n : ℕ). Backed n (given ++ b.left) b.ballot (see y.links).history) (sym one.first) (one.backed told three given backed)));
-  leaves = leaves_twice Tells see a.three a.first x y z one.leaves
-      (subst (λ (n : ℕ). Leaves {W = W} Tells see a.three n y z) one.first (subst (λ (t : Bool). Leaves {W = W} Tells see t b.first y z) one.three two.leaves));
-}
-
-pub app_none : {Own W : Type 0} (Tells : Type 0) (see : W → Seen Own) (v : Voting) (d : Linkage W) → AppGoes Tells see [] v v d d
-app_none Tells see v d = record {
-  first = refl;
-  three = refl;
-  backed = λ told three given backed. backed;
-  leaves = record { others = λ told n elsewhere. refl; running = refl };
-}
-
 -- ---- A vote
-
-found_left : (found : Option (List ℕ)) → found_in (Ok found) ≡ unwrap_or found []
-found_left (Some frame) = refl
-found_left None = refl
-
-goes_leave : {Own W : Type 0} (Tells : Type 0) (see : W → Seen Own) (three : Bool) (first : ℕ) (more : List ℕ) (old new : Polled) (x y : Linkage W) → three ≡ true → Goes Tells see first more old new x y → Leaves Tells see three first x y
-goes_leave {W = W} Tells see three first more old new x y is goes =
-    subst (λ (t : Bool). Leaves {W = W} Tells see t first x y) (sym is) (record { others = λ told n apart. goes.others told n apart; running = goes.running })
-
-pub refilled_goes : {Own W : Type 0} (Tells : Type 0) (see : W → Seen Own) (old new : Voting) (ballot : Polled) (found : Option (List ℕ)) (x y : Linkage W) → old.three ≡ true → old.left ≡ []
-    → Goes Tells see old.first (found_in (Ok found)) old.ballot ballot x y → new ≡ (record old { ballot = ballot; left = unwrap_or found [] }) → AppGoes Tells see [] old new x y
-refilled_goes Tells see old new ballot found x y three none goes is = record {
-  first = ap (λ (v : Voting). v.first) is;
-  three = ap (λ (v : Voting). v.three) is;
-  backed = λ told three given backed.
-      subst (λ (v : Voting). Backed old.first (given ++ v.left) v.ballot (see y.links).history) (sym is)
-      (same_backed old.first (given ++ found_in (Ok found)) (given ++ unwrap_or found []) ballot (see y.links).history (ap (λ (xs : List ℕ). given ++ xs) (sym (found_left found)))
-      (goes.backed told given (same_backed old.first (given ++ old.left) given old.ballot (see x.links).history (sym (append-nil given) ∙ ap (λ (xs : List ℕ). given ++ xs) (sym none)) backed)));
-  leaves = goes_leave Tells see old.three old.first (found_in (Ok found)) old.ballot ballot x y three goes;
-}
-
-pub failed_goes : {Own W : Type 0} (Tells : Type 0) (see : W → Seen Own) (old new : Voting) (ballot : Polled) (x y : Linkage W) → old.three ≡ true
-    → Goes Tells see old.first [] old.ballot ballot x y → new ≡ (record old { ballot = ballot }) → AppGoes Tells see [] old new x y
-failed_goes Tells see old new ballot x y three goes is = record {
-  first = ap (λ (v : Voting). v.first) is;
-  three = ap (λ (v : Voting). v.three) is;
-  backed = λ told three given backed.
-      subst (λ (v : Voting). Backed old.first (given ++ v.left) v.ballot (see y.links).history) (sym is)
-      (none_less old.first (given ++ old.left) ballot (see y.links).history (goes.backed told (given ++ old.left) backed));
-  leaves = goes_leave Tells see old.three old.first [] old.ballot ballot x y three goes;
-}
-
--- of one copy
-pub one_goes : {Own W : Type 0} (Tells : Type 0) (see : W → Seen Own) (old new : Voting) (x y : Linkage W) → old.three ≡ false → new.first ≡ old.first → new.three ≡ old.three
-    → Leaves Tells see false old.first x y → AppGoes Tells see [] old new x y
-one_goes {W = W} Tells see old new x y one first three leaves = record {
-  first = first;
-  three = three;
-  backed = λ told is given backed. absurd (false≢true (sym one ∙ is));
-  leaves = subst (λ (t : Bool). Leaves {W = W} Tells see t old.first x y) (sym one) leaves;
-}
 
 -- ---- Taken
 
@@ -180,20 +107,6 @@ took_goes Tells see old mid new x y z (Err short) goes passes err rests =
     taken_goes Tells see [] old mid new x y z goes (ap (λ (v : Voting). v.left) err) (err ∙ ap (λ (left : List ℕ). record mid { left = left }) (sym (ap (λ (v : Voting). v.left) err))) rests
 
 -- ---- What was voted
-
-pub polls_waits : {Own W : Type 0} (Tells : Type 0) (see : W → Seen Own) (v : Voting) (x y : Linkage W) → v.left ≢ [] → IsPolled Tells see [] v v x y
-polls_waits Tells see v x y some = λ told three given backed. record { waits = λ left. (refl, refl); votes = λ none. absurd (some none); ballot = λ none. absurd (some none) }
-
-pub polls_voted : {Own W : Type 0} (Tells : Type 0) (see : W → Seen Own) (old new : Voting) (ballot : Polled) (found : Option (List ℕ)) (x y : Linkage W) → old.left ≡ []
-    → (Tells → (so_far : List ℕ) → Backed old.first so_far old.ballot (see x.links).history → VotesBehind so_far (lives_of old.first (see y.links).history) old.ballot ballot found)
-    → new ≡ (record old { ballot = ballot; left = unwrap_or found [] }) → IsPolled Tells see [] old new x y
-polls_voted Tells see old new ballot found x y none tied is = λ told three given backed.
-    let votes = tied told given (same_backed old.first (given ++ old.left) given old.ballot (see x.links).history (sym (append-nil given) ∙ ap (λ (xs : List ℕ). given ++ xs) (sym none)) backed) in
-    record {
-      waits = λ some. absurd (some none);
-      votes = λ left. ap (λ (v : Voting). v.left) is ∙ ap (λ (o : Option (List ℕ)). unwrap_or o []) votes.frame;
-      ballot = λ left. ap (λ (v : Voting). v.ballot) is ∙ votes.ballot;
-    }
 
 same_lives : {Own W : Type 0} (Tells : Type 0) (see : W → Seen Own) (first : ℕ) (y z : Linkage W) → Rests Tells see y z → Tells → lives_of first (see z.links).history ≡ lives_of first (see y.links).history
 same_lives Tells see first y z rests told =
@@ -229,66 +142,6 @@ polls_taken Tells see old mid new x y z (Ok what) polls passes rests = λ told t
 polls_taken Tells see old mid new x y z (Err short) polls passes rests = tt
 
 -- ---- A start
-
-follows_same : (life life_then : List ℕ) (old new : Given) → life_then ≡ life → new ≡ old → Follows [] life old → Follows [] life_then new
-follows_same life life_then old new same is follows in_then = same ∙ follows (ap (λ (c : Given). c.is_in) (sym is) ∙ in_then) ∙ ap (λ (c : Given). c.held) (sym is)
-
-follows_entered : (life : List ℕ) (new copy : Given) → new ≡ copy → Follows [] life copy → Follows [] life new
-follows_entered life new copy is follows = subst (λ (c : Given). Follows [] life c) (sym is) follows
-
-pub two_fresh : {Own W : Type 0} (Tells : Type 0) (see : W → Seen Own) (first : ℕ) (r1 r2 : Result Bool Short) (a b c : Polled) (x y z : Linkage W)
-    → Begins Tells see (copy_number first Second) r1 x y → b ≡ with_copy Second (entered (was_started r1)) a → Begins Tells see (copy_number first Third) r2 y z → c ≡ with_copy Third (entered (was_started r2)) b
-    → Tells → first + 2 ≤ 2 ^ 32 - 1 → Follows [] (life_in (copy_number first First) (see x.links).history) a.first → AllFollow [] (lives_of first (see z.links).history) c
-two_fresh Tells see first r1 r2 a b c x y z second is_b third is_c told few follows = record {
-  first = follows_same _ _ a.first c.first
-      (third.touches.others told (copy_number first First) (first_third first few) ∙ second.touches.others told (copy_number first First) (first_second first few))
-      (ap (λ (p : Polled). p.first) is_c ∙ ap (λ (p : Polled). p.first) is_b) follows;
-  second = follows_same _ _ b.second c.second
-      (third.touches.others told (copy_number first Second) (second_third_differ first few))
-      (ap (λ (p : Polled). p.second) is_c)
-      (follows_entered _ b.second (entered (was_started r1)) (ap (λ (p : Polled). p.second) is_b) (fresh Tells see (copy_number first Second) r1 x y second told));
-  third = follows_entered _ c.third (entered (was_started r2)) (ap (λ (p : Polled). p.third) is_c) (fresh Tells see (copy_number first Third) r2 y z third told);
-}
-
-pub all_fresh : {Own W : Type 0} (Tells : Type 0) (see : W → Seen Own) (first : ℕ) (r1 r2 : Result Bool Short) (a b c : Polled) (x y z : Linkage W)
-    → Begins Tells see (copy_number first First) r1 x y → b ≡ with_copy First (entered (was_started r1)) a
-    → OnOk r2 (Tells → first + 2 ≤ 2 ^ 32 - 1 → Follows [] (life_in (copy_number first First) (see y.links).history) b.first → AllFollow [] (lives_of first (see z.links).history) c)
-    → OnOk r2 (Tells → first + 2 ≤ 2 ^ 32 - 1 → AllFollow [] (lives_of first (see z.links).history) c)
-all_fresh Tells see first r1 (Ok started) a b c x y z one is_b rest = λ told few.
-    rest told few (follows_entered _ b.first (entered (was_started r1)) (ap (λ (p : Polled). p.first) is_b) (fresh Tells see (copy_number first First) r1 x y one told))
-all_fresh Tells see first r1 (Err short) a b c x y z one is_b rest = tt
-
-fresh_rest : {Own W : Type 0} (Tells : Type 0) (see : W → Seen Own) (first : ℕ) (ballot : Polled) (y z : Linkage W) → Rests Tells see y z → Tells
-    → AllFollow [] (lives_of first (see y.links).history) ballot → AllFollow [] (lives_of first (see z.links).history) ballot
-fresh_rest Tells see first ballot y z rests told follow = subst (λ (lives : Lives). AllFollow [] lives ballot) (sym (same_lives Tells see first y z rests told)) follow
-
-pub begun_app : {Own W : Type 0} (Tells : Type 0) (see : W → Seen Own) (old mid new : Voting) (x y z : Linkage W) → mid.first ≡ old.first → mid.three ≡ old.three → mid.left ≡ []
-    → (Tells → old.three ≡ true → old.first + 2 ≤ 2 ^ 32 - 1 → AllFollow [] (lives_of old.first (see y.links).history) mid.ballot) → Leaves Tells see old.three old.first x y
-    → (new ≡ mid) ⊎ (new ≡ (record mid { ballot = none_in; left = [] })) → Rests Tells see y z → AppBegins Tells see old new x z
-begun_app Tells see old mid new x y z first three left fresh leaves (inl is) rests = record {
-  first = ap (λ (v : Voting). v.first) is ∙ first;
-  three = ap (λ (v : Voting). v.three) is ∙ three;
-  left = ap (λ (v : Voting). v.left) is ∙ left;
-  fresh = λ told all few. subst (λ (v : Voting). AllFollow [] (lives_of old.first (see z.links).history) v.ballot) (sym is) (fresh_rest Tells see old.first mid.ballot y z rests told (fresh told all few));
-  leaves = leaves_rest Tells see old.three old.first x y z leaves rests;
-}
-begun_app Tells see old mid new x y z first three left fresh leaves (inr is) rests = record {
-  first = ap (λ (v : Voting). v.first) is ∙ first;
-  three = ap (λ (v : Voting). v.three) is ∙ three;
-  left = ap (λ (v : Voting). v.left) is;
-  fresh = λ told all few. subst (λ (v : Voting). AllFollow [] (lives_of old.first (see z.links).history) v.ballot) (sym is) (none_follow [] (lives_of old.first (see z.links).history));
-  leaves = leaves_rest Tells see old.three old.first x y z leaves rests;
-}
-
-pub failed_app : {Own W : Type 0} (Tells : Type 0) (see : W → Seen Own) (old mid new : Voting) (x y z : Linkage W) → mid.first ≡ old.first → mid.three ≡ old.three
-    → Leaves Tells see old.three old.first x y → new ≡ (record mid { ballot = none_in; left = [] }) → Rests Tells see y z → AppBegins Tells see old new x z
-failed_app Tells see old mid new x y z first three leaves is rests = record {
-  first = ap (λ (v : Voting). v.first) is ∙ first;
-  three = ap (λ (v : Voting). v.three) is ∙ three;
-  left = ap (λ (v : Voting). v.left) is;
-  fresh = λ told all few. subst (λ (v : Voting). AllFollow [] (lives_of old.first (see z.links).history) v.ballot) (sym is) (none_follow [] (lives_of old.first (see z.links).history));
-  leaves = leaves_rest Tells see old.three old.first x y z leaves rests;
-}
 
 pub leaves_three : {Own W : Type 0} (Tells : Type 0) (see : W → Seen Own) (three : Bool) (first : ℕ) (x y z : Linkage W) → three ≡ true
     → Touches Tells see (copy_number first First) x y → Leaves Tells see true first y z → Leaves Tells see three first x z

@@ -5,7 +5,7 @@ use Rattle.std.proofs.lemmas.Bool.{cases_Bool, cases_eq, false≢true}
 use Rattle.std.proofs.lemmas.List.{append-nil, drop_at}
 use Rattle.frame_votes.specs.declared.ballot.Place.{Place}
 use Rattle.frame_votes.specs.declared.ballot.Place.TheVariants.{First, Second, Third}
-use Rattle.frame_votes.specs.Votes.{Given, Polled, front_in, agreed, settled, of_two, voted, after_vote, out, with_copy}
+use Rattle.frame_votes.specs.Votes.{Given, Polled, front_in, agreed, settled, of_two, voted, after_vote, out}
 use Rattle.frame_votes.specs.laws.VoteLaws.{Follows, Lives, AllFollow, Begins as Front, TwoBegin, two_gave}
 use Rattle.outside.specs.declared.faults.Short.{Short}
 use Rattle.outside.specs.declared.step.WorldStep.{WorldStep}
@@ -114,24 +114,6 @@ all_stay p q same = record { first = inl (ap (λ (p : Polled). p.first) same); s
 
 pub stay_none : (p : Polled) → AllStay p p
 stay_none p = all_stay p p refl
-
-stays_twice : (a b c : Given) → Stays a b → Stays b c → Stays a c
-stays_twice a b c (inl one) (inl two) = inl (two ∙ one)
-stays_twice a b c (inr one) (inl two) = inr (two ∙ one)
-stays_twice a b c one (inr two) = inr two
-
-pub stay_twice : (a b c : Polled) → AllStay a b → AllStay b c → AllStay a c
-stay_twice a b c one two = record {
-  first = stays_twice a.first b.first c.first one.first two.first;
-  second = stays_twice a.second b.second c.second one.second two.second;
-  third = stays_twice a.third b.third c.third one.third two.third;
-}
-
-pub stay_at : (place : Place) (p q : Polled) → (q ≡ p) ⊎ (q ≡ with_copy place out p) → AllStay p q
-stay_at place p q (inl same) = all_stay p q same
-stay_at First p q (inr left) = record { first = inr (ap (λ (p : Polled). p.first) left); second = inl (ap (λ (p : Polled). p.second) left); third = inl (ap (λ (p : Polled). p.third) left) }
-stay_at Second p q (inr left) = record { first = inl (ap (λ (p : Polled). p.first) left); second = inr (ap (λ (p : Polled). p.second) left); third = inl (ap (λ (p : Polled). p.third) left) }
-stay_at Third p q (inr left) = record { first = inl (ap (λ (p : Polled). p.first) left); second = inl (ap (λ (p : Polled). p.second) left); third = inr (ap (λ (p : Polled). p.third) left) }
 
 pub none_stay : (p q : Polled) → q ≡ none_in → AllStay p q
 none_stay p q left = record { first = inr (ap (λ (p : Polled). p.first) left); second = inr (ap (λ (p : Polled). p.second) left); third = inr (ap (λ (p : Polled). p.third) left) }

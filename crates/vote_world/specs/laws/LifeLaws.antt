@@ -119,16 +119,6 @@ pub takes_as : {Own W : Type 0} (Tells : Type 0) (see : W → Seen Own) (copy : 
 takes_as Tells see copy old new taken is buf same call running =
     subst (λ (t : Taken). GoesOn Tells see copy (taken_in (Ok t) buf) old new) same (takes_go Tells see copy old new (Ok taken) buf call running)
 
-pub goes_on_none : {Own W : Type 0} (Tells : Type 0) (see : W → Seen Own) (copy : ℕ) (d : Linkage W) → GoesOn Tells see copy [] d d
-goes_on_none Tells see copy d = record {
-  life = λ told. sym (append-nil (life_in copy (see d.links).history));
-  touches = record { others = λ told n other. refl; running = refl };
-}
-
--- of one copy nothing is said but that it is that one
-pub touches_none : {Own W : Type 0} (Tells : Type 0) (see : W → Seen Own) (copy : ℕ) (d : Linkage W) → Touches Tells see copy d d
-touches_none Tells see copy d = record { others = λ told n other. refl; running = refl }
-
 pub touches_rest : {Own W : Type 0} (Tells : Type 0) (see : W → Seen Own) (copy : ℕ) (a b c : Linkage W) → Touches Tells see copy a b → Rests Tells see b c → Touches Tells see copy a c
 touches_rest Tells see copy a b c touches rests = record { others = λ told n other. rests.lives told n ∙ touches.others told n other; running = rests.running ∙ touches.running }
 

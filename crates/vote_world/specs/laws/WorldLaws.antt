@@ -14,6 +14,7 @@ use Rattle.outside.specs.declared.faults.Short.{Short}
 use Rattle.outside.specs.declared.step.WorldStep.{WorldStep}
 use Rattle.outside.specs.Seen.{Seen}
 use Rattle.linked_world.specs.Linked.{Linkage, seen_of, running_after, running_without, in_place}
+use Rattle.linked_world.specs.laws.ThereLaws.{none_runs}
 use Rattle.linked_world.specs.Still.{Still, Shorted}
 use Rattle.vote_world.specs.Voting.{Voting, copy_number, copies_in, numbered}
 use Rattle.vote_world.specs.Lives.{life_in, lives_of, Backed, Rests, Elsewhere, Leaves, AppGoes, AppBegins, Polls, IsPolled, bytes_in, taken_in}
@@ -358,11 +359,6 @@ began_keeps {W = W} Tells see app x y old new at_app none own idle =
     moves_keep Tells see app x y old new (at_moves Tells see app x y old new leaving none own)
     (λ told are here. idle_here see app y new (ap (is_among app) (at_running Tells see app x y old new leaving none) ∙ idle))
 
-pub began_running : {Own W : Type 0} (Tells : Type 0) (see : W → Seen Own) (app : ℕ) (x y : Linkage W) (old new : List Voting) → CopiesAt (λ o n. AppBegins Tells see o n x y) app old new
-    → (slice_get old app ≡ None → Rests Tells see x y) → y.running ≡ x.running
-began_running {W = W} Tells see app x y old new at_app none =
-    at_running Tells see app x y old new (at_weaker (λ o n. AppBegins {W = W} Tells see o n x y) (λ o n. Leaving {W = W} Tells see x y o n) app old new (λ o n begins. begins_leaving Tells see x y o n begins) at_app) none
-
 pub began_fresh : {Own W : Type 0} (Tells : Type 0) (see : W → Seen Own) (app : ℕ) (x y : Linkage W) (old new : List Voting) → CopiesAt (λ o n. AppBegins Tells see o n x y) app old new
     → AreNumbered old → Tells → IsFresh see app y new
 began_fresh {W = W} Tells see app x y old new at_app are told = λ v is three. elim (found_at (λ o n. AppBegins {W = W} Tells see o n x y) app old new at_app) [
@@ -409,13 +405,6 @@ started_keeps Tells see app x y copies (Err fault) seen links running fresh = li
 
 -- ---- An end
 
-none_among : (app : ℕ) (xs : List ℕ) → is_among app (running_without app xs) ≡ false
-none_among app [] = refl
-none_among app (a ∷ rest) = elim (cases_Bool (a == app)) [
-  | inl here ↦ rw here (none_among app rest)
-  | inr kept ↦ rw kept (rw kept (none_among app rest))
-]
-
 among_more : (i app : ℕ) (xs : List ℕ) → is_among i (running_without app xs) ≡ true → is_among i xs ≡ true
 among_more i app [] is = is
 among_more i app (a ∷ rest) is = elim (cases_Bool (a == i)) [
@@ -436,7 +425,7 @@ ended_keeps Tells see app x y copies seen links running =
       inner = λ told n away. same_links Tells see x y links told n;
       own = λ told i differ. ends_same Tells app _ _ seen told i;
       running = λ i differ runs. among_more i app x.running (sym (ap (is_among i) running) ∙ runs);
-    }) (λ told are here. idle_here see app y copies (ap (is_among app) running ∙ none_among app x.running))
+    }) (λ told are here. idle_here see app y copies (ap (is_among app) running ∙ none_runs app x.running))
 
 -- ---- Bytes taken
 
