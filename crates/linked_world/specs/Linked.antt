@@ -1,6 +1,6 @@
 -- A world whose switches are those of another world, and whose applications are its own: what is seen of it is woven of the history of
 -- the other world and of notes, each the step of an application and the other world as it stood then. All of this is our own choice.
-use Rattle.std.specs.Prelude.{◌≡◌, ◌==◌, ℕ, ◌+◌, ◌-◌, ◌^◌, ◌≤◌, Bool, true, false, not, List, [], ◌∷◌, ◌++◌, map, filter, drop, length, min, Option, Some, Result, Ok, Err, IsTrue, slice_get, if◌then◌else◌}
+use Rattle.std.specs.Prelude.{◌≡◌, ◌==◌, ℕ, ◌+◌, ◌-◌, ◌^◌, ◌≤◌, Bool, true, false, not, List, [], ◌∷◌, ◌++◌, map, filter, drop, length, min, Some, Result, Ok, Err, IsTrue, slice_get, if◌then◌else◌}
 use Rattle.lego_io.specs.Count.{raised}
 use Rattle.of_types.specs.declared.journal.Act.{Act}
 use Rattle.of_types.specs.declared.journal.Act.TheVariants.{Started, Gave, Gone, Took, Ended}

@@ -9,6 +9,7 @@ ghost use Rattle.outside.specs.Conforming.{Conforming};
 ghost use Rattle.outside.specs.Calls.{most_message, Opens, Nexts, Starts, Gives, Takes, Ends, Sends, Receives, take_steps};
 ghost use Rattle.outside.specs.State.{state, is_running};
 ghost use Rattle.linked_world.specs.Still.{Still, Shorted, Tried, give_answer};
+ghost use Rattle.linked_world.specs.laws.ThereLaws.{Restarts};
 ghost use Rattle.linked_world.specs.Linked.{seen_of, running_after, running_without, IsTakeable, in_place};
 
 use crate::counts::CallCounts;
@@ -95,6 +96,7 @@ impl<W: World> Linked<W> {
     /// Opens the other world.
     pub fn open(&mut self, port: u16) -> Result<(), OpenFault>
         ensures seen { Opens W.Tells (seen_of W.seen self.old) (seen_of W.seen self.new) result }
+        ensures call { Opens W.Tells (W.seen self.old.links) (W.seen self.new.links) result }
         ensures running { self.new.running ≡ self.old.running }
     {
         self.parts.open(port)
@@ -104,6 +106,7 @@ impl<W: World> Linked<W> {
     pub fn next(&mut self, buf: &mut [u8]) -> Result<Item, NextFault>
         requires { most_message ≤ length buf.old }
         ensures seen { Nexts W.Tells (seen_of W.seen self.old) (seen_of W.seen self.new) result buf.new }
+        ensures call { Nexts W.Tells (W.seen self.old.links) (W.seen self.new.links) result buf.new }
         ensures running { self.new.running ≡ self.old.running }
     {
         self.parts.next(buf)
@@ -113,6 +116,7 @@ impl<W: World> Linked<W> {
     pub fn send(&mut self, dpid: Dpid, frame: &[u8]) -> Result<(), LinkFault>
         requires { IsOk (reading_of frame.now) }
         ensures seen { Sends W.Tells dpid frame.now (seen_of W.seen self.old) (seen_of W.seen self.new) result }
+        ensures call { Sends W.Tells dpid frame.now (W.seen self.old.links) (W.seen self.new.links) result }
         ensures running { self.new.running ≡ self.old.running }
     {
         self.parts.send(dpid, frame)
@@ -122,6 +126,7 @@ impl<W: World> Linked<W> {
     pub fn recv(&mut self, dpid: Dpid, buf: &mut [u8]) -> Result<usize, LinkFault>
         requires { most_message ≤ length buf.old }
         ensures seen { Receives W.Tells dpid (seen_of W.seen self.old) (seen_of W.seen self.new) result buf.new }
+        ensures call { Receives W.Tells dpid (W.seen self.old.links) (W.seen self.new.links) result buf.new }
         ensures running { self.new.running ≡ self.old.running }
     {
         self.parts.recv(dpid, buf)
@@ -137,7 +142,9 @@ impl<W: World> Linked<W> {
 
     /// Counts want of memory in a call of an application.
     pub fn want_memory(&mut self) -> Short
-        ensures { Shorted W.Tells (seen_of W.seen self.old) (seen_of W.seen self.new) }
+        ensures seen { Shorted W.Tells (seen_of W.seen self.old) (seen_of W.seen self.new) }
+        ensures links { self.new.links ≡ self.old.links }
+        ensures running { self.new.running ≡ self.old.running }
     {
         self.parts.want_memory(false);
         Short
@@ -161,7 +168,9 @@ impl<W: World> Linked<W> {
     /// seen of it here.
     pub fn start_there(&mut self, app: u32, words: &[String]) -> Result<bool, Short>
         requires { app < length self.old.inside }
-        ensures { Tried W.Tells result (seen_of W.seen self.old) (seen_of W.seen self.new) }
+        ensures seen { Tried W.Tells result (seen_of W.seen self.old) (seen_of W.seen self.new) }
+        ensures call { Restarts W.Tells app (W.seen self.old.links) (W.seen self.new.links) result }
+        ensures running { self.new.running ≡ self.old.running }
     {
         self.parts.start_there(app, words)
     }
@@ -171,6 +180,7 @@ impl<W: World> Linked<W> {
         requires { slice_get self.old.inside app ≡ Some true }
         ensures seen { Tried W.Tells result (seen_of W.seen self.old) (seen_of W.seen self.new) }
         ensures call { Gives W.Tells app bytes.now (W.seen self.old.links) (W.seen self.new.links) (give_answer result) }
+        ensures running { self.new.running ≡ self.old.running }
     {
         self.parts.give_there(app, bytes)
     }
@@ -181,13 +191,16 @@ impl<W: World> Linked<W> {
         requires room { 0 < length buf.old }
         ensures seen { Tried W.Tells result (seen_of W.seen self.old) (seen_of W.seen self.new) }
         ensures call { Takes W.Tells app (W.seen self.old.links) (W.seen self.new.links) result buf.new }
+        ensures running { self.new.running ≡ self.old.running }
     {
         self.parts.take_there(app, buf)
     }
 
     /// Ends an application of the other world, if it runs. Nothing is seen of it here.
     pub fn end_there(&mut self, app: u32)
-        ensures { Still W.Tells (seen_of W.seen self.old) (seen_of W.seen self.new) }
+        ensures seen { Still W.Tells (seen_of W.seen self.old) (seen_of W.seen self.new) }
+        ensures call { Ends W.Tells app (W.seen self.old.links) (W.seen self.new.links) }
+        ensures running { self.new.running ≡ self.old.running }
     {
         self.parts.end_there(app);
     }
@@ -196,6 +209,7 @@ impl<W: World> Linked<W> {
     pub fn start(&mut self, app: u32, ready: bool) -> Result<(), StartFault>
         ensures seen { Starts W.Tells app (seen_of W.seen self.old) (seen_of W.seen self.new) result }
         ensures running { self.new.running ≡ running_after app result self.old.running }
+        ensures links { self.new.links ≡ self.old.links }
         ensures ok { IsOk result → (ready && not (is_among app self.old.running)) ≡ true }
         ensures refused { IsErrOf result StartFault.NotStarted → (ready && not (is_among app self.old.running)) ≡ false }
     {
@@ -206,6 +220,7 @@ impl<W: World> Linked<W> {
     pub fn give(&mut self, app: u32, bytes: &[u8], takes: bool) -> Result<(), GiveFault>
         ensures seen { Gives W.Tells app bytes.now (seen_of W.seen self.old) (seen_of W.seen self.new) result }
         ensures running { self.new.running ≡ self.old.running }
+        ensures links { self.new.links ≡ self.old.links }
         ensures ok { IsOk result → (takes && is_among app self.old.running) ≡ true }
         ensures gone { IsErrOf result GiveFault.Gone → (takes && is_among app self.old.running) ≡ false }
     {
@@ -218,6 +233,7 @@ impl<W: World> Linked<W> {
         requires { IsTakeable what (length buf.old) }
         ensures seen { Takes W.Tells app (seen_of W.seen self.old) (seen_of W.seen self.new) (Ok result) buf.new }
         ensures running { self.new.running ≡ self.old.running }
+        ensures links { self.new.links ≡ self.old.links }
         ensures what { take_steps app (Ok result) buf.new ≡ TookInto app (in_place (is_among app self.old.running) what) (length buf.new) ∷ [] }
     {
         self.parts.take(app, what, buf)
@@ -227,6 +243,7 @@ impl<W: World> Linked<W> {
     pub fn take_short(&mut self, app: u32) -> Short
         ensures seen { (buf : List ℕ) → Takes W.Tells app (seen_of W.seen self.old) (seen_of W.seen self.new) (Err result) buf }
         ensures running { self.new.running ≡ self.old.running }
+        ensures links { self.new.links ≡ self.old.links }
     {
         self.parts.take_short(app)
     }
@@ -235,6 +252,7 @@ impl<W: World> Linked<W> {
     pub fn end(&mut self, app: u32)
         ensures seen { Ends W.Tells app (seen_of W.seen self.old) (seen_of W.seen self.new) }
         ensures running { self.new.running ≡ running_without app self.old.running }
+        ensures links { self.new.links ≡ self.old.links }
     {
         self.parts.end(app);
     }

@@ -1,2 +1,4 @@
 pub mod Voting
+pub mod Lives
+pub mod World
 pub mod laws

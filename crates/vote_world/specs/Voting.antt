@@ -65,7 +65,7 @@ pub record Refilled (old new : Voting) : Type 0 where
 
 -- The front of what is there is given; where nothing is there, that the end is closed, or of one copy that it is silent.
 abbrev pub Passes : Voting → Voting → TookWhat → Type 0
-Passes old new (Bytes bytes) = (old.left ≡ bytes ++ new.left) × (new.ballot ≡ old.ballot)
+Passes old new (Bytes bytes) = (old.left ≡ bytes ++ new.left) × (new ≡ (record old { left = new.left }))
 Passes old new Closed = (old.left ≡ []) × (new ≡ old)
 Passes old new Silent = (old.left ≡ []) × (new ≡ old)
 

@@ -1,1 +1,6 @@
 pub mod VotingLaws
+pub mod LifeLaws
+pub mod BackedLaws
+pub mod AppLaws
+pub mod StepLaws
+pub mod WorldLaws

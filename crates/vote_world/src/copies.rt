@@ -1,10 +1,13 @@
 //! An application that has copies in another world.
 
-ghost use Rattle.std.specs.Prelude.{◌≡◌, ◌≢◌, ◌<◌, ◌≤◌, [], length, drop, true, false, IfOk, OnOk};
+ghost use Rattle.std.specs.Prelude.{◌≡◌, ◌≢◌, ◌<◌, ◌≤◌, ◌+◌, ◌-◌, ◌^◌, ◌⊎◌, ℕ, List, [], length, drop, true, false, IfOk, OnOk, OnErr};
 ghost use Rattle.std.specs.Option.{unwrap_or};
 ghost use Rattle.linked_world.specs.Linked.{seen_of, IsTakeable};
 ghost use Rattle.linked_world.specs.Still.{Still, Tried};
-ghost use Rattle.vote_world.specs.Voting.{none_in, two_in, is_enough, IsNothing, Votes, Refilled, Passes, Took};
+ghost use Rattle.frame_votes.specs.declared.ballot.Place.TheVariants.{First};
+ghost use Rattle.frame_votes.specs.laws.VoteLaws.{Follows, AllFollow};
+ghost use Rattle.vote_world.specs.Lives.{life_in, lives_of, Rests, AllStay, Leaves, AppGoes, AppBegins, IsPolled, bytes_in, what_in};
+ghost use Rattle.vote_world.specs.Voting.{copy_number, none_in, two_in, is_enough, IsNothing, Votes, Refilled, Passes, Took};
 
 use crate::copy::{end_copy, give_copy, start_copy};
 use crate::polling::{next_vote, piece_of};
@@ -58,7 +61,9 @@ fn start_two<W: World>(
     ballot: &mut Ballot,
     words: &[String],
 ) -> Result<bool, Short>
-    ensures { Tried W.Tells result (seen_of W.seen linked.old) (seen_of W.seen linked.new) }
+    ensures seen { Tried W.Tells result (seen_of W.seen linked.old) (seen_of W.seen linked.new) }
+    ensures fresh { OnOk result (W.Tells → first + 2 ≤ 2 ^ 32 - 1 → Follows [] (life_in (copy_number first First) (W.seen linked.old.links).history) ballot.old.first → AllFollow [] (lives_of first (W.seen linked.new.links).history) ballot.new) }
+    ensures leaves { Leaves W.Tells W.seen true first linked.old linked.new }
 {
     match start_copy(linked, first, ballot, Place::Second, words) {
         Ok(_) => start_copy(linked, first, ballot, Place::Third, words),
@@ -75,7 +80,9 @@ fn start_all<W: World>(
     ballot: &mut Ballot,
     words: &[String],
 ) -> Result<bool, Short>
-    ensures { Tried W.Tells result (seen_of W.seen linked.old) (seen_of W.seen linked.new) }
+    ensures seen { Tried W.Tells result (seen_of W.seen linked.old) (seen_of W.seen linked.new) }
+    ensures fresh { three ≡ true → OnOk result (W.Tells → first + 2 ≤ 2 ^ 32 - 1 → AllFollow [] (lives_of first (W.seen linked.new.links).history) ballot.new) }
+    ensures leaves { Leaves W.Tells W.seen three first linked.old linked.new }
 {
     let started = start_copy(linked, first, ballot, Place::First, words);
     if !three {
@@ -95,7 +102,9 @@ fn give_two<W: World>(
     ballot: &mut Ballot,
     bytes: &[u8],
 ) -> Result<(), Short>
-    ensures { Tried W.Tells result (seen_of W.seen linked.old) (seen_of W.seen linked.new) }
+    ensures seen { Tried W.Tells result (seen_of W.seen linked.old) (seen_of W.seen linked.new) }
+    ensures rests { Rests W.Tells W.seen linked.old linked.new }
+    ensures stay { AllStay ballot.old ballot.new }
 {
     match give_copy(linked, first, ballot, Place::Second, bytes) {
         Ok(()) => give_copy(linked, first, ballot, Place::Third, bytes),
@@ -111,7 +120,9 @@ fn give_all<W: World>(
     ballot: &mut Ballot,
     bytes: &[u8],
 ) -> Result<(), Short>
-    ensures { Tried W.Tells result (seen_of W.seen linked.old) (seen_of W.seen linked.new) }
+    ensures seen { Tried W.Tells result (seen_of W.seen linked.old) (seen_of W.seen linked.new) }
+    ensures rests { Rests W.Tells W.seen linked.old linked.new }
+    ensures stay { AllStay ballot.old ballot.new }
 {
     match give_copy(linked, first, ballot, Place::First, bytes) {
         Ok(()) => give_two(linked, first, ballot, bytes),
@@ -122,6 +133,7 @@ fn give_all<W: World>(
 /// Ends the copies that are in.
 fn end_all<W: World>(linked: &mut Linked<W>, first: u32, ballot: &mut Ballot)
     ensures seen { Still W.Tells (seen_of W.seen linked.old) (seen_of W.seen linked.new) }
+    ensures rests { Rests W.Tells W.seen linked.old linked.new }
     ensures ballot { ballot.new ≡ none_in }
 {
     end_copy(linked, first, ballot, Place::First);
@@ -171,19 +183,31 @@ impl Copies {
         }
     }
 
+    /// Nothing is left to be taken.
+    fn clear(&mut self)
+        ensures { self.new ≡ record self.old { left = [] } }
+    {
+        self.taken = self.voted.len();
+    }
+
     /// Ends the copies that are in; nothing is left to be taken.
+    #[tactic(auto, using(crate::specs::laws::AppLaws::ends_app))]
     pub(crate) fn end<W: World>(&mut self, linked: &mut Linked<W>)
         ensures seen { Still W.Tells (seen_of W.seen linked.old) (seen_of W.seen linked.new) }
+        ensures rests { Rests W.Tells W.seen linked.old linked.new }
+        ensures goes { AppGoes W.Tells W.seen [] self.old self.new linked.old linked.new }
         ensures ended { self.new ≡ record self.old { ballot = none_in; left = [] } }
     {
         end_all(linked, self.first, &mut self.ballot);
-        self.taken = self.voted.len();
+        self.clear();
     }
 
     /// Ends the copies unless enough are in, and tells whether they are.
     #[tactic(auto, using(linked_world::specs::laws::StillLaws::still_none))]
     fn end_unless_enough<W: World>(&mut self, linked: &mut Linked<W>) -> bool
         ensures seen { Still W.Tells (seen_of W.seen linked.old) (seen_of W.seen linked.new) }
+        ensures rests { Rests W.Tells W.seen linked.old linked.new }
+        ensures ended { (self.new ≡ self.old) ⊎ (self.new ≡ record self.old { ballot = none_in; left = [] }) }
         ensures enough { result ≡ is_enough self.new }
     {
         let enough = self.is_enough();
@@ -201,9 +225,10 @@ impl Copies {
         words: &[String],
     ) -> Result<bool, Short>
         ensures seen { Tried W.Tells result (seen_of W.seen linked.old) (seen_of W.seen linked.new) }
+        ensures begins { AppBegins W.Tells W.seen self.old self.new linked.old linked.new }
         ensures enough { IfOk result (λ enough. enough ≡ is_enough self.new) }
     {
-        self.taken = self.voted.len();
+        self.clear();
         match start_all(linked, self.first, self.three, &mut self.ballot, words) {
             Ok(_) => Ok(self.end_unless_enough(linked)),
             Err(short) => {
@@ -221,6 +246,8 @@ impl Copies {
         bytes: &[u8],
     ) -> Result<bool, Short>
         ensures seen { Tried W.Tells result (seen_of W.seen linked.old) (seen_of W.seen linked.new) }
+        ensures goes { AppGoes W.Tells W.seen [] self.old self.new linked.old linked.new }
+        ensures stay { AllStay self.old.ballot self.new.ballot }
         ensures enough { IfOk result (λ enough. enough ≡ is_enough self.new) }
     {
         match give_all(linked, self.first, &mut self.ballot, bytes) {
@@ -249,6 +276,8 @@ impl Copies {
     ) -> Result<TookWhat, Short>
         requires { 0 < length buf.old }
         ensures seen { Tried W.Tells result (seen_of W.seen linked.old) (seen_of W.seen linked.new) }
+        ensures leaves { Leaves W.Tells W.seen false self.old.first linked.old linked.new }
+        ensures first { self.new.first ≡ self.old.first }
         ensures three { self.new.three ≡ self.old.three }
         ensures nothing { IfOk result (λ what. IsNothing what) }
     {
@@ -274,6 +303,8 @@ impl Copies {
         requires { 0 < length buf.old }
         ensures seen { Tried W.Tells result (seen_of W.seen linked.old) (seen_of W.seen linked.new) }
         ensures three { self.new.three ≡ self.old.three }
+        ensures goes { self.old.three ≡ true → self.old.left ≡ [] → AppGoes W.Tells W.seen [] self.old self.new linked.old linked.new }
+        ensures polls { self.old.left ≡ [] → OnOk result (IsPolled W.Tells W.seen [] self.old self.new linked.old linked.new) }
         ensures votes { OnOk result (Votes self.old self.new) }
     {
         match next_vote(linked, self.first, &mut self.ballot, buf) {
@@ -310,6 +341,8 @@ impl Copies {
     ) -> Result<TookWhat, Short>
         requires { 0 < length buf.old }
         ensures seen { Tried W.Tells result (seen_of W.seen linked.old) (seen_of W.seen linked.new) }
+        ensures goes { AppGoes W.Tells W.seen [] self.old self.new linked.old linked.new }
+        ensures polls { OnOk result (IsPolled W.Tells W.seen [] self.old self.new linked.old linked.new) }
         ensures refilled { OnOk result (Refilled self.old self.new) }
         ensures nothing { IfOk result (λ what. IsNothing what) }
         ensures three { self.old.three ≡ true → IfOk result (λ what. what ≡ TookWhat.Closed) }
@@ -345,6 +378,7 @@ impl Copies {
         requires room { 0 < room }
         requires nothing { IsNothing nothing }
         ensures passes { IfOk result (λ what. Passes self.old self.new what) }
+        ensures err { OnErr result (self.new ≡ self.old) }
         ensures takeable { IfOk result (λ what. IsTakeable what room) }
         ensures three { nothing ≡ TookWhat.Closed → IfOk result (λ what. what ≢ TookWhat.Silent) }
     {
@@ -370,6 +404,8 @@ impl Copies {
         requires room { 0 < room }
         requires nothing { IsNothing nothing }
         ensures seen { Tried W.Tells result (seen_of W.seen linked.old) (seen_of W.seen linked.new) }
+        ensures rests { Rests W.Tells W.seen linked.old linked.new }
+        ensures err { OnErr result (self.new ≡ self.old) }
         ensures passes { IfOk result (λ what. Passes self.old self.new what) }
         ensures takeable { IfOk result (λ what. IsTakeable what room) }
         ensures three { nothing ≡ TookWhat.Closed → IfOk result (λ what. what ≢ TookWhat.Silent) }
@@ -390,6 +426,8 @@ impl Copies {
     ) -> Result<TookWhat, Short>
         requires { 0 < length buf.old }
         ensures seen { Tried W.Tells result (seen_of W.seen linked.old) (seen_of W.seen linked.new) }
+        ensures goes { AppGoes W.Tells W.seen (what_in result) self.old self.new linked.old linked.new }
+        ensures polls { IfOk result (λ what. IsPolled W.Tells W.seen (bytes_in what) self.old self.new linked.old linked.new) }
         ensures took { IfOk result (λ what. Took self.old self.new what) }
         ensures takeable { IfOk result (λ what. IsTakeable what (length buf.new)) }
     {

@@ -6,6 +6,7 @@ ghost use Rattle.linked_world.specs.Linked.{seen_of};
 ghost use Rattle.linked_world.specs.Still.{Still, Tried};
 ghost use Rattle.linked_world.specs.laws.ThereLaws.{was_started};
 ghost use Rattle.vote_world.specs.Voting.{copy_number, entered};
+ghost use Rattle.vote_world.specs.Lives.{Rests, Begins};
 
 use frame_votes::{Ballot, Place};
 use linked_world::Linked;
@@ -23,9 +24,10 @@ pub(crate) fn copy_number(first: u32, place: Place) -> u32
 }
 
 /// Starts a copy, if there is room for it.
-#[tactic(auto, using(linked_world::specs::laws::StillLaws::still_none))]
+#[tactic(auto, using(linked_world::specs::laws::StillLaws::still_none, crate::specs::laws::LifeLaws::begins_none))]
 fn start<W: World>(linked: &mut Linked<W>, copy: u32, words: &[String]) -> Result<bool, Short>
-    ensures { Tried W.Tells result (seen_of W.seen linked.old) (seen_of W.seen linked.new) }
+    ensures seen { Tried W.Tells result (seen_of W.seen linked.old) (seen_of W.seen linked.new) }
+    ensures begins { Begins W.Tells W.seen copy result linked.old linked.new }
 {
     if linked.has_place(copy) {
         linked.start_there(copy, words)
@@ -54,6 +56,7 @@ pub(crate) fn start_copy<W: World>(
     words: &[String],
 ) -> Result<bool, Short>
     ensures seen { Tried W.Tells result (seen_of W.seen linked.old) (seen_of W.seen linked.new) }
+    ensures begins { Begins W.Tells W.seen (copy_number first place) result linked.old linked.new }
     ensures ballot { ballot.new ≡ with_copy place (entered (was_started result)) ballot.old }
 {
     let started = start(linked, copy_number(first, place), words);
@@ -62,9 +65,10 @@ pub(crate) fn start_copy<W: World>(
 }
 
 /// Ends a copy, if it is in.
-#[tactic(auto, using(linked_world::specs::laws::StillLaws::still_none))]
+#[tactic(auto, using(linked_world::specs::laws::StillLaws::still_none, crate::specs::laws::LifeLaws::rests_none))]
 fn end_if<W: World>(linked: &mut Linked<W>, copy: u32, is_in: bool)
-    ensures { Still W.Tells (seen_of W.seen linked.old) (seen_of W.seen linked.new) }
+    ensures seen { Still W.Tells (seen_of W.seen linked.old) (seen_of W.seen linked.new) }
+    ensures rests { Rests W.Tells W.seen linked.old linked.new }
 {
     if is_in {
         linked.end_there(copy);
@@ -79,6 +83,7 @@ pub(crate) fn end_copy<W: World>(
     place: Place,
 )
     ensures seen { Still W.Tells (seen_of W.seen linked.old) (seen_of W.seen linked.new) }
+    ensures rests { Rests W.Tells W.seen linked.old linked.new }
     ensures ballot { ballot.new ≡ with_copy place out ballot.old }
 {
     end_if(linked, copy_number(first, place), ballot.is_in(place));
@@ -86,9 +91,10 @@ pub(crate) fn end_copy<W: World>(
 }
 
 /// Gives bytes to a copy, if it runs, and tells whether it was given them.
-#[tactic(auto, using(linked_world::specs::laws::StillLaws::still_none))]
+#[tactic(auto, using(linked_world::specs::laws::StillLaws::still_none, crate::specs::laws::LifeLaws::rests_none))]
 fn give<W: World>(linked: &mut Linked<W>, copy: u32, bytes: &[u8]) -> Result<bool, Short>
-    ensures { Tried W.Tells result (seen_of W.seen linked.old) (seen_of W.seen linked.new) }
+    ensures seen { Tried W.Tells result (seen_of W.seen linked.old) (seen_of W.seen linked.new) }
+    ensures rests { Rests W.Tells W.seen linked.old linked.new }
 {
     if linked.runs_there(copy) {
         linked.give_there(copy, bytes)
@@ -98,7 +104,7 @@ fn give<W: World>(linked: &mut Linked<W>, copy: u32, bytes: &[u8]) -> Result<boo
 }
 
 /// Gives bytes to a copy, if it is in; one that is gone is out.
-#[tactic(auto, using(linked_world::specs::laws::StillLaws::still_none, linked_world::specs::laws::StillLaws::still_twice))]
+#[tactic(auto, using(linked_world::specs::laws::StillLaws::still_none, linked_world::specs::laws::StillLaws::still_twice, crate::specs::laws::LifeLaws::rests_none, crate::specs::laws::LifeLaws::rests_twice))]
 pub(crate) fn give_copy<W: World>(
     linked: &mut Linked<W>,
     first: u32,
@@ -107,6 +113,7 @@ pub(crate) fn give_copy<W: World>(
     bytes: &[u8],
 ) -> Result<(), Short>
     ensures seen { Tried W.Tells result (seen_of W.seen linked.old) (seen_of W.seen linked.new) }
+    ensures rests { Rests W.Tells W.seen linked.old linked.new }
     ensures ballot { (ballot.new ≡ ballot.old) ⊎ (ballot.new ≡ with_copy place out ballot.old) }
 {
     if !ballot.is_in(place) {

@@ -1,10 +1,11 @@
 //! What copies give, and the vote.
 
-ghost use Rattle.std.specs.Prelude.{◌≡◌, ◌<◌, ◌≤◌, ◌++◌, length, true, false, IfOk, OnOk, IfSome};
+ghost use Rattle.std.specs.Prelude.{◌≡◌, ◌<◌, ◌≤◌, ◌++◌, ℕ, List, [], length, true, false, IfOk, OnOk, OnErr, IfSome};
 ghost use Rattle.frame_votes.specs.Votes.{voted, after_vote};
 ghost use Rattle.linked_world.specs.Linked.{seen_of};
 ghost use Rattle.linked_world.specs.Still.{Still, Tried};
-ghost use Rattle.vote_world.specs.Voting.{HearsAt, Heard, VotesTo};
+ghost use Rattle.vote_world.specs.Voting.{copy_number, HearsAt, Heard, VotesTo};
+ghost use Rattle.vote_world.specs.Lives.{lives_of, Backed, VotesBehind, Rests, Touches, GoesOn, piece_in, Keeps, Goes, found_in};
 
 use crate::copy::{copy_number, end_copy};
 use frame_votes::{Ballot, Place};
@@ -23,13 +24,15 @@ fn piece<W: World>(
     requires { 0 < length buf.old }
     ensures seen { Tried W.Tells result (seen_of W.seen linked.old) (seen_of W.seen linked.new) }
     ensures within { IfOk result (λ found. IfSome found (λ n. n ≤ length buf.new)) }
+    ensures goes { GoesOn W.Tells W.seen copy (piece_in result buf.new) linked.old linked.new }
 {
     if !linked.runs_there(copy) {
         return Ok(None);
     }
     match linked.take_there(copy, buf) {
         Ok(Taken::Some(n)) => Ok(Some(n)),
-        Ok(Taken::Closed | Taken::Silent) => Ok(None),
+        Ok(Taken::Closed) => Ok(None),
+        Ok(Taken::Silent) => Ok(None),
         Err(short) => Err(short),
     }
 }
@@ -43,7 +46,8 @@ pub(crate) fn piece_of<W: World>(
     buf: &mut [u8],
 ) -> Result<TookWhat, Short>
     requires { 0 < length buf.old }
-    ensures { Tried W.Tells result (seen_of W.seen linked.old) (seen_of W.seen linked.new) }
+    ensures seen { Tried W.Tells result (seen_of W.seen linked.old) (seen_of W.seen linked.new) }
+    ensures touches { Touches W.Tells W.seen copy linked.old linked.new }
 {
     if !linked.runs_there(copy) {
         return Ok(TookWhat::Closed);
@@ -64,7 +68,8 @@ fn bytes_of<W: World>(
     copy: u32,
     bytes: &[u8],
 ) -> Result<TookWhat, Short>
-    ensures { Tried W.Tells result (seen_of W.seen linked.old) (seen_of W.seen linked.new) }
+    ensures seen { Tried W.Tells result (seen_of W.seen linked.old) (seen_of W.seen linked.new) }
+    ensures rests { Rests W.Tells W.seen linked.old linked.new }
 {
     match ByteList::from_slice(alloc, bytes) {
         Ok(bytes) => Ok(TookWhat::Bytes(bytes)),
@@ -85,6 +90,8 @@ fn keep<W: World>(
     bytes: &[u8],
 ) -> Result<bool, Short>
     ensures seen { Tried W.Tells result (seen_of W.seen linked.old) (seen_of W.seen linked.new) }
+    ensures rests { Rests W.Tells W.seen linked.old linked.new }
+    ensures keeps { Keeps place bytes.now ballot.old ballot.new }
     ensures heard { OnOk result (HearsAt place ballot.old ballot.new) }
 {
     match ballot.hold(place, bytes) {
@@ -108,6 +115,7 @@ fn hear<W: World>(
     requires { 0 < length buf.old }
     ensures seen { Tried W.Tells result (seen_of W.seen linked.old) (seen_of W.seen linked.new) }
     ensures heard { OnOk result (HearsAt place ballot.old ballot.new) }
+    ensures goes { Goes W.Tells W.seen first [] ballot.old ballot.new linked.old linked.new }
 {
     match piece(linked, copy_number(first, place), buf) {
         Ok(Some(n)) => keep(linked, first, ballot, place, &buf[..n]),
@@ -119,7 +127,8 @@ fn hear<W: World>(
 /// Tells whether more is awaited of a copy.
 #[tactic(auto, using(linked_world::specs::laws::StillLaws::still_none))]
 fn awaits<W: World>(linked: &mut Linked<W>, ballot: &Ballot, place: Place) -> Result<bool, Short>
-    ensures { Tried W.Tells result (seen_of W.seen linked.old) (seen_of W.seen linked.new) }
+    ensures seen { Tried W.Tells result (seen_of W.seen linked.old) (seen_of W.seen linked.new) }
+    ensures rests { Rests W.Tells W.seen linked.old linked.new }
 {
     match ballot.awaits(place) {
         Ok(awaited) => Ok(awaited),
@@ -139,6 +148,7 @@ fn hear_more<W: World>(
     requires { 0 < length buf.old }
     ensures seen { Tried W.Tells result (seen_of W.seen linked.old) (seen_of W.seen linked.new) }
     ensures heard { OnOk result (HearsAt place ballot.old ballot.new) }
+    ensures goes { Goes W.Tells W.seen first [] ballot.old ballot.new linked.old linked.new }
 {
     match awaits(linked, ballot, place) {
         Ok(true) => hear(linked, first, ballot, place, buf),
@@ -158,6 +168,7 @@ fn poll<W: World>(
     requires { 0 < length buf.old }
     ensures seen { Tried W.Tells result (seen_of W.seen linked.old) (seen_of W.seen linked.new) }
     ensures heard { OnOk result (HearsAt place ballot.old ballot.new) }
+    ensures goes { Goes W.Tells W.seen first [] ballot.old ballot.new linked.old linked.new }
 {
     for _piece in 0..u64::MAX {
         match hear_more(linked, first, ballot, place, buf) {
@@ -181,6 +192,7 @@ fn poll_two<W: World>(
     ensures seen { Tried W.Tells result (seen_of W.seen linked.old) (seen_of W.seen linked.new) }
     ensures first { OnOk result (ballot.new.first ≡ ballot.old.first) }
     ensures heard { OnOk result (Heard ballot.old ballot.new) }
+    ensures goes { Goes W.Tells W.seen first [] ballot.old ballot.new linked.old linked.new }
 {
     match poll(linked, first, ballot, Place::Second, buf) {
         Ok(()) => poll(linked, first, ballot, Place::Third, buf),
@@ -199,6 +211,7 @@ fn poll_all<W: World>(
     requires { 0 < length buf.old }
     ensures seen { Tried W.Tells result (seen_of W.seen linked.old) (seen_of W.seen linked.new) }
     ensures heard { OnOk result (Heard ballot.old ballot.new) }
+    ensures goes { Goes W.Tells W.seen first [] ballot.old ballot.new linked.old linked.new }
 {
     match poll(linked, first, ballot, Place::First, buf) {
         Ok(()) => poll_two(linked, first, ballot, buf),
@@ -209,7 +222,8 @@ fn poll_all<W: World>(
 /// Ends a copy that is out.
 #[tactic(auto, using(linked_world::specs::laws::StillLaws::still_none))]
 fn end_unless_in<W: World>(linked: &mut Linked<W>, first: u32, ballot: &Ballot, place: Place)
-    ensures { Still W.Tells (seen_of W.seen linked.old) (seen_of W.seen linked.new) }
+    ensures seen { Still W.Tells (seen_of W.seen linked.old) (seen_of W.seen linked.new) }
+    ensures rests { Rests W.Tells W.seen linked.old linked.new }
 {
     if !ballot.is_in(place) {
         linked.end_there(copy_number(first, place));
@@ -218,7 +232,8 @@ fn end_unless_in<W: World>(linked: &mut Linked<W>, first: u32, ballot: &Ballot, 
 
 /// Ends the copies that are out.
 fn end_unless_all_in<W: World>(linked: &mut Linked<W>, first: u32, ballot: &Ballot)
-    ensures { Still W.Tells (seen_of W.seen linked.old) (seen_of W.seen linked.new) }
+    ensures seen { Still W.Tells (seen_of W.seen linked.old) (seen_of W.seen linked.new) }
+    ensures rests { Rests W.Tells W.seen linked.old linked.new }
 {
     end_unless_in(linked, first, ballot, Place::First);
     end_unless_in(linked, first, ballot, Place::Second);
@@ -234,6 +249,8 @@ fn vote<W: World>(
     ensures seen { Tried W.Tells result (seen_of W.seen linked.old) (seen_of W.seen linked.new) }
     ensures frame { IfOk result (λ frame. frame ≡ voted ballot.old) }
     ensures ballot { OnOk result (ballot.new ≡ after_vote ballot.old) }
+    ensures err { OnErr result (ballot.new ≡ ballot.old) }
+    ensures rests { Rests W.Tells W.seen linked.old linked.new }
 {
     match ballot.vote() {
         Ok(frame) => {
@@ -255,6 +272,8 @@ pub(crate) fn next_vote<W: World>(
     requires { 0 < length buf.old }
     ensures seen { Tried W.Tells result (seen_of W.seen linked.old) (seen_of W.seen linked.new) }
     ensures voted { IfOk result (λ frame. VotesTo ballot.old ballot.new frame) }
+    ensures goes { Goes W.Tells W.seen first (found_in result) ballot.old ballot.new linked.old linked.new }
+    ensures tied { IfOk result (λ found. W.Tells → (so_far : List ℕ) → Backed first so_far ballot.old (W.seen linked.old.links).history → VotesBehind so_far (lives_of first (W.seen linked.new.links).history) ballot.old ballot.new found) }
 {
     match poll_all(linked, first, ballot, buf) {
         Ok(()) => vote(linked, first, ballot),

@@ -1,28 +1,37 @@
 //! A world in which an application has three copies.
 
-ghost use Rattle.std.specs.Prelude.{◌≡◌, ◌≢◌, ◌==◌, ◌+◌, ◌<◌, ◌≤◌, ℕ, [], ◌∷◌, ◌++◌, length, true, false, Ok, IsOk, IfOk, OnOk, IfSome, slice_get};
-ghost use Rattle.of_wire.specs.Reading.{reading_of};
-ghost use Rattle.outside.specs.State.{state, is_running};
+ghost use Rattle.std.specs.Prelude.{◌≡◌, ◌==◌, ◌+◌, ◌<◌, ◌≤◌, [], ◌∷◌, ◌++◌, length, Ok, IfOk, OnOk};
 ghost use Rattle.outside.specs.InOrder.{InOrder, BringMessages};
 ghost use Rattle.outside.specs.Conforming.{Conforming};
-ghost use Rattle.outside.specs.Calls.{most_message, Opens, Nexts, Starts, Gives, Takes, Ends, Sends, Receives, take_steps};
-ghost use Rattle.linked_world.specs.Linked.{seen_of, IsTakeable};
-ghost use Rattle.linked_world.specs.Still.{Still, Tried};
-ghost use Rattle.vote_world.specs.Voting.{copies_in, numbered, none_in, Took};
+ghost use Rattle.outside.specs.Calls.{Takes};
+ghost use Rattle.linked_world.specs.Linked.{seen_of};
+ghost use Rattle.vote_world.specs.Voting.{copies_in, numbered, none_in};
+ghost use Rattle.vote_world.specs.Lives.{taken_in};
+ghost use Rattle.vote_world.specs.World.{TakesOf};
 
 use crate::copies::Copies;
+use crate::voters::Voters;
 use linked_world::Linked;
-use of_types::{Dpid, TookWhat};
+use of_types::Dpid;
 use outside::{GiveFault, Item, LinkFault, NextFault, OpenFault, Short, StartFault, Taken, World};
 use std::alloc::{AllocError, Global};
+use std::marker::Model;
 
 /// A world whose switches are those of another world, and whose applications have copies there: an application is its place
 /// among them. One beyond them is never started.
 #[derive(Drop)]
 pub struct VoteWorld<W: World> {
-    alloc: Global,
-    linked: Linked<W>,
-    copies: Vec<Copies>,
+    parts: Voters<W>,
+}
+
+impl<W: World> Model for VoteWorld<W> {
+    ghost use Rattle.vote_world.specs.World.{Votings, IsVotings};
+
+    ghost Value = { Votings W };
+
+    ghost view = { λ v. record { linked = v.parts.linked; copies = v.parts.copies.items } };
+
+    ghost invariant = { λ v. IsVotings W.Tells W.seen (record { linked = v.parts.linked; copies = v.parts.copies.items }) };
 }
 
 /// How many copies all applications may have: 32 applications of three copies.
@@ -60,99 +69,22 @@ fn applications(alloc: Global, copies: &[u8]) -> Result<Vec<Copies>, AllocError>
     Ok(all)
 }
 
-/// Starts the copies of an application, and tells whether enough were started.
-#[tactic(auto, using(linked_world::specs::laws::StillLaws::still_none))]
-fn begin<W: World>(
-    linked: &mut Linked<W>,
-    copies: &mut [Copies],
-    app: u32,
-    words: &[String],
-) -> Result<bool, Short>
-    ensures { Tried W.Tells result (seen_of W.seen linked.old) (seen_of W.seen linked.new) }
-{
-    let place = app as usize;
-    if place < copies.len() {
-        copies[place].begin(linked, words)
-    } else {
-        Ok(false)
-    }
-}
-
-/// Gives bytes to the copies of an application, and tells whether enough are in then.
-#[tactic(auto, using(linked_world::specs::laws::StillLaws::still_none))]
-fn give<W: World>(
-    linked: &mut Linked<W>,
-    copies: &mut [Copies],
-    app: u32,
-    bytes: &[u8],
-) -> Result<bool, Short>
-    ensures { Tried W.Tells result (seen_of W.seen linked.old) (seen_of W.seen linked.new) }
-{
-    let place = app as usize;
-    if place < copies.len() {
-        copies[place].give(linked, bytes)
-    } else {
-        Ok(false)
-    }
-}
-
-/// Takes what the copies of an application voted.
-#[tactic(auto, using(linked_world::specs::laws::StillLaws::still_none))]
-fn take<W: World>(
-    alloc: Global,
-    linked: &mut Linked<W>,
-    copies: &mut [Copies],
-    app: u32,
-    buf: &mut [u8],
-) -> Result<TookWhat, Short>
-    requires { 0 < length buf.old }
-    ensures seen { Tried W.Tells result (seen_of W.seen linked.old) (seen_of W.seen linked.new) }
-    ensures takeable { IfOk result (λ what. IsTakeable what (length buf.new)) }
-    ensures took { IfOk result (λ what. IfSome (slice_get copies.old app) (λ o. IfSome (slice_get copies.new app) (λ n. Took o n what))) }
-    ensures others { (i : ℕ) → i ≢ app → slice_get copies.new i ≡ slice_get copies.old i }
-{
-    let place = app as usize;
-    if place < copies.len() {
-        copies[place].take(alloc, linked, buf)
-    } else {
-        Ok(TookWhat::Closed)
-    }
-}
-
-/// Ends the copies of an application.
-#[tactic(auto, using(linked_world::specs::laws::StillLaws::still_none))]
-fn end<W: World>(linked: &mut Linked<W>, copies: &mut [Copies], app: u32)
-    ensures { Still W.Tells (seen_of W.seen linked.old) (seen_of W.seen linked.new) }
-{
-    let place = app as usize;
-    if place < copies.len() {
-        copies[place].end(linked);
-    }
-}
-
-/// Ends the copies of an application that could not be started or given bytes.
-#[tactic(auto, using(linked_world::specs::laws::StillLaws::still_none))]
-fn end_unless<W: World>(linked: &mut Linked<W>, copies: &mut [Copies], app: u32, stands: bool)
-    ensures { Still W.Tells (seen_of W.seen linked.old) (seen_of W.seen linked.new) }
-{
-    if !stands {
-        end(linked, copies, app);
-    }
-}
-
 impl<W: World + Drop> VoteWorld<W> {
     /// Takes the switches of this world, and applications of which each has three copies in it, or one: one for each number,
     /// which is 3 or 1. The copies of an application come behind those of the applications before it.
     pub fn new(alloc: Global, world: W, copies: &[u8]) -> Result<VoteWorld<W>, AllocError>
         requires { length copies.now ≤ 32 }
         ensures links { IfOk result (λ v. v.linked.links ≡ world) }
-        ensures copies { IfOk result (λ v. v.copies.items ≡ numbered 0 copies.now) }
+        ensures copies { IfOk result (λ v. v.copies ≡ numbered 0 copies.now) }
     {
         let applications = applications(alloc, copies)?;
+        let linked = Linked::with_inside(alloc, world, MOST_COPIES)?;
         Ok(VoteWorld {
-            alloc,
-            linked: Linked::with_inside(alloc, world, MOST_COPIES)?,
-            copies: applications,
+            parts: Voters {
+                alloc,
+                linked,
+                copies: applications,
+            },
         })
     }
 }
@@ -162,7 +94,7 @@ impl<W: World> VoteWorld<W> {
     pub fn links(&self) -> &W
         ensures { result.now ≡ self.now.linked.links }
     {
-        self.linked.links()
+        self.parts.linked.links()
     }
 
     /// Finds that the world keeps its word as the other one does: with switches that tell in order it tells in order, and
@@ -172,62 +104,7 @@ impl<W: World> VoteWorld<W> {
         ensures word { W.Tells → InOrder (W.seen self.now.linked.links) → BringMessages (W.seen self.now.linked.links).history
             → Conforming (seen_of W.seen self.now.linked) }
     {
-        self.linked.keeps_word();
-    }
-
-    /// Starts an application that does not run, and its copies before.
-    fn start_idle(&mut self, app: u32, words: &[String]) -> Result<(), StartFault>
-        requires { W.Tells → is_running app (state (seen_of W.seen self.old.linked)) ≡ false }
-        ensures { Starts W.Tells app (seen_of W.seen self.old.linked) (seen_of W.seen self.new.linked) result }
-    {
-        match begin(&mut self.linked, &mut self.copies, app, words) {
-            Ok(ready) => self.begun(app, ready),
-            Err(_) => Err(StartFault::Short),
-        }
-    }
-
-    /// Gives bytes to an application that runs, and to its copies before.
-    fn give_running(&mut self, app: u32, bytes: &[u8]) -> Result<(), GiveFault>
-        requires { W.Tells → is_running app (state (seen_of W.seen self.old.linked)) ≡ true }
-        ensures { Gives W.Tells app bytes.now (seen_of W.seen self.old.linked) (seen_of W.seen self.new.linked) result }
-    {
-        match give(&mut self.linked, &mut self.copies, app, bytes) {
-            Ok(enough) => self.given(app, bytes, enough),
-            Err(_) => Err(GiveFault::Short),
-        }
-    }
-
-    /// Takes from an application that runs what its copies voted.
-    fn take_running(&mut self, app: u32, buf: &mut [u8]) -> Result<Taken, Short>
-        requires runs { W.Tells → is_running app (state (seen_of W.seen self.old.linked)) ≡ true }
-        requires room { 0 < length buf.old }
-        ensures { Takes W.Tells app (seen_of W.seen self.old.linked) (seen_of W.seen self.new.linked) result buf.new }
-    {
-        match take(self.alloc, &mut self.linked, &mut self.copies, app, buf) {
-            Ok(what) => Ok(self.linked.take(app, what, buf)),
-            Err(short) => Err(short),
-        }
-    }
-
-    /// Starts an application, whose copies were started or not.
-    #[tactic(auto, using(linked_world::specs::laws::StillLaws::starts_before))]
-    fn begun(&mut self, app: u32, ready: bool) -> Result<(), StartFault>
-        ensures { Starts W.Tells app (seen_of W.seen self.old.linked) (seen_of W.seen self.new.linked) result }
-    {
-        let started = self.linked.start(app, ready);
-        end_unless(&mut self.linked, &mut self.copies, app, started.is_ok());
-        started
-    }
-
-    /// Gives bytes to an application, whose copies were given them or not.
-    #[tactic(auto, using(linked_world::specs::laws::StillLaws::gives_before))]
-    fn given(&mut self, app: u32, bytes: &[u8], enough: bool) -> Result<(), GiveFault>
-        ensures { Gives W.Tells app bytes.now (seen_of W.seen self.old.linked) (seen_of W.seen self.new.linked) result }
-    {
-        let given = self.linked.give(app, bytes, enough);
-        let stands = !matches!(given, Err(GiveFault::Short));
-        end_unless(&mut self.linked, &mut self.copies, app, stands);
-        given
+        self.parts.linked.keeps_word();
     }
 }
 
@@ -241,48 +118,39 @@ impl<W: World> World for VoteWorld<W> {
     ghost seen = { λ v. seen_of W.seen v.linked };
 
     fn open(&mut self, port: u16) -> Result<(), OpenFault> {
-        self.linked.open(port)
+        self.parts.open(port)
     }
 
     fn next(&mut self, buf: &mut [u8]) -> Result<Item, NextFault> {
-        self.linked.next(buf)
+        self.parts.next(buf)
     }
 
     fn start(&mut self, app: u32, words: &[String]) -> Result<(), StartFault> {
-        if self.linked.runs(app) {
-            self.linked.start(app, false)
-        } else {
-            self.start_idle(app, words)
-        }
+        self.parts.start(app, words)
     }
 
     fn give(&mut self, app: u32, bytes: &[u8]) -> Result<(), GiveFault> {
-        if self.linked.runs(app) {
-            self.give_running(app, bytes)
-        } else {
-            self.linked.give(app, bytes, false)
-        }
+        self.parts.give(app, bytes)
     }
 
-    fn take(&mut self, app: u32, buf: &mut [u8]) -> Result<Taken, Short> {
-        if self.linked.runs(app) {
-            self.take_running(app, buf)
-        } else {
-            Ok(self.linked.take(app, TookWhat::Closed, buf))
-        }
+    fn take(&mut self, app: u32, buf: &mut [u8]) -> Result<Taken, Short>
+        requires { 0 < length buf.old }
+        ensures seen { Takes W.Tells app (seen_of W.seen self.old.linked) (seen_of W.seen self.new.linked) result buf.new }
+        ensures voted { IfOk result (λ taken. W.Tells → TakesOf W.seen app (taken_in (Ok taken) buf.new) self.old self.new) }
+    {
+        self.parts.take(app, buf)
     }
 
     fn end(&mut self, app: u32) {
-        end(&mut self.linked, &mut self.copies, app);
-        self.linked.end(app);
+        self.parts.end(app);
     }
 
     fn send(&mut self, dpid: Dpid, frame: &[u8]) -> Result<(), LinkFault> {
-        self.linked.send(dpid, frame)
+        self.parts.send(dpid, frame)
     }
 
     fn recv(&mut self, dpid: Dpid, buf: &mut [u8]) -> Result<usize, LinkFault> {
-        self.linked.recv(dpid, buf)
+        self.parts.recv(dpid, buf)
     }
 
     fn can_part(&self) -> bool {

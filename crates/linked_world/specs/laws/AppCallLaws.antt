@@ -1,13 +1,11 @@
 -- A call of an application that is noted is such a call of this world.
-use Rattle.std.specs.Prelude.{◌≡◌, ◌==◌, ℕ, ◌-◌, ◌^◌, ◌≤◌, Bool, true, false, not, List, [], ◌∷◌, ◌++◌, map, filter, length, Some, Result, Ok, Err, IsTrue, IsErr, IsErrOf, IfOk, slice_get, if◌then◌else◌, refl}
+use Rattle.std.specs.Prelude.{◌≡◌, ◌==◌, ℕ, ◌-◌, ◌^◌, ◌≤◌, Bool, true, false, not, List, [], ◌∷◌, ◌++◌, map, filter, Some, Result, Ok, Err, IsTrue, IsErr, IsErrOf, IfOk, slice_get, refl}
 use Rattle.std.proofs.Common.{zero, suc, sym, ap, ◌∙◌, subst, arith, append_assoc, inl, inr}
 use Rattle.std.proofs.lemmas.Bool.{cases_Bool, false≢true}
 use Rattle.std.proofs.lemmas.List.{append-nil, map-append}
-use Rattle.of_types.specs.declared.journal.Act.TheVariants.{Started, Gave, Gone, Ended}
 use Rattle.of_types.specs.Membership.{is_among}
-use Rattle.lego_io.specs.Count.{raised, Rose, NeverFell}
+use Rattle.lego_io.specs.Count.{raised, Rose}
 use Rattle.lego_io.specs.laws.CountLaws.{Rose-raised}
-use Rattle.flow_table.specs.Switch.{Declared}
 use Rattle.outside.specs.declared.faults.Short.{Short}
 use Rattle.outside.specs.declared.faults.StartFault.{StartFault}
 use Rattle.outside.specs.declared.faults.StartFault.TheVariants as starting
@@ -16,12 +14,11 @@ use Rattle.outside.specs.declared.faults.GiveFault.TheVariants as giving
 use Rattle.outside.specs.declared.item.Taken.{Taken}
 use Rattle.outside.specs.declared.item.Taken.TheVariants as gave
 use Rattle.outside.specs.declared.step.WorldStep.{WorldStep}
-use Rattle.outside.specs.declared.step.WorldStep.TheVariants.{Acted}
-use Rattle.outside.specs.Seen.{Counts, Seen, AreCounts, with_stray, with_short}
+use Rattle.outside.specs.Seen.{Counts, Seen, with_stray, with_short}
 use Rattle.outside.specs.State.{State, at_first, after_act, after_step, after_steps, state, is_running}
 use Rattle.outside.specs.laws.StateLaws.{after_steps-append}
 use Rattle.outside.specs.Calls.{Starts, start_steps, start_counts, Gives, give_steps, give_counts, Takes, take_steps, take_counts, IsTakenIn, Ends, end_steps}
-use Rattle.linked_world.specs.Linked.{is_app_step, Note, noted, woven, Grows, AppCounts, AreAppCounts, total, with_apps, seen_with, seen_of, Linkage, Stands, IsLinkage, running_after, running_without, stray_count, short_count, start_count, give_count, take_count, Notes}
+use Rattle.linked_world.specs.Linked.{is_app_step, Note, noted, woven, Grows, AppCounts, AreAppCounts, total, with_apps, seen_with, seen_of, Linkage, IsLinkage, running_after, running_without, stray_count, short_count, start_count, give_count, take_count, Notes}
 use Rattle.linked_world.specs.laws.WovenLaws.{woven-noted, Grows-noted}
 use Rattle.linked_world.specs.laws.SideLaws.{runs-link_steps}
 use Rattle.linked_world.specs.laws.CountLaws.{NoAppFell, NoneFell-own, total-raised_own, total-Rose_own, AreCounts-same}

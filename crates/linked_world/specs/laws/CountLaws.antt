@@ -1,10 +1,10 @@
 -- Laws of counts that are kept in two places.
-use Rattle.std.specs.Prelude.{◌≡◌, ◌==◌, ℕ, ◌+◌, ◌-◌, ◌^◌, ◌<◌, ◌≤◌, Bool, true, false, List, min, if◌then◌else◌, refl}
-use Rattle.std.proofs.Common.{sym, ap, ◌∙◌, arith, inl, inr}
+use Rattle.std.specs.Prelude.{◌≡◌, ℕ, ◌-◌, ◌^◌, Bool, true, false, List, refl}
+use Rattle.std.proofs.Common.{ap, arith, inl, inr}
 use Rattle.std.proofs.lemmas.Bool.{cases_lt}
 use Rattle.lego_io.specs.Count.{raised, Rose, NeverFell}
 use Rattle.flow_table.specs.Switch.{Declared}
-use Rattle.outside.specs.Seen.{Counts, NoneFell, AreCounts, with_stray, with_short, with_short_of, with_link_fault}
+use Rattle.outside.specs.Seen.{Counts, NoneFell, AreCounts, with_stray, with_short, with_short_of}
 use Rattle.linked_world.specs.Linked.{AppCounts, total, with_apps}
 
 -- ---- One count

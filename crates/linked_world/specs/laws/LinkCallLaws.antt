@@ -1,8 +1,7 @@
 -- Calls of the other world that reach no application are such calls of this world.
-use Rattle.std.specs.Prelude.{◌≡◌, ◌↔◌, ℕ, Bool, true, false, not, List, [], ◌∷◌, ◌++◌, Option, Some, None, Result, Ok, Err, IsTrue, IsErr, IfOk, IfSome, slice_get, refl}
+use Rattle.std.specs.Prelude.{◌≡◌, ◌↔◌, ℕ, Bool, true, false, not, List, [], ◌∷◌, ◌++◌, Option, Some, None, Result, Ok, Err, IsTrue, IfOk, IfSome, slice_get, refl}
 use Rattle.std.proofs.Common.{sym, ap, ◌∙◌, subst}
 use Rattle.of_types.specs.declared.journal.WorldStim.{WorldStim}
-use Rattle.flow_table.specs.Switch.{Declared}
 use Rattle.of_types.specs.Membership.{is_among}
 use Rattle.outside.specs.declared.faults.OpenFault.{OpenFault}
 use Rattle.outside.specs.declared.faults.OpenFault.TheVariants as opening
@@ -13,10 +12,10 @@ use Rattle.outside.specs.declared.faults.LinkFault.TheVariants as linking
 use Rattle.outside.specs.declared.item.Item.{Item}
 use Rattle.outside.specs.declared.item.Item.TheVariants as items
 use Rattle.outside.specs.declared.step.WorldStep.{WorldStep}
-use Rattle.outside.specs.Seen.{Counts, Seen, AreCounts, with_stray}
+use Rattle.outside.specs.Seen.{Counts, Seen, with_stray}
 use Rattle.outside.specs.State.{State, at_first, after_steps, state, is_running, is_joined}
 use Rattle.outside.specs.laws.StateLaws.{after_steps-append, state-append}
-use Rattle.outside.specs.Calls.{Opens, ToldOpen, open_steps, open_counts, Nexts, ToldNext, next_steps, stim_steps, item_step, next_counts, Sends, ToldSend, send_steps, link_counts, Receives, ToldReceive, receive_steps, can_receive, IsIdle, IsOver}
+use Rattle.outside.specs.Calls.{Opens, open_steps, open_counts, Nexts, next_steps, stim_steps, item_step, next_counts, Sends, send_steps, link_counts, Receives, receive_steps, can_receive}
 use Rattle.linked_world.specs.Linked.{link_steps, Note, woven, Grows, AppCounts, with_apps, seen_with, seen_of, Linkage, Stands, IsLinkage}
 use Rattle.linked_world.specs.laws.SideLaws.{link_side, side-steps, runs-link_steps, opened-side, to_come-side, joined-side, receive-side, idle-side, over-side}
 use Rattle.linked_world.specs.laws.WovenLaws.{Grows-more, woven-more, side-woven}

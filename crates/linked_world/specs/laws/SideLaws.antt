@@ -1,17 +1,15 @@
 -- Steps of applications move neither the switches, nor what is due, nor the stimuli still to come; the other steps move no application.
-use Rattle.std.specs.Prelude.{◌≡◌, ℕ, Bool, true, false, not, List, [], ◌∷◌, ◌++◌, Some, IsTrue, slice_get, refl}
-use Rattle.std.proofs.Common.{sym, ap, ◌∙◌, subst, inl, inr}
+use Rattle.std.specs.Prelude.{◌≡◌, ℕ, true, false, List, [], ◌∷◌, refl}
+use Rattle.std.proofs.Common.{sym, ap, ◌∙◌, inl, inr}
 use Rattle.std.proofs.lemmas.Bool.{cases_Bool, false≢true}
 use Rattle.of_types.specs.declared.journal.Act.{Act}
 use Rattle.of_types.specs.declared.journal.Act.TheVariants.{Stim, Started, Gave, Gone, Took, Ended, Sent, Got, Lost}
-use Rattle.of_types.specs.declared.journal.WorldStim.{WorldStim}
 use Rattle.of_types.specs.declared.journal.WorldStim.TheVariants.{Join, Leave, At, Of}
-use Rattle.flow_table.specs.Switch.{Declared}
 use Rattle.outside.specs.declared.step.WorldStep.{WorldStep}
 use Rattle.outside.specs.declared.step.WorldStep.TheVariants.{Acted, TookInto, From, Joined, Left, Moment, Idle, End, Opened, NotOpened, NextFailed, SendLost, RecvLost, SendFailed, RecvFailed}
-use Rattle.outside.specs.State.{State, after_stim, after_act, after_step, after_steps, switch_of, waits_of, is_joined, link_fails, upcoming}
+use Rattle.outside.specs.State.{State, after_stim, after_act, after_step, after_steps, switch_of, waits_of, is_joined, upcoming}
 use Rattle.outside.specs.Calls.{IsIdle, IsOver, can_receive}
-use Rattle.linked_world.specs.Linked.{is_app_act, is_app_step, is_link_step, link_steps}
+use Rattle.linked_world.specs.Linked.{is_app_act, is_app_step, link_steps}
 
 -- ---- What is not of applications
 

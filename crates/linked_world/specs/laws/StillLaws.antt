@@ -2,7 +2,7 @@
 use Rattle.std.specs.Prelude.{◌≡◌, ℕ, Bool, true, false, not, List, [], ◌++◌, Result, Ok, Err, IsTrue, if◌then◌else◌, refl}
 use Rattle.std.proofs.Common.{sym, ap, ◌∙◌, subst}
 use Rattle.std.proofs.lemmas.List.{append-nil}
-use Rattle.lego_io.specs.Count.{raised, Rose}
+use Rattle.lego_io.specs.Count.{raised}
 use Rattle.lego_io.specs.laws.CountLaws.{Rose-after, Rose-before}
 use Rattle.flow_table.specs.Switch.{Declared}
 use Rattle.outside.specs.declared.faults.Short.{Short}

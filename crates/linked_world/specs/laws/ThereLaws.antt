@@ -1,6 +1,5 @@
 -- A call of an application of the other world that was started from here shows nothing here but want of memory.
-use Rattle.std.specs.Prelude.{◌≡◌, ◌≢◌, ◌==◌, ℕ, Bool, true, false, not, ◌||◌, List, [], ◌∷◌, ◌++◌, filter, Option, Some, Result, Ok, Err, slice_get, refl}
-use Rattle.std.specs.Result.{is_ok}
+use Rattle.std.specs.Prelude.{◌≡◌, ◌≢◌, ◌==◌, ℕ, Bool, true, false, not, List, [], ◌∷◌, ◌++◌, Some, Result, Ok, Err, slice_get, refl}
 use Rattle.std.proofs.Common.{sym, ap, ◌∙◌, subst, inl, inr}
 use Rattle.std.proofs.lemmas.Bool.{cases_Bool, cases_eq, false≢true, eqb-true, ne_eqb, eq-eqb}
 use Rattle.std.proofs.lemmas.List.{append-nil}
@@ -9,8 +8,6 @@ use Rattle.lego_io.specs.Count.{raised}
 use Rattle.of_types.specs.Membership.{is_among}
 use Rattle.flow_table.specs.Switch.{Declared}
 use Rattle.outside.specs.declared.faults.Short.{Short}
-use Rattle.outside.specs.declared.faults.StartFault.TheVariants as starting
-use Rattle.outside.specs.declared.faults.GiveFault.TheVariants as giving
 use Rattle.outside.specs.declared.item.Taken.{Taken}
 use Rattle.outside.specs.declared.item.Taken.TheVariants as gave
 use Rattle.outside.specs.declared.step.WorldStep.{WorldStep}
@@ -173,7 +170,7 @@ other_runs other app (a ∷ rest) differ is =
       ])
     ]
 
-none_runs : (app : ℕ) (running : List ℕ) → is_among app (running_without app running) ≡ false
+pub none_runs : (app : ℕ) (running : List ℕ) → is_among app (running_without app running) ≡ false
 none_runs app [] = refl
 none_runs app (a ∷ rest) =
     elim (cases_Bool (a == app)) [

@@ -1,9 +1,7 @@
 -- A world whose switches are those of a world that keeps its word keeps its word.
-use Rattle.std.specs.Prelude.{◌≡◌, ℕ, Bool, true, false, List, [], ◌∷◌, ◌++◌, refl}
-use Rattle.std.specs.List.{AllByRecursion}
-use Rattle.std.proofs.Common.{sym, ap, ◌∙◌, subst, inl, inr}
+use Rattle.std.specs.Prelude.{◌≡◌, true, List, [], ◌∷◌, refl}
+use Rattle.std.proofs.Common.{sym, ◌∙◌, subst, inl, inr}
 use Rattle.std.proofs.lemmas.Bool.{cases_Bool, false≢true}
-use Rattle.of_types.specs.declared.journal.Act.{Act}
 use Rattle.of_types.specs.declared.journal.Act.TheVariants.{Stim, Started, Gave, Gone, Took, Ended, Sent, Got, Lost}
 use Rattle.of_types.specs.declared.journal.WorldStim.{WorldStim}
 use Rattle.of_types.specs.declared.journal.WorldStim.TheVariants.{Join, Leave, At, Of}
@@ -15,7 +13,7 @@ use Rattle.outside.specs.State.{State, at_first, after_stim, after_step, switch_
 use Rattle.outside.specs.Conforming.{MayBegin, MayAct, MayStep, Conforming}
 use Rattle.outside.specs.InOrder.{brings_message, BringMessages, MayCome, MayComeAll, InOrder}
 use Rattle.outside.specs.laws.InOrderLaws.{in_order-Conforming}
-use Rattle.linked_world.specs.Linked.{is_app_act, is_app_step, link_steps, Note, noted, woven, Grows, AppCounts, seen_with, seen_of, Linkage, IsLinkage}
+use Rattle.linked_world.specs.Linked.{is_app_step, link_steps, Note, noted, woven, Grows, AppCounts, seen_with, seen_of, Linkage, IsLinkage}
 use Rattle.linked_world.specs.laws.SideLaws.{link_side, side-app, side-alike}
 use Rattle.linked_world.specs.laws.WovenLaws.{links-woven}
 

@@ -1,13 +1,12 @@
 -- Laws of histories that are woven of another world's history and of notes.
-use Rattle.std.specs.Prelude.{◌≡◌, Bool, true, false, not, List, [], ◌∷◌, ◌++◌, drop, length, filter, IsTrue, refl}
-use Rattle.std.proofs.Common.{sym, ap, ◌∙◌, subst, append_assoc, inl, inr}
+use Rattle.std.specs.Prelude.{◌≡◌, true, List, [], ◌∷◌, ◌++◌, drop, length, IsTrue, refl}
+use Rattle.std.proofs.Common.{sym, ap, ◌∙◌, append_assoc, inl, inr}
 use Rattle.std.proofs.Math.Seq.{drop-append_seam, drop-length}
 use Rattle.std.proofs.lemmas.Bool.{cases_Bool}
-use Rattle.std.proofs.lemmas.List.{append-nil}
 use Rattle.std.proofs.lemmas.List.Elements.{filter-append}
 use Rattle.outside.specs.declared.step.WorldStep.{WorldStep}
 use Rattle.outside.specs.Seen.{Seen, Longer}
-use Rattle.outside.specs.State.{State, at_first, after_steps, state}
+use Rattle.outside.specs.State.{at_first, after_steps, state}
 use Rattle.outside.specs.laws.SeenLaws.{Longer-refl, Longer-trans}
 use Rattle.linked_world.specs.Linked.{is_app_step, is_link_step, link_steps, Note, links_since, woven, Grows, AppCounts, seen_with}
 use Rattle.linked_world.specs.laws.SideLaws.{link_side, side-link_steps}

@@ -6,11 +6,11 @@ use Rattle.std.proofs.lemmas.Bool.{false≢true}
 use Rattle.std.proofs.lemmas.List.{append-nil, length-drop, drop-drop, take-append-drop, take_more}
 use Rattle.frame_votes.specs.declared.ballot.Place.{Place}
 use Rattle.frame_votes.specs.declared.ballot.Place.TheVariants.{First, Second, Third}
-use Rattle.frame_votes.specs.Votes.{Given, Polled, voted, after_vote, copy_at, with_copy}
+use Rattle.frame_votes.specs.Votes.{Polled, voted, after_vote, copy_at, with_copy}
 use Rattle.of_types.specs.declared.journal.TookWhat.{TookWhat}
 use Rattle.of_types.specs.declared.journal.TookWhat.TheVariants.{Silent}
 use Rattle.outside.specs.declared.faults.Short.{Short}
-use Rattle.vote_world.specs.Voting.{Voting, Hears, HearsAt, Heard, VotesTo, Votes, Refilled, Passes, Took, none_in, copies_in, numbered, copies_before}
+use Rattle.vote_world.specs.Voting.{Voting, HearsAt, Heard, VotesTo, Votes, Refilled, Passes, Took, none_in, copies_in, numbered, copies_before}
 
 -- the copy with more of what it gave
 abbrev with_more : Place → List ℕ → Polled → Polled

@@ -1,4 +1,3 @@
-use Rattle.std.specs.Prelude.{◌≡◌, Some, true, slice_get}
 use Rattle.linked_world.specs.laws.ThereLaws.{gives_there, gives_stands_there}
 use Rattle.linked_world.proofs.linked.Linked.give_there.Goals as goal
 

@@ -1,4 +1,4 @@
-use Rattle.std.proofs.Common.{refl, rules}
+use Rattle.std.proofs.Common.{rules}
 use Rattle.linked_world.specs.laws.AppCallLaws.{first_stands, none_there}
 use Rattle.linked_world.proofs.linked.Linked.new.Goals as goal
 

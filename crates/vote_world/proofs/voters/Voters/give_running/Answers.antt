@@ -1,0 +1,15 @@
+use Rattle.linked_world.specs.laws.StillLaws.{gives_behind, gives_short}
+use Rattle.vote_world.specs.laws.WorldLaws.{app_keeps, still_same, shorted_same}
+use Rattle.vote_world.proofs.voters.Voters.give_running.Goals as goal
+
+pub returns-in-Ok-clause-seen : goal.returns-in-Ok-clause-seen
+returns-in-Ok-clause-seen g c = gives_behind _ c.in-Ok.ensures.seen c.given.ensures.seen
+
+pub returns-in-Ok-clause-keeps : goal.returns-in-Ok-clause-keeps
+returns-in-Ok-clause-keeps g c = λ are. c.given.ensures.keeps (app_keeps g.W.World.Tells g.W.World.seen _ _ _ _ _ (record { size = c.in-Ok.ensures.size; others = c.in-Ok.ensures.others; here = c.in-Ok.ensures.here }) c.in-Ok.ensures.none (still_same g.W.World.Tells _ _ c.in-Ok.ensures.seen) are)
+
+pub returns-in-Err-clause-seen : goal.returns-in-Err-clause-seen
+returns-in-Err-clause-seen g c = gives_short c.in-Err.ensures.seen c.requires
+
+pub returns-in-Err-clause-keeps : goal.returns-in-Err-clause-keeps
+returns-in-Err-clause-keeps g c = app_keeps g.W.World.Tells g.W.World.seen _ _ _ _ _ (record { size = c.in-Err.ensures.size; others = c.in-Err.ensures.others; here = c.in-Err.ensures.here }) c.in-Err.ensures.none (shorted_same g.W.World.Tells _ _ c.in-Err.ensures.seen)
