@@ -1,5 +1,5 @@
 -- A session as what a simulated world is given. All of this is our own choice.
-use Rattle.std.specs.Prelude.{◌≡◌, ℕ, List, [], ◌∷◌, ◌++◌, map, Result, Ok, Err}
+use Rattle.std.specs.Prelude.{◌≡◌, ℕ, true, List, [], ◌∷◌, ◌++◌, map, Result, Ok, Err}
 use Rattle.app_frames.specs.declared.script.StartScript.{StartScript}
 use Rattle.flow_table.specs.Switch.{Declared}
 use Rattle.outside.specs.declared.call.CallKind.TheVariants as kinds
@@ -33,6 +33,7 @@ given_by s = record {
   stimuli = s.stimuli;
   fails = map fail_of s.faults;
   own = record { starts = s.starts; replies = s.replies };
+  shows = true;
 }
 
 -- ---- Parts of a session, behind what was given before
