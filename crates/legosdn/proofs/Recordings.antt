@@ -4,7 +4,7 @@ use Rattle.std.specs.Result.{IsErrAnd}
 use Rattle.std.specs.Io.KnownBytes.{append_known}
 use Rattle.crash_policy.specs.Policies.{AppValue}
 use Rattle.lego_io.specs.MemSink.{Store, store_of}
-use Rattle.outside.specs.Seen.{Seen}
+use Rattle.outside.specs.Seen.{Seen, Shown}
 use Rattle.lego_model.specs.Application.{names}
 use Rattle.session_record.specs.Remarks.{AreRemarks}
 use Rattle.session_record.specs.Texts.{IsText}
@@ -253,12 +253,12 @@ record_usage P Tells rounds old new was now kept Stays result ends = record_usag
 
 -- what is spelled of these parts is the recording
 pub spells : {Own V E : Type 0} (Tells : Type 0) (seen : Seen Own) (apps : List AppValue) (ns : List (List ℕ)) (policy remarks session p r s : List ℕ) (kept : Kept) (items : V → List ℕ) (result : Result V E) → AreRemarks remarks → ns ≡ names apps
-    → IsText Tells seen ns kept.deeds kept.losses session → p ≡ policy → r ≡ remarks → s ≡ session → IfOk result (λ out. items out ≡ recording_text p r s) → IfOk result (λ out. IsRecording Tells seen apps policy kept (items out))
+    → IsText (Shown Tells seen) seen ns kept.deeds kept.losses session → p ≡ policy → r ≡ remarks → s ≡ session → IfOk result (λ out. items out ≡ recording_text p r s) → IfOk result (λ out. IsRecording Tells seen apps policy kept (items out))
 spells Tells seen apps ns policy remarks session p r s kept items (Ok x) are named is ep er es spelled = record {
   remarks = remarks;
   are_remarks = are;
   session = session;
-  is_text = subst (λ (all : List (List ℕ)). IsText Tells seen all kept.deeds kept.losses session) named is;
+  is_text = subst (λ (all : List (List ℕ)). IsText (Shown Tells seen) seen all kept.deeds kept.losses session) named is;
   spelled = spelled ∙ ap (λ (b : List ℕ). recording_text b r s) ep ∙ ap (λ (b : List ℕ). recording_text policy b s) er ∙ ap (λ (b : List ℕ). recording_text policy remarks b) es;
 }
 spells Tells seen apps ns policy remarks session p r s kept items (Err e) are named is ep er es spelled = tt
