@@ -96,7 +96,6 @@ def is_refused(program):
         ("", "session 1\n", "bad policy missing command"),
         ('[[app]]\nname = "app"\n', "session 1\n", "bad policy missing command"),
         ('judge = "quota"\nquota = 1\n' + false, "session 1\n", "bad policy later"),
-        (false + 'policy = "equivalence"\n', "session 1\n", "bad policy later"),
     ):
         same(rehearse(program, policy, session, 3), [line], "the refusal")
 

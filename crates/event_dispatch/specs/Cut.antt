@@ -13,7 +13,7 @@ use Rattle.net_txn.specs.Abreast.{Abreast}
 use Rattle.run_laws.specs.Cut.{CallsAmong}
 use Rattle.switch_laws.specs.Since.{Ready}
 use Rattle.lego_model.specs.AtOnce.{AtOnce}
-use Rattle.lego_model.specs.AfterFault.{TablesLeft}
+use Rattle.run_course.specs.TurnsLeft.{EventLeft}
 use Rattle.batch_laws.specs.Calm.{Calm}
 use Rattle.run_laws.specs.Engine.{Engine}
 use Rattle.run_laws.specs.Facts.{is_taking, Offers, DispatchesTo, StartsAll}
@@ -66,7 +66,7 @@ IsOfTurn other takes = Unit {0}
 pub record OfferFails {Own : Type 0} (Tells : Type 0) (fault : Fault) (event : Event) (old new : Seen Own) (c : Core) (m : Managed) : Type 0 where
   pub talks : Tells → IsAtRest old m.state.index (application_of c.store m) → AtOnce m.state.index (journal new.history)
   pub of_turn : IsOfTurn fault (is_taking event (application_of c.store m))
-  pub left : Tells → Conforming old → InOrder new → Ready old c.net → IsAtRest old m.state.index (application_of c.store m) → TablesLeft m.state.index m.rule.now.budget (IsShort fault) old new
+  pub left : Tells → Conforming old → InOrder new → Ready old c.net → IsAtRest old m.state.index (application_of c.store m) → EventLeft m.state.index m.rule.now.budget (IsShort fault) old new
   pub later : Tells → OwnPoint m.state.index old new
   pub plain : PlainTurn Tells old new c.net fault
 

@@ -19,5 +19,6 @@ pub mod NothingWaits
 pub mod Undone
 pub mod TurnParts
 pub mod EventParts
+pub mod GroupParts
 pub mod NewRun
 pub mod laws

@@ -1,5 +1,5 @@
 -- What the engine does, in the words of what is seen and kept: the text that it notes, and how the run stands then. All of this is our own.
-use Rattle.std.specs.Prelude.{◌≡◌, ℕ, Bool, true, false, List, ◌++◌, map, string_bytes, Option}
+use Rattle.std.specs.Prelude.{◌≡◌, ℕ, List, ◌++◌, map, string_bytes, Option}
 use Rattle.batch_laws.specs.Knowledge.{left_events, lost_text}
 use Rattle.outside.specs.Seen.{Seen}
 use Rattle.run_laws.specs.Engine.{Application, Engine, Focus, focus}
@@ -13,8 +13,6 @@ use Rattle.app_visor.specs.declared.state.AppState.{AppState}
 use Rattle.app_visor.specs.Attempts.{kept_of}
 use Rattle.checkpoint_store.specs.Slots.{Slot}
 use Rattle.crash_policy.specs.Policies.{app_value}
-use Rattle.crash_policy.specs.declared.policy_file.Policy.{Policy}
-use Rattle.crash_policy.specs.declared.policy_file.Policy.TheVariants as policy
 use Rattle.net_txn.specs.Leaving.{none_left}
 
 -- what the engine keeps of an application
@@ -44,12 +42,6 @@ stage_of seen contents r = record { seen = seen; engine = engine_of r; written =
 -- the name of an application
 abbrev pub name_of : Managed → List ℕ
 name_of m = string_bytes m.rule.now.name
-
--- other events may be given in place of one at which an application fails
-abbrev pub is_replacing : Policy → Bool
-is_replacing policy.None = false
-is_replacing policy.Absolute = false
-is_replacing policy.Equivalence = true
 
 -- ---- The text that is noted
 

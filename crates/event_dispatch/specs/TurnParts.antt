@@ -10,6 +10,8 @@ use Rattle.app_visor.specs.CallsFor.{CalmLater, OwnSteps}
 use Rattle.checkpoint_store.specs.Slots.{Slot}
 use Rattle.outside.specs.Seen.{Seen}
 use Rattle.net_txn.specs.Net.{NetState}
+use Rattle.lego_model.specs.Controller.{event_frame}
+use Rattle.turn_laws.specs.Failed.{TurnFailed}
 use Rattle.run_laws.specs.Facts.{says_stop}
 use Rattle.event_dispatch.specs.declared.closing.Closing.{Closing}
 use Rattle.event_dispatch.specs.declared.engine_core.Core.{Core}
@@ -78,6 +80,8 @@ pub record TurnDone {Own : Type 0} (Tells : Type 0) (accepts : List TableView �
   pub index : now_m.state.index ≡ m.state.index
   pub rule : now_m.rule ≡ m.rule
   pub turn : TurnNoted Tells accepts event stops old new c now_c m now_m
+  -- where it is counted as one that failed, it was undone, and there were calls for the application alone behind that
+  pub behind : (now_m.failed ≡ m.failed → ⊥) → TurnFailed Tells accepts m.state.index m.rule.now.budget m.state.rest (event_frame c.events c.net.moment event) old new c.net now_c.net
 
 -- ---- A start, and an end
 

@@ -6,7 +6,8 @@ use Rattle.outside.specs.Conforming.{Conforming}
 use Rattle.outside.specs.InOrder.{InOrder}
 use Rattle.net_txn.specs.Net.{NetState}
 use Rattle.switch_laws.specs.Since.{Ready}
-use Rattle.lego_model.specs.AfterFault.{TablesLeft, TablesBehind}
+use Rattle.lego_model.specs.AfterFault.{TablesLeft}
+use Rattle.run_course.specs.TurnsLeft.{TurnsBehind}
 use Rattle.run_laws.specs.Engine.{Engine, EachFrom, rules_of}
 use Rattle.run_laws.specs.Moves.{IsAtRest}
 use Rattle.event_dispatch.specs.declared.fault.Fault.{Fault}
@@ -25,4 +26,4 @@ pub record TurnLeft {Own : Type 0} (Tells Short : Type 0) (app budget : ℕ) (re
 
 -- There the same of what comes behind some turns at an event, in which no application may have been given it.
 pub record DispatchLeft {Own : Type 0} (Tells Short : Type 0) (old new : Seen Own) (e : Engine) : Type 0 where
-  pub left : Tells → Conforming old → InOrder new → Ready old e.net → EachFrom (IsAtRest old) 0 e.apps → TablesBehind (rules_of e) Short old new
+  pub left : Tells → Conforming old → InOrder new → Ready old e.net → EachFrom (IsAtRest old) 0 e.apps → TurnsBehind (rules_of e) Short old new

@@ -33,7 +33,11 @@ pub mod LeftLaws
 pub mod StoreLaws
 pub mod NotesLaws
 pub mod TurnPartLaws
+pub mod GroupLaws
+pub mod GroupPartLaws
+pub mod GroupRestLaws
 pub mod OfferLaws
+pub mod OfferInsteadLaws
 pub mod BeginLaws
 pub mod JoinLaws
 pub mod EndCourseLaws

@@ -130,7 +130,7 @@ fn hold_turn<W: World, J: Judge>(
 }
 
 /// Counts so many turns more. More than eight bytes can count are more than the report could tell.
-fn counted(turns: u64, more: u64) -> Result<u64, AllocError>
+pub(crate) fn counted(turns: u64, more: u64) -> Result<u64, AllocError>
     ensures { MatchResult result (λ all. all ≡ turns + more) (λ _. 2 ^ 64 ≤ turns + more) }
 {
     match turns.checked_add(more) {
@@ -225,7 +225,7 @@ impl Core {
     }
 
     /// Appends the lines of the packets that were released.
-    fn note_out(&mut self, out: &[(Dpid, u32)]) -> Result<(), AllocError>
+    pub(crate) fn note_out(&mut self, out: &[(Dpid, u32)]) -> Result<(), AllocError>
         ensures { OnOk result (OnlyNotes (out_text out.now) self.old self.new) }
     {
         for &(dpid, len) in out {
@@ -324,8 +324,8 @@ impl Core {
     }
 }
 
-/// Gives an event to an application, where it has a turn at it. Answers whether the event goes no further. For an application
-/// that may be given other events in its place no memory is had yet.
+/// Gives an event to an application, where it has a turn at it, and what stands in place of it, where that turn fails. Answers
+/// whether the event goes no further.
 fn offer<'x, W: World, J: Judge>(
     core: &mut Core,
     world: &mut W,
@@ -348,11 +348,12 @@ fn offer<'x, W: World, J: Judge>(
     if event.body.len() > MOST_BODY {
         return Err(Fault::NoMemory);
     }
-    if app.replaces(event.kind) {
-        Err(Fault::NoMemory)
-    } else {
-        core.take_turn(world, app, judge, event)
+    let failed = app.failed;
+    let stops = core.take_turn(world, app, judge, event)?;
+    if app.failed == failed {
+        return Ok(stops);
     }
+    core.give_instead(world, app, judge, event)
 }
 
 /// Gives an event to the applications that have a turn at it, in order, until one that was done says that it goes no further.

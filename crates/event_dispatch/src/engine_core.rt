@@ -38,6 +38,14 @@ impl Core {
         })
     }
 
+    /// Appends bytes to those that are to be written.
+    pub(crate) fn note_bytes(&mut self, bytes: &[u8]) -> Result<(), AllocError>
+        ensures { OnOk result (OnlyNotes bytes.now self.old self.new) }
+    {
+        self.lines.extend_from_slice(bytes)?;
+        Ok(())
+    }
+
     /// Appends a line to those that are to be written.
     pub(crate) fn note(&mut self, line: &ByteList) -> Result<(), AllocError>
         ensures { OnOk result (OnlyNotes line.now self.old self.new) }

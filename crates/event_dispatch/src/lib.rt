@@ -14,6 +14,7 @@ mod closing;
 mod dispatch;
 mod engine_core;
 mod fault;
+mod instead;
 mod last;
 mod limits;
 mod losing;

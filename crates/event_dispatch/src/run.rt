@@ -5,14 +5,12 @@ ghost use Rattle.checkpoint_store.specs.Slots.{Slot};
 ghost use Rattle.event_dispatch.specs.NewRun.{IsNewRun};
 ghost use Rattle.event_dispatch.specs.Runs.{AreFresh};
 ghost use Rattle.run_laws.specs.Facts.{is_taking};
-ghost use Rattle.crash_policy.specs.Asking.{rule_at};
-ghost use Rattle.crash_policy.specs.Policies.{app_value};
-ghost use Rattle.event_dispatch.specs.Shows.{application_of, is_replacing};
+ghost use Rattle.event_dispatch.specs.Shows.{application_of};
 
 use crate::engine_core::Core;
-use app_frames::{Event, EventKind};
+use app_frames::Event;
 use app_visor::AppState;
-use crash_policy::{AppRule, Policy, listens, rule};
+use crash_policy::{AppRule, listens};
 use std::alloc::{AllocError, Global};
 
 /// An application with what it has done.
@@ -33,16 +31,6 @@ impl Managed<'_> {
         ensures { (slots : List Slot) → result ≡ is_taking event.now (application_of slots self.now) }
     {
         self.state.alive && listens(self.rule, event.kind)
-    }
-
-    /// Tells whether it may be given other events in place of one of a kind at which it fails.
-    pub(crate) fn replaces(&self, kind: EventKind) -> bool
-        ensures { result ≡ is_replacing (rule_at (app_value self.now.rule.now) kind) }
-    {
-        match rule(self.rule, kind) {
-            Policy::None | Policy::Absolute => false,
-            Policy::Equivalence => true,
-        }
     }
 }
 

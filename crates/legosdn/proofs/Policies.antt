@@ -16,7 +16,7 @@ use Rattle.crash_policy.specs.Order.{policy_of}
 use Rattle.legosdn.specs.declared.stop.InputRefusal.{InputRefusal}
 use Rattle.legosdn.specs.declared.stop.Stop.{Stop}
 use Rattle.legosdn.specs.declared.stop.Stop.TheVariants as stops
-use Rattle.legosdn.specs.Input.{Read, with_read, most_input, is_taken, has_words, ProgramValue, program_in, with_words, run_policy}
+use Rattle.legosdn.specs.Input.{Read, with_read, most_input, has_words, ProgramValue, program_in, with_words, run_policy}
 use Rattle.legosdn.specs.Stops.{refusal_line, policy_words, stop_of_policy}
 use Rattle.legosdn.specs.Headline.{IsNoPolicy, IsReadCause, IsPolicyCause}
 use Rattle.legosdn.specs.Live.{Taken}
@@ -27,9 +27,6 @@ use Rattle.legosdn.specs.Live.{Taken}
 all_of_values : {A B : Type 0} (is_so : B → Bool) (value : A → B) (xs : List A) → list_all (λ x. is_so (value x)) xs ≡ list_all is_so (map value xs)
 all_of_values is_so value [] = refl
 all_of_values is_so value (x ∷ xs) = ap (λ (rest : Bool). is_so (value x) && rest) (all_of_values is_so value xs)
-
-pub all_taken : (apps : List AppRule) → list_all (λ app. is_taken (app_value app)) apps ≡ list_all is_taken (map app_value apps)
-all_taken apps = all_of_values is_taken app_value apps
 
 pub all_have_words : (apps : List AppRule) → list_all (λ app. has_words (app_value app)) apps ≡ list_all has_words (map app_value apps)
 all_have_words apps = all_of_values has_words app_value apps

@@ -12,7 +12,6 @@ use Rattle.lego_model.specs.UndoFaults.{AreExpectedOnLinks}
 use Rattle.net_txn.specs.LinkSteps.{MakesNoStrayCall}
 use Rattle.lego_model.specs.Places.{Place}
 use Rattle.lego_model.specs.AtOnce.{AtOnce}
-use Rattle.lego_model.specs.AfterFault.{TablesBehind}
 use Rattle.lego_model.specs.OrderlySteps.{IsOrderly}
 use Rattle.lego_model.specs.declared.fault.TxnFault.{TxnFault}
 use Rattle.lego_model.specs.declared.fault.TxnFault.TheVariants as faults
@@ -27,7 +26,7 @@ use Rattle.event_dispatch.specs.declared.served.Served.TheVariants as served
 use Rattle.event_dispatch.specs.Serves.{IsAlike, IsCut}
 use Rattle.event_dispatch.specs.Cut.{IsReadServed}
 use Rattle.event_dispatch.specs.Plain.{IsPlainServed, EndsPlain}
-use Rattle.event_dispatch.specs.laws.LeftLaws.{tables_for}
+use Rattle.event_dispatch.specs.laws.LeftLaws.{behind_for}
 use Rattle.legosdn.specs.declared.stop.Stop.{Stop}
 use Rattle.legosdn.specs.Stops.{stop_of_switch}
 use Rattle.legosdn.specs.Said.{allowed_by}
@@ -131,10 +130,6 @@ memory_place program seen a b order (inr none) = inr none
 never_short : ⊥ → Unit {0}
 never_short none = tt
 
-behind_for_memory : {Own : Type 0} (program : ProgramValue) (old new : Seen Own) → TablesBehind program.apps ⊥ old new → TablesBehind program.apps (Unit {0}) old new
-behind_for_memory program old new (inl before) = inl before
-behind_for_memory program old new (inr behind) = inr (record { app = behind.app; rule = behind.rule; rule_is = behind.rule_is; tables = tables_for never_short behind.tables })
-
 -- no line is missing, so that the lines of the start are there
 lines_for_memory : {Own : Type 0} (program : ProgramValue) (seen : Seen Own) (a b : Option (List ℕ)) → UpToPoint program seen ⊥ (λ last. CutBehindLines program.apps (allowed_by program.judge) last a b) → UpToPoint program seen (Unit {0}) (λ last. CutForMemory program.apps (allowed_by program.judge) seen last a b)
 lines_for_memory program seen a b up_to = record {
@@ -143,7 +138,7 @@ lines_for_memory program seen a b up_to = record {
   last_point = up_to.last_point;
   messages = up_to.messages;
   holds = record { run = up_to.holds.run; done = inr up_to.holds.done };
-  tables = behind_for_memory program up_to.last seen up_to.tables;
+  tables = behind_for never_short up_to.tables;
   at_once = up_to.at_once;
 }
 

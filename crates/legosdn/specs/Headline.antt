@@ -10,7 +10,7 @@ use Rattle.lego_model.specs.AtOnce.{AtOnce}
 use Rattle.sim_world.specs.Told.{without_links}
 use Rattle.sim_world.specs.Scripts.{Scripts, KeepsScripts}
 use Rattle.sim_world.specs.World.{WorldData, seen_of}
-use Rattle.lego_model.specs.AfterFault.{TablesBehind}
+use Rattle.run_course.specs.TurnsLeft.{TurnsBehind}
 use Rattle.lego_model.specs.History.{stimuli_in, lost_of}
 use Rattle.lego_model.specs.WholeRun.{EndsAs, EndsAlike, LeavesAs, LeavesAlike}
 use Rattle.lego_model.specs.declared.fault.TxnFault.{TxnFault}
@@ -198,14 +198,15 @@ pub record RunsPart (program : ProgramValue) (seen : Seen Scripts) (contents now
 -- the end of the report; and all bytes that came of switches up to there are messages. The whole journal is a dialogue with each application,
 -- in which each change had reached its switch at once when it was answered. Where an event was given behind that point, its turn was undone:
 -- each switch has its entries again, or failed in the undo; or the turn was whole and its packets were being released, and each switch moved by
--- those that were sent to it alone. Only where memory was wanting may a turn have been whole of which no packet was being released.
+-- those that were sent to it alone. Only where memory was wanting may a turn have been whole of which no packet was being released. So it is with
+-- the turns in place of an event, all together, behind the turn at it, which was undone.
 pub record UpToPoint {Own : Type 0} (program : ProgramValue) (seen : Seen Own) (Short : Type 0) (Holds : Seen Own → Type 0) : Type 0 where
   pub last : Seen Own
   pub given : last.given ≡ seen.given
   pub last_point : IsLastPoint last seen
   pub messages : BringMessages last.history
   pub holds : Holds last
-  pub tables : TablesBehind program.apps Short last seen
+  pub tables : TurnsBehind program.apps Short last seen
   pub at_once : (i : ℕ) → i < length program.apps → AtOnce i (journal seen.history)
 
 -- no packet that was released made its switch send as many messages as are too many

@@ -1,9 +1,7 @@
 -- What an input spells: to `replay` a policy, a line `---`, and a session; to `run` a policy alone; to `gen` a session that is drawn, whatever it is.
 -- These text forms are our own.
-use Rattle.std.specs.Prelude.{ℕ, ◌+◌, ◌&&◌, Bool, true, false, List, [], ◌∷◌, ◌++◌, length, map, Option, Some, None, Result, Ok, Err, nat_lt, if◌then◌else◌, codes}
+use Rattle.std.specs.Prelude.{ℕ, ◌+◌, Bool, true, false, List, [], ◌∷◌, ◌++◌, length, map, Option, Some, None, Result, Ok, Err, nat_lt, if◌then◌else◌, codes}
 use Rattle.std.specs.List.{list_all}
-use Rattle.crash_policy.specs.declared.policy_file.Policy.{Policy}
-use Rattle.crash_policy.specs.declared.policy_file.Policy.TheVariants.{Absolute, Equivalence, None as NoRestart}
 use Rattle.crash_policy.specs.declared.policy_file.AppRule.{AppRule}
 use Rattle.crash_policy.specs.Policies.{AppValue, GuardValue, PolicyValue, app_value}
 use Rattle.crash_policy.specs.Faults.{Fault}
@@ -21,7 +19,7 @@ use Rattle.lego_model.specs.SessionLines.{SessionValue}
 use Rattle.lego_model.specs.SessionText.{at_first, lines_from, ◌>>=◌}
 use Rattle.lego_model.specs.Application.{names}
 use Rattle.legosdn.specs.declared.policy.Program.{Program}
-use Rattle.legosdn.specs.declared.stop.InputRefusal.TheVariants.{Size, Separator, PolicyLater, NoCommand, Session}
+use Rattle.legosdn.specs.declared.stop.InputRefusal.TheVariants.{Size, Separator, NoCommand, Session}
 use Rattle.legosdn.specs.Stops.{fault_words, policy_line, refusal_line}
 
 -- how many bytes an input holds at most
@@ -42,16 +40,6 @@ with_read (Err line) f = Err line
 
 -- ---- A policy
 
--- `equivalence` is not there yet
-abbrev pub is_built : Policy → Bool
-is_built Absolute = true
-is_built Equivalence = false
-is_built NoRestart = true
-
--- an application that the engine can run so far
-unfoldable pub is_taken : AppValue → Bool
-is_taken app = is_built app.policy && list_all is_built app.rules
-
 -- what runs: the applications in their order, and the judge of the tables that their turns leave
 pub record ProgramValue : Type 0 where
   pub apps : List AppValue
@@ -69,17 +57,9 @@ judge_of quota (Some rule) = Guard (record { field = rule.field; hops = hops_of 
 judge_of (Some most) None = Quota (record { most = most })
 judge_of None None = All
 
-abbrev pub or_later : ProgramValue → Bool → Read ProgramValue
-or_later program true = Ok program
-or_later program false = Err (refusal_line PolicyLater)
-
--- it can run all of them
-abbrev pub taken_program : PolicyValue → Read ProgramValue
-taken_program policy = or_later (record { apps = policy.apps; judge = judge_of policy.quota policy.guard }) (list_all is_taken policy.apps)
-
 -- the program of a policy text
 abbrev pub program_in : Result PolicyValue Fault → Read ProgramValue
-program_in (Ok policy) = taken_program policy
+program_in (Ok policy) = Ok (record { apps = policy.apps; judge = judge_of policy.quota policy.guard })
 program_in (Err fault) = Err (policy_line (fault_words fault))
 
 -- ---- `run`

@@ -69,7 +69,6 @@ policy_line words = line_of (codes "bad policy " ++ words)
 unfoldable pub refusal_line : InputRefusal → List ℕ
 refusal_line refusals.Size = line_of (codes "bad size")
 refusal_line refusals.Separator = line_of (codes "bad separator")
-refusal_line refusals.PolicyLater = line_of (codes "bad policy later")
 refusal_line refusals.NoCommand = line_of (codes "bad policy missing command")
 refusal_line (refusals.Policy fault) = policy_line (policy_words fault)
 refusal_line (refusals.Session fault) = codes "bad session " ++ decimal fault.line ++ line_of (codes " " ++ kind_word fault.kind)

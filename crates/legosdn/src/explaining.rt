@@ -1,11 +1,11 @@
 //! What is wrong with an input, in words for an operator, where the line of its refusal does not say it.
 
 use crate::input::{MOST_INPUT, cut};
-use crash_policy::{AppRule, Policy, PolicyFile, read_policy};
+use crash_policy::{AppRule, PolicyFile, read_policy};
 use std::alloc::{AllocError, Global};
 
-/// Says what is wrong with the policy of an input that was refused: where it is no TOML, which key asks for what is not done yet, or
-/// which application names no program. `None` where the line says all.
+/// Says what is wrong with the policy of an input that was refused: where it is no TOML, or which application names no program.
+/// `None` where the line says all.
 pub fn explain(alloc: Global, input: &[u8], is_run: bool) -> Result<Option<String>, AllocError> {
     if is_run {
         return explain_policy(alloc, input, true);
@@ -34,20 +34,12 @@ fn explain_policy(
     }
 }
 
-/// Says what is not done yet of a policy, or what it lacks for `run`.
+/// Says what a policy lacks for `run`.
 fn explain_file(
     alloc: Global,
     file: &PolicyFile,
     is_run: bool,
 ) -> Result<Option<String>, AllocError> {
-    for app in &file.apps {
-        if let Some(key) = later_key(app) {
-            let name = app.name.as_str();
-            return Ok(Some(format!(in alloc;
-                "policy: {key} of application {name}: equivalence is not done yet\n"
-            )?));
-        }
-    }
     for app in &file.apps {
         if is_run && !has_program(app) {
             let name = app.name.as_str();
@@ -57,17 +49,6 @@ fn explain_file(
         }
     }
     Ok(None)
-}
-
-/// The key of an application that asks for what is not done yet.
-fn later_key(app: &AppRule) -> Option<&'static str> {
-    if app.policy == Policy::Equivalence {
-        Some("policy")
-    } else if app.rules.iter().any(|rule| *rule == Policy::Equivalence) {
-        Some("rules")
-    } else {
-        None
-    }
 }
 
 /// Tells whether a command names a program.

@@ -1,18 +1,18 @@
 //! The policy, and the applications that it names.
 
-ghost use Rattle.std.specs.Prelude.{◌≡◌, ◌≤◌, Ok, Err, length, map, option_map, vec_len, IfSome, IfOk, IfErr};
+ghost use Rattle.std.specs.Prelude.{◌≡◌, ◌≤◌, Ok, Err, length, option_map, vec_len, IfSome, IfOk, IfErr};
 ghost use Rattle.std.specs.List.{list_all};
 ghost use Rattle.lego_io.specs.Count.{NeverFell};
 ghost use Rattle.crash_policy.specs.Policies.{app_value, guard_value};
 ghost use Rattle.crash_policy.specs.Order.{policy_of};
-ghost use Rattle.legosdn.specs.Input.{is_built as is_built_in, is_taken as is_taken_in, has_words, with_words, judge_of as judge_by, or_later, program_of, program_value, program_in as program_of_policy};
+ghost use Rattle.legosdn.specs.Input.{has_words, with_words, judge_of as judge_by, program_value, program_in as program_of_policy};
 ghost use Rattle.legosdn.specs.Stops.{refusal_line};
 ghost use Rattle.legosdn.specs.Headline.{IsReadCause, IsNoPolicy, IsPolicyCause};
 ghost use Rattle.legosdn.specs.Live.{Taken};
 
 use crate::input::read_input;
 use crate::stop::{InputRefusal, Stop};
-use crash_policy::{AppRule, Policy, PolicyFile, read_policy};
+use crash_policy::{AppRule, PolicyFile, read_policy};
 use lego_io::Source;
 use net_guard::{ChosenJudge, Guard, GuardRule, Quota};
 use std::alloc::{AllocError, Global};
@@ -24,38 +24,6 @@ pub struct Program {
     pub apps: Vec<AppRule>,
     /// A turn whose tables it refuses is undone.
     pub judge: ChosenJudge,
-}
-
-/// Tells whether the engine can do what a policy says so far.
-fn is_built(policy: Policy) -> bool
-    ensures { result ≡ is_built_in policy }
-{
-    match policy {
-        Policy::Absolute | Policy::None => true,
-        Policy::Equivalence => false,
-    }
-}
-
-/// Tells whether it can for all kinds of events.
-fn are_built(rules: &[Policy]) -> bool
-    ensures { result ≡ list_all is_built_in rules.now }
-{
-    rules.iter().all(|rule| is_built(*rule))
-}
-
-/// Tells whether the engine can run such an application so far.
-#[tactic(auto, unfolding(crate::specs::Input::is_taken))]
-fn is_taken(app: &AppRule) -> bool
-    ensures { result ≡ is_taken_in (app_value app.now) }
-{
-    is_built(app.policy) && are_built(&app.rules)
-}
-
-/// Tells whether it can run all of these.
-fn are_taken(apps: &[AppRule]) -> bool
-    ensures { result ≡ list_all (λ app. is_taken_in (app_value app)) apps.now }
-{
-    apps.iter().all(|app| is_taken(app))
 }
 
 /// Makes the judge of a policy.
@@ -74,19 +42,6 @@ fn judge_of(
     }
 }
 
-/// Gives the program of applications and a judge, where the engine can run all of them so far.
-#[tactic(auto, using(crate::proofs::Policies::all_taken))]
-fn taken_program(apps: Vec<AppRule>, judge: ChosenJudge) -> Result<Program, InputRefusal>
-    ensures taken { IfOk result (λ program. or_later (program_of apps.items judge) (list_all is_taken_in (map app_value apps.items)) ≡ Ok (program_value program)) }
-    ensures same { IfOk result (λ program. program.apps ≡ apps) }
-    ensures refused { IfErr result (λ refusal. or_later (program_of apps.items judge) (list_all is_taken_in (map app_value apps.items)) ≡ Err (refusal_line refusal)) }
-{
-    if are_taken(&apps) {
-        return Ok(Program { apps, judge });
-    }
-    Err(InputRefusal::PolicyLater)
-}
-
 /// Reads the program of a policy text.
 pub fn program_in(alloc: Global, text: &[u8]) -> Result<Program, Stop>
     ensures taken { IfOk result (λ program. program_of_policy (policy_of text.now) ≡ Ok (program_value program)) }
@@ -96,7 +51,7 @@ pub fn program_in(alloc: Global, text: &[u8]) -> Result<Program, Stop>
     let policy = read_policy(alloc, text)?;
     let PolicyFile { quota, guard, apps } = policy;
     let judge = judge_of(alloc, quota, guard)?;
-    Ok(taken_program(apps, judge)?)
+    Ok(Program { apps, judge })
 }
 
 /// Tells whether a command starts an application.

@@ -29,9 +29,6 @@ pub enum InputRefusal {
     /// It has no line `---`.
     #[error("the input has no line ---")]
     Separator,
-    /// It has a policy that the command does not take yet.
-    #[error("the input has a policy that the command does not take yet")]
-    PolicyLater,
     /// Its policy names no program to start.
     #[error("the policy names no program")]
     NoCommand,
@@ -131,7 +128,6 @@ impl InputRefusal {
         match self {
             InputRefusal::Size => write_all(sink, b"bad size\n"),
             InputRefusal::Separator => write_all(sink, b"bad separator\n"),
-            InputRefusal::PolicyLater => write_all(sink, b"bad policy later\n"),
             InputRefusal::NoCommand => write_all(sink, b"bad policy missing command\n"),
             InputRefusal::Policy(fault) => write_policy(sink, fault),
             InputRefusal::Session(fault) => {

@@ -24,7 +24,7 @@ pub enum Stop {
     /// The input has no line `---`.
     #[error("bad separator")]
     Separator,
-    /// The input has a policy that the engine does not take yet.
+    /// The input has a judge that a rehearsal does not take yet.
     #[error("bad policy later")]
     PolicyLater,
     /// An application of the policy has no command.

@@ -6,3 +6,4 @@ pub mod Moves
 pub mod Turns
 pub mod Parts
 pub mod Points
+pub mod TurnsLeft

@@ -14,7 +14,7 @@ use Rattle.outside.specs.Conforming.{Conforming}
 use Rattle.outside.specs.InOrder.{InOrder, BringMessages}
 use Rattle.run_course.specs.Points.{IsLastPoint}
 use Rattle.run_laws.specs.Engine.{Engine}
-use Rattle.lego_model.specs.AfterFault.{TablesBehind}
+use Rattle.run_course.specs.TurnsLeft.{TurnsBehind}
 use Rattle.run_laws.specs.Moves.{Moved}
 use Rattle.lego_model.specs.CutRun.{reference_so_far, dispatch_partly, start_said}
 use Rattle.lego_model.specs.Controller.{Run}
@@ -62,7 +62,7 @@ pub record CutAt {Own : Type 0} (rules : List AppValue) (Short : Type 0) (Alike 
   pub messages : InOrder seen → BringMessages last.history
   pub last_point : InOrder seen → IsLastPoint last seen
   pub no_other_called : CallsAmong (length rules) last seen
-  pub tables : InOrder seen → TablesBehind rules Short last seen
+  pub tables : InOrder seen → TurnsBehind rules Short last seen
 
 -- where what comes next failed, or a switch, no line is missing
 abbrev pub CutWithLines : {Own : Type 0} → List AppValue → (List Place → Bool) → Seen Own → Option (List ℕ) → Option (List ℕ) → Type 0

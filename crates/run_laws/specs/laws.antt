@@ -15,6 +15,8 @@ pub mod ReferenceLaws
 pub mod LinkStepLaws
 pub mod PointLaws
 pub mod LastPointLaws
+pub mod AgainLaws
+pub mod InsteadTurnLaws
 pub mod CalmLaws
 pub mod ChainLaws
 pub mod DialogueLaws

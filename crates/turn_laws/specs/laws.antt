@@ -1,3 +1,4 @@
 pub mod ChainLaws
 pub mod StopLaws
 pub mod FaultLaws
+pub mod FailedLaws

@@ -1,13 +1,12 @@
 -- Laws of what turns and attempts to start leave of the switches, in a world that tells in order: calls of links are in place, the host goes
 -- on to keep up with its switches, and what came of them are messages.
-use Rattle.std.specs.Prelude.{◌≡◌, ℕ, Bool, true, List, [], ◌∷◌, map, IsSome, refl}
+use Rattle.std.specs.Prelude.{◌≡◌, ℕ, true, List, [], ◌∷◌, map, IsSome, refl}
 use Rattle.std.specs.Option.{is_some}
 use Rattle.std.proofs.Common.{sym, ap, ◌∙◌, subst, inl, inr, true≢false}
 use Rattle.std.proofs.lemmas.List.{append-nil}
 use Rattle.of_types.specs.declared.journal.Act.{Act}
 use Rattle.of_types.specs.declared.journal.Act.TheVariants.{Stim, Started, Gave, Gone, Took, Ended, Sent, Got, Lost}
-use Rattle.flow_table.specs.View.{TableView}
-use Rattle.lego_model.specs.Journal.{is_of, give_act}
+use Rattle.lego_model.specs.Journal.{is_of}
 use Rattle.outside.specs.Seen.{Seen, Continues}
 use Rattle.outside.specs.State.{Link, State, state, after_step, is_joined, switch_in, switch_of, link_of}
 use Rattle.outside.specs.laws.StateLaws.{state-append}
@@ -24,11 +23,9 @@ use Rattle.net_txn.specs.Abreast.{Abreast}
 use Rattle.net_txn.specs.laws.AbreastLaws.{changes_abreast}
 use Rattle.journal_laws.specs.Readings.{Calls}
 use Rattle.journal_laws.specs.laws.CallLaws.{calls_own}
-use Rattle.app_visor.specs.declared.state.TurnEnd.{TurnEnd}
 use Rattle.app_visor.specs.Talks.{step_of, Told}
 use Rattle.app_visor.specs.Beats.{Beat, Talk, Asks, Chain, Halts, Stops}
 use Rattle.app_visor.specs.laws.BeatLaws.{Chain-continues, halts_continue, Leads-continues}
-use Rattle.app_visor.specs.Turns.{Turns}
 use Rattle.app_visor.specs.CallsFor.{OwnSteps}
 use Rattle.app_visor.specs.laws.TellingLaws.{beside_one, links_one, apart_called, told_state}
 
@@ -141,20 +138,6 @@ chain_messages Tells app (Asks x ∷ trace) old new net now_net chain tells =
     subst (λ (s : Seen _). MessagesSince s new) chain.0.0
     (messages-then x.before x.after new tells changes.continues (Chain-continues Tells app trace x.after new x.now_net now_net chain.1.1) (changes.read refl tells)
     (chain_messages Tells app trace x.after new x.now_net now_net chain.1.1 tells))
-
--- ---- A turn
-
-pub turn_abreast : {Own : Type 0} {Tells : Type 0} {accepts : List TableView → Bool} {app budget : ℕ} {rest frame unread : List ℕ} {old new : Seen Own} {net now_net : NetState} {end : TurnEnd}
-    → Turns Tells accepts app budget rest frame old new net now_net end unread → Tells → Abreast old net → Abreast new now_net
-turn_abreast {Tells = Tells} {app = app} {frame = frame} {old = old} {new = new} {net = net} {now_net = now_net} t = chain_abreast Tells app (Talk (give_act t.given app frame) ∷ t.trace) old new net now_net t.chain
-
-pub turn_places : {Own : Type 0} {Tells : Type 0} {accepts : List TableView → Bool} {app budget : ℕ} {rest frame unread : List ℕ} {old new : Seen Own} {net now_net : NetState} {end : TurnEnd}
-    → Turns Tells accepts app budget rest frame old new net now_net end unread → Tells → InOrder new → Abreast old net → MakesNoStrayCall old new
-turn_places {Tells = Tells} {app = app} {frame = frame} {old = old} {new = new} {net = net} {now_net = now_net} t = chain_places Tells app (Talk (give_act t.given app frame) ∷ t.trace) old new net now_net t.chain
-
-pub turn_messages : {Own : Type 0} {Tells : Type 0} {accepts : List TableView → Bool} {app budget : ℕ} {rest frame unread : List ℕ} {old new : Seen Own} {net now_net : NetState} {end : TurnEnd}
-    → Turns Tells accepts app budget rest frame old new net now_net end unread → Tells → MessagesSince old new
-turn_messages {Tells = Tells} {app = app} {frame = frame} {old = old} {new = new} {net = net} {now_net = now_net} t = chain_messages Tells app (Talk (give_act t.given app frame) ∷ t.trace) old new net now_net t.chain
 
 -- ---- A turn that stopped
 

@@ -1,23 +1,20 @@
 -- The transaction ids of the messages of a turn ascend.
-use Rattle.std.specs.Prelude.{◌≡◌, ℕ, Bool, true, List, [], ◌∷◌, ◌++◌, map, refl}
+use Rattle.std.specs.Prelude.{◌≡◌, ℕ, true, List, [], ◌∷◌, ◌++◌, map, refl}
 use Rattle.std.proofs.Common.{sym, ap, ◌∙◌, subst, inl, inr, arith}
 use Rattle.std.proofs.lemmas.List.{append-nil}
 use Rattle.of_types.specs.declared.journal.Act.{Act}
 use Rattle.of_types.specs.declared.journal.Act.TheVariants.{Stim, Started, Gave, Gone, Took, Ended, Sent, Got, Lost}
-use Rattle.flow_table.specs.View.{TableView}
 use Rattle.outside.specs.declared.step.WorldStep.{WorldStep}
 use Rattle.outside.specs.Seen.{Seen, journal}
 use Rattle.lego_model.specs.declared.fault.TxnFault.{TxnFault}
-use Rattle.lego_model.specs.Journal.{is_of, give_act}
+use Rattle.lego_model.specs.Journal.{is_of}
 use Rattle.lego_model.specs.OwnIds.{own_ids, AscendWithin, IsShortRun, OwnIdsSoFar}
 use Rattle.net_txn.specs.Net.{NetState}
 use Rattle.net_txn.specs.laws.OwnIdLaws.{own_ids_two, so_far_then, so_far_none, short_before}
 use Rattle.journal_laws.specs.Readings.{is_call, Calls}
-use Rattle.app_visor.specs.declared.state.TurnEnd.{TurnEnd}
 use Rattle.app_visor.specs.CallsFor.{OwnSteps}
 use Rattle.app_visor.specs.Talks.{step_of}
 use Rattle.app_visor.specs.Beats.{Beat, Talk, Asks, Chain, Halts, Stops}
-use Rattle.app_visor.specs.Turns.{Turns}
 use Rattle.app_visor.specs.laws.BeatLaws.{Chain-continues, halts_continue}
 
 -- ---- Calls for an application send no message
@@ -72,11 +69,7 @@ chain_ids Tells app (Asks x ∷ xs) old new net now_net chain told short before 
     let here : OwnIdsSoFar 0 x.before x.net.xid = rw (chain.0.0, chain.0.1) before in
     chain_ids Tells app xs x.after new x.now_net now_net chain.1.1 told short (chain.1.0.changes.ids told short_here here)
 
--- ---- A turn, and one that stopped
-
-pub turn_ids : {Own : Type 0} {Tells : Type 0} {accepts : List TableView → Bool} {app budget : ℕ} {rest frame unread : List ℕ} {old new : Seen Own} {net now_net : NetState} {end : TurnEnd}
-    → Turns Tells accepts app budget rest frame old new net now_net end unread → Tells → IsShortRun new → OwnIdsSoFar 0 old net.xid → OwnIdsSoFar 0 new now_net.xid
-turn_ids {Tells = Tells} {app = app} {frame = frame} {old = old} {new = new} {net = net} {now_net = now_net} t = chain_ids Tells app (Talk (give_act t.given app frame) ∷ t.trace) old new net now_net t.chain
+-- ---- A turn that stopped
 
 halts_ids : {Own : Type 0} (Tells : Type 0) (old new : Seen Own) (net now_net : NetState) (fault : TxnFault) → Halts Tells old new net now_net fault → Tells → IsShortRun new → OwnIdsSoFar 0 old net.xid → OwnIdsSoFar 2 new now_net.xid
 unfolding own_ids journal

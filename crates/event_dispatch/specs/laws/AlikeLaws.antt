@@ -51,7 +51,7 @@ use Rattle.event_dispatch.specs.Talking.{KeepsTalking}
 use Rattle.event_dispatch.specs.Steady.{Reads, NoPoint, NoneMoves}
 use Rattle.event_dispatch.specs.Undone.{IsShort}
 use Rattle.event_dispatch.specs.laws.LeftLaws.{behind_then, behind_for}
-use Rattle.lego_model.specs.AfterFault.{TablesBehind}
+use Rattle.run_course.specs.TurnsLeft.{TurnsBehind}
 use Rattle.event_dispatch.specs.laws.CutLaws.{PartlyGone, partly_gone}
 use Rattle.event_dispatch.specs.laws.SteadyLaws.{reads_then}
 use Rattle.event_dispatch.specs.laws.FrontLaws.{keeps_first, keeps_to, calm_rest}
@@ -185,7 +185,7 @@ record IsStop {Own : Type 0} (rules : List AppValue) (Tells Short : Type 0) (fir
   on : Continues Tells last stop
   keeps : InOrder last → Conforming last
   quiet : Conforming last → InOrder stop → IsLastPoint last stop
-  left : Conforming last → InOrder stop → TablesBehind rules Short last stop
+  left : Conforming last → InOrder stop → TurnsBehind rules Short last stop
 
 -- the later ones of such calls
 later_among : (number : ℕ) (front later : List WorldStep) → AllByRecursion (IsCallAmong number) (front ++ later) → AllByRecursion (IsCallAmong number) later
@@ -229,7 +229,7 @@ writing_at rules a b first stop seen p keeps so = record {
   messages = λ order. messages-of stop (keeps (InOrder-before p.told p.later order));
   last_point = λ order. last_point_of (last_quiescent-of p.quiet);
   no_other_called = calls_behind first stop seen p.told p.before p.later p.own;
-  tables = λ order. inl (p.talks.no_event p.told);
+  tables = λ order. inl (inl (p.talks.no_event p.told));
 }
 
 -- each application speaks so where all is at rest
@@ -252,7 +252,7 @@ within_none {last = last} {now_e = now_e} gone = record { here = last; here_engi
 
 start_alike : {Own : Type 0} {Tells : Type 0} {accepts : List TableView → Bool} {allows : List Place → Bool} {number : ℕ} {a b : Option (List ℕ)} {first stop seen : Seen Own} (rules : List AppValue) (p : Supposed rules Tells accepts allows first stop seen) → b ≡ a → KeepsTalking Tells first stop → NoPoint Tells number first stop → CutAlike rules allows seen a b
 start_alike {Tells = Tells} {allows = allows} {a = a} {b = b} {first = first} {stop = stop} {seen = seen} rules p same talks no_point =
-    let is : IsStop rules Tells (Unit {0}) first first stop = record { before = Continues-refl Tells first; on = p.before; keeps = keeps_first first p.opened; quiet = λ keeps order. last_point_of (last_quiescent-of (no_point.none_quiescent p.told)); left = λ keeps order. inl (talks.no_event p.told) } in
+    let is : IsStop rules Tells (Unit {0}) first first stop = record { before = Continues-refl Tells first; on = p.before; keeps = keeps_first first p.opened; quiet = λ keeps order. last_point_of (last_quiescent-of (no_point.none_quiescent p.told)); left = λ keeps order. inl (inl (talks.no_event p.told)) } in
     cut_at rules (λ (last : Seen _). CutForMemory rules allows seen last a b) first stop seen p first is (λ keeps. speaks_on rules first stop (engine_at_first rules) p.told talks (settled-first rules first p.opened) (rules-first rules)) (λ keeps.
     none-so rules allows a b first seen p.opened (settled-first rules first p.opened) keeps (none-happened first seen (none_since-then (no_point.none_quiescent p.told) p.quiet) ∙ no-stimuli first p.opened) same)
 
@@ -329,7 +329,7 @@ round_stop {first = first} {stop = stop} {seen = seen} p g talks stops = record 
   quiet = λ keeps order.
       let calm = (rounds_gone p g keeps).moved.settled.calm in
       (stops.here calm.kept).last p.told order (calm_rest g.rounds.mid g.rounds.mid_run.core.net keeps calm);
-  left = λ keeps order. inl (talks.no_event p.told);
+  left = λ keeps order. inl (inl (talks.no_event p.told));
 }
 
 -- A fault ended an event: the point is the one before the turn in which it did so, behind those before it.
@@ -365,7 +365,7 @@ some_stop {rules = rules} {fault = fault} {first = first} {stop = stop} {seen = 
       quiet = λ keeps order. f.within.here.last p.told order (calm_rest f.mid f.mid_engine.net keeps (some_partly p g h next keeps).rest.calm);
       left = λ keeps order.
           let rest = (some_partly p g h next keeps).rest in
-          behind_for short (subst (λ (rs : List AppValue). TablesBehind rs (IsShort fault) f.mid stop) (fails_rules p g h next keeps) (f.within.left.left p.told keeps order rest.calm.ready rest.each));
+          behind_for short (subst (λ (rs : List AppValue). TurnsBehind rs (IsShort fault) f.mid stop) (fails_rules p g h next keeps) (f.within.left.left p.told keeps order rest.calm.ready rest.each));
     }
 
 some_speaks : {Own : Type 0} {rules : List AppValue} {Tells : Type 0} {accepts : List TableView → Bool} {allows : List Place → Bool} {fault : Fault} {a b : Option (List ℕ)} {first stop seen : Seen Own} (p : Supposed rules Tells accepts allows first stop seen) (g : CutGoing Tells accepts fault a b first stop (engine_at_first rules)) (h : CutBehind Tells accepts fault g.rounds.held b g.rounds.mid stop g.rounds.mid_run) (next : FailsNext Tells accepts fault h.some.mid stop (engine_of h.some.mid_run)) → Conforming next.fails.mid
@@ -457,7 +457,7 @@ last_stop {first = first} {stop = stop} {seen = seen} p n talks no_point = recor
   on = n.later;
   keeps = keeps_to first n.last p.told p.opened (last_on p n) (last_read p n);
   quiet = λ keeps order. last_point_of (last_quiescent-of (no_point.none_quiescent p.told));
-  left = λ keeps order. inl (talks.no_event p.told);
+  left = λ keeps order. inl (inl (talks.no_event p.told));
 }
 
 end_alike : {Own : Type 0} {rules : List AppValue} {Tells : Type 0} {accepts : List TableView → Bool} {allows : List Place → Bool} {most : ℕ} {fault : Fault} {a b : Option (List ℕ)} {first stop seen : Seen Own} (p : Supposed rules Tells accepts allows first stop seen) (n : CutEnding Tells accepts most fault a b first stop (engine_at_first rules)) → NotWrite fault → CutAlike rules allows seen a b

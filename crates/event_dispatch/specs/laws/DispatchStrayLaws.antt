@@ -1,5 +1,5 @@
 -- Laws of what turns, starts and questions for rows keep of a world that tells in order.
-use Rattle.std.specs.Prelude.{◌≡◌, ◌<◌, ℕ, Bool, List, [], IsSome, Option, Some, None, Result, Ok, refl, ◌∷◌}
+use Rattle.std.specs.Prelude.{◌≡◌, ◌<◌, ℕ, Bool, List, [], IsSome, Option, Some, None, Result, Ok, refl}
 use Rattle.std.proofs.Common.{ap, subst}
 use Rattle.flow_table.specs.View.{TableView}
 use Rattle.of_stats.specs.declared.flow_row.FlowRow.{FlowRow}
@@ -17,15 +17,13 @@ use Rattle.net_txn.specs.Undos.{Undoes}
 use Rattle.net_txn.specs.Releases.{Commits}
 use Rattle.net_txn.specs.Abreast.{Abreast}
 use Rattle.net_txn.specs.laws.AbreastLaws.{abreast-out, asks_abreast, viewed_joined, undoes_abreast, commits_abreast}
-use Rattle.app_visor.specs.declared.state.TurnEnd.{TurnEnd}
-use Rattle.lego_model.specs.Journal.{give_act}
-use Rattle.app_visor.specs.Beats.{Talk, Stops}
-use Rattle.app_visor.specs.laws.BeatLaws.{Chain-continues, Stops-continues}
-use Rattle.app_visor.specs.Turns.{Turns}
+use Rattle.app_visor.specs.Beats.{Leads, Stops}
+use Rattle.app_visor.specs.laws.BeatLaws.{Leads-continues, Stops-continues}
 use Rattle.app_visor.specs.CallsFor.{OwnSteps, CalmLater}
 use Rattle.app_visor.specs.laws.OwnLaws.{own_calls, own_none_quiescent}
 use Rattle.app_visor.specs.laws.CalmLaws.{calm_links, later_then}
-use Rattle.app_visor.specs.laws.CallOrderLaws.{own_places, own_messages, own_abreast, abreast_joined, turn_abreast, turn_places, turn_messages, stops_abreast, stops_places}
+use Rattle.app_visor.specs.laws.CallOrderLaws.{own_places, own_messages, own_abreast, abreast_joined, chain_abreast, chain_places, chain_messages, stops_abreast, stops_places}
+use Rattle.turn_laws.specs.laws.FaultLaws.{turn-leads}
 use Rattle.run_laws.specs.Cut.{CallsAmong}
 use Rattle.run_laws.specs.laws.LastPointLaws.{last_point_of}
 use Rattle.event_dispatch.specs.declared.closing.Closing.{Closing}
@@ -101,26 +99,25 @@ later_here app small later = record { last = λ told order rest. (later told).la
 
 -- ---- A turn, and its undo
 
-turn_continues : {Own : Type 0} {Tells : Type 0} {accepts : List TableView → Bool} {app budget : ℕ} {rest frame unread : List ℕ} {old new : Seen Own} {net now_net : NetState} {end : TurnEnd} → Turns Tells accepts app budget rest frame old new net now_net end unread → Continues Tells old new
-turn_continues {Tells = Tells} {app = app} {frame = frame} {old = old} {new = new} {net = net} {now_net = now_net} t = Chain-continues Tells app (Talk (give_act t.given app frame) ∷ t.trace) old new net now_net t.chain
-
 -- it was played, and its packets were released, or not all of them
-pub turn_committed : {Own : Type 0} {number : ℕ} {Tells : Type 0} {accepts : List TableView → Bool} {app budget start : ℕ} {rest frame unread : List ℕ} {old mid new : Seen Own} {at_net mid_net now_net : NetState} {queue now_queue : List Event} {end : TurnEnd} {result : Result (List (ℕ × ℕ)) TxnFault} (net : NetState) → at_net ≡ net
-    → (Tells → CallsAmong number old new) → Turns Tells accepts app budget rest frame old mid at_net mid_net end unread → Commits Tells start mid new mid_net now_net queue now_queue result → NoStray Tells number old new net
-turn_committed {number = number} {Tells = Tells} {old = old} {mid = mid} {new = new} net begun own t commits = subst (λ (n : NetState). NoStray Tells number old new n) begun (record {
+pub turn_committed : {Own : Type 0} {number : ℕ} {Tells : Type 0} {app start : ℕ} {old mid new : Seen Own} {at_net mid_net now_net : NetState} {queue now_queue : List Event} {result : Result (List (ℕ × ℕ)) TxnFault} (net : NetState) → at_net ≡ net
+    → (Tells → CallsAmong number old new) → Leads Tells app old mid at_net mid_net → Commits Tells start mid new mid_net now_net queue now_queue result → NoStray Tells number old new net
+turn_committed {number = number} {Tells = Tells} {app = app} {old = old} {mid = mid} {new = new} {at_net = at_net} {mid_net = mid_net} net begun own leads commits = subst (λ (n : NetState). NoStray Tells number old new n) begun (record {
   places = λ told order abreast.
-      no_strays_then old mid new told (turn_continues t) commits.continues (turn_places t told (InOrder-before told commits.continues order) abreast)
-      (commits.no_strays told order (viewed_joined (turn_abreast t told abreast)));
+      no_strays_then old mid new told (Leads-continues leads) commits.continues
+      (chain_places Tells app leads.trace old mid at_net mid_net leads.chain told (InOrder-before told commits.continues order) abreast)
+      (commits.no_strays told order (viewed_joined (chain_abreast Tells app leads.trace old mid at_net mid_net leads.chain told abreast)));
   own = own;
 })
 
 -- it was played, and an undo followed
-pub turn_undone : {Own : Type 0} {number : ℕ} {Tells : Type 0} {accepts : List TableView → Bool} {app budget start : ℕ} {rest frame unread : List ℕ} {old mid new : Seen Own} {at_net mid_net now_net : NetState} {end : TurnEnd} {result : Result (Unit {0}) TxnFault} (net : NetState) → at_net ≡ net → (Tells → CallsAmong number old new)
-    → Turns Tells accepts app budget rest frame old mid at_net mid_net end unread → Undoes Tells start mid new mid_net now_net result → NoStray Tells number old new net
-turn_undone {number = number} {Tells = Tells} {old = old} {mid = mid} {new = new} net begun own t undone = subst (λ (n : NetState). NoStray Tells number old new n) begun (record {
+pub turn_undone : {Own : Type 0} {number : ℕ} {Tells : Type 0} {app start : ℕ} {old mid new : Seen Own} {at_net mid_net now_net : NetState} {result : Result (Unit {0}) TxnFault} (net : NetState) → at_net ≡ net → (Tells → CallsAmong number old new)
+    → Leads Tells app old mid at_net mid_net → Undoes Tells start mid new mid_net now_net result → NoStray Tells number old new net
+turn_undone {number = number} {Tells = Tells} {app = app} {old = old} {mid = mid} {new = new} {at_net = at_net} {mid_net = mid_net} net begun own leads undone = subst (λ (n : NetState). NoStray Tells number old new n) begun (record {
   places = λ told order abreast.
-      no_strays_then old mid new told (turn_continues t) undone.continues (turn_places t told (InOrder-before told undone.continues order) abreast)
-      (undone.no_strays told order (viewed_joined (turn_abreast t told abreast)));
+      no_strays_then old mid new told (Leads-continues leads) undone.continues
+      (chain_places Tells app leads.trace old mid at_net mid_net leads.chain told (InOrder-before told undone.continues order) abreast)
+      (undone.no_strays told order (viewed_joined (chain_abreast Tells app leads.trace old mid at_net mid_net leads.chain told abreast)));
   own = own;
 })
 
@@ -134,20 +131,29 @@ stop_undone {number = number} {Tells = Tells} {old = old} {mid = mid} {new = new
   own = own;
 })
 
+-- behind its release, and behind its undo, where these were done
+pub committed_reads : {Own : Type 0} {Tells : Type 0} {app start : ℕ} {old mid new : Seen Own} {mid_net : NetState} {queue now_queue : List Event} {sent : List (ℕ × ℕ)} (net now_net : NetState)
+    → Leads Tells app old mid net mid_net → Commits Tells start mid new mid_net now_net queue now_queue (Ok sent) → Reads Tells old new net now_net
+committed_reads {Tells = Tells} {app = app} {old = old} {mid = mid} {new = new} {mid_net = mid_net} net now_net leads commits = record {
+  abreast = λ told order abreast. commits_abreast commits told (chain_abreast Tells app leads.trace old mid net mid_net leads.chain told abreast);
+  read = λ told order abreast.
+      messages-then old mid new told (Leads-continues leads) commits.continues (chain_messages Tells app leads.trace old mid net mid_net leads.chain told) (commits.read refl told);
+}
+
+pub undone_reads : {Own : Type 0} {Tells : Type 0} {app start : ℕ} {old mid new : Seen Own} {mid_net : NetState} (net now_net : NetState)
+    → Leads Tells app old mid net mid_net → Undoes Tells start mid new mid_net now_net (Ok tt) → Reads Tells old new net now_net
+undone_reads {Tells = Tells} {app = app} {old = old} {mid = mid} {new = new} {mid_net = mid_net} net now_net leads undone = record {
+  abreast = λ told order abreast. undoes_abreast undone told (chain_abreast Tells app leads.trace old mid net mid_net leads.chain told abreast);
+  read = λ told order abreast.
+      messages-then old mid new told (Leads-continues leads) undone.continues (chain_messages Tells app leads.trace old mid net mid_net leads.chain told) (undone.read refl told);
+}
+
 pub played_places : {Own : Type 0} {count : ℕ} {Tells : Type 0} {accepts : List TableView → Bool} {app budget number : ℕ} {event : Event} {old new : Seen Own} {queue now_queue : List Event} {rest unread : List ℕ} (closing : Closing) (net now_net : NetState) → (Tells → CallsAmong count old new)
     → PlaysTurn Tells accepts app budget number event closing old new net now_net queue now_queue rest unread → NoStray Tells count old new net
-played_places (closings.Done stop out) net now_net own plays = turn_committed net refl own plays.turns plays.played
-played_places (closings.Failed cause) net now_net own plays = turn_undone net refl own plays.turns plays.played.0
+played_places (closings.Done stop out) net now_net own plays = turn_committed net refl own (turn-leads plays.turns) plays.played
+played_places (closings.Failed cause) net now_net own plays = turn_undone net refl own (turn-leads plays.turns) plays.played.0
 
 pub played_reads : {Own : Type 0} {Tells : Type 0} {accepts : List TableView → Bool} {app budget number : ℕ} {event : Event} {old new : Seen Own} {queue now_queue : List Event} {rest unread : List ℕ} (closing : Closing) (net now_net : NetState)
     → PlaysTurn Tells accepts app budget number event closing old new net now_net queue now_queue rest unread → Reads Tells old new net now_net
-played_reads {old = old} {new = new} (closings.Done stop out) net now_net plays = record {
-  abreast = λ told order abreast. commits_abreast plays.played told (turn_abreast plays.turns told abreast);
-  read = λ told order abreast.
-      messages-then old plays.mid new told (turn_continues plays.turns) plays.played.continues (turn_messages plays.turns told) (plays.played.read refl told);
-}
-played_reads {old = old} {new = new} (closings.Failed cause) net now_net plays = record {
-  abreast = λ told order abreast. undoes_abreast plays.played.0 told (turn_abreast plays.turns told abreast);
-  read = λ told order abreast.
-      messages-then old plays.mid new told (turn_continues plays.turns) plays.played.0.continues (turn_messages plays.turns told) (plays.played.0.read refl told);
-}
+played_reads (closings.Done stop out) net now_net plays = committed_reads net now_net (turn-leads plays.turns) plays.played
+played_reads (closings.Failed cause) net now_net plays = undone_reads net now_net (turn-leads plays.turns) plays.played.0

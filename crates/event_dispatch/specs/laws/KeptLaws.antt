@@ -195,7 +195,7 @@ goes_all : (lost : List ℕ) (net : NetState) → AllByRecursion (IsReadBut lost
 goes_all [] net all = all_by net.kept none_goes all
 goes_all (d ∷ lost) net all = goes_all lost (lost_net d net) (goes_one d lost net.kept all)
 
-undoes_read : {Own Tells : Type 0} {start : ℕ} {old new : Seen Own} (net now_net : NetState) → Undoes Tells start old new net now_net (Ok tt) → AreRead net.kept → AreRead now_net.kept
+pub undoes_read : {Own Tells : Type 0} {start : ℕ} {old new : Seen Own} (net now_net : NetState) → Undoes Tells start old new net now_net (Ok tt) → AreRead net.kept → AreRead now_net.kept
 undoes_read {start = start} {old = old} {new = new} net now_net u read =
     read_same (lose_all (lost_parts u.parts) (record (undone_net start net) { xid = next_free net.xid u.parts; kept = u.kept; room = now_net.room })) now_net u.net_is
     (goes_all (lost_parts u.parts) (record (undone_net start net) { xid = next_free net.xid u.parts; kept = u.kept; room = now_net.room })
@@ -225,14 +225,14 @@ change_read {d = d} bytes net now_net answer changes read =
       | inr lost ↦ change_goes net now_net lost.2 read
     ]
 
-chain_read : {Own : Type 0} (Tells : Type 0) (app : ℕ) (trace : List (Beat Own)) (old new : Seen Own) (net now_net : NetState) → Chain Tells app trace old new net now_net → AreRead net.kept → AreRead now_net.kept
+pub chain_read : {Own : Type 0} (Tells : Type 0) (app : ℕ) (trace : List (Beat Own)) (old new : Seen Own) (net now_net : NetState) → Chain Tells app trace old new net now_net → AreRead net.kept → AreRead now_net.kept
 chain_read Tells app [] old new net now_net chain read = read_same net now_net chain.1 read
 chain_read Tells app (Talk act ∷ rest) old new net now_net chain read = chain_read Tells app rest chain.1.0 new net now_net chain.1.1.1 read
 chain_read Tells app (AskedNow x ∷ rest) old new net now_net chain read =
     chain_read Tells app rest x.after new x.now_net now_net chain.1.1
     (change_read x.bytes x.net x.now_net x.answer chain.1.0.changes (read_same net x.net chain.0.1 read))
 
-commits_read : {Own Tells : Type 0} {start : ℕ} {old new : Seen Own} {queue now_queue : List Event} {sent : List (ℕ × ℕ)} (net now_net : NetState) → Commits Tells start old new net now_net queue now_queue (Ok sent) → AreRead net.kept → AreRead now_net.kept
+pub commits_read : {Own Tells : Type 0} {start : ℕ} {old new : Seen Own} {queue now_queue : List Event} {sent : List (ℕ × ℕ)} (net now_net : NetState) → Commits Tells start old new net now_net queue now_queue (Ok sent) → AreRead net.kept → AreRead now_net.kept
 commits_read net now_net commits read = read_alike (filter (λ m. not (is_among m.0 commits.lost)) net.kept) now_net.kept (commits.kept refl) (read_filter (λ m. not (is_among m.0 commits.lost)) net.kept read)
 
 played_read : {Own : Type 0} (Tells : Type 0) (start : ℕ) (mid new : Seen Own) (closing : Closing) (mid_net now_net : NetState) (queue now_queue : List Event) → IsPlayed Tells closing start mid new mid_net now_net queue now_queue → AreRead mid_net.kept → AreRead now_net.kept

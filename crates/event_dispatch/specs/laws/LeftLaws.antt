@@ -1,5 +1,5 @@
 -- Laws of what a fault leaves of the tables of switches.
-use Rattle.std.proofs.Common.{◌≡◌, ◌⊎◌, ℕ, Bool, true, false, List, [], ◌∷◌, ◌++◌, length, map, Result, Ok, Err, refl, sym, ap, ◌∙◌, subst, append_assoc, inl, inr}
+use Rattle.std.proofs.Common.{◌≡◌, ◌⊎◌, ℕ, Bool, true, false, List, [], ◌∷◌, ◌++◌, length, map, Result, Ok, Err, refl, sym, ap, ◌∙◌, subst, append_assoc, inl, inr, slice_get, Some}
 use Rattle.std.specs.Option.{option_map}
 use Rattle.std.proofs.lemmas.List.{append-nil}
 use Rattle.std.proofs.lemmas.List.Elements.{filter_map-append}
@@ -19,14 +19,15 @@ use Rattle.outside.specs.declared.step.WorldStep.{WorldStep}
 use Rattle.flow_table.specs.Switch.{SwitchState}
 use Rattle.outside.specs.Seen.{Seen, Continues, Longer, journal}
 use Rattle.outside.specs.State.{state, switch_of}
-use Rattle.outside.specs.laws.SeenLaws.{journal-append}
+use Rattle.outside.specs.laws.SeenLaws.{Continues-trans, journal-append}
 use Rattle.outside.specs.laws.InOrderLaws.{InOrder-before}
 use Rattle.lego_model.specs.declared.fault.TxnFault.{TxnFault}
 use Rattle.lego_model.specs.declared.fault.TxnFault.TheVariants.{NoMemory}
 use Rattle.net_txn.specs.Net.{NetState}
 use Rattle.net_txn.specs.Undos.{AreJoined, Undoes}
 use Rattle.net_txn.specs.Releases.{committed, Commits}
-use Rattle.lego_model.specs.AfterFault.{NoEventSince, answering, IsCompleted, HasEntriesAgain, WasLost, UndoneButFailed, TurnDone, SwitchesStay, TurnKept, after_packets, TurnReleasing, TablesLeft, TablesBehind}
+use Rattle.lego_model.specs.AfterFault.{NoEventSince, answering, IsCompleted, HasEntriesAgain, WasLost, UndoneButFailed, TurnDone, SwitchesStay, TurnKept, after_packets, TurnReleasing, TablesLeft}
+use Rattle.run_course.specs.TurnsLeft.{AllDone, StaysWhole, IsReleasing, GroupLeft, InsteadLeft, EventLeft, TurnsBehind}
 use Rattle.lego_model.specs.laws.SwitchFaultLaws.{failed_before, failed_told}
 use Rattle.switch_laws.specs.Released.{MovesOrLoses}
 use Rattle.switch_laws.specs.laws.FaultLaws.{lost-still}
@@ -51,7 +52,7 @@ use Rattle.event_dispatch.specs.laws.NoEventLaws.{no_event_none, no_event_then, 
 
 -- ---- What was undone is so whatever comes behind that moves no switch
 
-undone_is : {Own : Type 0} {Tells : Type 0} (old new : Seen Own) → Tells → UndoneButFailed Tells old new → UndoneButFailed (Unit {0}) old new
+pub undone_is : {Own : Type 0} {Tells : Type 0} (old new : Seen Own) → Tells → UndoneButFailed Tells old new → UndoneButFailed (Unit {0}) old new
 undone_is old new told u = record {
   joined = λ d s is. elim (u.joined d s is) [ inl f ↦ inl (failed_told d old new told f) | inr e ↦ inr e ];
   out = u.out;
@@ -62,7 +63,7 @@ still_is : {Own : Type 0} (d : ℕ) (s : SwitchState) (old mid new : Seen Own) �
 still_is d s old mid new longer stay (inl e) = inl (record { next = e.next; stands = stay d ∙ e.stands })
 still_is d s old mid new longer stay (inr lost) = inr (lost-still old mid new d lost longer (stay d ∙ lost.out))
 
-undone_then : {Own : Type 0} {Tells : Type 0} (old mid new : Seen Own) → Tells → Continues Tells old mid → Continues Tells mid new → SwitchesStay mid new → UndoneButFailed (Unit {0}) old mid → UndoneButFailed (Unit {0}) old new
+pub undone_then : {Own : Type 0} {Tells : Type 0} (old mid new : Seen Own) → Tells → Continues Tells old mid → Continues Tells mid new → SwitchesStay mid new → UndoneButFailed (Unit {0}) old mid → UndoneButFailed (Unit {0}) old new
 undone_then old mid new told first later stay u = record {
   joined = λ d s is. elim (u.joined d s is) [ inl f ↦ inl (failed_before d old mid new first.none_fell later.none_fell (λ u. later.told told) f) | inr e ↦ inr (still_is d s old mid new (later.told told) stay e) ];
   out = λ d is. stay d ∙ u.out d is;
@@ -100,27 +101,113 @@ releasing_then old mid new later none stay r =
     }
 
 -- What is left stays so behind parts in which no event is given, no packet is released, and no switch moves.
-pub tables_then : {Own : Type 0} {Tells Short : Type 0} {app budget : ℕ} (old mid new : Seen Own) → Tells → Continues Tells old mid → Continues Tells mid new → NoEventSince mid new → NoneReleased mid new → SwitchesStay mid new → TablesLeft app budget Short old mid → TablesLeft app budget Short old new
+tables_then : {Own : Type 0} {Tells Short : Type 0} {app budget : ℕ} (old mid new : Seen Own) → Tells → Continues Tells old mid → Continues Tells mid new → NoEventSince mid new → NoneReleased mid new → SwitchesStay mid new → TablesLeft app budget Short old mid → TablesLeft app budget Short old new
 tables_then old mid new told first later none released_none stay (inl before) = inl (no_event_then before none)
 tables_then old mid new told first later none released_none stay (inr (inl undone)) = inr (inl (undone_then old mid new told first later stay undone))
 tables_then old mid new told first later none released_none stay (inr (inr (inl kept))) = inr (inr (inl (kept.0, kept_then old mid new told later stay kept.1)))
 tables_then old mid new told first later none released_none stay (inr (inr (inr releasing))) = inr (inr (inr (releasing_then old mid new later released_none stay releasing)))
 
 -- where memory may have been wanting in more cases
-pub tables_for : {Own : Type 0} {Short Other : Type 0} {app budget : ℕ} {old new : Seen Own} → (Short → Other) → TablesLeft app budget Short old new → TablesLeft app budget Other old new
+tables_for : {Own : Type 0} {Short Other : Type 0} {app budget : ℕ} {old new : Seen Own} → (Short → Other) → TablesLeft app budget Short old new → TablesLeft app budget Other old new
 tables_for short (inl before) = inl before
 tables_for short (inr (inl undone)) = inr (inl undone)
 tables_for short (inr (inr (inl kept))) = inr (inr (inl (short kept.0, kept.1)))
 tables_for short (inr (inr (inr releasing))) = inr (inr (inr releasing))
 
--- so it is with one of some applications
-pub behind_then : {Own : Type 0} {Tells Short : Type 0} {rules : List AppValue} (old mid new : Seen Own) → Tells → Continues Tells old mid → Continues Tells mid new → NoEventSince mid new → NoneReleased mid new → SwitchesStay mid new → TablesBehind rules Short old mid → TablesBehind rules Short old new
-behind_then old mid new told first later none released_none stay (inl before) = inl (no_event_then before none)
-behind_then old mid new told first later none released_none stay (inr turn) = inr (record { app = turn.app; rule = turn.rule; rule_is = turn.rule_is; tables = tables_then old mid new told first later none released_none stay turn.tables })
+-- so it is with the turns at the events that an application is given in place of one
+whole_then : {Own : Type 0} {Tells : Type 0} {Whole : Seen Own → Type 0} (mid new : Seen Own) → Tells → Continues Tells mid new → SwitchesStay mid new → StaysWhole Whole mid → StaysWhole Whole new
+whole_then mid new told later stay k =
+    let longer = later.told told in
+    record {
+      mid = k.mid;
+      given = later.given ∙ k.given;
+      done = k.done;
+      later = (k.later.0 ++ longer.0, longer.1 ∙ ap (λ (xs : List WorldStep). xs ++ longer.0) k.later.1 ∙ append_assoc k.mid.history k.later.0 longer.0);
+      stay = λ d. stay d ∙ k.stay d;
+    }
 
-pub behind_for : {Own : Type 0} {Short Other : Type 0} {rules : List AppValue} {old new : Seen Own} → (Short → Other) → TablesBehind rules Short old new → TablesBehind rules Other old new
-behind_for short (inl before) = inl before
-behind_for short (inr turn) = inr (record { app = turn.app; rule = turn.rule; rule_is = turn.rule_is; tables = tables_for short turn.tables })
+begun_then : {Own : Type 0} {Tells : Type 0} {Whole : Seen Own → Type 0} (mid new : Seen Own) → Continues Tells mid new → NoneReleased mid new → SwitchesStay mid new → IsReleasing Whole mid → IsReleasing Whole new
+unfolding released
+begun_then mid new later none stay r =
+    let front = r.first ∷ r.steps in
+    let same : released (journal (front ++ none.steps)) ≡ released (journal front) =
+    ap released (journal-append front none.steps) ∙ filter_map-append released_in (journal front) (journal none.steps) ∙ ap (λ (xs : List Held). released (journal front) ++ xs) none.none ∙ append-nil (released (journal front)) in
+    record {
+      mid = r.mid;
+      given = later.given ∙ r.given;
+      done = r.done;
+      first = r.first;
+      steps = r.steps ++ none.steps;
+      history = none.history ∙ ap (λ (xs : List WorldStep). xs ++ none.steps) r.history ∙ append_assoc r.mid.history front none.steps;
+      moved = λ d. elim (r.moved d) [
+        | inl moved ↦ inl (stay d ∙ moved ∙ ap (λ (packets : List Held). option_map (after_packets d packets) (switch_of d (state r.mid))) (sym same))
+        | inr lost ↦ inr (lost-still r.mid mid new d lost (none.steps, none.history) (stay d ∙ lost.out))
+      ];
+    }
+
+pub whole_moved : {Own : Type 0} {Tells : Type 0} {app budget : ℕ} (old first mid new : Seen Own) → Tells → Continues Tells mid new → NoneReleased mid new → SwitchesStay mid new
+    → ((mid.history ≡ first.history) × StaysWhole (AllDone app budget old) mid) ⊎ IsReleasing (AllDone app budget old) mid → GroupLeft app budget (Unit {0}) old new
+whole_moved old first mid new told later none stay (inl kept) = inr (inr (inl (tt, whole_then mid new told later stay kept.1)))
+whole_moved old first mid new told later none stay (inr releasing) = inr (inr (inr (begun_then mid new later none stay releasing)))
+
+group_then : {Own : Type 0} {Tells Short : Type 0} {app budget : ℕ} (old mid new : Seen Own) → Tells → Continues Tells old mid → Continues Tells mid new → NoEventSince mid new → NoneReleased mid new → SwitchesStay mid new → GroupLeft app budget Short old mid → GroupLeft app budget Short old new
+group_then old mid new told first later none released_none stay (inl before) = inl (no_event_then before none)
+group_then old mid new told first later none released_none stay (inr (inl undone)) = inr (inl (undone_then old mid new told first later stay undone))
+group_then old mid new told first later none released_none stay (inr (inr (inl kept))) = inr (inr (inl (kept.0, whole_then mid new told later stay kept.1)))
+group_then old mid new told first later none released_none stay (inr (inr (inr releasing))) = inr (inr (inr (begun_then mid new later released_none stay releasing)))
+
+-- in a world that tells
+pub in_telling : {Own : Type 0} {Tells : Type 0} (old new : Seen Own) → Tells → Continues Tells old new → Continues (Unit {0}) old new
+in_telling old new told on = record { given = on.given; none_fell = on.none_fell; told = λ u. on.told told }
+
+instead_then : {Own : Type 0} {Tells Short : Type 0} {app budget : ℕ} (old mid new : Seen Own) → Tells → Continues Tells mid new → NoEventSince mid new → NoneReleased mid new → SwitchesStay mid new → InsteadLeft app budget Short old mid → InsteadLeft app budget Short old new
+instead_then old mid new told later none released_none stay g =
+    let on = in_telling mid new told later in
+    record {
+      begun = g.begun;
+      given = g.given;
+      event = g.event;
+      event_is = g.event_is;
+      acts = g.acts;
+      history = g.history;
+      undone = g.undone;
+      later = Continues-trans (Unit {0}) g.begun mid new g.later on;
+      left = group_then g.begun mid new tt g.later on none released_none stay g.left;
+    }
+
+group_for : {Own : Type 0} {Short Other : Type 0} {app budget : ℕ} {old new : Seen Own} → (Short → Other) → GroupLeft app budget Short old new → GroupLeft app budget Other old new
+group_for short (inl before) = inl before
+group_for short (inr (inl undone)) = inr (inl undone)
+group_for short (inr (inr (inl kept))) = inr (inr (inl (short kept.0, kept.1)))
+group_for short (inr (inr (inr releasing))) = inr (inr (inr releasing))
+
+instead_for : {Own : Type 0} {Short Other : Type 0} {app budget : ℕ} {old new : Seen Own} → (Short → Other) → InsteadLeft app budget Short old new → InsteadLeft app budget Other old new
+instead_for short g = record {
+  begun = g.begun;
+  given = g.given;
+  event = g.event;
+  event_is = g.event_is;
+  acts = g.acts;
+  history = g.history;
+  undone = g.undone;
+  later = g.later;
+  left = group_for short g.left;
+}
+
+-- so it is with one of some applications
+pub behind_at : {Own : Type 0} {Short : Type 0} {rules : List AppValue} {old new : Seen Own} (app : ℕ) (rule : AppValue) → slice_get rules app ≡ Some rule → EventLeft app rule.budget Short old new → TurnsBehind rules Short old new
+behind_at app rule is (inl turn) = inl (inr (record { app = app; rule = rule; rule_is = is; tables = turn }))
+behind_at app rule is (inr instead) = inr (record { app = app; rule = rule; rule_is = is; left = instead })
+
+pub behind_then : {Own : Type 0} {Tells Short : Type 0} {rules : List AppValue} (old mid new : Seen Own) → Tells → Continues Tells old mid → Continues Tells mid new → NoEventSince mid new → NoneReleased mid new → SwitchesStay mid new → TurnsBehind rules Short old mid → TurnsBehind rules Short old new
+behind_then old mid new told first later none released_none stay (inl (inl before)) = inl (inl (no_event_then before none))
+behind_then old mid new told first later none released_none stay (inl (inr turn)) = inl (inr (record { app = turn.app; rule = turn.rule; rule_is = turn.rule_is; tables = tables_then old mid new told first later none released_none stay turn.tables }))
+behind_then old mid new told first later none released_none stay (inr behind) = inr (record { app = behind.app; rule = behind.rule; rule_is = behind.rule_is; left = instead_then old mid new told later none released_none stay behind.left })
+
+pub behind_for : {Own : Type 0} {Short Other : Type 0} {rules : List AppValue} {old new : Seen Own} → (Short → Other) → TurnsBehind rules Short old new → TurnsBehind rules Other old new
+behind_for short (inl (inl before)) = inl (inl before)
+behind_for short (inl (inr turn)) = inl (inr (record { app = turn.app; rule = turn.rule; rule_is = turn.rule_is; tables = tables_for short turn.tables }))
+behind_for short (inr behind) = inr (record { app = behind.app; rule = behind.rule; rule_is = behind.rule_is; left = instead_for short behind.left })
 
 -- ---- A whole turn
 
@@ -163,7 +250,7 @@ done_by app budget true rest event acts judged answers old new is more heard com
 }
 done_by app budget false rest event acts judged answers old new is more heard completed a passes = absurd (never_given budget rest acts judged answers completed)
 
-turn_done : {Own : Type 0} {Tells : Type 0} {accepts : List TableView → Bool} {app budget : ℕ} {rest event unread : List ℕ} {old new : Seen Own} {net now_net : NetState} {stop : Bool} → Tells → is_event event ≡ true → Turns Tells accepts app budget rest event old new net now_net (ends.Done stop) unread
+pub turn_done : {Own : Type 0} {Tells : Type 0} {accepts : List TableView → Bool} {app budget : ℕ} {rest event unread : List ℕ} {old new : Seen Own} {net now_net : NetState} {stop : Bool} → Tells → is_event event ≡ true → Turns Tells accepts app budget rest event old new net now_net (ends.Done stop) unread
     → (a : AtOnce app (journal old.history)) → Passes a.last.unread rest → TurnDone app budget old new
 turn_done {accepts = accepts} {app = app} {budget = budget} {rest = rest} {event = event} {unread = unread} {old = old} {new = new} {now_net = now_net} {stop = stop} told is t a passes =
     let judged = accepts now_net.views in
@@ -176,7 +263,7 @@ turn_done {accepts = accepts} {app = app} {budget = budget} {rest = rest} {event
 -- ---- The dispatch of an event
 
 pub left_none : {Own : Type 0} (Tells Short : Type 0) (seen : Seen Own) (e : Engine) → DispatchLeft Tells Short seen seen e
-left_none Tells Short seen e = record { left = λ told keeps order ready each. inl (no_event_none seen) }
+left_none Tells Short seen e = record { left = λ told keeps order ready each. inl (inl (no_event_none seen)) }
 
 -- its turn stopped, and was undone
 pub left_stopped : {Own : Type 0} {Tells Short : Type 0} {app budget start now_start : ℕ} {old mid new : Seen Own} {at_net mid_net now_net : NetState} {fault : TxnFault} {result : Result (Unit {0}) TxnFault} (rest : List ℕ) (net : NetState) → at_net ≡ net → start ≡ length net.log → now_start ≡ start
@@ -220,7 +307,7 @@ left_committed {Tells = Tells} {accepts = accepts} {app = app} {budget = budget}
     }
 
 -- all of them were released, and each switch moved by those alone, or was lost
-released_by : {Own : Type 0} {Tells : Type 0} {start : ℕ} {old new : Seen Own} {net now_net : NetState} {queue now_queue : List Event} {sent : List (ℕ × ℕ)} → Tells → AreJoined net.views (state old) → Commits Tells start old new net now_net queue now_queue (Ok sent) → (packets : List Held) × MovesOrLoses packets old new
+pub released_by : {Own : Type 0} {Tells : Type 0} {start : ℕ} {old new : Seen Own} {net now_net : NetState} {queue now_queue : List Event} {sent : List (ℕ × ℕ)} → Tells → AreJoined net.views (state old) → Commits Tells start old new net now_net queue now_queue (Ok sent) → (packets : List Held) × MovesOrLoses packets old new
 released_by {Tells = Tells} {start = start} {old = old} {new = new} {net = net} {now_net = now_net} {queue = queue} {now_queue = now_queue} told joined commits =
     (commits.ended.sent, release-moves Tells net.held.packets commits.ended.sent old new (committed start net) now_net (queue ++ net.held.notices) now_queue told joined commits.ended.all)
 

@@ -27,12 +27,11 @@ use Rattle.net_txn.specs.Abreast.{Abreast}
 use Rattle.net_txn.specs.laws.AbreastLaws.{viewed_joined}
 use Rattle.net_txn.specs.laws.OwnIdLaws.{own_ids_two, so_far_ascends, short_before}
 use Rattle.net_txn.specs.laws.UndoIdLaws.{undone_ids}
-use Rattle.app_visor.specs.declared.state.TurnEnd.{TurnEnd}
-use Rattle.app_visor.specs.Beats.{Stops}
-use Rattle.app_visor.specs.Turns.{Turns}
+use Rattle.app_visor.specs.Beats.{Leads, Stops}
 use Rattle.app_visor.specs.CallsFor.{OwnSteps}
-use Rattle.app_visor.specs.laws.CallOrderLaws.{turn_abreast, stops_abreast}
-use Rattle.app_visor.specs.laws.OwnIdLaws.{none_sent_ids, own_steps_ids, turn_ids, stops_ids}
+use Rattle.app_visor.specs.laws.CallOrderLaws.{chain_abreast, stops_abreast}
+use Rattle.app_visor.specs.laws.OwnIdLaws.{none_sent_ids, own_steps_ids, chain_ids, stops_ids}
+use Rattle.turn_laws.specs.laws.FaultLaws.{turn-leads}
 use Rattle.run_laws.specs.First.{net_at_first}
 use Rattle.event_dispatch.specs.declared.served.Served.{Served}
 use Rattle.event_dispatch.specs.declared.served.Served.TheVariants as served
@@ -137,14 +136,14 @@ own_end {new = new} net own told order abreast short before = so_far_ascends new
 -- ---- A turn, and how it was closed
 
 -- a turn that was released, or not
-module _ {Own Tells : Type 0} {accepts : List TableView → Bool} {app budget start : ℕ} {rest frame unread : List ℕ} {old mid new : Seen Own} {at_net mid_net now_net : NetState} {queue now_queue : List Event} {end : TurnEnd} {closed : Result (List (ℕ × ℕ)) TxnFault} (net : NetState) (begun : at_net ≡ net)
-    (t : Turns Tells accepts app budget rest frame old mid at_net mid_net end unread) (commits : Commits Tells start mid new mid_net now_net queue now_queue closed) where
+module _ {Own Tells : Type 0} {app start : ℕ} {old mid new : Seen Own} {at_net mid_net now_net : NetState} {queue now_queue : List Event} {closed : Result (List (ℕ × ℕ)) TxnFault} (net : NetState) (begun : at_net ≡ net)
+    (leads : Leads Tells app old mid at_net mid_net) (commits : Commits Tells start mid new mid_net now_net queue now_queue closed) where
   committed_ids : Tells → InOrder new → Abreast old net → IsShortRun new → OwnIdsSoFar 0 old net.xid → OwnIdsAscend new × (IsOk closed → OwnIdsSoFar 0 new now_net.xid)
   committed_ids told order abreast short before =
       let here = subst (λ (n : NetState). Abreast old n) (sym begun) abreast in
       let first = subst (λ (n : NetState). OwnIdsSoFar 0 old n.xid) (sym begun) before in
-      let turned = turn_ids t told (short_before told commits.continues short) first in
-      commits.ids told short (viewed_joined (turn_abreast t told here)) turned
+      let turned = chain_ids Tells app leads.trace old mid at_net mid_net leads.chain told (short_before told commits.continues short) first in
+      commits.ids told short (viewed_joined (chain_abreast Tells app leads.trace old mid at_net mid_net leads.chain told here)) turned
 
   pub committed_numbers : IsOk closed → AscendSoFar Tells old new net now_net
   committed_numbers is told order abreast short before = (committed_ids told order abreast short before).1 is
@@ -153,14 +152,14 @@ module _ {Own Tells : Type 0} {accepts : List TableView → Bool} {app budget st
   committed_end told order abreast short before = (committed_ids told order abreast short before).0
 
 -- a turn that was undone, or not
-module _ {Own Tells : Type 0} {accepts : List TableView → Bool} {app budget start : ℕ} {rest frame unread : List ℕ} {old mid new : Seen Own} {at_net mid_net now_net : NetState} {end : TurnEnd} {closed : Result (Unit {0}) TxnFault} (net : NetState) (begun : at_net ≡ net)
-    (t : Turns Tells accepts app budget rest frame old mid at_net mid_net end unread) (undone : Undoes Tells start mid new mid_net now_net closed) where
+module _ {Own Tells : Type 0} {app start : ℕ} {old mid new : Seen Own} {at_net mid_net now_net : NetState} {closed : Result (Unit {0}) TxnFault} (net : NetState) (begun : at_net ≡ net)
+    (leads : Leads Tells app old mid at_net mid_net) (undone : Undoes Tells start mid new mid_net now_net closed) where
   undoing_ids : Tells → InOrder new → Abreast old net → IsShortRun new → OwnIdsSoFar 0 old net.xid → OwnIdsAscend new × (IsOk closed → OwnIdsSoFar 0 new now_net.xid)
   undoing_ids told order abreast short before =
       let here = subst (λ (n : NetState). Abreast old n) (sym begun) abreast in
       let first = subst (λ (n : NetState). OwnIdsSoFar 0 old n.xid) (sym begun) before in
-      let turned = turn_ids t told (short_before told undone.continues short) first in
-      undone_ids undone told short (viewed_joined (turn_abreast t told here)) 0 (omega arith) turned
+      let turned = chain_ids Tells app leads.trace old mid at_net mid_net leads.chain told (short_before told undone.continues short) first in
+      undone_ids undone told short (viewed_joined (chain_abreast Tells app leads.trace old mid at_net mid_net leads.chain told here)) 0 (omega arith) turned
 
   pub undone_numbers : IsOk closed → AscendSoFar Tells old new net now_net
   undone_numbers is told order abreast short before = (undoing_ids told order abreast short before).1 is
@@ -170,8 +169,8 @@ module _ {Own Tells : Type 0} {accepts : List TableView → Bool} {app budget st
 
 pub played_numbers : {Own Tells : Type 0} {accepts : List TableView → Bool} {app budget number : ℕ} {event : Event} {old new : Seen Own} {queue now_queue : List Event} {rest unread : List ℕ} (closing : Closing) (net now_net : NetState)
     → PlaysTurn Tells accepts app budget number event closing old new net now_net queue now_queue rest unread → AscendSoFar Tells old new net now_net
-played_numbers (closings.Done stop out) net now_net plays = committed_numbers net refl plays.turns plays.played refl
-played_numbers (closings.Failed cause) net now_net plays = undone_numbers net refl plays.turns plays.played.0 refl
+played_numbers (closings.Done stop out) net now_net plays = committed_numbers net refl (turn-leads plays.turns) plays.played refl
+played_numbers (closings.Failed cause) net now_net plays = undone_numbers net refl (turn-leads plays.turns) plays.played.0 refl
 
 pub stopped_end : {Own Tells : Type 0} {app start : ℕ} {old mid new : Seen Own} {at_net mid_net now_net : NetState} {fault : TxnFault} {closed : Result (Unit {0}) TxnFault} (net : NetState) → at_net ≡ net
     → Stops Tells app old mid at_net mid_net fault → Undoes Tells start mid new mid_net now_net closed → EndsAscending Tells old new net

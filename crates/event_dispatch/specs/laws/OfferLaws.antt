@@ -7,10 +7,7 @@ use Rattle.std.proofs.lemmas.Bool.{and_parts, cases_Bool, cases_eq}
 use Rattle.std.proofs.lemmas.List.{append-nil}
 use Rattle.flow_table.specs.View.{TableView}
 use Rattle.app_frames.specs.declared.frame.Event.{Event}
-use Rattle.crash_policy.specs.Policies.{AppValue, app_value}
-use Rattle.crash_policy.specs.declared.policy_file.Policy.{Policy}
-use Rattle.crash_policy.specs.declared.policy_file.Policy.TheVariants as policy
-use Rattle.lego_model.specs.Controller.{instead_by}
+use Rattle.crash_policy.specs.Policies.{app_value}
 use Rattle.lego_model.specs.AtOnce.{AtOnce}
 use Rattle.lego_model.specs.RunReport.{event_line}
 use Rattle.outside.specs.Seen.{Seen, Continues, journal}
@@ -20,11 +17,10 @@ use Rattle.net_txn.specs.Net.{NetState}
 use Rattle.checkpoint_store.specs.Slots.{Slot}
 use Rattle.app_visor.specs.CallsFor.{CallsFor, CalmLater}
 use Rattle.app_visor.specs.laws.CalmLaws.{calm_none, calm_later}
-use Rattle.crash_policy.specs.Asking.{is_given, rule_at}
-use Rattle.run_laws.specs.Engine.{Application, Engine, EachFrom, Focus, focus}
+use Rattle.crash_policy.specs.Asking.{is_given}
+use Rattle.run_laws.specs.Engine.{Application, Engine, EachFrom, focus}
 use Rattle.run_laws.specs.Moves.{IsAtRest}
-use Rattle.run_laws.specs.Facts.{is_taking, says_stop, end_fails, TakesTurn, instead_if, TakesInstead, TakesEvent, Between, HasItsTurn, IsOffered, AreLeftOut, if_stopped, Offers}
-use Rattle.run_laws.specs.laws.HadLaws.{or_false}
+use Rattle.run_laws.specs.Facts.{is_taking, TakesEvent, Between, HasItsTurn, IsOffered, AreLeftOut, if_stopped, Offers}
 use Rattle.run_laws.specs.laws.OtherLaws.{calls-silent, silent-at-once}
 use Rattle.event_dispatch.specs.declared.fault.Fault.{Fault}
 use Rattle.event_dispatch.specs.declared.fault.Fault.TheVariants as faults
@@ -33,12 +29,12 @@ use Rattle.event_dispatch.specs.declared.run.Managed.{Managed}
 use Rattle.event_dispatch.specs.declared.run.Run.{Run}
 use Rattle.event_dispatch.specs.Runs.{AreRead, StoreRests, CoreGoes, AreNumbered, AreGoing, Going}
 use Rattle.event_dispatch.specs.Stored.{KeepsOthers}
-use Rattle.event_dispatch.specs.Shows.{application_of, focus_of, is_replacing, engine_with, engine_of, Adds, queued_run}
-use Rattle.event_dispatch.specs.Serves.{Notes, TurnNoted, stand, OfferNoted, AllOffered, IsDispatched}
+use Rattle.event_dispatch.specs.Shows.{application_of, focus_of, engine_with, engine_of, Adds, queued_run}
+use Rattle.event_dispatch.specs.Serves.{Notes, stand, OfferNoted, AllOffered, IsDispatched}
 use Rattle.event_dispatch.specs.Passes.{Passes, PassesSoFar}
 use Rattle.event_dispatch.specs.Why.{served_by}
 use Rattle.event_dispatch.specs.Undone.{IsShort}
-use Rattle.event_dispatch.specs.TurnParts.{TurnFails, TurnDone}
+use Rattle.event_dispatch.specs.TurnParts.{TurnFails}
 use Rattle.event_dispatch.specs.EventParts.{OfferDone, OfferStops, OffersDone, OffersStop, DispatchDone, DispatchStops}
 use Rattle.event_dispatch.specs.Cut.{IsOfTurn, OfferFails, StopsWithin, OffersFail, FailsIn}
 use Rattle.event_dispatch.specs.laws.SteadyLaws.{reads_none, quietly_none, quietly_here}
@@ -48,7 +44,7 @@ use Rattle.event_dispatch.specs.laws.WhyLaws.{why_then}
 use Rattle.event_dispatch.specs.laws.DispatchStrayLaws.{reads_over, own_point, later_here}
 use Rattle.event_dispatch.specs.laws.NoEventLaws.{no_event_none}
 use Rattle.event_dispatch.specs.laws.TalkingLaws.{rests_at_once, goes_none}
-use Rattle.event_dispatch.specs.laws.LeftLaws.{left_none}
+use Rattle.event_dispatch.specs.laws.LeftLaws.{behind_at, left_none}
 
 -- ---- Lists
 
@@ -466,13 +462,11 @@ module _ {Own : Type 0} {Tells : Type 0} {accepts : List TableView → Bool} {ev
       ];
     };
     left = record {
-      left = λ told keeps order ready each. inr (record {
-        app = m.state.index;
-        rule = app_value m.rule.now;
-        rule_is = subst (λ (ms : List Managed). slice_get (map (λ (a : Application). a.rule) (map (application_of now_c.store) ms)) m.state.index ≡ Some (app_value m.rule.now)) (sym now_split)
-            (rule_at_place (application_of now_c.store) m.state.index so_far.front m behind (omega (arith, place_is, so_far.here)));
-        tables = fails.left told keeps order ready (is_at_rest each);
-      });
+      left = λ told keeps order ready each.
+          behind_at m.state.index (app_value m.rule.now)
+          (subst (λ (ms : List Managed). slice_get (map (λ (a : Application). a.rule) (map (application_of now_c.store) ms)) m.state.index ≡ Some (app_value m.rule.now)) (sym now_split)
+          (rule_at_place (application_of now_c.store) m.state.index so_far.front m behind (omega (arith, place_is, so_far.here))))
+          (fails.left told keeps order ready (is_at_rest each));
     };
     here = later_here m.state.index place_within fails.later;
     plain = fails.plain;
@@ -520,48 +514,21 @@ offer_passed Tells accepts event seen c m goes passed = record {
   };
 }
 
--- where it is given no other events in place of one, its turn is all that it has at it
-instead_none : (rule : Policy) (event : Event) → is_replacing rule ≡ false → instead_by rule event ≡ []
-instead_none policy.None event none = refl
-instead_none policy.Absolute event none = refl
-instead_none policy.Equivalence event none = absurd (true≢false none)
-
-if_none : (fails alive : Bool) (rule : AppValue) (event : Event) → is_replacing (rule_at rule event.kind) ≡ false → instead_if fails alive rule event ≡ []
-if_none true true rule event none = instead_none (rule_at rule event.kind) event none
-if_none true false rule event none = refl
-if_none false alive rule event none = refl
-
-turn_alone : {Own : Type 0} (Tells : Type 0) (accepts : List TableView → Bool) (event : Event) (stops : Bool) (text : List ℕ) (old new : Seen Own) (e now_e : Focus)
-    → is_replacing (rule_at now_e.rule event.kind) ≡ false → (t : TakesTurn Tells accepts event text old new e now_e) → stops ≡ says_stop t.end → TakesEvent Tells accepts event stops text old new e now_e
-turn_alone Tells accepts event stops text old new e now_e none t stops_is = record {
-  mid = new;
-  mid_e = now_e;
-  front_text = text;
-  takes = t;
-  stopped = false;
-  later_text = [];
-  later = subst (λ (events : List Event). TakesInstead Tells accepts events false [] new new now_e now_e) (sym (if_none (end_fails t.end) now_e.alive now_e.rule event none)) (refl, refl, refl, refl);
-  stops_is = stops_is ∙ sym (or_false (says_stop t.end));
-  text_is = sym (append-nil text);
-}
-
--- it had its turn
-offer_taken : {Own : Type 0} {Tells : Type 0} {accepts : List TableView → Bool} {event : Event} {stops : Bool} (old new : Seen Own) (c now_c : Core)
-    (m now_m : Managed) → is_taking event (application_of c.store m) ≡ true → is_replacing (rule_at (app_value m.rule.now) event.kind) ≡ false → now_c.events ≡ c.events → now_m.state.index ≡ m.state.index → now_m.rule ≡ m.rule
-    → (Tells → CallsFor m.state.index old new)
-    → TurnNoted Tells accepts event stops old new c now_c m now_m → OfferNoted Tells accepts event stops old new c now_c m now_m
-offer_taken {Tells = Tells} {accepts = accepts} {event = event} {stops = stops} old new c now_c m now_m takes none events index rule own noted = record {
-  text = noted.text;
-  offered = subst (λ (b : Bool). IsOffered Tells accepts event c.events m.state.index b stops noted.text (stand old c) (stand new now_c) (application_of c.store m) (application_of now_c.store now_m)) (sym takes)
-      (has_turn now_m.state.index now_c.events index events
-      (turn_alone Tells accepts event stops noted.text old new (focus_of c m) (focus_of now_c now_m) (rw rule none) noted.takes noted.stops_is));
-  notes = noted.notes;
+-- it had the event
+pub offer_had : {Own : Type 0} {Tells : Type 0} {accepts : List TableView → Bool} {event : Event} {stops : Bool} (text : List ℕ) (old new : Seen Own) (c now_c : Core)
+    (m now_m : Managed) → is_taking event (application_of c.store m) ≡ true → now_c.events ≡ c.events → now_m.state.index ≡ m.state.index → (Tells → CallsFor m.state.index old new)
+    → TakesEvent Tells accepts event stops text old new (focus_of c m) (focus_of now_c now_m) → Notes text c now_c → OfferNoted Tells accepts event stops old new c now_c m now_m
+offer_had {Tells = Tells} {accepts = accepts} {event = event} {stops = stops} text old new c now_c m now_m takes events index own had notes = record {
+  text = text;
+  offered = subst (λ (b : Bool). IsOffered Tells accepts event c.events m.state.index b stops text (stand old c) (stand new now_c) (application_of c.store m) (application_of now_c.store now_m)) (sym takes)
+      (has_turn now_m.state.index now_c.events index events had);
+  notes = notes;
 }
   where
-    has_turn : (i k : ℕ) → i ≡ m.state.index → k ≡ c.events → TakesEvent Tells accepts event stops noted.text old new (focus m.state.index (application_of c.store m) c.net c.queue c.events) (focus i (application_of now_c.store now_m) now_c.net now_c.queue k)
-        → HasItsTurn Tells accepts event c.events m.state.index stops noted.text (stand old c) (stand new now_c) (application_of c.store m) (application_of now_c.store now_m)
+    has_turn : (i k : ℕ) → i ≡ m.state.index → k ≡ c.events → TakesEvent Tells accepts event stops text old new (focus m.state.index (application_of c.store m) c.net c.queue c.events) (focus i (application_of now_c.store now_m) now_c.net now_c.queue k)
+        → HasItsTurn Tells accepts event c.events m.state.index stops text (stand old c) (stand new now_c) (application_of c.store m) (application_of now_c.store now_m)
     has_turn i k at same t = record {
-      takes = subst (λ (q : ℕ × ℕ). TakesEvent Tells accepts event stops noted.text old new (focus m.state.index (application_of c.store m) c.net c.queue c.events) (focus q.0 (application_of now_c.store now_m) now_c.net now_c.queue q.1))
+      takes = subst (λ (q : ℕ × ℕ). TakesEvent Tells accepts event stops text old new (focus m.state.index (application_of c.store m) c.net c.queue c.events) (focus q.0 (application_of now_c.store now_m) now_c.net now_c.queue q.1))
           (ap₂ (λ (x y : ℕ). (x, y)) at same) t;
       own = own;
     }
@@ -573,52 +540,40 @@ offer_none Tells event seen c m = record {
   fails = record {
     talks = λ told rests. rests.at_once;
     of_turn = tt;
-    left = λ told keeps order ready rests. inl (no_event_none seen);
+    left = λ told keeps order ready rests. inl (inl (no_event_none seen));
     later = λ told. own_point (calm_later (calm_none m.state.index seen));
     plain = record { plain = λ told keeps ready sound. inl tt };
   };
   why = tt;
 }
 
+-- it is alive where it has it
+pub taking_alive : (event : Event) (a : Application) → is_taking event a ≡ true → a.alive ≡ true
+taking_alive event a is = (and_parts a.alive (is_given a.rule event.kind) is).0
+
+pub takes_of : (fault : Fault) {b : Bool} → b ≡ true → IsOfTurn fault b
+takes_of faults.Next holds = holds
+takes_of (faults.Txn fault) holds = holds
+takes_of faults.Write holds = tt
+takes_of faults.NoMemory holds = tt
+
 -- a fault ended its turn
-offer_fails : {Own : Type 0} {Tells : Type 0} {event : Event} (fault : Fault) (old new : Seen Own) (c : Core) (m : Managed)
+pub offer_fails : {Own : Type 0} {Tells : Type 0} {event : Event} (fault : Fault) (old new : Seen Own) (c : Core) (m : Managed)
     → is_taking event (application_of c.store m) ≡ true → (Tells → CalmLater m.state.index old new)
     → TurnFails Tells m.state.index m.rule.now.budget m.state.rest old new c.net fault
-    → OfferFails Tells fault event old new c m
+    → OfferStops Tells event old new c m fault
 offer_fails {event = event} fault old new c m takes later turn =
     let alive = taking_alive event (application_of c.store m) takes in
     record {
-      talks = λ told rests. turn.talks.talks told rests.at_once (rests.rest_is alive).0 (rests.rest_is alive).1;
-      of_turn = takes_of fault takes;
-      left = λ told keeps order ready rests. turn.left.left told keeps order ready rests.at_once (rests.rest_is alive).1;
-      later = λ told. own_point (later told);
-      plain = turn.plain;
+      fails = record {
+        talks = λ told rests. turn.talks.talks told rests.at_once (rests.rest_is alive).0 (rests.rest_is alive).1;
+        of_turn = takes_of fault takes;
+        left = λ told keeps order ready rests. inl (turn.left.left told keeps order ready rests.at_once (rests.rest_is alive).1);
+        later = λ told. own_point (later told);
+        plain = turn.plain;
+      };
+      why = turn.why;
     }
-  where
-    taking_alive : (event : Event) (a : Application) → is_taking event a ≡ true → a.alive ≡ true
-    taking_alive event a is = (and_parts a.alive (is_given a.rule event.kind) is).0
-
-    takes_of : (fault : Fault) {b : Bool} → b ≡ true → IsOfTurn fault b
-    takes_of faults.Next holds = holds
-    takes_of (faults.Txn fault) holds = holds
-    takes_of faults.Write holds = tt
-    takes_of faults.NoMemory holds = tt
-
--- however it ended
-pub offer_ended : {Own : Type 0} {Tells : Type 0} (accepts : List TableView → Bool) (event : Event) (result : Result Bool Fault) (old new : Seen Own)
-    (c now_c : Core) (m now_m : Managed) → is_taking event (application_of c.store m) ≡ true → is_replacing (rule_at (app_value m.rule.now) event.kind) ≡ false → (Tells → CalmLater m.state.index old new)
-    → MatchResult result (λ stops. TurnDone Tells accepts event stops old new c now_c m now_m)
-    (TurnFails Tells m.state.index m.rule.now.budget m.state.rest old new c.net)
-    → MatchResult result (λ stops. OfferDone Tells accepts event stops old new c now_c m now_m) (OfferStops Tells event old new c m)
-offer_ended accepts event (Ok stops) old new c now_c m now_m takes none later turn = record {
-  goes = turn.goes;
-  events = turn.events;
-  others = turn.others;
-  index = turn.index;
-  rule = turn.rule;
-  offered = offer_taken old new c now_c m now_m takes none turn.events turn.index turn.rule (λ told. (later told).own) turn.turn;
-}
-offer_ended accepts event (Err fault) old new c now_c m now_m takes none later turn = record { fails = offer_fails fault old new c m takes later turn; why = turn.why }
 
 -- ---- The event, with its line
 

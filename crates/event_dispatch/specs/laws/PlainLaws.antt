@@ -30,16 +30,14 @@ use Rattle.net_txn.specs.Net.{NetState}
 use Rattle.net_txn.specs.Undos.{Undoes}
 use Rattle.net_txn.specs.Releases.{Commits}
 use Rattle.net_txn.specs.Views.{rows_at}
-use Rattle.app_visor.specs.declared.state.TurnEnd.{TurnEnd}
-use Rattle.app_visor.specs.Beats.{Stops}
-use Rattle.app_visor.specs.Turns.{Turns}
+use Rattle.app_visor.specs.Beats.{Leads, Stops}
 use Rattle.switch_laws.specs.laws.SoundLaws.{rows-are}
 use Rattle.switch_laws.specs.laws.ClockLaws.{switch-in_time, moment-within}
 use Rattle.run_laws.specs.laws.TellLaws.{chain_keeps}
 use Rattle.app_visor.specs.laws.BeatLaws.{halts_continue}
 use Rattle.switch_laws.specs.Since.{Goes}
 use Rattle.switch_laws.specs.laws.SinceLaws.{begun}
-use Rattle.turn_laws.specs.laws.StopLaws.{stop-plain, turn-ready, flooded-since, commit-plain}
+use Rattle.turn_laws.specs.laws.StopLaws.{stop-plain, leads-ready, flooded-since, leads-commit-plain}
 use Rattle.batch_laws.specs.laws.InBatchLaws.{next_can}
 use Rattle.run_laws.specs.Engine.{Engine}
 use Rattle.run_laws.specs.laws.CalmLaws.{stands_ready}
@@ -94,7 +92,7 @@ flood_before old mid new told later f = record {
 }
 
 -- it ends so behind a part of a run,
-ends_behind : {Own : Type 0} (old mid new : Seen Own) (end : Served) → Longer old.history mid.history → EndsPlain mid new end → EndsPlain old new end
+pub ends_behind : {Own : Type 0} (old mid new : Seen Own) (end : Served) → Longer old.history mid.history → EndsPlain mid new end → EndsPlain old new end
 ends_behind old mid new end first (inl plain) = inl plain
 ends_behind old mid new end first (inr flood) = inr (flood.0, (flood.1.0, flooded-since old mid new first flood.1.1))
 
@@ -186,27 +184,27 @@ turn_stopped {Tells = Tells} {app = app} old mid new net now_net fault later sto
 }
 
 -- a turn that failed, and could not be undone
-pub turn_not_undone : {Own : Type 0} {Tells : Type 0} {accepts : List TableView → Bool} {app budget start : ℕ} {rest frame unread : List ℕ} {end : TurnEnd} (old mid new : Seen Own) (net txn_net mid_net now_net : NetState) (result : Result (Unit {0}) TxnFault) (fault : TxnFault) → txn_net ≡ net
-    → Turns Tells accepts app budget rest frame old mid txn_net mid_net end unread → result ≡ Err fault → Undoes Tells start mid new mid_net now_net result → PlainTurn Tells old new net (fault_of fault)
-turn_not_undone {Own} {Tells} {accepts} {app} {budget} {start} {rest} {frame} {unread} {end} old mid new net txn_net mid_net now_net result fault same turns is undoes =
+pub turn_not_undone : {Own : Type 0} {Tells : Type 0} {app start : ℕ} (old mid new : Seen Own) (net txn_net mid_net now_net : NetState) (result : Result (Unit {0}) TxnFault) (fault : TxnFault) → txn_net ≡ net
+    → Leads Tells app old mid txn_net mid_net → result ≡ Err fault → Undoes Tells start mid new mid_net now_net result → PlainTurn Tells old new net (fault_of fault)
+turn_not_undone {Own} {Tells} {app} {start} old mid new net txn_net mid_net now_net result fault same leads is undoes =
     let failed : Undoes Tells start mid new mid_net now_net (Err fault) = subst (Undoes Tells start mid new mid_net now_net) is undoes in
     turn_noted old new net txn_net (fault_of fault) same (record {
       plain = λ told keeps ready sound.
           let before : Conforming mid = Conforming-before told failed.continues keeps in
-          let again = turn-ready Tells accepts app budget rest frame old mid txn_net mid_net end unread told before ready turns in
+          let again = leads-ready told before ready leads in
           inl (plain_fault fault (failed.plain told keeps (λ d viewed. stands_ready d mid mid_net again viewed (switch_of d (state mid)) refl)));
     })
 
 -- one that was whole, and whose packets could not all be released
-pub turn_uncommitted : {Own : Type 0} {Tells : Type 0} {accepts : List TableView → Bool} {app budget start now_start : ℕ} {rest frame unread : List ℕ} {end : TurnEnd} {queue now_queue : List Event} (old mid new : Seen Own) (net txn_net mid_net now_net : NetState) (fault : TxnFault) → txn_net ≡ net → start ≡ length net.log → now_start ≡ start
-    → Turns Tells accepts app budget rest frame old mid txn_net mid_net end unread → Commits Tells now_start mid new mid_net now_net queue now_queue (Err fault) → PlainTurn Tells old new net (fault_of fault)
-turn_uncommitted {Own} {Tells} {accepts} {app} {budget} {start} {now_start} {rest} {frame} {unread} {end} {queue} {now_queue} old mid new net txn_net mid_net now_net fault same at kept turns commits =
-    let turned : Turns Tells accepts app budget rest frame old mid net mid_net end unread = subst (λ (n : NetState). Turns Tells accepts app budget rest frame old mid n mid_net end unread) same turns in
+pub turn_uncommitted : {Own : Type 0} {Tells : Type 0} {app start now_start : ℕ} {queue now_queue : List Event} (old mid new : Seen Own) (net txn_net mid_net now_net : NetState) (fault : TxnFault) → txn_net ≡ net → start ≡ length net.log → now_start ≡ start
+    → Leads Tells app old mid txn_net mid_net → Commits Tells now_start mid new mid_net now_net queue now_queue (Err fault) → PlainTurn Tells old new net (fault_of fault)
+turn_uncommitted {Own} {Tells} {app} {start} {now_start} {queue} {now_queue} old mid new net txn_net mid_net now_net fault same at kept leads commits =
+    let led : Leads Tells app old mid net mid_net = subst (λ (n : NetState). Leads Tells app old mid n mid_net) same leads in
     let broken : Commits Tells (length net.log) mid new mid_net now_net queue now_queue (Err fault) =
     subst (λ (n : ℕ). Commits Tells n mid new mid_net now_net queue now_queue (Err fault)) (kept ∙ at) commits in
     record {
       plain = λ told keeps ready sound.
-          ends_release old new fault (commit-plain Tells accepts app budget rest frame old mid new net mid_net now_net end unread queue now_queue fault told keeps ready turned broken);
+          ends_release old new fault (leads-commit-plain new now_net queue now_queue fault told keeps ready led broken);
     }
 
 -- ---- A question for rows

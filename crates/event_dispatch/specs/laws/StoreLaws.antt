@@ -26,7 +26,7 @@ pub keeps_same : (app : ℕ) (slots now_slots : List Slot) → now_slots ≡ slo
 keeps_same app slots now_slots is = record { number = ap (λ (s : List Slot). length s) is; kept = ap (λ (s : List Slot). kept_of app s) is; others = λ i other. ap (λ (s : List Slot). slot_of i s) is }
 
 -- a change of one place changes no other
-other_slot : (app i : ℕ) (change : Slot → Slot) (slots now_slots : List Slot) → now_slots ≡ with_slot app change slots → (i ≡ app → ⊥) → slot_of i now_slots ≡ slot_of i slots
+pub other_slot : (app i : ℕ) (change : Slot → Slot) (slots now_slots : List Slot) → now_slots ≡ with_slot app change slots → (i ≡ app → ⊥) → slot_of i now_slots ≡ slot_of i slots
 other_slot app i change slots now_slots is other = ap (λ (s : List Slot). slot_of i s) is ∙ get_or-set_other slots app i (change (slot_of app slots)) empty_slot other
 
 -- what is staged changes no kept checkpoint
@@ -51,10 +51,10 @@ none_handed cause unread (Failed why) is = refl
 
 -- ---- What is kept then
 
-kept_done : (app : ℕ) (slots now_slots : List Slot) → app < length slots → now_slots ≡ with_slot app done slots → kept_of app now_slots ≡ (slot_of app slots).pending.checkpoint
+pub kept_done : (app : ℕ) (slots now_slots : List Slot) → app < length slots → now_slots ≡ with_slot app done slots → kept_of app now_slots ≡ (slot_of app slots).pending.checkpoint
 kept_done app slots now_slots lt is = ap (λ (s : List Slot). kept_of app s) is ∙ ap (λ (x : Slot). x.kept.checkpoint) (slot_of-with_slot app done slots lt)
 
-kept_dropped : (app : ℕ) (slots now_slots : List Slot) → app < length slots → now_slots ≡ with_slot app dropped slots → kept_of app now_slots ≡ kept_of app slots
+pub kept_dropped : (app : ℕ) (slots now_slots : List Slot) → app < length slots → now_slots ≡ with_slot app dropped slots → kept_of app now_slots ≡ kept_of app slots
 kept_dropped app slots now_slots lt is = ap (λ (s : List Slot). kept_of app s) is ∙ ap (λ (x : Slot). x.kept.checkpoint) (slot_of-with_slot app dropped slots lt)
 
 none_staged : (closing : Result Closing Fault) (slot : Slot) → HasStaged [] (closes_slot closing slot)
@@ -62,7 +62,7 @@ none_staged (Ok (closings.Done stop out)) slot = HasStaged-done slot
 none_staged (Ok (closings.Failed cause)) slot = HasStaged-dropped slot
 none_staged (Err fault) slot = HasStaged-dropped slot
 
-within : (app : ℕ) (slots mid_slots : List Slot) → app < length slots → KeepsSlots app slots mid_slots → app < length mid_slots
+pub within : (app : ℕ) (slots mid_slots : List Slot) → app < length slots → KeepsSlots app slots mid_slots → app < length mid_slots
 within app slots mid_slots lt keeps = subst (λ (n : ℕ). app < n) (sym keeps.number) lt
 
 -- the places of others are as they were

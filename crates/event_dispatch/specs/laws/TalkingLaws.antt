@@ -55,7 +55,7 @@ leads_at_once app old new a leads =
     let none : Seen _ = record old { history = [] } in
     converses_at_once app leads.0 none new refl (Converses-then app nobody_yet a.last leads.0 none old new (record { steps = old.history; history = refl; dialogue = a.dialogue }) leads.1)
 
-talks_leads : {Own : Type 0} {app : ℕ} {s : Before} {old new : Seen Own} → Talks app s old new → LeadsOn app s old new
+pub talks_leads : {Own : Type 0} {app : ℕ} {s : Before} {old new : Seen Own} → Talks app s old new → LeadsOn app s old new
 talks_leads says = (says.after, says.converses)
 
 -- ---- Whatever it was

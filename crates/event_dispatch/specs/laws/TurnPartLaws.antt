@@ -99,17 +99,17 @@ module _ {text : List ℕ} {c mid_c now_c : Core} (noted : OnlyNotes text c mid_
   told_queue : now_c.queue ≡ c.queue ++ left_events c.net.left
   told_queue = told.tells.queue ∙ ap₂ (λ (queue : List Event) (net : NetState). queue ++ left_events net.left) noted.adds.stays.queue noted.adds.stays.net
 
-  told_events : now_c.events ≡ c.events
+  pub told_events : now_c.events ≡ c.events
   told_events = told.tells.events ∙ noted.adds.stays.events
 
-  told_store : now_c.store ≡ c.store
+  pub told_store : now_c.store ≡ c.store
   told_store = told.tells.store ∙ noted.adds.stays.store
 
-  told_lines : now_c.lines.items ≡ c.lines.items ++ (text ++ lost_text c.net.left)
+  pub told_lines : now_c.lines.items ≡ c.lines.items ++ (text ++ lost_text c.net.left)
   told_lines = told.tells.lines ∙ ap₂ (λ (lines : List ℕ) (net : NetState). lines ++ lost_text net.left) noted.adds.lines noted.adds.stays.net
       ∙ append_assoc c.lines.items text (lost_text c.net.left)
 
-  told_goes : 1 ≤ c.net.room → AreRead c.net.kept → StoreRests c.store → CoreGoes now_c
+  pub told_goes : 1 ≤ c.net.room → AreRead c.net.kept → StoreRests c.store → CoreGoes now_c
   told_goes room read store = record {
     room = subst (λ (net : NetState). 1 ≤ net.room) (sym told_net) room;
     read = subst (λ (net : NetState). AreRead net.kept) (sym told_net) read;
@@ -117,7 +117,7 @@ module _ {text : List ℕ} {c mid_c now_c : Core} (noted : OnlyNotes text c mid_
     left = ap (λ (net : NetState). net.left) told_net;
   }
 
-  told_focus : (m : Managed) → focus_of now_c m ≡ all_told c.net c.queue (focus_of c m)
+  pub told_focus : (m : Managed) → focus_of now_c m ≡ all_told c.net c.queue (focus_of c m)
   told_focus m =
       ap₂ (λ (net : NetState) (queue : List Event). focus m.state.index (application_of now_c.store m) net queue now_c.events) told_net told_queue
       ∙ ap₂ (λ (events : ℕ) (slots : List Slot). focus m.state.index (application_of slots m) (none_left c.net) (c.queue ++ left_events c.net.left) events)

@@ -83,7 +83,7 @@ plays_done {Own} Tells accepts app name budget number (event ∷ events) from to
         (omega (arith, rest.0), rest.1)
     later mid mid_net (ends.Failed cause) unread checkpoint over go = absurd (true≢false (sym (ap (λ (t : Turning Own). t.fails) over) ∙ whole))
 
-plays_failed : {Own : Type 0} (Tells : Type 0) (accepts : List TableView → Bool) (app : ℕ) (name : List ℕ) (budget number : ℕ) (events : List Event) (from to : Turning Own) → PlaysAll Tells accepts app name budget number events from to → from.fails ≡ false → to.fails ≡ true
+pub plays_failed : {Own : Type 0} (Tells : Type 0) (accepts : List TableView → Bool) (app : ℕ) (name : List ℕ) (budget number : ℕ) (events : List Event) (from to : Turning Own) → PlaysAll Tells accepts app name budget number events from to → from.fails ≡ false → to.fails ≡ true
     → (to.failed ≡ from.failed + 1) × (to.rest ≡ [])
 plays_failed Tells accepts app name budget number [] from to none whole fails = absurd (true≢false (sym fails ∙ ap (λ (t : Turning _). t.fails) none ∙ whole))
 plays_failed {Own} Tells accepts app name budget number (event ∷ events) from to (one, on) whole fails =

@@ -78,3 +78,13 @@ last_point_then {old = old} {mid = mid} {new = new} first later = record {
   history = two_steps old.history mid.history new.history first.steps later.steps first.history later.history;
   none_later = later_two old.history first.steps later.steps first.none_later (subst (λ (h : List WorldStep). NoPoints h later.steps) first.history later.none);
 }
+
+pub no_point_then : {Own : Type 0} {old mid new : Seen Own} → NoPointSince old mid → NoPointSince mid new → NoPointSince old new
+no_point_then {old = old} {mid = mid} {new = new} first later = record {
+  steps = first.steps ++ later.steps;
+  history = two_steps old.history mid.history new.history first.steps later.steps first.history later.history;
+  none = points_two old.history first.steps later.steps first.none (subst (λ (h : List WorldStep). NoPoints h later.steps) first.history later.none);
+}
+
+pub no_point_none : {Own : Type 0} (old new : Seen Own) → new.history ≡ old.history → NoPointSince old new
+no_point_none old new same = record { steps = []; history = same ∙ sym (append-nil old.history); none = tt }

@@ -20,8 +20,8 @@ use Rattle.net_txn.specs.Net.{NetState}
 use Rattle.net_txn.specs.Undos.{keys_of, AreJoined, Undoes}
 use Rattle.net_txn.specs.Releases.{committed, StopsRelease, Commits}
 use Rattle.app_visor.specs.declared.state.TurnEnd.{TurnEnd}
-use Rattle.app_visor.specs.Beats.{Beat, Talk, Chain, Halts, Stops}
-use Rattle.app_visor.specs.laws.BeatLaws.{Chain-continues, halts_continue, Stops-continues}
+use Rattle.app_visor.specs.Beats.{Beat, Talk, Chain, Leads, Halts, Stops}
+use Rattle.app_visor.specs.laws.BeatLaws.{Chain-continues, Leads-continues, halts_continue, Stops-continues}
 use Rattle.app_visor.specs.laws.CallOrderLaws.{chain_messages}
 use Rattle.app_visor.specs.Turns.{Turns}
 use Rattle.switch_laws.specs.Since.{Ready, Goes, logged_since, JoinedSince, TablesSince}
@@ -32,6 +32,7 @@ use Rattle.switch_laws.specs.laws.SinceLaws.{begun}
 use Rattle.switch_laws.specs.laws.FaultLaws.{lost-still, tables-since, fault-since, undone-but-failed}
 use Rattle.switch_laws.specs.laws.LossLaws.{ready-joined}
 use Rattle.switch_laws.specs.laws.ReleaseLaws.{release-moves, moves-or, moves-then}
+use Rattle.run_course.specs.TurnsLeft.{StaysWhole, IsReleasing}
 use Rattle.turn_laws.specs.laws.ChainLaws.{chain-shown}
 
 -- ---- The beats before
@@ -87,27 +88,39 @@ stop-undone Tells app old mid new net mid_net now_net fault result told keeps or
     let since = stop-since Tells app old mid net mid_net fault told keeps (InOrder-before told undoes.continues order) ready stops in
     undone-but-failed Tells (length net.log) old mid new mid_net now_net result told (Stops-continues stops) since undoes
 
+-- Beats that led somewhere, and were undone, however the undo ended.
+pub leads-undone : {Own : Type 0} {Tells : Type 0} {app : ℕ} {old mid : Seen Own} {net mid_net : NetState} (new : Seen Own) (now_net : NetState) (result : Result (Unit {0}) TxnFault) → Tells → Conforming old → InOrder new → Ready old net
+    → Leads Tells app old mid net mid_net → Undoes Tells (length net.log) mid new mid_net now_net result → UndoneButFailed Tells old new
+leads-undone {Tells = Tells} {app = app} {old = old} {mid = mid} {net = net} {mid_net = mid_net} new now_net result told keeps order ready leads undoes =
+    let g = chain-goes Tells app leads.trace old mid net mid_net told keeps (InOrder-before told undoes.continues order) ready leads.chain in
+    let later = Leads-continues leads in
+    undone-but-failed Tells (length net.log) old mid new mid_net now_net result told later (tables-since Tells (length net.log) g.lost old mid net mid_net told later g.goes) undoes
+
+-- the beats of a turn
+pub turn-leads : {Own : Type 0} {Tells : Type 0} {accepts : List TableView → Bool} {app budget : ℕ} {rest frame unread : List ℕ} {old new : Seen Own} {net now_net : NetState} {end : TurnEnd}
+    → Turns Tells accepts app budget rest frame old new net now_net end unread → Leads Tells app old new net now_net
+turn-leads {app = app} {frame = frame} t = record { trace = Talk (give_act t.given app frame) ∷ t.trace; chain = t.chain }
+
 -- A turn that ended, and was undone, however the undo ended.
 pub turn-undone : {Own : Type 0} (Tells : Type 0) (accepts : List TableView → Bool) (app budget : ℕ) (rest frame : List ℕ) (old mid new : Seen Own) (net mid_net now_net : NetState) (end : TurnEnd) (unread : List ℕ) (result : Result (Unit {0}) TxnFault) → Tells
     → Conforming old → InOrder new → Ready old net → Turns Tells accepts app budget rest frame old mid net mid_net end unread → Undoes Tells (length net.log) mid new mid_net now_net result → UndoneButFailed Tells old new
-turn-undone Tells accepts app budget rest frame old mid new net mid_net now_net end unread result told keeps order ready t undoes =
-    let trace = Talk (give_act t.given app frame) ∷ t.trace in
-    let g = chain-goes Tells app trace old mid net mid_net told keeps (InOrder-before told undoes.continues order) ready t.chain in
-    let later = Chain-continues Tells app trace old mid net mid_net t.chain in
-    undone-but-failed Tells (length net.log) old mid new mid_net now_net result told later (tables-since Tells (length net.log) g.lost old mid net mid_net told later g.goes) undoes
+turn-undone Tells accepts app budget rest frame old mid new net mid_net now_net end unread result told keeps order ready t undoes = leads-undone new now_net result told keeps order ready (turn-leads t) undoes
 
 -- ---- The release of what it held
 
--- where a turn ended, each switch that has a view is joined
-pub turn-joined : {Own : Type 0} (Tells : Type 0) (accepts : List TableView → Bool) (app budget : ℕ) (rest frame : List ℕ) (old mid : Seen Own) (net mid_net : NetState) (end : TurnEnd) (unread : List ℕ) → Tells → Conforming old → InOrder mid → Ready old net
-    → Turns Tells accepts app budget rest frame old mid net mid_net end unread → AreJoined mid_net.views (state mid)
-turn-joined Tells accepts app budget rest frame old mid net mid_net end unread told keeps order ready t =
-    let g = chain-goes Tells app (Talk (give_act t.given app frame) ∷ t.trace) old mid net mid_net told keeps order ready t.chain in
+-- behind beats each switch that has a view is joined
+pub leads-joined : {Own : Type 0} {Tells : Type 0} {app : ℕ} {old mid : Seen Own} {net mid_net : NetState} → Tells → Conforming old → InOrder mid → Ready old net → Leads Tells app old mid net mid_net → AreJoined mid_net.views (state mid)
+leads-joined {Tells = Tells} {app = app} {old = old} {mid = mid} {net = net} {mid_net = mid_net} told keeps order ready leads =
+    let g = chain-goes Tells app leads.trace old mid net mid_net told keeps order ready leads.chain in
     ready-joined mid mid_net g.goes.ready
 
-module _ {Own : Type 0} (app budget : ℕ) (old mid new : Seen Own) where
-  moved-left : (packets : List Held) (steps : List WorldStep) → new.given ≡ mid.given → TurnDone app budget old mid → new.history ≡ mid.history ++ steps → released (journal steps) ≡ packets
-      → ((d : ℕ) → (switch_of d (state new) ≡ option_map (after_packets d packets) (switch_of d (state mid))) ⊎ WasLost d mid new) → ((new.history ≡ mid.history) × TurnKept app budget old new) ⊎ TurnReleasing app budget old new
+pub turn-joined : {Own : Type 0} (Tells : Type 0) (accepts : List TableView → Bool) (app budget : ℕ) (rest frame : List ℕ) (old mid : Seen Own) (net mid_net : NetState) (end : TurnEnd) (unread : List ℕ) → Tells → Conforming old → InOrder mid → Ready old net
+    → Turns Tells accepts app budget rest frame old mid net mid_net end unread → AreJoined mid_net.views (state mid)
+turn-joined Tells accepts app budget rest frame old mid net mid_net end unread told keeps order ready t = leads-joined told keeps order ready (turn-leads t)
+
+module _ {Own : Type 0} (Whole : Seen Own → Type 0) (mid new : Seen Own) where
+  moved-left : (packets : List Held) (steps : List WorldStep) → new.given ≡ mid.given → Whole mid → new.history ≡ mid.history ++ steps → released (journal steps) ≡ packets
+      → ((d : ℕ) → (switch_of d (state new) ≡ option_map (after_packets d packets) (switch_of d (state mid))) ⊎ WasLost d mid new) → ((new.history ≡ mid.history) × StaysWhole Whole new) ⊎ IsReleasing Whole new
   moved-left packets [] given done history so moved =
       inl (history ∙ append-nil mid.history, record { mid = mid; given = given; done = done; later = ([], history); stay = λ d. ap (λ (s : State). switch_of d s) (state-append mid new [] given history) })
   moved-left packets (first ∷ steps) given done history so moved =
@@ -124,9 +137,23 @@ module _ {Own : Type 0} (app budget : ℕ) (old mid new : Seen Own) where
         ];
       })
 
+-- What was whole, and whose packets were being released: nothing was done since, or the release was begun.
+pub whole-moves : {Own : Type 0} (Whole : Seen Own → Type 0) (mid new : Seen Own) (packets : List Held) → new.given ≡ mid.given → Whole mid → MovesOrLoses packets mid new → ((new.history ≡ mid.history) × StaysWhole Whole new) ⊎ IsReleasing Whole new
+whole-moves Whole mid new packets given done moves = moved-left Whole mid new packets moves.steps given done moves.history moves.released_is moves.moved
+
+-- so it is with one turn
+kept-turn : {Own : Type 0} (app budget : ℕ) (old new : Seen Own) → StaysWhole (TurnDone app budget old) new → TurnKept app budget old new
+kept-turn app budget old new k = record { mid = k.mid; given = k.given; done = k.done; later = k.later; stay = k.stay }
+
+releasing-turn : {Own : Type 0} (app budget : ℕ) (old new : Seen Own) → IsReleasing (TurnDone app budget old) new → TurnReleasing app budget old new
+releasing-turn app budget old new r = record { mid = r.mid; given = r.given; done = r.done; first = r.first; steps = r.steps; history = r.history; moved = r.moved }
+
 -- A whole turn whose packets were being released: nothing was done since, or the release was begun.
 pub moves-left : {Own : Type 0} (app budget : ℕ) (old mid new : Seen Own) (packets : List Held) → new.given ≡ mid.given → TurnDone app budget old mid → MovesOrLoses packets mid new → ((new.history ≡ mid.history) × TurnKept app budget old new) ⊎ TurnReleasing app budget old new
-moves-left app budget old mid new packets given done moves = moved-left app budget old mid new packets moves.steps given done moves.history moves.released_is moves.moved
+moves-left app budget old mid new packets given done moves = elim (whole-moves (TurnDone app budget old) mid new packets given done moves) [
+  | inl kept ↦ inl (kept.0, kept-turn app budget old new kept.1)
+  | inr releasing ↦ inr (releasing-turn app budget old new releasing)
+]
 
 nothing-behind : {X : Type 0} (xs ys : List X) → xs ++ ys ≡ [] → ys ≡ []
 nothing-behind [] ys none = none
@@ -140,23 +167,33 @@ still-there a b c first second before behind same =
     let none = nothing-behind first second (append_cancel_left a.history (first ++ second) [] both) in
     behind ∙ ap (λ (steps : List WorldStep). b.history ++ steps) none ∙ append-nil b.history
 
-stop-left : {Own : Type 0} (Tells : Type 0) (app budget start : ℕ) (old mid new : Seen Own) (mid_net : NetState) (queue : List Event) (fault : TxnFault) → Tells → AreJoined mid_net.views (state mid) → new.given ≡ mid.given → TurnDone app budget old mid
-    → StopsRelease Tells start mid new mid_net queue fault → ((fault ≡ NoMemory) × TurnKept app budget old new) ⊎ TurnReleasing app budget old new
-stop-left Tells app budget start old mid new mid_net queue fault told joined given done stops =
+stop-left : {Own : Type 0} (Tells : Type 0) (Whole : Seen Own → Type 0) (start : ℕ) (mid new : Seen Own) (mid_net : NetState) (queue : List Event) (fault : TxnFault) → Tells → AreJoined mid_net.views (state mid) → new.given ≡ mid.given → Whole mid
+    → StopsRelease Tells start mid new mid_net queue fault → ((fault ≡ NoMemory) × StaysWhole Whole new) ⊎ IsReleasing Whole new
+stop-left Tells Whole start mid new mid_net queue fault told joined given done stops =
     let front = release-moves Tells stops.front stops.sent mid stops.mid (committed start mid_net) stops.mid_net (queue ++ mid_net.held.notices) stops.mid_queue told joined stops.before in
     let broken = stops.breaks.moves told in
-    elim (moves-left app budget old mid new _ given done (moves-then mid stops.mid new _ _ front (moves-or _ stops.mid new broken))) [
+    elim (whole-moves Whole mid new _ given done (moves-then mid stops.mid new _ _ front (moves-or _ stops.mid new broken))) [
       | inl kept ↦ inl (stops.breaks.begun told (still-there mid stops.mid new front.steps broken.steps front.history broken.history kept.0), kept.1)
       | inr releasing ↦ inr releasing
     ]
+
+-- Beats that led to something whole, whose commit ended in a fault.
+pub leads-commit : {Own : Type 0} {Tells : Type 0} {app : ℕ} {old mid : Seen Own} {net mid_net : NetState} (Whole : Seen Own → Type 0) (new : Seen Own) (now_net : NetState) (queue now_queue : List Event) (fault : TxnFault) → Tells
+    → Conforming old → InOrder new → Ready old net → Leads Tells app old mid net mid_net → Whole mid → Commits Tells (length net.log) mid new mid_net now_net queue now_queue (Err fault)
+    → UndoneButFailed Tells old new ⊎ ((fault ≡ NoMemory) × StaysWhole Whole new) ⊎ IsReleasing Whole new
+leads-commit {Tells = Tells} {old = old} {mid = mid} {net = net} {mid_net = mid_net} Whole new now_net queue now_queue fault told keeps order ready leads done commits = elim commits.ended [
+  | inl u ↦ inl (leads-undone new now_net u.result told keeps order ready leads u.undoes)
+  | inr stops ↦
+      (let joined = leads-joined told keeps (InOrder-before told commits.continues order) ready leads in
+      inr (stop-left Tells Whole (length net.log) mid new mid_net queue fault told joined commits.continues.given done stops))
+]
 
 -- A whole turn whose commit ended in a fault.
 pub commit-left : {Own : Type 0} (Tells : Type 0) (accepts : List TableView → Bool) (app budget : ℕ) (rest frame : List ℕ) (old mid new : Seen Own) (net mid_net now_net : NetState) (end : TurnEnd) (unread : List ℕ) (queue now_queue : List Event) (fault : TxnFault) → Tells
     → Conforming old → InOrder new → Ready old net → Turns Tells accepts app budget rest frame old mid net mid_net end unread → TurnDone app budget old mid → Commits Tells (length net.log) mid new mid_net now_net queue now_queue (Err fault)
     → UndoneButFailed Tells old new ⊎ ((fault ≡ NoMemory) × TurnKept app budget old new) ⊎ TurnReleasing app budget old new
-commit-left Tells accepts app budget rest frame old mid new net mid_net now_net end unread queue now_queue fault told keeps order ready t done commits = elim commits.ended [
-  | inl u ↦ inl (turn-undone Tells accepts app budget rest frame old mid new net mid_net now_net end unread u.result told keeps order ready t u.undoes)
-  | inr stops ↦
-      (let joined = turn-joined Tells accepts app budget rest frame old mid net mid_net end unread told keeps (InOrder-before told commits.continues order) ready t in
-      inr (stop-left Tells app budget (length net.log) old mid new mid_net queue fault told joined commits.continues.given done stops))
+commit-left Tells accepts app budget rest frame old mid new net mid_net now_net end unread queue now_queue fault told keeps order ready t done commits = elim (leads-commit (TurnDone app budget old) new now_net queue now_queue fault told keeps order ready (turn-leads t) done commits) [
+  | inl undone ↦ inl undone
+  | inr (inl kept) ↦ inr (inl (kept.0, kept-turn app budget old new kept.1))
+  | inr (inr releasing) ↦ inr (inr (releasing-turn app budget old new releasing))
 ]

@@ -1,6 +1,6 @@
 -- What follows of a turn that stops in a world that keeps its word, where all was ready, or of the release behind one: memory was wanting, or
 -- a packet made its switch send too many messages.
-use Rattle.std.proofs.Common.{◌≡◌, ℕ, ◌^◌, ◌<◌, Bool, true, List, [], ◌∷◌, length, Option, Some, None, Ok, Err, refl, sym, subst, inl, inr}
+use Rattle.std.proofs.Common.{◌≡◌, ℕ, ◌^◌, ◌<◌, Bool, true, List, [], length, Option, Some, None, Ok, Err, refl, sym, subst, inl, inr}
 use Rattle.flow_table.specs.View.{TableView}
 use Rattle.app_frames.specs.declared.frame.Answer.{Answer}
 use Rattle.app_frames.specs.declared.frame.Answer.TheVariants.{Unknown}
@@ -18,9 +18,8 @@ use Rattle.net_txn.specs.Causes.{IsPlain}
 use Rattle.net_txn.specs.Changes.{answer_of_host, ChangesJoined, Changes}
 use Rattle.net_txn.specs.Releases.{Commits}
 use Rattle.app_visor.specs.declared.state.TurnEnd.{TurnEnd}
-use Rattle.lego_model.specs.Journal.{give_act}
-use Rattle.app_visor.specs.Beats.{Talk, Halts, Stops}
-use Rattle.app_visor.specs.laws.BeatLaws.{Chain-continues, halts_continue}
+use Rattle.app_visor.specs.Beats.{Leads, Halts, Stops}
+use Rattle.app_visor.specs.laws.BeatLaws.{Leads-continues, halts_continue}
 use Rattle.app_visor.specs.Turns.{Turns}
 use Rattle.of_stats.specs.Flows.{AreRows}
 use Rattle.flow_table.specs.Switch.{SwitchState}
@@ -36,6 +35,7 @@ use Rattle.switch_laws.specs.Since.{Ready, Goes}
 use Rattle.switch_laws.specs.laws.SinceLaws.{begun}
 use Rattle.switch_laws.specs.laws.ReleaseLaws.{release-plain}
 use Rattle.turn_laws.specs.laws.ChainLaws.{chain-shown}
+use Rattle.turn_laws.specs.laws.FaultLaws.{turn-leads}
 
 no_memory : (fault : TxnFault) → fault ≡ NoMemory → IsPlain fault
 no_memory fault is = subst IsPlain (sym is) tt
@@ -80,12 +80,11 @@ stop-plain Tells app old new net now_net fault told keeps ready stops sound =
     let leads = chain-shown Tells app (λ places. true) (length net.log) [] old net stops.leads.trace old stops.then_seen net stops.then_net told kept stops.leads.chain first in
     halt-plain Tells stops.then_seen new stops.then_net now_net fault told keeps leads.goes.ready sound stops.halts
 
--- A turn that ends leaves all ready.
-pub turn-ready : {Own : Type 0} (Tells : Type 0) (accepts : List TableView → Bool) (app budget : ℕ) (rest frame : List ℕ) (old new : Seen Own) (net now_net : NetState) (end : TurnEnd) (unread : List ℕ) → Tells → Conforming new → Ready old net
-    → Turns Tells accepts app budget rest frame old new net now_net end unread → Ready new now_net
-turn-ready Tells accepts app budget rest frame old new net now_net end unread told keeps ready t =
+-- Beats leave all ready.
+pub leads-ready : {Own : Type 0} {Tells : Type 0} {app : ℕ} {old new : Seen Own} {net now_net : NetState} → Tells → Conforming new → Ready old net → Leads Tells app old new net now_net → Ready new now_net
+leads-ready {Tells = Tells} {app = app} {old = old} {new = new} {net = net} {now_net = now_net} told keeps ready leads =
     let first : Goes (length net.log) [] old old net net = record { since = begun old net; ready = ready } in
-    (chain-shown Tells app (λ places. true) (length net.log) [] old net (Talk (give_act t.given app frame) ∷ t.trace) old new net now_net told keeps t.chain first).goes.ready
+    (chain-shown Tells app (λ places. true) (length net.log) [] old net leads.trace old new net now_net told keeps leads.chain first).goes.ready
 
 -- ---- The release behind it
 
@@ -103,15 +102,18 @@ flooded-since old mid new longer f = record {
   sent = f.sent;
 }
 
-pub commit-plain : {Own : Type 0} (Tells : Type 0) (accepts : List TableView → Bool) (app budget : ℕ) (rest frame : List ℕ) (old mid new : Seen Own) (net mid_net now_net : NetState) (end : TurnEnd) (unread : List ℕ) (queue now_queue : List Event) (fault : TxnFault) → Tells
-    → Conforming new → Ready old net → Turns Tells accepts app budget rest frame old mid net mid_net end unread → Commits Tells (length net.log) mid new mid_net now_net queue now_queue (Err fault) → StopsFor old new fault
-commit-plain Tells accepts app budget rest frame old mid new net mid_net now_net end unread queue now_queue fault told keeps ready t commits = elim commits.ended [
+pub leads-commit-plain : {Own : Type 0} {Tells : Type 0} {app : ℕ} {old mid : Seen Own} {net mid_net : NetState} (new : Seen Own) (now_net : NetState) (queue now_queue : List Event) (fault : TxnFault) → Tells
+    → Conforming new → Ready old net → Leads Tells app old mid net mid_net → Commits Tells (length net.log) mid new mid_net now_net queue now_queue (Err fault) → StopsFor old new fault
+leads-commit-plain {Tells = Tells} {old = old} {mid = mid} {net = net} {mid_net = mid_net} new now_net queue now_queue fault told keeps ready leads commits = elim commits.ended [
   | inl u ↦ inl (no_memory fault u.fault_is)
   | inr stops ↦
-      (let there = turn-ready Tells accepts app budget rest frame old mid net mid_net end unread told (Conforming-before told commits.continues keeps) ready t in
-      let before = Chain-continues Tells app (Talk (give_act t.given app frame) ∷ t.trace) old mid net mid_net t.chain in
+      (let there = leads-ready told (Conforming-before told commits.continues keeps) ready leads in
       elim (release-plain Tells (length net.log) mid new mid_net queue fault told keeps commits.continues stops there) [
         | inl plain ↦ inl plain
-        | inr flooded ↦ inr (flooded.0, (flooded.1.0, flooded-since old mid new (before.told told) flooded.1.1))
+        | inr flooded ↦ inr (flooded.0, (flooded.1.0, flooded-since old mid new ((Leads-continues leads).told told) flooded.1.1))
       ])
 ]
+
+pub commit-plain : {Own : Type 0} (Tells : Type 0) (accepts : List TableView → Bool) (app budget : ℕ) (rest frame : List ℕ) (old mid new : Seen Own) (net mid_net now_net : NetState) (end : TurnEnd) (unread : List ℕ) (queue now_queue : List Event) (fault : TxnFault) → Tells
+    → Conforming new → Ready old net → Turns Tells accepts app budget rest frame old mid net mid_net end unread → Commits Tells (length net.log) mid new mid_net now_net queue now_queue (Err fault) → StopsFor old new fault
+commit-plain Tells accepts app budget rest frame old mid new net mid_net now_net end unread queue now_queue fault told keeps ready t commits = leads-commit-plain new now_net queue now_queue fault told keeps ready (turn-leads t) commits

@@ -17,6 +17,7 @@ use Rattle.event_dispatch.specs.laws.TurnPartLaws.{play_so}
 use Rattle.event_dispatch.specs.laws.WhyLaws.{why_then, why_before}
 use Rattle.event_dispatch.specs.Plain.{IsPlainEnd}
 use Rattle.event_dispatch.specs.laws.CutLaws.{if_err}
+use Rattle.turn_laws.specs.laws.FaultLaws.{turn-leads}
 use Rattle.event_dispatch.proofs.dispatch.play_turn.Goals as goal
 
 pub returns-in_ok-out-in-Ok-Done-clause-keeps : goal.returns-in_ok-out-in-Ok-Done-clause-keeps
@@ -78,11 +79,11 @@ returns-in_err-out-in-Ok-Done-clause-passes g c = record {
   continues = Continues-trans g.W.World.Tells (g.W.World.seen c.args.world.now) (g.W.World.seen c.turn.new.world) (g.W.World.seen c.commit.new.world)
       c.turn.ensures.continues c.in_err-out-in-Ok-Done.ensures.commits.continues;
   places = turn_committed c.args.net.now c.begin-txn.ensures.net
-      (later_own c.args.app.now.index c.requires.place (returns-in_err-out-in-Ok-Done-clause-keeps g c).later) c.in-Ok-Done.ensures.ok.turns
+      (later_own c.args.app.now.index c.requires.place (returns-in_err-out-in-Ok-Done-clause-keeps g c).later) (turn-leads c.in-Ok-Done.ensures.ok.turns)
       c.in_err-out-in-Ok-Done.ensures.commits;
   reads = if_failed _ c.from_residual.result c.from_residual.ensures.0;
   numbers = numbers_failed _ c.from_residual.result c.from_residual.ensures.0
-      (committed_end c.args.net.now c.begin-txn.ensures.net c.in-Ok-Done.ensures.ok.turns c.in_err-out-in-Ok-Done.ensures.commits);
+      (committed_end c.args.net.now c.begin-txn.ensures.net (turn-leads c.in-Ok-Done.ensures.ok.turns) c.in_err-out-in-Ok-Done.ensures.commits);
 }
 
 pub returns-in_err-out-in-Ok-Done-clause-done : goal.returns-in_err-out-in-Ok-Done-clause-done
@@ -100,7 +101,7 @@ returns-in_err-out-in-Ok-Done-clause-done g c =
       plain = turn_uncommitted (g.W.World.seen c.args.world.now) (g.W.World.seen c.turn.new.world) (g.W.World.seen c.commit.new.world) c.args.net.now
           c.begin-txn.result.net.now c.turn.new.txn.net.now _ c.in_err-out-in-Ok-Done.field-0.0 c.begin-txn.ensures.net c.begin-txn.ensures.start
           c.turn.ensures.start
-          c.in-Ok-Done.ensures.ok.turns c.in_err-out-in-Ok-Done.ensures.commits;
+          (turn-leads c.in-Ok-Done.ensures.ok.turns) c.in_err-out-in-Ok-Done.ensures.commits;
       left = left_committed c.args.net.now c.in_err-out-in-Ok-Done.field-0.0 c.begin-txn.ensures.net c.begin-txn.ensures.start c.turn.ensures.start
           c.in-Ok-Done.field-0-is (event_is c.args.occasion.number c.begin-txn.result.net.now.moment c.args.occasion.event.now) c.in-Ok-Done.ensures.ok.turns
           c.in_err-out-in-Ok-Done.ensures.commits;
@@ -119,11 +120,11 @@ returns-in_err-abort-in-Ok-Failed-clause-passes g c = record {
   continues = Continues-trans g.W.World.Tells (g.W.World.seen c.args.world.now) (g.W.World.seen c.turn.new.world) (g.W.World.seen c.abort.new.world)
       c.turn.ensures.continues c.abort.ensures.undoes.continues;
   places = turn_undone c.args.net.now c.begin-txn.ensures.net
-      (later_own c.args.app.now.index c.requires.place (returns-in_err-abort-in-Ok-Failed-clause-keeps g c).later) c.in-Ok-Failed.ensures.ok.turns
+      (later_own c.args.app.now.index c.requires.place (returns-in_err-abort-in-Ok-Failed-clause-keeps g c).later) (turn-leads c.in-Ok-Failed.ensures.ok.turns)
       c.abort.ensures.undoes;
   reads = if_failed _ c.from_residual-in_err-abort-in-Ok-Failed.result c.from_residual-in_err-abort-in-Ok-Failed.ensures.0;
   numbers = numbers_failed _ c.from_residual-in_err-abort-in-Ok-Failed.result c.from_residual-in_err-abort-in-Ok-Failed.ensures.0
-      (undone_end c.args.net.now c.begin-txn.ensures.net c.in-Ok-Failed.ensures.ok.turns c.abort.ensures.undoes);
+      (undone_end c.args.net.now c.begin-txn.ensures.net (turn-leads c.in-Ok-Failed.ensures.ok.turns) c.abort.ensures.undoes);
 }
 
 pub returns-in_err-abort-in-Ok-Failed-clause-done : goal.returns-in_err-abort-in-Ok-Failed-clause-done
@@ -140,7 +141,7 @@ returns-in_err-abort-in-Ok-Failed-clause-done g c =
           c.in_err-abort-in-Ok-Failed.ensures.undoes);
       plain = turn_not_undone (g.W.World.seen c.args.world.now) (g.W.World.seen c.turn.new.world) (g.W.World.seen c.abort.new.world) c.args.net.now
           c.begin-txn.result.net.now c.turn.new.txn.net.now _ c.abort.result c.in_err-abort-in-Ok-Failed.field-0.0 c.begin-txn.ensures.net
-          c.in-Ok-Failed.ensures.ok.turns c.in_err-abort-in-Ok-Failed.was c.abort.ensures.undoes;
+          (turn-leads c.in-Ok-Failed.ensures.ok.turns) c.in_err-abort-in-Ok-Failed.was c.abort.ensures.undoes;
       left = left_failed c.args.app.now.rest c.args.net.now c.begin-txn.ensures.net c.begin-txn.ensures.start c.turn.ensures.start
           c.in-Ok-Failed.ensures.ok.turns c.abort.ensures.undoes;
     })

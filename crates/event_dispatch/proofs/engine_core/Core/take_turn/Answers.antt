@@ -9,7 +9,7 @@ use Rattle.event_dispatch.specs.laws.LeftLaws.{left_closed}
 use Rattle.event_dispatch.specs.laws.PassesLaws.{same_next, at_fault, passes_then, passes_fails, passes_as, passes_number}
 use Rattle.event_dispatch.specs.laws.PlainLaws.{turn_memory}
 use Rattle.event_dispatch.specs.laws.TalkingLaws.{turn_closed}
-use Rattle.event_dispatch.specs.laws.TurnLaws.{turn_is}
+use Rattle.event_dispatch.specs.laws.OfferInsteadLaws.{turn_done_so}
 use Rattle.event_dispatch.specs.Plain.{IsPlainEnd}
 use Rattle.event_dispatch.specs.laws.CutLaws.{if_err}
 use Rattle.event_dispatch.proofs.engine_core.Core.take_turn.Goals as goal
@@ -58,18 +58,15 @@ returns g c = record {
   later = later_quietly c.args.app.now.state.index c.hold_turn.ensures.keeps.later c.close.ensures.passes.no_point.none_quiescent
       (λ told. subst (λ (i : ℕ). OwnSteps i (g.W.World.seen c.hold_turn.new.world) (g.W.World.seen c.close.new.world)) c.hold_turn.ensures.keeps.index
       (c.close.ensures.keeps.own told));
-  done = record {
-    goes = c.in_ok-close.ensures.done.goes;
-    events = c.in_ok-close.ensures.done.events;
-    others = subst (λ (slots : List Slot). KeepsOthers c.args.app.now.state.index c.args.self.now.store slots) (sym c.in_ok-close.ensures.done.store)
-        c.hold_turn.ensures.keeps.others;
-    index = c.close.ensures.keeps.index ∙ c.hold_turn.ensures.keeps.index;
-    rule = c.close.ensures.keeps.rule;
-    turn = turn_is g.W.World.Tells (g.J.Judge.accepts c.args.judge.now) c.args.event.now c.in_ok-closing.closing c.in_ok-close.field-0
-        (g.W.World.seen c.args.world.now) (g.W.World.seen c.hold_turn.new.world) (g.W.World.seen c.close.new.world) c.hold_turn.new.net c.hold_turn.new.queue
-        c.hold_turn.new.app c.hold_turn.new.store
-        c.args.self.now c.close.new.self c.args.app.now c.close.new.app c.in_ok-closing.ensures.done.plays c.hold_turn.ensures.keeps.index
-        c.hold_turn.ensures.keeps.alive c.in_ok-close.ensures.done.stops c.in_ok-close.ensures.done.closes;
-  };
+  done = turn_done_so g.W.World.Tells (g.J.Judge.accepts c.args.judge.now) c.args.event.now c.in_ok-closing.closing c.in_ok-close.field-0
+      (g.W.World.seen c.args.world.now) (g.W.World.seen c.hold_turn.new.world) (g.W.World.seen c.close.new.world) c.hold_turn.new.net c.hold_turn.new.queue
+      c.hold_turn.new.app c.hold_turn.new.store
+      c.args.self.now c.close.new.self c.args.app.now c.close.new.app c.in_ok-closing.ensures.done.plays c.hold_turn.ensures.keeps.index
+      c.hold_turn.ensures.keeps.alive c.in_ok-close.ensures.done.stops c.in_ok-close.ensures.done.closes c.in_ok-close.ensures.done.goes c.in_ok-close.ensures.done.events
+      (subst (λ (slots : List Slot). KeepsOthers c.args.app.now.state.index c.args.self.now.store slots) (sym c.in_ok-close.ensures.done.store)
+      c.hold_turn.ensures.keeps.others) (c.close.ensures.keeps.index ∙ c.hold_turn.ensures.keeps.index) c.close.ensures.keeps.rule
+      c.close.ensures.passes.passes.continues
+      (λ told. subst (λ (i : ℕ). OwnSteps i (g.W.World.seen c.hold_turn.new.world) (g.W.World.seen c.close.new.world)) c.hold_turn.ensures.keeps.index
+      (c.close.ensures.keeps.own told));
   parted = λ can. tt;
 }
