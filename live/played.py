@@ -55,6 +55,13 @@ def is_within(match, wider):
     return all(getattr(wider, it) in (None, getattr(match, it)) for it in FIELDS)
 
 
+def notice_of(key, entry):
+    """The notice that an entry was deleted."""
+    priority, match = key
+    _, cookie = entry
+    return messages.FlowRemoved(match, cookie, priority, RemovedReason.DELETE)
+
+
 class Switch(threading.Thread):
     """A switch with ports 1, 2 and 3. It answers by itself; `said` has what it was sent: (kind, entry) for each FLOW_MOD and (kind,
     frame) for each PACKET_OUT, ("STATS", None) for each request of statistics, in order, and "BARRIER" for each barrier.
@@ -108,11 +115,14 @@ class Switch(threading.Thread):
         with self.changed:
             self.send(self.drop(key))
 
+    def deny(self, key):
+        """Says that this entry was deleted, which stands."""
+        with self.changed:
+            self.send(notice_of(key, self.table[key]))
+
     def drop(self, key):
         """Removes this entry; gives the notice of it."""
-        priority, match = key
-        _, cookie = self.table.pop(key)
-        return messages.FlowRemoved(match, cookie, priority, RemovedReason.DELETE)
+        return notice_of(key, self.table.pop(key))
 
     def tell_notices(self):
         """Tells of all that the controller has deleted so far."""

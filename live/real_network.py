@@ -24,6 +24,8 @@ MEBIBYTES_PUT_OFF = 16
 MEBIBYTES_OF_BUFFERS = 1
 FLOW_MOD_FAILED, EPERM = 3, 2
 JOINED_KEYS = 100
+# Of the entries of keys.py.
+PRIORITY = 20
 
 
 def keys_join(run, count, times, kind=Switch, **how):
@@ -34,11 +36,15 @@ def keys_join(run, count, times, kind=Switch, **how):
     return switch
 
 
+def removals(run):
+    return [line for line in run.lines() if "flow_removed" in line]
+
+
 def no_false_event(run):
-    same([line for line in run.lines() if "flow_removed" in line], [], "events of entries that nobody else deleted")
+    same(removals(run), [], "events of entries that nobody else deleted")
 
 
-def added_again(run, switch, many, first):
+def stand_as_before(run, switch, many, first):
     """These entries stand. They are added again in a turn that fails: they stand as before, and no event says that they went."""
     before = switch.entries()
     same({match_of(it) for it in range(first, first + many)} - {match for _, match in before}, set(), "entries that do not stand")
@@ -49,6 +55,10 @@ def added_again(run, switch, many, first):
     switch.miss(2, frame_of(STAYS, 1, 0xFFFF))
     switch.wait(lambda s: len(s.table) == len(before) + 1, "an entry of the next turn")
     no_false_event(run)
+
+
+def added_again(run, switch, many, first):
+    stand_as_before(run, switch, many, first)
     run.end()
     no_false_event(run)
 
@@ -105,6 +115,27 @@ def late_of_an_undo(run):
     run.awaits("turn app done", 2)
     switch.tell_notices()
     added_again(run, switch, 3, 1)
+
+
+def questions(switch):
+    return switch.said.count(("STATS", None))
+
+
+def told_of_an_entry_that_stands(run):
+    """A switch says that an entry was deleted which stands, and which nobody has deleted: its owner is told nothing, and an undo leaves it
+    alone. Then somebody else deletes it: its owner is told once, and it can be added again."""
+    switch = keys_join(run, 0, 1)
+    key = (PRIORITY, match_of(0))
+    switch.deny(key)
+    stand_as_before(run, switch, 1, 0)
+    asked = questions(switch)
+    switch.delete(key)
+    until(lambda: removals(run), "the event of the deletion")
+    same(questions(switch) - asked, 2, "questions for the rows of a key, by the live world and by the controller")
+    switch.miss(2, frame_of(STAYS, 1, 0))
+    switch.wait(lambda s: key in s.table, "the entry again")
+    run.end()
+    same(len(removals(run)), 1, "events of entries that went")
 
 
 def deleted_at(run, at, last, turn):
@@ -472,6 +503,7 @@ CASES = {
     "notices of a join that come in its turn": Case(late_within_a_turn, keys(JOINED_KEYS), 30),
     "notices of a join that come behind its barrier": Case(late_behind_the_emptying, keys(JOINED_KEYS), 30),
     "notices of an undo that come late": Case(late_of_an_undo, keys(0), 30),
+    "a notice of an entry that stands, and then somebody else deletes it": Case(told_of_an_entry_that_stands, keys(0), 30),
     "an entry that somebody else deletes in a change": Case(deleted_in_a_change, rounds=60),
     "an entry that somebody else deletes in a change that is undone": Case(deleted_in_a_failed_change, rounds=60),
     "an entry that somebody else deletes in an undo": Case(deleted_in_an_undo, rounds=60),

@@ -19,6 +19,7 @@ use Rattle.outside.specs.Conforming.{MayBegin, Conforming}
 use Rattle.switch_laws.specs.Orderly.{OrderlySince}
 use Rattle.batch_laws.specs.Knowledge.{knowledge_of, handled_all, LosesAt, known_lost}
 use Rattle.batch_laws.specs.Batches.{Standing}
+use Rattle.batch_laws.specs.Deletions.{IsNoDeletion}
 use Rattle.app_frames.specs.declared.frame.Event.{Event}
 use Rattle.net_txn.specs.Net.{NetState}
 
@@ -146,9 +147,9 @@ GoesOn other n first now = (x : WorldStim) × (InBatch x (n + 1) first now ⊎ (
 
 -- ---- What can be taken
 
--- A message can be read, and of a switch that joins nothing waits.
+-- A message can be read and tells of no deletion, and of a switch that joins nothing waits.
 abbrev pub CanTake : WorldStep → State → Type 0
-CanTake (From d bytes) s = IsOk (reading_of bytes)
+CanTake (From d bytes) s = IsOk (reading_of bytes) × IsNoDeletion (reading_of bytes)
 CanTake (Joined d bytes) s = waits_of d s ≡ []
 CanTake other s = Unit {0}
 

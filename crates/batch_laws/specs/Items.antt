@@ -1,14 +1,17 @@
 -- What the engine does with one item that the outside told, in every world: what it then knows, what it has sent, and which messages it
 -- keeps (OpenFlow 1.0.0, 5.3.1 Handshake and 5.5.2 Echo Request). All of this is our own.
-use Rattle.std.specs.Prelude.{◌≡◌, ◌≢◌, ◌==◌, ℕ, Bool, true, false, not, List, [], ◌∷◌, ◌++◌, filter, Result, Ok, Err, IsOk, is_some, ◌⊎◌, map, Some, None}
+use Rattle.std.specs.Prelude.{◌≡◌, ◌≢◌, ◌==◌, ℕ, Bool, true, false, not, List, [], ◌∷◌, ◌++◌, filter, Result, Ok, Err, IsOk, is_some, ◌⊎◌, map, Option, Some, None}
 use Rattle.of_types.specs.Fields.{IsBytes}
 use Rattle.of_types.specs.declared.port_desc.PortDesc.{PortDesc}
 use Rattle.of_wire.specs.declared.message.Message.{Message}
+use Rattle.of_match.specs.declared.key.Key.{Key}
 use Rattle.of_wire.specs.declared.message.Message.TheVariants.{FeaturesReply}
 use Rattle.of_wire.specs.declared.message.Envelope.{Envelope}
 use Rattle.of_wire.specs.declared.fault.WireFault.{WireFault}
 use Rattle.of_wire.specs.Reading.{reading_of}
+use Rattle.app_frames.specs.declared.frame.Answer.{Answer}
 use Rattle.app_frames.specs.declared.frame.Event.{Event}
+use Rattle.flow_table.specs.View.{TableView}
 use Rattle.outside.specs.declared.item.Item.{Item}
 use Rattle.outside.specs.declared.step.WorldStep.{WorldStep}
 use Rattle.outside.specs.declared.step.WorldStep.TheVariants.{From, Joined, Left, Moment, Acted, Idle, End}
@@ -24,7 +27,9 @@ use Rattle.net_txn.specs.JoiningSteps.{JoinsInStep}
 use Rattle.lego_model.specs.RunReport.{lost_line}
 use Rattle.net_txn.specs.LinkSteps.{OnLinks, AsksWithoutStrays}
 use Rattle.net_txn.specs.Losing.{IsLost}
-use Rattle.batch_laws.specs.Knowledge.{knowledge_of, joined_by, handled, LosesAt, known_lost, text_lost}
+use Rattle.net_txn.specs.Queries.{Queried}
+use Rattle.net_txn.specs.Settling.{doubted, key_inquiry, shows_gone}
+use Rattle.batch_laws.specs.Knowledge.{knowledge_of, joined_by, handled, LosesAt, known_lost, text_lost, left_events, lost_text}
 use Rattle.of_types.specs.declared.journal.Act.TheVariants.{Sent, Got}
 use Rattle.flow_table.specs.Switch.{SwitchState, first_config}
 use Rattle.lego_model.specs.History.{released_of, lost_of}
@@ -148,7 +153,7 @@ pub record HandlesLost {Own : Type 0} (Tells : Type 0) (item : WorldStep) (text 
   pub kept : now_net.kept ≡ filter (λ m. not (m.0 == dpid)) net.kept
   pub text_is : text ≡ text_lost dpid item (knowledge_of net queue)
 
--- It is handled, and this text noted.
+-- A message that was kept, a switch that joins or leaves, or a moment is handled, and this text noted.
 pub record Handles {Own : Type 0} (Tells : Type 0) (item : WorldStep) (text : List ℕ) (old new : Seen Own) (net now_net : NetState) (queue now_queue : List Event) : Type 0 where
   pub continues : Continues Tells old new
   pub log : now_net.log ≡ net.log
@@ -157,13 +162,57 @@ pub record Handles {Own : Type 0} (Tells : Type 0) (item : WorldStep) (text : Li
   pub left : now_net.left ≡ []
   pub went : HandlesStill Tells item text old new net now_net queue now_queue ⊎ HandlesLost Tells item text old new net now_net queue now_queue
 
+-- ---- A notice of a deletion, whose key has a row (5.4.2 Flow Removed Message)
+
+-- Where the entry is gone it is handled as any message; else it is dropped, and where the switch was lost meanwhile that is told.
+abbrev pub SettledBy : {Own : Type 0} → Type 0 → WorldStep → List ℕ → Bool → Seen Own → Seen Own → NetState → NetState → List Event → List Event → Type 0
+SettledBy Tells item text true mid new mid_net now_net queue now_queue = HandlesStill Tells item text mid new mid_net now_net queue now_queue
+SettledBy Tells item text false mid new mid_net now_net queue now_queue =
+    (new ≡ mid) × (now_net ≡ record mid_net { left = [] }) × (now_queue ≡ queue ++ left_events mid_net.left) × (text ≡ lost_text mid_net.left)
+
+-- the key of one that is in doubt
+abbrev pub doubt_in : WorldStep → List TableView → Option Key
+doubt_in (From d bytes) views = doubted d views (reading_of bytes)
+doubt_in other views = None
+
+-- It may be of an earlier entry: the switch was asked for the rows of the key, and there is an answer.
+pub record HandlesDoubt {Own : Type 0} (Tells : Type 0) (item : WorldStep) (text : List ℕ) (key : Key) (old new : Seen Own) (net now_net : NetState) (queue now_queue : List Event) : Type 0 where
+  pub dpid : ℕ
+  pub bytes : List ℕ
+  pub item_is : item ≡ From dpid bytes
+  pub doubt : doubted dpid net.views (reading_of bytes) ≡ Some key
+  pub none_left : net.left ≡ []
+  pub answer : Answer
+  pub mid : Seen Own
+  pub mid_net : NetState
+  pub asked : Queried Tells (key_inquiry dpid net.xid key) old mid net mid_net (Ok answer)
+  pub later : Continues Tells mid new
+  pub links : OnLinks Tells mid new
+  pub settled : SettledBy Tells item text (shows_gone key answer) mid new mid_net now_net queue now_queue
+
+-- ---- What was told
+
+-- a notice in doubt by what is answered, and anything else at once
+abbrev pub WentBy : {Own : Type 0} → Type 0 → WorldStep → List ℕ → Option Key → Seen Own → Seen Own → NetState → NetState → List Event → List Event → Type 0
+WentBy Tells item text None old new net now_net queue now_queue = HandlesStill Tells item text old new net now_net queue now_queue ⊎ HandlesLost Tells item text old new net now_net queue now_queue
+WentBy Tells item text (Some key) old new net now_net queue now_queue = HandlesDoubt Tells item text key old new net now_net queue now_queue
+
+-- It is handled, and this text noted.
+pub record HandlesTold {Own : Type 0} (Tells : Type 0) (item : WorldStep) (text : List ℕ) (old new : Seen Own) (net now_net : NetState) (queue now_queue : List Event) : Type 0 where
+  pub continues : Continues Tells old new
+  pub log : now_net.log ≡ net.log
+  pub room : now_net.room ≡ net.room
+  pub held : now_net.held ≡ net.held
+  pub left : now_net.left ≡ []
+  pub went : WentBy Tells item text (doubt_in item net.views) old new net now_net queue now_queue
+
 -- The outside told an item, whose bytes stand in a buffer of bytes, and the engine did this with it.
 pub record TakesNext {Own : Type 0} (Tells : Type 0) (item : Item) (text : List ℕ) (old new : Seen Own) (net now_net : NetState) (queue now_queue : List Event) : Type 0 where
   pub mid : Seen Own
   pub buf : List ℕ
   pub fit : IsBytes buf
   pub nexts : Nexts Tells old mid (Ok item) buf
-  pub handles : Handles Tells (item_step item buf) text mid new net now_net queue now_queue
+  pub handles : HandlesTold Tells (item_step item buf) text mid new net now_net queue now_queue
 
 abbrev pub Ascend : ℕ → List Link → Type 0
 Ascend least ls = AreDeclaredFrom least (map (λ l. l.declared) ls)

@@ -6,6 +6,7 @@ pub mod InBatch
 pub mod After
 pub mod Lasting
 pub mod Keys
+pub mod Deletions
 pub mod Tells
 pub mod LinkTells
 pub mod Waiting

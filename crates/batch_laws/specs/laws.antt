@@ -10,6 +10,7 @@ pub mod AfterLaws
 pub mod LeaveTellLaws
 pub mod JoinTellLaws
 pub mod AloneLaws
+pub mod DeletionLaws
 pub mod KnownPortsLaws
 pub mod StimulusLaws
 pub mod KeepingLaws

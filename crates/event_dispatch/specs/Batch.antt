@@ -12,7 +12,7 @@ use Rattle.outside.specs.Conforming.{Conforming}
 use Rattle.batch_laws.specs.Calm.{Calm}
 use Rattle.batch_laws.specs.Knowledge.{knowledge_of, handled_all}
 use Rattle.batch_laws.specs.Batches.{Standing}
-use Rattle.batch_laws.specs.Items.{Enters, Handles, TakesNext}
+use Rattle.batch_laws.specs.Items.{Enters, Handles, HandlesTold, TakesNext}
 use Rattle.batch_laws.specs.InBatch.{BatchEnds, BatchOver, SoFar}
 use Rattle.run_laws.specs.Course.{as_told}
 use Rattle.event_dispatch.specs.declared.batch.Rest.{Rest}
@@ -34,6 +34,12 @@ of_memory other = false
 pub record TakesItem {Own : Type 0} (Tells : Type 0) (item : WorldStep) (old new : Seen Own) (run now_run : Core) : Type 0 where
   pub text : List ℕ
   pub handles : Handles Tells item text old new run.net now_run.net run.queue now_run.queue
+  pub lines : now_run.lines.items ≡ run.lines.items ++ text
+
+-- the same of one that was told
+pub record TakesTold {Own : Type 0} (Tells : Type 0) (item : WorldStep) (old new : Seen Own) (run now_run : Core) : Type 0 where
+  pub text : List ℕ
+  pub handles : HandlesTold Tells item text old new run.net now_run.net run.queue now_run.queue
   pub lines : now_run.lines.items ≡ run.lines.items ++ text
 
 -- it joined or was lost, and this text noted

@@ -20,7 +20,7 @@ use Rattle.event_dispatch.specs.declared.fault.Fault.{Fault}
 use Rattle.event_dispatch.specs.Runs.{AreRead, Waits}
 use Rattle.run_laws.specs.Course.{BatchTaken}
 use Rattle.event_dispatch.specs.Serves.{stand}
-use Rattle.event_dispatch.specs.Batch.{TakesItem, TakesJoin, TakesKept, NextTaken, BatchShown}
+use Rattle.event_dispatch.specs.Batch.{TakesItem, TakesTold, TakesJoin, TakesKept, NextTaken, BatchShown}
 use Rattle.event_dispatch.specs.Why.{IsReason, served_by}
 use Rattle.event_dispatch.specs.Talking.{KeepsTalking}
 use Rattle.event_dispatch.specs.Steady.{AtMostThisPoint}
@@ -95,6 +95,12 @@ pub record ItemDone {Own : Type 0} (Tells : Type 0) (step : WorldStep) (old new 
   pub messages : OnlyMessages Tells old new
   pub read : AreRead run.net.kept → AreRead now_run.net.kept
   pub takes : TakesItem Tells step old new run now_run
+
+pub record ToldDone {Own : Type 0} (Tells : Type 0) (step : WorldStep) (old new : Seen Own) (run now_run : Core) : Type 0 where
+  pub waits : Waits run now_run
+  pub messages : OnlyMessages Tells old new
+  pub read : AreRead run.net.kept → AreRead now_run.net.kept
+  pub takes : TakesTold Tells step old new run now_run
 
 pub record TakeOutDone (d : ℕ) (run now_run : Core) : Type 0 where
   pub waits : Waits run now_run

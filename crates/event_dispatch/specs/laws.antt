@@ -24,6 +24,7 @@ pub mod AbreastItemLaws
 pub mod NextPointLaws
 pub mod CatchUpLaws
 pub mod BatchSteadyLaws
+pub mod SettledLaws
 pub mod DispatchStrayLaws
 pub mod FrontLaws
 pub mod ReadLaws

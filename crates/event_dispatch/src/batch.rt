@@ -1,10 +1,11 @@
 //! A batch: what comes up to the next rest of the outside, and the events that it makes.
 
-ghost use Rattle.std.specs.Prelude.{◌≡◌, ◌==◌, ◌≤◌, length, None, IfOk, IfErr, OnOk, MatchResult, []};
+ghost use Rattle.std.specs.Prelude.{◌≡◌, ◌==◌, ◌≤◌, length, None, IsOk, IfOk, IfErr, OnOk, MatchResult, []};
 ghost use Rattle.std.specs.List.{list_any};
 ghost use Rattle.outside.specs.declared.step.WorldStep.TheVariants.{From, Joined};
 ghost use Rattle.outside.specs.Calls.{most_message, item_step, IsItemIn};
 ghost use Rattle.outside.specs.Parting.{IsItemReadIn};
+ghost use Rattle.of_wire.specs.Reading.{reading_of};
 ghost use Rattle.of_wire.specs.Spelling.{message_size};
 ghost use Rattle.net_txn.specs.Views.{rows_at, is_viewed};
 ghost use Rattle.batch_laws.specs.Knowledge.{with_event};
@@ -13,7 +14,7 @@ ghost use Rattle.event_dispatch.specs.Batch.{of_memory};
 ghost use Rattle.event_dispatch.specs.Why.{IsReason, WhyItem, WhyMessage};
 ghost use Rattle.event_dispatch.specs.Talking.{KeepsTalking};
 ghost use Rattle.event_dispatch.specs.Passes.{Passes};
-ghost use Rattle.event_dispatch.specs.Taking.{IsJoinedBy, AsksNext, NextDone, Fails, PassesOnLinks, ItemDone, TakeOutDone, UsesLinksAt, UsesLinksOf};
+ghost use Rattle.event_dispatch.specs.Taking.{IsJoinedBy, AsksNext, NextDone, Fails, PassesOnLinks, ItemDone, ToldDone, TakeOutDone, UsesLinksAt, UsesLinksOf};
 ghost use Rattle.event_dispatch.specs.Taking.{JoinDone, Announces, KeptDone, PassesNext, HandledNext, BatchDone, BatchFails};
 ghost use Rattle.event_dispatch.specs.Plain.{IsPlainEnd, PlainRead, PlainJoin, PlainItem, PlainNext, PlainKept};
 
@@ -92,8 +93,8 @@ fn next_item<W: World>(world: &mut W, buf: &mut [u8]) -> Result<Item, Fault>
 }
 
 impl Core {
-    /// Takes a message that came from a switch. One of a switch that is not joined is ignored; where an ECHO_REQUEST could not be
-    /// answered the switch is lost, and told.
+    /// Takes a message that was kept. One of a switch that is not joined is ignored; where an ECHO_REQUEST could not be answered the
+    /// switch is lost, and told.
     pub(crate) fn take_message<W: World>(
         &mut self,
         world: &mut W,
@@ -109,6 +110,24 @@ impl Core {
             return Ok(());
         }
         let event = self.net.arrived(world, dpid, frame)?;
+        append(&mut self.queue, event)?;
+        Ok(self.tell_lost()?)
+    }
+
+    /// Takes a message that is told now, as one that was kept. But a notice that an entry was deleted is in doubt where a row has its
+    /// key, since it may be of an earlier entry: it is settled by what the switch answers.
+    fn take_told<W: World>(&mut self, world: &mut W, dpid: Dpid, frame: &[u8]) -> Result<(), Fault>
+        requires none_left { self.old.net.left ≡ [] }
+        ensures passes { PassesOnLinks W.Tells (length self.old.store) (W.seen world.old) (W.seen world.new) self.old.net self.new.net result }
+        ensures done { MatchResult result (λ _. ToldDone W.Tells (From dpid frame.now) (W.seen world.old) (W.seen world.new) self.old self.new)
+            (λ fault. Fails (WhyMessage W.Tells dpid frame.now (W.seen world.old) (W.seen world.new) fault)
+            (PlainItem W.Tells (From dpid frame.now) (W.seen world.old) (W.seen world.new) fault)) }
+        ensures parted { W.CanPart → IsOk (reading_of frame.now) → IfErr result IsPlainEnd }
+    {
+        if !is_joined(&self.net, dpid) {
+            return Ok(());
+        }
+        let event = self.net.settle(world, dpid, frame)?;
         append(&mut self.queue, event)?;
         Ok(self.tell_lost()?)
     }
@@ -184,13 +203,13 @@ impl Core {
         requires item { IsItemIn W.Tells item buf.now }
         requires none_left { self.old.net.left ≡ [] }
         ensures uses { UsesLinksAt W.Tells (length self.old.store) (item_step item buf.now) (W.seen world.old) (W.seen world.new) self.old.net self.new.net result }
-        ensures done { MatchResult result (λ _. ItemDone W.Tells (item_step item buf.now) (W.seen world.old) (W.seen world.new) self.old self.new)
+        ensures done { MatchResult result (λ _. ToldDone W.Tells (item_step item buf.now) (W.seen world.old) (W.seen world.new) self.old self.new)
             (λ fault. Fails (WhyItem W.Tells (item_step item buf.now) (W.seen world.old) (W.seen world.new) fault)
             (PlainItem W.Tells (item_step item buf.now) (W.seen world.old) (W.seen world.new) fault)) }
         ensures parted { W.CanPart → IsItemReadIn buf.now item → IfErr result IsPlainEnd }
     {
         match item {
-            Item::From(dpid, size) => self.take_message(world, dpid, &buf[..size]),
+            Item::From(dpid, size) => self.take_told(world, dpid, &buf[..size]),
             Item::Joined(dpid, size) => self.take_in(world, dpid, &buf[..size]),
             Item::Left(dpid) => Ok(self.take_out(dpid)?),
             Item::Moment(moment) => {

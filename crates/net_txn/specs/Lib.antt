@@ -10,6 +10,7 @@ pub mod Joining
 pub mod Leaving
 pub mod Losing
 pub mod Arriving
+pub mod Settling
 pub mod Agrees
 pub mod Answering
 pub mod Making

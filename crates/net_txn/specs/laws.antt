@@ -72,4 +72,5 @@ pub mod LoseAllLaws
 pub mod QueryReachedLaws
 pub mod QueryStepLaws
 pub mod QueryLaws
+pub mod SettleLaws
 pub mod OutLaws

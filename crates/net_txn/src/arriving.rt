@@ -132,7 +132,7 @@ impl Net {
     }
 
     /// Takes in a message that was read, and gives its event, where it is one; the switch is lost where its link fails.
-    fn take_or_lose<W: World>(
+    pub(crate) fn take_or_lose<W: World>(
         &mut self,
         world: &mut W,
         dpid: Dpid,

@@ -1,7 +1,7 @@
 //! Changes to the flow tables of switches, each behind a barrier before it is answered, and undone if the turn fails.
 //!
-//! `Net` is what the host keeps of its switches: `joined` (`joins`, `in_step`), `left`, `lost`, `arrived`, `waiting`,
-//! `rows` (`asks`, `in_step`). `Txn` is one transaction over it: `begin`, `change` (changes and statistics), whose clause
+//! `Net` is what the host keeps of its switches: `joined` (`joins`, `in_step`), `left`, `lost`, `arrived`, `settle`,
+//! `waiting`, `rows` (`asks`, `in_step`). `Txn` is one transaction over it: `begin`, `change` (changes and statistics), whose clause
 //! `changes` is the record `Changes`, `hold_packet`, `commit`, whose one clause is the record `Commits`, and `abort`, whose one clause is the
 //! record `Undoes`. A switch whose link fails is lost: it leaves, and the calls go on with the others. Each fault has its
 //! cause; in a world that keeps its word, view and table move together. Law: `views_stay_in_order`. docs/GUARANTEES.md
@@ -35,6 +35,7 @@ mod reverting;
 mod room;
 mod row_request;
 mod rows;
+mod settling;
 mod statistics;
 mod trouble;
 mod txn;

@@ -25,7 +25,7 @@ use outside::World;
 use std::alloc::{AllocError, Global};
 
 /// The number that means all tables.
-const ALL_TABLES: u8 = 0xff;
+pub(crate) const ALL_TABLES: u8 = 0xff;
 
 /// Tells what is awaited where a request is sent with this id, and then a barrier.
 pub(crate) fn asked(dpid: Dpid, xid: Xid) -> Awaited

@@ -1,22 +1,32 @@
 -- What a run holds between two of its calls, and the moves by which it goes on: what each makes of the tables of the switches that are joined, of
 -- the messages that are kept, and of the events that wait (OpenFlow 1.0.0, 4.2 Message Handling and 5.3.7 Barrier Message). All of this is our own.
 use Rattle.std.specs.Prelude.{◌≡◌, ◌==◌, ◌⊎◌, ℕ, Bool, true, false, not, List, [], ◌∷◌, ◌++◌, map, filter, Option, Some, None, Result, Ok, Err, if◌then◌else◌}
-use Rattle.std.specs.List.{AllByRecursion}
+use Rattle.std.specs.List.{AllByRecursion, list_any}
 use Rattle.std.specs.Option.{option_map}
 use Rattle.lego_io.specs.Count.{Rose}
 use Rattle.of_types.specs.declared.journal.WorldStim.{WorldStim}
+use Rattle.of_types.specs.Layout.{spelled}
 use Rattle.of_match.specs.declared.key.Key.{Key}
+use Rattle.of_match.specs.Key.{key_number}
 use Rattle.of_wire.specs.declared.bodies.FeaturesReply.{FeaturesReply as Features}
 use Rattle.of_wire.specs.declared.bodies.FlowMod.{FlowMod as Change}
+use Rattle.of_wire.specs.declared.bodies.FlowRemoved.{FlowRemoved as Removed}
 use Rattle.of_wire.specs.declared.bodies.PacketOut.{PacketOut as Packet}
 use Rattle.of_wire.specs.declared.bodies.Stats.{Stats as Query}
 use Rattle.of_wire.specs.declared.message.Message.{Message}
-use Rattle.of_wire.specs.declared.message.Message.TheVariants.{FlowMod, FeaturesReply, PacketOut, SetConfig, StatsRequest}
+use Rattle.of_wire.specs.declared.message.Message.TheVariants.{FlowMod, FlowRemoved, FeaturesReply, PacketOut, SetConfig, StatsRequest}
 use Rattle.of_wire.specs.declared.message.Envelope.{Envelope}
 use Rattle.of_wire.specs.declared.fault.WireFault.{WireFault}
 use Rattle.of_wire.specs.Grammar.{enveloped}
 use Rattle.of_wire.specs.Reading.{reading_of}
 use Rattle.of_wire.specs.Spelling.{message_bytes}
+use Rattle.of_wire.specs.Stats.{flow_query_fields}
+use Rattle.of_stats.specs.declared.flow_row.FlowRow.{FlowRow}
+use Rattle.of_stats.specs.Reading.{rows_of}
+use Rattle.flow_table.specs.declared.view.ViewRow.{ViewRow}
+use Rattle.flow_table.specs.RowKeys.{key_removed}
+use Rattle.app_frames.specs.declared.frame.Answer.{Answer}
+use Rattle.app_frames.specs.declared.frame.Answer.TheVariants.{Statistics}
 use Rattle.app_frames.specs.declared.frame.Event.{Event}
 use Rattle.app_frames.specs.declared.frame.EventKind.TheVariants as kinds
 use Rattle.outside.specs.declared.step.WorldStep.{WorldStep}
@@ -27,7 +37,7 @@ use Rattle.outside.specs.Calls.{stim_steps}
 use Rattle.lego_model.specs.declared.wait.Notices.TheVariants as notices
 use Rattle.lego_model.specs.Answers.{as_sent}
 use Rattle.lego_model.specs.BarrierWaits.{next_xid, kept_of}
-use Rattle.lego_model.specs.FlowQueries.{query_bytes, asked_from, others_in}
+use Rattle.lego_model.specs.FlowQueries.{query_bytes, asked_from, parts_in, refusals_in, others_in, IsAnswerTo}
 use Rattle.lego_model.specs.History.{lost_of}
 use Rattle.lego_model.specs.UndoFaults.{WasSent, IsStepOf}
 use Rattle.lego_model.specs.Echoes.{IsEchoRead}
@@ -214,7 +224,26 @@ pub record Ignores {Own : Type 0} (from to : Holding Own) : Type 0 where
   pub ignored : IsIgnored from.tables item
   pub still : HoldsStill from to
 
--- A message of a switch that is joined is taken; an ECHO_REQUEST is answered, and nothing else. What it makes waits behind the others.
+-- ---- A notice in doubt: it tells that an entry was deleted, and comes maybe long behind that (5.4.2 Flow Removed Message). It names the entry by its key
+-- alone, so that it may be of one that stood there before.
+
+-- a row has the key
+abbrev pub HasRow : Key → Option (List ViewRow) → Type 0
+HasRow k None = ⊥
+HasRow k (Some rows) = list_any (λ r. key_number r.key == key_number k) rows ≡ true
+
+-- the reason is DELETE (2), and a row has the key
+pub record IsDoubted (key : Key) (rows : Option (List ViewRow)) (read : Result Envelope WireFault) : Type 0 where
+  pub xid : ℕ
+  pub flow : Removed
+  pub read_is : read ≡ Ok (enveloped xid (FlowRemoved flow))
+  pub reason : (flow.reason == 2) ≡ true
+  pub key_is : key ≡ key_removed flow
+  pub has_row : HasRow key rows
+
+-- ---- What is made of it
+
+-- A message of a switch that is joined is taken, unless it is a notice in doubt; an ECHO_REQUEST is answered, and nothing else. What it makes waits behind the others.
 pub record Takes {Own : Type 0} (from to : Holding Own) : Type 0 where
   pub dpid : ℕ
   pub bytes : List ℕ
@@ -222,6 +251,7 @@ pub record Takes {Own : Type 0} (from to : Holding Own) : Type 0 where
   pub told : IsTold (From dpid bytes) from.seen.history mid
   pub answered : to.seen.history ≡ mid ++ sent_steps dpid (replies_read (reading_of bytes))
   pub was_in : is_in dpid from.tables ≡ true
+  pub undoubted : (key : Key) → IsDoubted key (from.tables dpid) (reading_of bytes) → ⊥
   pub tables : SameTables (tables_read dpid (reading_of bytes) from.tables) to.tables
   pub kept : to.kept ≡ from.kept
   pub queued : AreQueued (events_read dpid (from.tables dpid) (reading_of bytes)) from to
@@ -261,13 +291,62 @@ pub record Leaves {Own : Type 0} (from to : Holding Own) : Type 0 where
   pub body : List ℕ
   pub queued : AreQueued (record { kind = kinds.Leave; dpid = dpid; body = body } ∷ []) from to
 
--- an ECHO_REQUEST of this switch, which is joined, or its join
+-- ---- A notice in doubt is settled by what its switch answers.
+
+-- It asks for the flows (1) that the match of the key subsumes, in all tables (0xff), wherever they send packets: OFPP_NONE is 0xffff (5.3.5 Read State
+-- Messages: Individual Flow Statistics).
+pub record AsksForKey (key : Key) (query : Query) : Type 0 where
+  pub kind : query.kind ≡ 1
+  pub flags : query.flags ≡ 0
+  pub body : query.body ≡ spelled (flow_query_fields (record { matching = key.matching; table_id = 0xff; out_port = 0xffff }))
+
+-- the answer is rows of flows, none of which has the key
+pub record LacksKey (key : Key) (answer : Answer) : Type 0 where
+  pub kind : ℕ
+  pub body : List ℕ
+  pub answer_is : answer ≡ Statistics kind body
+  pub rows : List FlowRow
+  pub read : rows_of body ≡ Ok rows
+  pub none : AllByRecursion (λ r. (key_number r.key == key_number key) ≡ false) rows
+
+-- the notice is taken: its row goes, and its event waits behind the others, where its owner asked for one
+pub record TakesNotice {Own : Type 0} (d : ℕ) (bytes : List ℕ) (from to : Holding Own) : Type 0 where
+  pub tables : SameTables (tables_read d (reading_of bytes) from.tables) to.tables
+  pub queued : AreQueued (events_read d (from.tables d) (reading_of bytes)) from to
+
+-- it is dropped
+pub record DropsNotice {Own : Type 0} (from to : Holding Own) : Type 0 where
+  pub tables : SameTables from.tables to.tables
+  pub queue : to.queue ≡ from.queue
+
+-- The switch, which is joined, was asked for the rows of the key, behind a barrier, and nothing else was said. The notice is taken only where it answered that
+-- no entry has the key. What came is kept behind the others, but for what answers.
+pub record Settles {Own : Type 0} (from to : Holding Own) : Type 0 where
+  pub dpid : ℕ
+  pub bytes : List ℕ
+  pub mid : List WorldStep
+  pub told : IsTold (From dpid bytes) from.seen.history mid
+  pub was_in : is_in dpid from.tables ≡ true
+  pub key : Key
+  pub doubt : IsDoubted key (from.tables dpid) (reading_of bytes)
+  pub xid : ℕ
+  pub query : Query
+  pub asks : AsksForKey key query
+  pub waited : Waited mid to.seen.history
+  pub awaited_is : waited.awaited ≡ asked_from dpid xid
+  pub sent : waited.sent ≡ query_bytes xid query ∷ []
+  pub answer : Answer
+  pub answers : IsAnswerTo 1 (refusals_in xid (kept_of waited.awaited waited.got)) (parts_in xid (kept_of waited.awaited waited.got)) answer
+  pub made : (LacksKey key answer × TakesNotice dpid bytes from to) ⊎ ((LacksKey key answer → ⊥) × DropsNotice from to)
+  pub kept : to.kept ≡ from.kept ++ others_in xid (kept_of waited.awaited waited.got)
+
+-- an ECHO_REQUEST of this switch, which is joined, or a notice of it in doubt, or its join
 abbrev pub MayLose : ℕ → Tables → WorldStep → Type 0
-MayLose d tables (From e bytes) = (e ≡ d) × (is_in d tables ≡ true) × IsEchoRead (reading_of bytes)
+MayLose d tables (From e bytes) = (e ≡ d) × (is_in d tables ≡ true) × (IsEchoRead (reading_of bytes) ⊎ ((key : Key) × IsDoubted key (tables d) (reading_of bytes)))
 MayLose d tables (Joined e bytes) = (e ≡ d) × (is_in d tables ≡ false)
 MayLose d tables other = ⊥
 
--- A switch is lost as this is told: it could not be greeted, or its ECHO_REQUEST not be answered.
+-- A switch is lost as this is told: it could not be greeted, its ECHO_REQUEST not be answered, or it gave no answer on a notice in doubt.
 pub record LosesTold {Own : Type 0} (from to : Holding Own) : Type 0 where
   pub item : WorldStep
   pub mid : Holding Own
@@ -288,7 +367,7 @@ pub record OneByOne {Own : Type 0} (Move : Holding Own → Holding Own → Type 
 
 -- what an item that is told makes
 abbrev pub ItemMove : {Own : Type 0} → Holding Own → Holding Own → Type 0
-ItemMove from to = Ignores from to ⊎ Takes from to ⊎ Joins from to ⊎ Leaves from to ⊎ LosesTold from to
+ItemMove from to = Ignores from to ⊎ Takes from to ⊎ Joins from to ⊎ Leaves from to ⊎ LosesTold from to ⊎ Settles from to
 
 -- what the end of a turn makes that was completed
 abbrev pub EndMove : {Own : Type 0} → Holding Own → Holding Own → Type 0

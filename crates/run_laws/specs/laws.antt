@@ -41,6 +41,7 @@ pub mod TableHoldingLaws
 pub mod MadeEventLaws
 pub mod HoldingLaws
 pub mod UndoHoldingLaws
+pub mod SettleHoldingLaws
 pub mod ItemHoldingLaws
 pub mod AskedMessageLaws
 pub mod TurnCallLaws

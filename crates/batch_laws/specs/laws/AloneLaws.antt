@@ -43,7 +43,7 @@ middle : (P : WorldStep → Type 0) (front later : List WorldStep) (item : World
 middle P [] later item all = all.0
 middle P (x ∷ front) later item all = middle P front later item all.1
 
-among : (P : WorldStep → Type 0) (front later : List WorldStep) (item : WorldStep) (items : List WorldStep) → front ++ item ∷ later ≡ items → AllByRecursion P items → P item
+pub among : (P : WorldStep → Type 0) (front later : List WorldStep) (item : WorldStep) (items : List WorldStep) → front ++ item ∷ later ≡ items → AllByRecursion P items → P item
 among P front later item items is all = middle P front later item (subst (AllByRecursion P) (sym is) all)
 
 not_nil : (front later : List WorldStep) (item : WorldStep) → front ++ item ∷ later ≡ [] → ⊥
@@ -61,7 +61,7 @@ only_one : (front later : List WorldStep) (item one : WorldStep) → front ++ it
 only_one [] later item one is = (refl, tail_same item one later [] is, head_same item one later [] is)
 only_one (x ∷ front) later item one is = absurd (not_nil front later item (tail_same x one (front ++ item ∷ later) [] is))
 
-all_from : (P : WorldStep → Type 0) (Q : List ℕ → Type 0) (d : ℕ) → ((bytes : List ℕ) → Q bytes → P (From d bytes)) → (list : List (List ℕ)) → AllByRecursion Q list → AllByRecursion P (map (From d) list)
+pub all_from : (P : WorldStep → Type 0) (Q : List ℕ → Type 0) (d : ℕ) → ((bytes : List ℕ) → Q bytes → P (From d bytes)) → (list : List (List ℕ)) → AllByRecursion Q list → AllByRecursion P (map (From d) list)
 all_from P Q d each [] all = tt
 all_from P Q d each (bytes ∷ list) all = (each bytes all.0, all_from P Q d each list all.1)
 
@@ -96,7 +96,7 @@ packet_news : (reason in_port : ℕ) (frame : List ℕ) → NotEcho (packet_in r
 unfolding packet_in kind_of_number
 packet_news reason in_port frame = news wire.PacketIn 10 _ tt refl (packet-type _)
 
-notice_type : (n : Notice) → number_at 1 1 (flow_removed_bytes n) ≡ 11
+pub notice_type : (n : Notice) → number_at 1 1 (flow_removed_bytes n) ≡ 11
 unfolding flow_removed_bytes message_bytes number_at number_bytes
 notice_type n = refl
 
@@ -105,7 +105,7 @@ unfolding kind_of_number
 notices_news [] = tt
 notices_news (n ∷ ns) = (news wire.FlowRemoved 11 (flow_removed_bytes n) tt refl (notice_type n), notices_news ns)
 
-status_type : (reason dpid : ℕ) (p : PortState) → number_at 1 1 (port_status reason dpid p) ≡ 12
+pub status_type : (reason dpid : ℕ) (p : PortState) → number_at 1 1 (port_status reason dpid p) ≡ 12
 unfolding port_status message_bytes number_at number_bytes
 status_type reason dpid p = refl
 
@@ -113,28 +113,30 @@ status_news : (reason dpid : ℕ) (p : PortState) → NotEcho (port_status reaso
 unfolding kind_of_number
 status_news reason dpid p = news wire.PortStatus 12 (port_status reason dpid p) tt refl (status_type reason dpid p)
 
-link_news : (up : Bool) (dpid : ℕ) (o : Option PortState) → AllByRecursion NotEcho (sent_by_link up dpid o)
-link_news up dpid None = tt
-link_news up dpid (Some p) =
-    elim (cases_Bool (same_bool p.link up)) [
-      | inl same ↦ rw same tt
-      | inr other ↦ rw other (status_news 2 dpid _, tt)
-    ]
+module _ (P : List ℕ → Type 0) (status : (reason dpid : ℕ) (p : PortState) → P (port_status reason dpid p)) where
+  link_sent : (up : Bool) (dpid : ℕ) (o : Option PortState) → AllByRecursion P (sent_by_link up dpid o)
+  link_sent up dpid None = tt
+  link_sent up dpid (Some p) =
+      elim (cases_Bool (same_bool p.link up)) [
+        | inl same ↦ rw same tt
+        | inr other ↦ rw other (status 2 dpid _, tt)
+      ]
 
-deletion_news : (dpid : ℕ) (o : Option PortState) → AllByRecursion NotEcho (sent_by_deletion dpid o)
-deletion_news dpid None = tt
-deletion_news dpid (Some p) = (status_news 1 dpid p, tt)
+  deletion_sent : (dpid : ℕ) (o : Option PortState) → AllByRecursion P (sent_by_deletion dpid o)
+  deletion_sent dpid None = tt
+  deletion_sent dpid (Some p) = (status 1 dpid p, tt)
 
-port_news : (number : ℕ) (change : PortChange) (s : SwitchState) → AllByRecursion NotEcho (sent_by_port_change number change s)
-unfolding sent_by_port_change
-port_news number changes.Up s = link_news true s.declared.dpid (port_at number s.ports)
-port_news number changes.Down s = link_news false s.declared.dpid (port_at number s.ports)
-port_news number changes.Add s =
-    elim (cases_Bool (can_add number s.ports)) [
-      | inl may ↦ rw may (status_news 0 s.declared.dpid (new_port number), tt)
-      | inr full ↦ rw full tt
-    ]
-port_news number changes.Delete s = deletion_news s.declared.dpid (port_at number s.ports)
+  -- what a switch sends of its ports are PORT_STATUS messages
+  pub port-sent : (number : ℕ) (change : PortChange) (s : SwitchState) → AllByRecursion P (sent_by_port_change number change s)
+  unfolding sent_by_port_change
+  port-sent number changes.Up s = link_sent true s.declared.dpid (port_at number s.ports)
+  port-sent number changes.Down s = link_sent false s.declared.dpid (port_at number s.ports)
+  port-sent number changes.Add s =
+      elim (cases_Bool (can_add number s.ports)) [
+        | inl may ↦ rw may (status 0 s.declared.dpid (new_port number), tt)
+        | inr full ↦ rw full tt
+      ]
+  port-sent number changes.Delete s = deletion_sent s.declared.dpid (port_at number s.ports)
 
 -- ---- Items
 
@@ -173,21 +175,21 @@ moment_messages t (l ∷ ls) =
 
 -- ---- What a stimulus makes, where nothing waited
 
-items-join : (d : ℕ) (s : State) → NoneWait s.links → s.due ≡ [] → upcoming (after_stim (Join d) s) ≡ join_due d s.moment (link_of d s.links)
+pub items-join : (d : ℕ) (s : State) → NoneWait s.links → s.due ≡ [] → upcoming (after_stim (Join d) s) ≡ join_due d s.moment (link_of d s.links)
 unfolding upcoming after_stim
 items-join d s waits due =
     ap₂ (λ (first : List WorldStep) rest. (first ++ join_due d s.moment (link_of d s.links)) ++ rest) due
     (none-waiting (with_link d (link_joined s.moment) s.links) (waiting-silent d (link_joined s.moment) (joined-silent s.moment) s.links waits))
     ∙ append-nil (join_due d s.moment (link_of d s.links))
 
-items-leave : (d : ℕ) (s : State) → NoneWait s.links → s.due ≡ [] → upcoming (after_stim (Leave d) s) ≡ (if is_joined d s then Left d ∷ [] else [])
+pub items-leave : (d : ℕ) (s : State) → NoneWait s.links → s.due ≡ [] → upcoming (after_stim (Leave d) s) ≡ (if is_joined d s then Left d ∷ [] else [])
 unfolding upcoming after_stim
 items-leave d s waits due =
     ap₂ (λ (first : List WorldStep) rest. (first ++ (if is_joined d s then Left d ∷ [] else [])) ++ rest) due
     (none-waiting (with_link d link_left s.links) (waiting-silent d link_left left-silent s.links waits))
     ∙ append-nil (if is_joined d s then Left d ∷ [] else [])
 
-items-moment : (t : ℕ) (s : State) → NoneWait s.links → s.due ≡ [] → upcoming (after_stim (At t) s) ≡ Moment t ∷ flat_map (items_of (Advance t)) s.links
+pub items-moment : (t : ℕ) (s : State) → NoneWait s.links → s.due ≡ [] → upcoming (after_stim (At t) s) ≡ Moment t ∷ flat_map (items_of (Advance t)) s.links
 unfolding upcoming after_stim
 items-moment t s waits due = ap₂ (λ (first : List WorldStep) rest. (first ++ Moment t ∷ []) ++ rest) due (waiting-all (Advance t) s.links waits)
 
@@ -229,7 +231,7 @@ unfolding sent_by_stimulus
 stimulus_news x None is = tt
 stimulus_news (Frame port bytes) (Some s) is = frame-sent NotEcho packet_news port bytes s
 stimulus_news (Advance t) (Some s) is = notices_news (expiry_notices t s.table.entries)
-stimulus_news (Port port change) (Some s) is = port_news port change s
+stimulus_news (Port port change) (Some s) is = port-sent NotEcho status_news port change s
 stimulus_news (Counts priority packets bytes) (Some s) is = tt
 stimulus_news (Raw bytes) (Some s) is = absurd is
 

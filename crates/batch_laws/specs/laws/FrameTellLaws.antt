@@ -107,7 +107,7 @@ module _ (P : List ℕ → Type 0) (packet : (reason in_port : ℕ) (frame : Lis
         | inr dropped ↦ rw dropped tt
       ]
 
-frame-plain : (port : ℕ) (bytes : List ℕ) (s : SwitchState) → AllPlain (sent_by_frame port bytes s)
+pub frame-plain : (port : ℕ) (bytes : List ℕ) (s : SwitchState) → AllPlain (sent_by_frame port bytes s)
 frame-plain port bytes s = frame-sent PlainBytes packet-plain port bytes s
 
 -- ---- Bytes of its own are plain
@@ -136,7 +136,7 @@ unasked-plain BarrierReply h = tt
 unasked-plain (QueueGetConfigRequest payload) h = tt
 unasked-plain (QueueGetConfigReply payload) h = tt
 
-raw-plain : (r : Result Envelope WireFault) → IsTrue (may_be_raw r) → IsPlainRead r
+pub raw-plain : (r : Result Envelope WireFault) → IsTrue (may_be_raw r) → IsPlainRead r
 raw-plain (Ok e) h = unasked-plain e.message h
 raw-plain (Err fault) h = tt
 

@@ -1,11 +1,12 @@
 -- Laws of a batch in a world that keeps its word: how it begins, that each further item takes it on or ends it, and what is told next.
-use Rattle.std.specs.Prelude.{◌≡◌, ℕ, ◌<◌, ◌⊎◌, true, false, List, [], ◌∷◌, ◌++◌, length, take, filter, Option, Some, None, Ok, refl}
+use Rattle.std.specs.Prelude.{◌≡◌, ℕ, ◌<◌, ◌⊎◌, true, false, List, [], ◌∷◌, ◌++◌, length, drop, take, filter, slice_get, Option, Some, None, Ok, IsOk, refl}
 use Rattle.std.proofs.Common.{sym, ap, ◌∙◌, subst, arith, inl, inr, append_assoc, length-append, true≢false}
 use Rattle.std.proofs.lemmas.List.{append-nil}
 use Rattle.std.proofs.lemmas.List.Elements.{filter-append}
 use Rattle.of_types.specs.declared.journal.Act.{Act}
 use Rattle.of_types.specs.declared.journal.Act.TheVariants.{Stim}
 use Rattle.of_types.specs.declared.journal.WorldStim.{WorldStim}
+use Rattle.of_wire.specs.Reading.{reading_of}
 use Rattle.flow_table.specs.Switch.{Declared}
 use Rattle.app_frames.specs.declared.frame.Event.{Event}
 use Rattle.lego_model.specs.Journal.{is_of, stimuli, losses}
@@ -29,8 +30,10 @@ use Rattle.batch_laws.specs.Knowledge.{Knowledge, knowledge_of}
 use Rattle.batch_laws.specs.Told.{Stills}
 use Rattle.batch_laws.specs.Calm.{Calm}
 use Rattle.batch_laws.specs.Batches.{Standing}
-use Rattle.batch_laws.specs.Items.{HandlesStill, Handles, TakesNext}
+use Rattle.batch_laws.specs.Deletions.{IsNoDeletion, TellsNoDeletion}
+use Rattle.batch_laws.specs.Items.{HandlesStill, Handles, HandlesTold, TakesNext}
 use Rattle.batch_laws.specs.laws.StimulusLaws.{none-wait}
+use Rattle.batch_laws.specs.laws.DeletionLaws.{no-deletion, told_undoubted}
 use Rattle.batch_laws.specs.laws.UpcomingLaws.{no_message_joined, one_due_by}
 use Rattle.batch_laws.specs.laws.ItemLaws.{links_ascend, none_waiting}
 use Rattle.batch_laws.specs.InBatch.{InBatch, BatchLost, BatchOver, SoFar, GoesOn, CanTake, CanTakeNext, standing}
@@ -155,12 +158,38 @@ is_over {first = first} {mid = mid} {new = new} {text = text} given longer none 
     }
 
 over_by : {Own Tells : Type 0} (n : ℕ) (first : Standing Own) {mid new : Seen Own} {net : NetState} {queue : List Event} {text : List ℕ} (item : Item) (buf : List ℕ) → item ≡ items.End → mid.given ≡ first.seen.given → mid.history ≡ first.seen.history ++ item_step item buf ∷ []
-    → (state first.seen).to_come ≡ [] → Handles Tells (item_step item buf) text mid new first.net net first.queue queue → GoesOn item n first (standing new net queue (first.text ++ text))
+    → (state first.seen).to_come ≡ [] → HandlesTold Tells (item_step item buf) text mid new first.net net first.queue queue → GoesOn item n first (standing new net queue (first.text ++ text))
 unfolding item_step
 over_by {Tells = Tells} n first {mid = mid} {new = new} {net = net} {queue = queue} {text = text} item buf is given longer none handles =
-    let at_end : Handles Tells End text mid new first.net net first.queue queue = subst (λ (i : Item). Handles Tells (item_step i buf) text mid new first.net net first.queue queue) is handles in
+    let at_end : Handles Tells End text mid new first.net net first.queue queue = told_undoubted End text mid new first.net net first.queue queue tt (subst (λ (i : Item). HandlesTold Tells (item_step i buf) text mid new first.net net first.queue queue) is handles) in
     subst (λ (i : Item). GoesOn i n first (standing new net queue (first.text ++ text))) (sym is)
     (is_over given (longer ∙ ap (λ (i : Item). first.seen.history ++ item_step i buf ∷ []) is) none (loses_none End (λ e at. at) at_end.went))
+
+-- ---- No deletion is told
+
+next_first : (step : WorldStep) (steps : List WorldStep) → slice_get steps 0 ≡ Some step → steps ≡ step ∷ drop 1 steps
+next_first step [] is = absurd cc
+next_first step (x ∷ steps) is = cc
+
+message_told : {Own : Type 0} {x : WorldStim} {n : ℕ} {first now : Standing Own} (d : ℕ) (bytes : List ℕ) → Stills first → InBatch x n first now → MayStep now.seen.given.declared (From d bytes) (state now.seen) → IsNoDeletion (reading_of bytes)
+unfolding MayStep
+message_told {x = x} {first = first} {now = now} d bytes still batch may =
+    let later = upcoming (state now.seen) in
+    no-deletion x first.seen.given.declared (state first.seen) d bytes batch.told (drop 1 later) batch.began.stimulus still.none_wait still.none_due
+    (ap (λ (xs : List WorldStep). batch.told ++ xs) (sym (next_first (From d bytes) later may.0)) ∙ batch.order)
+
+item_told : {Own : Type 0} {x : WorldStim} {n : ℕ} {first now : Standing Own} (item : Item) (buf : List ℕ) → Stills first → InBatch x n first now → MayStep now.seen.given.declared (item_step item buf) (state now.seen) → TellsNoDeletion (item_step item buf)
+unfolding item_step
+item_told (items.From d k) buf still batch may = message_told d (take k buf) still batch may
+item_told (items.Joined d k) buf still batch may = tt
+item_told (items.Left d) buf still batch may = tt
+item_told (items.Moment t) buf still batch may = tt
+item_told items.Idle buf still batch may = tt
+item_told items.End buf still batch may = tt
+
+idle_told : (item : Item) (buf : List ℕ) → item ≡ items.Idle → TellsNoDeletion (item_step item buf)
+unfolding item_step
+idle_told item buf is = rw is tt
 
 -- the first item
 first_told : {Own Tells : Type 0} {first : Standing Own} {new : Seen Own} {net : NetState} {queue : List Event} {text : List ℕ} (item : Item) (begun : Option WorldStim) (told : Tells) (keeps : Conforming new) → Stills first
@@ -183,14 +212,15 @@ first_told {first = first} {new = new} item (Some x) told keeps still takes is =
     let behind : mid.history ≡ now.seen.history ++ step ∷ [] = longer ∙ sym (append_assoc first.seen.history (Acted (Stim x) ∷ []) (step ∷ [])) in
     let before : Conforming now.seen = Conforming-front now.seen mid (step ∷ []) takes.nexts.given behind kept in
     let batch = begins x first still (may_begin first.seen.given.declared x (state first.seen) may.0) in
+    let may_tell = (Conforming-rest now.seen mid (step ∷ []) takes.nexts.given behind kept).0 in
     told_in item takes.buf before still batch (record {
       told = told;
       keeps = keeps;
       kept = kept;
       given = takes.nexts.given;
       longer = behind;
-      may = (Conforming-rest now.seen mid (step ∷ []) takes.nexts.given behind kept).0;
-      handles = takes.handles;
+      may = may_tell;
+      handles = told_undoubted _ _ _ _ _ _ _ _ (item_told item takes.buf still batch may_tell) takes.handles;
     })
 
 -- a further item
@@ -202,14 +232,15 @@ next_told {now = now} {new = new} item None told keeps still batch takes is =
     let kept : Conforming mid = Conforming-before told takes.handles.continues keeps in
     let before : Conforming now.seen = Conforming-before told (Nexts-continues takes.nexts) kept in
     let longer = next_history told takes.nexts None is in
+    let may_tell = (Conforming-rest now.seen mid (step ∷ []) takes.nexts.given longer kept).0 in
     told_in item takes.buf before still batch (record {
       told = told;
       keeps = keeps;
       kept = kept;
       given = takes.nexts.given;
       longer = longer;
-      may = (Conforming-rest now.seen mid (step ∷ []) takes.nexts.given longer kept).0;
-      handles = takes.handles;
+      may = may_tell;
+      handles = told_undoubted _ _ _ _ _ _ _ _ (item_told item takes.buf still batch may_tell) takes.handles;
     })
 next_told {now = now} {new = new} item (Some y) told keeps still batch takes is =
     let mid = takes.mid in
@@ -229,14 +260,15 @@ after_loss n {now = now} {new = new} item None told keeps batch takes is =
     let before : Conforming now.seen = Conforming-before told (Nexts-continues takes.nexts) kept in
     let longer = next_history told takes.nexts None is in
     let may = (Conforming-rest now.seen mid (step ∷ []) takes.nexts.given longer kept).0 in
-    lost_in_batch n item takes.buf (only_idle now.seen.given.declared item takes.buf (none_upcoming before batch) batch may) batch (record {
+    let idle = only_idle now.seen.given.declared item takes.buf (none_upcoming before batch) batch may in
+    lost_in_batch n item takes.buf idle batch (record {
       told = told;
       keeps = keeps;
       kept = kept;
       given = takes.nexts.given;
       longer = longer;
       may = may;
-      handles = takes.handles;
+      handles = told_undoubted _ _ _ _ _ _ _ _ (idle_told item takes.buf idle) takes.handles;
     })
 after_loss n {now = now} {new = new} item (Some y) told keeps batch takes is =
     let mid = takes.mid in
@@ -283,9 +315,9 @@ never_so_many {x = x} {n = n} {first = first} {now = now} keeps calm batch =
 
 -- ---- What is told next can be taken
 
-can_from : (declared : List Declared) (d : ℕ) (bytes : List ℕ) (s t : State) → MayStep declared (From d bytes) s → CanTake (From d bytes) t
+read_told : (declared : List Declared) (d : ℕ) (bytes : List ℕ) (s : State) → MayStep declared (From d bytes) s → IsOk (reading_of bytes)
 unfolding MayStep
-can_from declared d bytes s t may = may.1
+read_told declared d bytes s may = may.1
 
 can_joined : {Own : Type 0} {x : WorldStim} {n : ℕ} {first now : Standing Own} (d : ℕ) (bytes : List ℕ) (t : State) → Stills first → InBatch x n first now → MayStep now.seen.given.declared (Joined d bytes) (state now.seen)
     → t ≡ after_step (Joined d bytes) (state now.seen) → CanTake (Joined d bytes) t
@@ -300,7 +332,7 @@ can_joined {now = now} d bytes t still batch may is =
 can_in : {Own : Type 0} {x : WorldStim} {n : ℕ} {first now : Standing Own} (item : Item) (buf : List ℕ) (t : State) → Stills first → InBatch x n first now → MayStep now.seen.given.declared (item_step item buf) (state now.seen)
     → t ≡ after_step (item_step item buf) (state now.seen) → CanTake (item_step item buf) t
 unfolding item_step
-can_in {now = now} (items.From d k) buf t still batch may is = can_from now.seen.given.declared d (take k buf) (state now.seen) t may
+can_in {now = now} (items.From d k) buf t still batch may is = (read_told now.seen.given.declared d (take k buf) (state now.seen) may, message_told d (take k buf) still batch may)
 can_in (items.Joined d k) buf t still batch may is = can_joined d (take k buf) t still batch may is
 can_in (items.Left d) buf t still batch may is = tt
 can_in (items.Moment m) buf t still batch may is = tt

@@ -17,11 +17,12 @@ use Rattle.outside.specs.laws.SeenLaws.{Nexts-continues, Continues-trans}
 use Rattle.outside.specs.laws.StateLaws.{Conforming-before}
 use Rattle.outside.specs.Calls.{item_step}
 use Rattle.outside.specs.Conforming.{Conforming}
+use Rattle.flow_table.specs.View.{TableView}
 use Rattle.net_txn.specs.Net.{NetState}
 use Rattle.batch_laws.specs.Calm.{Calm}
 use Rattle.batch_laws.specs.Knowledge.{knowledge_of, handled, handled_all, with_event, lost_text}
 use Rattle.batch_laws.specs.laws.LinkTellLaws.{handled_all-append}
-use Rattle.batch_laws.specs.Items.{DoesFrom, Departs, Handles, HandlesStill, HandlesLost, TakesNext}
+use Rattle.batch_laws.specs.Items.{doubt_in, DoesFrom, Departs, Handles, HandlesStill, HandlesLost, TakesNext}
 use Rattle.net_txn.specs.Views.{rows_at}
 use Rattle.batch_laws.specs.laws.HandleLaws.{arrived_handles, departs_handles, enters_handles, idle_handles, end_handles}
 use Rattle.batch_laws.specs.InBatch.{SoFar, GoesOn}
@@ -230,6 +231,12 @@ end_step item buf is = rw is refl
 pub rest_handles : {Own : Type 0} {Tells : Type 0} (item : Item) (buf : List ℕ) (seen : Seen Own) (net : NetState) (queue : List Event) → net.left ≡ [] → (item ≡ items.Idle) ⊎ (item ≡ items.End) → Handles Tells (item_step item buf) [] seen seen net net queue queue
 rest_handles {Tells = Tells} item buf seen net queue none (inl is) = subst (λ (step : WorldStep). Handles Tells step [] seen seen net net queue queue) (idle_step item buf is) (idle_handles seen net queue none)
 rest_handles {Tells = Tells} item buf seen net queue none (inr is) = subst (λ (step : WorldStep). Handles Tells step [] seen seen net net queue queue) (end_step item buf is) (end_handles seen net queue none)
+
+-- and no notice is in doubt then
+pub rest_undoubted : (item : Item) (buf : List ℕ) (views : List TableView) → (item ≡ items.Idle) ⊎ (item ≡ items.End) → doubt_in (item_step item buf) views ≡ None
+unfolding item_step
+rest_undoubted item buf views (inl is) = rw is refl
+rest_undoubted item buf views (inr is) = rw is refl
 
 -- ---- An item that is taken, and the text that is noted
 

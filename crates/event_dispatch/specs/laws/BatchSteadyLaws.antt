@@ -25,14 +25,15 @@ use Rattle.net_txn.specs.laws.AgreeLaws.{viewed}
 use Rattle.net_txn.specs.laws.AbreastLaws.{links-begun, links-none_quiescent, arrives_abreast}
 use Rattle.net_txn.specs.laws.ReadLaws.{arrives_read}
 use Rattle.run_laws.specs.Cut.{CallsAmong}
-use Rattle.batch_laws.specs.Items.{Handles}
+use Rattle.batch_laws.specs.Items.{HandlesTold}
+use Rattle.batch_laws.specs.laws.DeletionLaws.{handles_told}
 use Rattle.run_laws.specs.laws.LastPointLaws.{last_point_of}
 use Rattle.event_dispatch.specs.declared.batch.Rest.{Rest}
 use Rattle.event_dispatch.specs.declared.engine_core.Core.{Core}
 use Rattle.event_dispatch.specs.Runs.{AreRead, Waits}
 use Rattle.event_dispatch.specs.Shows.{TellsLost}
 use Rattle.event_dispatch.specs.Batch.{TakesItem, rest_by}
-use Rattle.event_dispatch.specs.laws.BatchLaws.{joined_step, rest_handles}
+use Rattle.event_dispatch.specs.laws.BatchLaws.{joined_step, rest_handles, rest_undoubted}
 use Rattle.event_dispatch.specs.laws.KeptLaws.{read_rest, read_same, read_alike}
 use Rattle.event_dispatch.specs.Steady.{NoStray, Reads, NothingUnderWay, AtMostThisPoint}
 use Rattle.event_dispatch.specs.laws.SteadyLaws.{quietly_here, calls_then, links_among}
@@ -133,14 +134,14 @@ next_reads Tells item buf old mid new net now_net call later catches = record {
       messages-then old mid new told (Nexts-continues call) later (next_messages call told (catches.item told order at)) (catches.read told);
 }
 
-pub handled_reads : {Own : Type 0} (Tells : Type 0) (item : Item) (buf : List ℕ) (old mid new : Seen Own) (net now_net : NetState) (queue now_queue : List Event) → Nexts Tells old mid (Ok item) buf → {text : List ℕ} → Handles Tells (item_step item buf) text mid new net now_net queue now_queue
+pub handled_reads : {Own : Type 0} (Tells : Type 0) (item : Item) (buf : List ℕ) (old mid new : Seen Own) (net now_net : NetState) (queue now_queue : List Event) → Nexts Tells old mid (Ok item) buf → {text : List ℕ} → HandlesTold Tells (item_step item buf) text mid new net now_net queue now_queue
     → OnLinks Tells mid new → OnlyMessages Tells mid new → Reads Tells old new net now_net
 handled_reads Tells item buf old mid new net now_net queue now_queue call handles links only = next_reads Tells item buf old mid new net now_net call handles.continues (caught_up item buf handles links only.read)
 
 -- the batch is over
 pub over_reads : {Own : Type 0} (Tells : Type 0) (item : Item) (buf : List ℕ) (old mid : Seen Own) (net : NetState) → net.left ≡ [] → (item ≡ items.Idle) ⊎ (item ≡ items.End) → Nexts Tells old mid (Ok item) buf → Reads Tells old mid net net
 over_reads Tells item buf old mid net none over call =
-    handled_reads Tells item buf old mid mid net net [] [] call (rest_handles item buf mid net [] none over) (OnLinks-refl Tells mid) (only_none Tells mid)
+    handled_reads Tells item buf old mid mid net net [] [] call (handles_told (item_step item buf) [] mid mid net net [] [] (rest_undoubted item buf net.views over) (rest_handles item buf mid net [] none over)) (OnLinks-refl Tells mid) (only_none Tells mid)
 
 pub handled_quietly : {Own : Type 0} {number : ℕ} (Tells : Type 0) (old mid new : Seen Own) → Continues Tells mid new → NextPoint Tells number old mid → OnLinks Tells mid new → NextPoint Tells number old new
 handled_quietly Tells old mid new later next links = record {

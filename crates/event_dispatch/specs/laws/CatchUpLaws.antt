@@ -1,18 +1,21 @@
 -- Laws of an item that is handled, where its switch may be lost: the host keeps up with the switches again, and what came are messages.
-use Rattle.std.specs.Prelude.{◌≡◌, ◌≢◌, ◌==◌, ℕ, Bool, true, false, not, ◌||◌, List, [], ◌∷◌, ◌++◌, filter, None, Result, Ok, Err, IsOk, IsOkAnd, if◌then◌else◌, refl}
+use Rattle.std.specs.Prelude.{◌≡◌, ◌≢◌, ◌==◌, ℕ, Bool, true, false, not, ◌||◌, List, [], ◌∷◌, ◌++◌, filter, Option, Some, None, Result, Ok, Err, IsOk, IsSome, IsOkAnd, if◌then◌else◌, refl}
 use Rattle.std.specs.Option.{is_some}
 use Rattle.std.proofs.Common.{sym, ap, ◌∙◌, subst, inl, inr, true≢false}
 use Rattle.std.proofs.lemmas.List.{append-nil}
 use Rattle.std.proofs.lemmas.Bool.{cases_Bool, cases_eq, eqb-true, ne_eqb}
+use Rattle.of_match.specs.declared.key.Key.{Key}
 use Rattle.of_wire.specs.declared.message.Envelope.{Envelope}
 use Rattle.of_wire.specs.declared.message.Message.{Message}
 use Rattle.of_wire.specs.declared.message.Message.TheVariants as messages
 use Rattle.of_wire.specs.declared.fault.WireFault.{WireFault}
 use Rattle.of_wire.specs.Reading.{reading_of}
 use Rattle.flow_table.specs.View.{TableView}
+use Rattle.app_frames.specs.declared.frame.Answer.{Answer}
 use Rattle.app_frames.specs.declared.frame.Event.{Event}
 use Rattle.outside.specs.declared.item.Item.{Item}
 use Rattle.outside.specs.declared.item.Item.TheVariants as items
+use Rattle.outside.specs.declared.step.WorldStep.{WorldStep}
 use Rattle.outside.specs.declared.step.WorldStep.TheVariants.{From, Joined, Left}
 use Rattle.outside.specs.Seen.{Seen, Continues, journal}
 use Rattle.outside.specs.State.{State, state, is_joined, switch_of}
@@ -22,6 +25,10 @@ use Rattle.outside.specs.InOrder.{brings_message, MessagesSince}
 use Rattle.net_txn.specs.Net.{NetState}
 use Rattle.net_txn.specs.LinkSteps.{OnLinks, LinkSteps}
 use Rattle.net_txn.specs.Abreast.{Abreast}
+use Rattle.net_txn.specs.Asks.{Inquiry}
+use Rattle.net_txn.specs.Queries.{Queried}
+use Rattle.net_txn.specs.Settling.{key_inquiry, shows_gone}
+use Rattle.net_txn.specs.laws.SettleLaws.{still_joined}
 use Rattle.net_txn.specs.Losing.{GoesOut, lost_net}
 use Rattle.net_txn.specs.laws.LostLaws.{losses_then}
 use Rattle.lego_model.specs.Journal.{losses}
@@ -29,10 +36,11 @@ use Rattle.lego_model.specs.History.{lost_of}
 use Rattle.net_txn.specs.Views.{rows_at, is_viewed}
 use Rattle.net_txn.specs.Joining.{with_view}
 use Rattle.net_txn.specs.laws.AgreeLaws.{viewed}
-use Rattle.net_txn.specs.laws.AbreastLaws.{links-stay, links-due, with_rows-viewed, with_view-viewed, with_view-viewed-other, abreast-out, arrival_none_lost}
+use Rattle.net_txn.specs.laws.AbreastLaws.{links-stay, links-due, with_rows-viewed, with_view-viewed, with_view-viewed-other, abreast-out, asks_abreast, viewed_joined, arrival_none_lost}
 use Rattle.lego_model.specs.Echoes.{IsEchoRead}
 use Rattle.batch_laws.specs.Knowledge.{Knowledge, knowledge_of, is_known, views_by, told_read, joined_read, left_by, handled}
-use Rattle.batch_laws.specs.Items.{answers, DoesFrom, DoesJoined, DoesLeft, TakesInBy, TakesInAs, Handles, HandlesStill, HandlesLost}
+use Rattle.batch_laws.specs.Items.{answers, DoesFrom, DoesJoined, DoesLeft, TakesInBy, TakesInAs, doubt_in, HandlesStill, HandlesLost, HandlesDoubt, WentBy, HandlesTold, SettledBy}
+use Rattle.batch_laws.specs.laws.DeletionLaws.{doubt-of}
 use Rattle.event_dispatch.specs.Told.{IsTold, CatchesUp}
 
 -- ---- The views behind an item
@@ -300,10 +308,49 @@ lost_caught_up (items.Moment t) buf later lost links read = absurd lost.at
 lost_caught_up items.Idle buf later lost links read = absurd lost.at
 lost_caught_up items.End buf later lost links read = absurd lost.at
 
-pub caught_up : {Own Tells : Type 0} {text : List ℕ} {old new : Seen Own} {net now_net : NetState} {queue now_queue : List Event} (item : Item) (buf : List ℕ) → Handles Tells (item_step item buf) text old new net now_net queue now_queue → OnLinks Tells old new → (Tells → MessagesSince old new)
+-- ---- A notice in doubt: its switch is asked, and then it is taken or dropped
+
+-- what was asked moves no switch, or loses the one that was asked
+pub asked_abreast : {Own Tells : Type 0} {i : Inquiry} {old new : Seen Own} (net now_net : NetState) (answer : Answer) → Queried Tells i old new net now_net (Ok answer) → is_viewed i.dpid net.views ≡ true → Tells → Abreast old net → Abreast new now_net
+asked_abreast {i = i} net now_net answer asked is told abreast = elim asked.queried [
+  | inl q ↦ asks_abreast net now_net asked.continues (asked.links told) (q.losses told) (ap (λ (n : NetState). n.views) q.stays) abreast
+  | inr lost ↦ abreast-out net now_net [] asked.continues (asked.links told) (lost.1.is_lost.out told (viewed_joined abreast i.dpid is)) (ap (λ (n : NetState). n.views) lost.1.net_is) abreast
+]
+
+settled_abreast : {Own Tells : Type 0} (d : ℕ) (bytes text : List ℕ) (mid new : Seen Own) (mid_net now_net : NetState) (queue now_queue : List Event) (gone : Bool) → Continues Tells mid new → OnLinks Tells mid new → Tells → (gone ≡ true → IsSome (rows_at d mid_net.views)) → Abreast mid mid_net
+    → SettledBy Tells (From d bytes) text gone mid new mid_net now_net queue now_queue → Abreast new now_net
+settled_abreast {Tells = Tells} d bytes text mid new mid_net now_net queue now_queue true later links told known there still =
+    let at : IsTold (From d bytes) (state mid) mid_net.views = record { others = λ e other. there.joined e; told_of = there.joined d ∙ viewed d mid_net.views ∙ known refl; none_due = there.none_due } in
+    record {
+      joined = λ e. links-stay later (links told) (from_losses Tells d bytes (is_some (rows_at d mid_net.views)) mid new mid_net now_net still.does told) e ∙ from_keeps d bytes (state mid) (knowledge_of mid_net queue) at e
+          ∙ sym (ap (λ (k : Knowledge). is_viewed e k.views) still.knowledge);
+      none_due = links-due later (links told) ∙ there.none_due;
+    }
+settled_abreast d bytes text mid new mid_net now_net queue now_queue false later links told known there dropped =
+    subst (λ (s : Seen _). Abreast s now_net) (sym dropped.0) (record { joined = λ e. there.joined e ∙ sym (ap (λ (n : NetState). is_viewed e n.views) dropped.1); none_due = there.none_due })
+
+doubt_caught_up : {Own Tells : Type 0} {item : WorldStep} {text : List ℕ} {key : Key} {old new : Seen Own} {net now_net : NetState} {queue now_queue : List Event} → HandlesDoubt Tells item text key old new net now_net queue now_queue → (Tells → MessagesSince old new) → CatchesUp Tells item old new net now_net
+doubt_caught_up {Tells = Tells} {text = text} {key = key} {old = old} {new = new} {net = net} {now_net = now_net} {queue = queue} {now_queue = now_queue} doubt read =
+    let d = doubt.dpid in
+    let of = doubt-of d net.views (reading_of doubt.bytes) key doubt.doubt in
+    let settled = subst (λ (i : WorldStep). SettledBy Tells i text (shows_gone key doubt.answer) doubt.mid new doubt.mid_net now_net queue now_queue) doubt.item_is doubt.settled in
+    subst (λ (i : WorldStep). CatchesUp Tells i old new net now_net) (sym doubt.item_is) (record {
+      abreast = λ told order at.
+          let is : is_viewed d net.views ≡ true = sym (at.others d refl) ∙ at.told_of in
+          let there = asked_abreast net doubt.mid_net doubt.answer doubt.asked is told (record { joined = λ e. at.others e refl; none_due = at.none_due }) in
+          settled_abreast d doubt.bytes text doubt.mid new doubt.mid_net now_net queue now_queue (shows_gone key doubt.answer) doubt.later doubt.links told
+          (λ gone. still_joined (key_inquiry d net.xid key) key old doubt.mid net doubt.mid_net doubt.answer doubt.asked gone (sym (viewed d net.views) ∙ is)) there settled;
+      item = λ told order at. rw of.read_is refl;
+      read = read;
+    })
+
+caught_by : {Own Tells : Type 0} (text : List ℕ) (old new : Seen Own) (net now_net : NetState) (queue now_queue : List Event) (item : Item) (buf : List ℕ) (doubt : Option Key) → Continues Tells old new → WentBy Tells (item_step item buf) text doubt old new net now_net queue now_queue → OnLinks Tells old new
+    → (Tells → MessagesSince old new) → CatchesUp Tells (item_step item buf) old new net now_net
+caught_by text old new net now_net queue now_queue item buf None later (inl still) links read = still_caught_up item buf later still links read
+caught_by text old new net now_net queue now_queue item buf None later (inr lost) links read = lost_caught_up item buf later lost links read
+caught_by text old new net now_net queue now_queue item buf (Some key) later doubt links read = doubt_caught_up doubt read
+
+pub caught_up : {Own Tells : Type 0} {text : List ℕ} {old new : Seen Own} {net now_net : NetState} {queue now_queue : List Event} (item : Item) (buf : List ℕ) → HandlesTold Tells (item_step item buf) text old new net now_net queue now_queue → OnLinks Tells old new → (Tells → MessagesSince old new)
     → CatchesUp Tells (item_step item buf) old new net now_net
-caught_up item buf handles links read =
-    elim handles.went [
-      | inl still ↦ still_caught_up item buf handles.continues still links read
-      | inr lost ↦ lost_caught_up item buf handles.continues lost links read
-    ]
+caught_up {text = text} {old = old} {new = new} {net = net} {now_net = now_net} {queue = queue} {now_queue = now_queue} item buf handles links read =
+    caught_by text old new net now_net queue now_queue item buf (doubt_in (item_step item buf) net.views) handles.continues handles.went links read

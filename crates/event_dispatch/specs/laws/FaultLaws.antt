@@ -38,7 +38,7 @@ use Rattle.net_txn.specs.Answering.{known_rows}
 use Rattle.net_txn.specs.Changes.{answer_of_host, change_sent, ChangesJoined, Changes}
 use Rattle.net_txn.specs.Asks.{Inquiry, inquiry_sent, rows_inquiry, IsRefusal, IsRepliesFault, IsAskCause, Asks}
 use Rattle.net_txn.specs.laws.QueryReachedLaws.{about_in}
-use Rattle.net_txn.specs.Queries.{IsFaultOf, IsReplyCause}
+use Rattle.net_txn.specs.Queries.{IsFaultOf, IsReplyCause, Queried}
 use Rattle.of_wire.specs.declared.bodies.Stats.{Stats as Query}
 use Rattle.lego_model.specs.FlowQueries.{query_bytes, query_sent, flows_query, IsBroken, is_about, flows_request, request_sent, asked_from, parts_in, refusals_in}
 use Rattle.net_txn.specs.laws.LostPartLaws.{faulty}
@@ -338,6 +338,19 @@ reply_why {Tells = Tells} i old new kept now_kept fault reply =
     let told : (Tells → Happened steps old.history new.history) = λ tells. record { before = []; behind = []; told = waits.hears.told tells ∙ ap (λ (xs : List WorldStep). old.history ++ xs) (sym (append-nil steps)) } in
     fault_why i.dpid i.xid i.query waits.got old new told fault
     (subst (λ (came : List (ℕ × List ℕ)). IsFaultOf i.query.kind i.dpid (query_bytes i.xid i.query) (message_bytes (next_xid i.xid) BarrierReply) (parts_in i.xid came) (refusals_in i.xid came) fault) waits.hears.kept_is reply.why)
+
+-- statistics that the host asked for itself
+pub query_why : {Own Tells : Type 0} (i : Inquiry) (old new : Seen Own) (net now_net : NetState) (fault : TxnFault) → Queried Tells i old new net now_net (Err fault) → IsWhy Tells old new 0 0 (ended_by fault)
+query_why {Tells = Tells} i old new net now_net fault asked = elim asked.queried [
+  | inl q ↦ elim q.answer [
+    | inl cause ↦ cause_why Tells i.dpid old new fault cause (query_flood Tells i old new fault q.flooded)
+    | inr reply ↦ reply_why i old new net.kept now_net.kept fault reply
+  ]
+  | inr lost ↦ absurd (no_answer Unknown lost.0)
+]
+  where
+    no_answer : (a : Answer) → Err fault ≡ Ok a → ⊥
+    no_answer a h = cc
 
 change_why : {Own Tells : Type 0} (d : ℕ) (bytes : List ℕ) (old new : Seen Own) (net now_net : NetState) (fault : TxnFault) → Changes Tells d bytes old new net now_net (Err fault) → IsWhy Tells old new 0 0 (ended_by fault)
 change_why {Tells = Tells} d bytes old new net now_net fault changes = elim changes.answered [

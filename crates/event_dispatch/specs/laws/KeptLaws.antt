@@ -28,6 +28,8 @@ use Rattle.outside.specs.declared.step.WorldStep.{WorldStep}
 use Rattle.net_txn.specs.Answering.{known_rows}
 use Rattle.net_txn.specs.Changes.{answer_of_host, Changes, ChangesJoined, ChangesLost}
 use Rattle.net_txn.specs.Arriving.{Becomes, ArrivesLost, Arrives}
+use Rattle.net_txn.specs.Asks.{Inquiry}
+use Rattle.net_txn.specs.Queries.{Queried}
 use Rattle.net_txn.specs.Joining.{JoinsOrNot}
 use Rattle.net_txn.specs.Losing.{lost_net, lose_all}
 use Rattle.of_types.specs.Membership.{is_among}
@@ -136,6 +138,16 @@ arrived_read {Tells = Tells} {d = d} {old = old} {new = new} frame net now_net e
 pub joins_read : {Own : Type 0} (Tells : Type 0) (d : ℕ) (ports : List PortDesc) (old new : Seen Own) (joined : Bool) (net now_net : NetState) → JoinsOrNot Tells d ports joined old new net now_net → AreRead net.kept → AreRead now_net.kept
 joins_read Tells d ports old new true net now_net joins read = waits_read net.kept now_net.kept joins.answer joins.waits read
 joins_read Tells d ports old new false net now_net joins read = subst AreRead (sym (ap (λ (n : NetState). n.kept) joins.net_is)) (read_left d net.kept read)
+
+-- statistics that the host asks for itself
+pub query_read : {Own Tells : Type 0} {i : Inquiry} {old new : Seen Own} (net now_net : NetState) (answer : Answer) → Queried Tells i old new net now_net (Ok answer) → AreRead net.kept → AreRead now_net.kept
+query_read {i = i} net now_net answer asked read = elim asked.queried [
+  | inl q ↦
+      let gives = q.answer in
+      let came = waits_read [] gives.came gives.answered.brought gives.answered.waits tt in
+      read_alike (net.kept ++ others_in i.xid gives.came) now_net.kept gives.answered.kept_is (read_append net.kept (others_in i.xid gives.came) read (unanswered_of IsKeptRead i.xid gives.came came))
+  | inr lost ↦ read_alike (filter (λ m. not (m.0 == i.dpid)) net.kept) now_net.kept (ap (λ (n : NetState). n.kept) lost.1.net_is) (read_left i.dpid net.kept read)
+]
 
 -- ---- An undo in which no switch failed
 

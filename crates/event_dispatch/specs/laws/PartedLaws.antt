@@ -1,14 +1,11 @@
 -- No fault of a switch comes of a message: of one that was kept, and of one that was told.
-use Rattle.std.specs.Prelude.{◌≡◌, ℕ, List, take, slice_get, Some, Result, Ok, Err, IsOk, IfErr, MatchResult}
+use Rattle.std.specs.Prelude.{◌≡◌, ℕ, List, take, slice_get, Some, IsOk}
 use Rattle.std.proofs.Common.{sym, subst}
 use Rattle.of_wire.specs.Reading.{reading_of}
 use Rattle.outside.specs.declared.item.Item.{Item}
 use Rattle.outside.specs.declared.item.Item.TheVariants as items
 use Rattle.outside.specs.Parting.{IsItemReadIn}
-use Rattle.event_dispatch.specs.declared.fault.Fault.{Fault}
-use Rattle.event_dispatch.specs.Plain.{IsPlainEnd, PlainRead}
 use Rattle.event_dispatch.specs.Runs.{AreRead}
-use Rattle.event_dispatch.specs.Taking.{Fails}
 use Rattle.event_dispatch.specs.laws.ItemLaws.{first_read}
 
 -- the first message that is kept
@@ -18,8 +15,3 @@ kept_read kept d bytes frame read is same = subst (λ (b : List ℕ). IsOk (read
 -- what stands in the front of a buffer where it is told
 pub in_front : (item : Item) (d n : ℕ) (buf : List ℕ) → item ≡ items.From d n → IsItemReadIn buf item → IsOk (reading_of (take n buf))
 in_front item d n buf is read = rw is at read
-
--- no fault comes of a message
-pub message_plain : {T : Type 0} (Done : T → Type 0) (Why : Fault → Type 0) (frame : List ℕ) (result : Result T Fault) → MatchResult result Done (λ fault. Fails (Why fault) (PlainRead frame fault)) → IsOk (reading_of frame) → IfErr result IsPlainEnd
-message_plain Done Why frame (Ok x) done read = tt
-message_plain Done Why frame (Err fault) fails read = fails.plain.plain read

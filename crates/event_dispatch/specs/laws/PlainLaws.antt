@@ -127,10 +127,6 @@ pub join_fault : {Own : Type 0} {Tells : Type 0} (d : ℕ) (old new : Seen Own) 
 join_fault d old new net now_net fault steps = record { plain = λ told keeps free. plain_fault fault (steps told keeps free) }
 
 -- an item
-pub item_from : {Own : Type 0} {Tells : Type 0} (item : Item) (d n : ℕ) (buf : List ℕ) (old new : Seen Own) (fault : Fault) → item ≡ items.From d n → PlainRead (take n buf) fault → PlainItem Tells (item_step item buf) old new fault
-unfolding item_step
-item_from {Tells = Tells} item d n buf old new fault is read = rw is (record { plain = λ told keeps can. read.plain can })
-
 pub item_joined : {Own : Type 0} {Tells : Type 0} (item : Item) (d n : ℕ) (buf : List ℕ) (old new : Seen Own) (fault : Fault) → item ≡ items.Joined d n → PlainJoin Tells d old new fault → PlainItem Tells (item_step item buf) old new fault
 unfolding item_step
 item_joined {Tells = Tells} item d n buf old new fault is join = rw is (record { plain = λ told keeps can. join.plain told keeps can })

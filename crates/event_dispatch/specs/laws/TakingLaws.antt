@@ -26,8 +26,10 @@ use Rattle.event_dispatch.specs.Serves.{stand}
 use Rattle.event_dispatch.specs.Batch.{standing_of, rest_by, IsAsBefore, TakesKept, BatchGoes}
 use Rattle.event_dispatch.specs.Steady.{Reads}
 use Rattle.event_dispatch.specs.Told.{BatchPoint}
-use Rattle.event_dispatch.specs.Taking.{PassesOnLinks, OnLinksSoFar, UsesLinksAt, UsesLinksOf, AsksNext, PassesNext, ItemDone, HandledNext}
-use Rattle.event_dispatch.specs.laws.BatchLaws.{rest_handles}
+use Rattle.event_dispatch.specs.Taking.{PassesOnLinks, OnLinksSoFar, UsesLinksAt, UsesLinksOf, AsksNext, PassesNext, ItemDone, ToldDone, HandledNext}
+use Rattle.batch_laws.specs.Items.{doubt_in}
+use Rattle.batch_laws.specs.laws.DeletionLaws.{handles_told}
+use Rattle.event_dispatch.specs.laws.BatchLaws.{rest_handles, rest_undoubted}
 use Rattle.lego_model.specs.OwnIds.{IsShortRun, OwnIdsSoFar}
 use Rattle.net_txn.specs.OwnIds.{KeepsIds}
 use Rattle.net_txn.specs.laws.OwnIdLaws.{so_far_ascends}
@@ -148,7 +150,7 @@ over_done {Tells = Tells} rest item buf old new run none over is fit nexts = rec
   taken = record {
     item = item;
     text = [];
-    takes = record { mid = new; buf = buf; fit = fit; nexts = nexts; handles = rest_handles item buf new run.net run.queue none over };
+    takes = record { mid = new; buf = buf; fit = fit; nexts = nexts; handles = handles_told (item_step item buf) [] new new run.net run.net run.queue run.queue (rest_undoubted item buf run.net.views over) (rest_handles item buf new run.net run.queue none over) };
     lines = sym (append-nil run.lines.items);
     rest_is = is;
   };
@@ -171,9 +173,18 @@ next_handled {Tells = Tells} {number = number} {used = used} {old = old} {mid = 
   buffer = asks.buffer;
 }
 
+-- an item that is in no doubt was told
+pub done_told : {Own Tells : Type 0} {step : WorldStep} {old new : Seen Own} {run now_run : Core} → doubt_in step run.net.views ≡ None → ItemDone Tells step old new run now_run → ToldDone Tells step old new run now_run
+done_told {step = step} {old = old} {new = new} {run = run} {now_run = now_run} none done = record {
+  waits = done.waits;
+  messages = done.messages;
+  read = done.read;
+  takes = record { text = done.takes.text; handles = handles_told step done.takes.text old new run.net now_run.net run.queue now_run.queue none done.takes.handles; lines = done.takes.lines };
+}
+
 pub handled_done : {Own T E Tells : Type 0} {number : ℕ} {result : Result T E} (item : Item) (buf : List ℕ) (old mid new : Seen Own) (run now_run : Core) → None ≡ rest_by item
     → IsBytes buf → Nexts Tells old mid (Ok item) buf → UsesLinksAt Tells number (item_step item buf) mid new run.net now_run.net result
-    → ItemDone Tells (item_step item buf) mid new run now_run → HandledNext Tells None old new run now_run
+    → ToldDone Tells (item_step item buf) mid new run now_run → HandledNext Tells None old new run now_run
 handled_done {Tells = Tells} item buf old mid new run now_run goes fit nexts uses done = record {
   waits = done.waits;
   begun = goes_begun Tells item buf old mid new nexts uses.continues uses.links goes;

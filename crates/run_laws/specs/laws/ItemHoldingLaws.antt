@@ -1,7 +1,8 @@
 -- What is told next, item by item, as the course of a run says it.
 use Rattle.std.specs.Prelude.{take, map, is_some, if◌then◌else◌}
-use Rattle.std.proofs.Common.{◌≡◌, ℕ, Bool, true, false, List, [], ◌∷◌, ◌++◌, Result, Ok, Err, refl, sym, ap, ◌∙◌, subst, inl, inr}
+use Rattle.std.proofs.Common.{◌≡◌, ℕ, Bool, true, false, List, [], ◌∷◌, ◌++◌, Option, Some, None, Result, Ok, Err, refl, sym, ap, ◌∙◌, subst, inl, inr}
 use Rattle.std.proofs.lemmas.List.{append-nil}
+use Rattle.of_match.specs.declared.key.Key.{Key}
 use Rattle.of_wire.specs.declared.bodies.FeaturesReply.{FeaturesReply as Features}
 use Rattle.of_wire.specs.declared.message.Message.{Message}
 use Rattle.of_wire.specs.declared.message.Message.TheVariants as messages
@@ -22,19 +23,21 @@ use Rattle.lego_model.specs.BarrierWaits.{next_xid}
 use Rattle.batch_laws.specs.laws.LossLaws.{unknown-rows}
 use Rattle.net_txn.specs.Net.{NetState}
 use Rattle.net_txn.specs.Views.{rows_at}
+use Rattle.net_txn.specs.Settling.{doubted}
 use Rattle.net_txn.specs.Joining.{delete_all}
 use Rattle.net_txn.specs.Leaving.{ports_at, ports_text}
 use Rattle.net_txn.specs.Arriving.{arrival_steps}
 use Rattle.net_txn.specs.laws.JoiningLaws.{rows_at-with_view, rows_at-with_view-other}
 use Rattle.switch_laws.specs.laws.LossLaws.{rows-gone, rows-stay}
 use Rattle.batch_laws.specs.Knowledge.{Knowledge, knowledge_of, is_known, left_by, joined_by, joined_read, handled}
-use Rattle.batch_laws.specs.Items.{Untouched, TakesMessage, TakesIn, TakesInBy, TakesInAs, DoesFrom, DoesJoined, DoesLeft, answers, HandlesStill, HandlesLost, Handles, TakesNext}
+use Rattle.batch_laws.specs.Items.{Untouched, TakesMessage, TakesIn, TakesInBy, TakesInAs, DoesFrom, DoesJoined, DoesLeft, answers, HandlesStill, HandlesLost, WentBy, TakesNext}
 use Rattle.run_course.specs.Messages.{sent_steps, replies_to, replies_read}
 use Rattle.run_course.specs.Moves.{IsTold, is_features, IsNoJoin, IsIgnored, Takes, Joins, LosesTold, OneByOne, ItemMove}
 use Rattle.run_laws.specs.Facts.{Between}
 use Rattle.run_laws.specs.Course.{TakesItems}
 use Rattle.run_laws.specs.laws.TableHoldingLaws.{tables_of}
 use Rattle.run_laws.specs.laws.MadeEventLaws.{from_makes}
+use Rattle.run_laws.specs.laws.SettleHoldingLaws.{undoubted_so, doubt_moves}
 use Rattle.run_laws.specs.laws.HoldingLaws.{holding_of, no_move, one_move, moves_then, waited_by, loses_told, holds_still}
 
 -- ---- What is told next
@@ -80,9 +83,9 @@ answers_are : (d : ℕ) (r : Result Envelope WireFault) → answers d r ≡ sent
 answers_are d (Ok e) = answer_is d e.xid e.message
 answers_are d (Err fault) = refl
 
-takes_so : {Own Tells : Type 0} (d : ℕ) (bytes : List ℕ) (old mid new : Seen Own) (net now_net : NetState) (queue now_queue : List Event) → Tells → IsTold (From d bytes) old.history mid.history → is_known d (knowledge_of net queue) ≡ true
+takes_so : {Own Tells : Type 0} (d : ℕ) (bytes : List ℕ) (old mid new : Seen Own) (net now_net : NetState) (queue now_queue : List Event) → Tells → IsTold (From d bytes) old.history mid.history → is_known d (knowledge_of net queue) ≡ true → doubted d net.views (reading_of bytes) ≡ None
     → knowledge_of now_net now_queue ≡ handled (From d bytes) (knowledge_of net queue) → TakesMessage Tells d bytes mid new net now_net → Takes (holding_of old net queue) (holding_of new now_net now_queue)
-takes_so d bytes old mid new net now_net queue now_queue told item known knowledge does =
+takes_so d bytes old mid new net now_net queue now_queue told item known none knowledge does =
     let makes = from_makes (d, bytes) (knowledge_of net queue) known in
     record {
       dpid = d;
@@ -91,6 +94,7 @@ takes_so d bytes old mid new net now_net queue now_queue told item known knowled
       told = item;
       answered = does.told told ∙ ap (λ (steps : List WorldStep). mid.history ++ steps) (answers_are d (reading_of bytes));
       was_in = known;
+      undoubted = undoubted_so d net.views (reading_of bytes) none;
       tables = λ e. ap (λ (x : Knowledge). rows_at e x.views) knowledge ∙ makes.tables e;
       kept = does.kept;
       queued = ap (λ (x : Knowledge). x.queue) knowledge ∙ makes.queue_is;
@@ -101,11 +105,11 @@ out_handled : (d : ℕ) (bytes : List ℕ) (k : Knowledge) → is_known d k ≡ 
 unfolding handled
 out_handled d bytes k out = rw out refl
 
-from_by : {Own Tells : Type 0} (d : ℕ) (bytes : List ℕ) (known : Bool) (old mid new : Seen Own) (net now_net : NetState) (queue now_queue : List Event) → Tells → IsTold (From d bytes) old.history mid.history → is_known d (knowledge_of net queue) ≡ known
+from_by : {Own Tells : Type 0} (d : ℕ) (bytes : List ℕ) (known : Bool) (old mid new : Seen Own) (net now_net : NetState) (queue now_queue : List Event) → Tells → IsTold (From d bytes) old.history mid.history → is_known d (knowledge_of net queue) ≡ known → doubted d net.views (reading_of bytes) ≡ None
     → knowledge_of now_net now_queue ≡ handled (From d bytes) (knowledge_of net queue) → DoesFrom Tells d bytes known mid new net now_net → OneByOne ItemMove (holding_of old net queue) (holding_of new now_net now_queue)
-from_by d bytes true old mid new net now_net queue now_queue told item is knowledge does =
-    one_move ItemMove (holding_of old net queue) (holding_of new now_net now_queue) (inr (inl (takes_so d bytes old mid new net now_net queue now_queue told item is knowledge does)))
-from_by d bytes false old mid new net now_net queue now_queue told item is knowledge does =
+from_by d bytes true old mid new net now_net queue now_queue told item is none knowledge does =
+    one_move ItemMove (holding_of old net queue) (holding_of new now_net now_queue) (inr (inl (takes_so d bytes old mid new net now_net queue now_queue told item is none knowledge does)))
+from_by d bytes false old mid new net now_net queue now_queue told item is none knowledge does =
     let same = knowledge ∙ out_handled d bytes (knowledge_of net queue) is in
     ignores (From d bytes) old mid new net now_net queue now_queue item does.seen (ap (λ (x : Knowledge). x.views) same) does.kept (ap (λ (x : Knowledge). x.queue) same) is
 
@@ -118,7 +122,7 @@ from_lost d bytes old mid new net now_net queue now_queue told item lost =
       told = item;
       still = holds_still old mid net net queue queue refl refl refl;
       loses = loses_told lost.dpid mid new net now_net queue told lost.is_lost (ap (λ (x : Knowledge). x.views) lost.knowledge) lost.kept;
-      of_switch = lost.at;
+      of_switch = (lost.at.0, lost.at.1, inl lost.at.2);
     })
 
 -- ---- A switch joins
@@ -204,7 +208,7 @@ module _ {Own Tells : Type 0} (d : ℕ) (bytes : List ℕ) (old mid new : Seen O
   joined_lost lost =
       let calls = lost.is_lost.only told in
       let views = ap (λ (x : Knowledge). x.views) lost.knowledge in
-      one_move ItemMove (holding_of old net queue) (holding_of new now_net now_queue) (inr (inr (inr (inr (record {
+      one_move ItemMove (holding_of old net queue) (holding_of new now_net now_queue) (inr (inr (inr (inr (inl (record {
         item = Joined d bytes;
         mid = holding_of mid net queue;
         told = item;
@@ -223,7 +227,7 @@ module _ {Own Tells : Type 0} (d : ℕ) (bytes : List ℕ) (old mid new : Seen O
           queued = ap (λ (x : Knowledge). x.queue) lost.knowledge ∙ sym (append-nil queue);
         };
         of_switch = (lost.at.0, lost.at.1);
-      })))))
+      }))))))
 
 -- ---- A switch leaves
 
@@ -265,16 +269,18 @@ unfolding handled
 end_still old mid new net now_net queue now_queue item still =
     ignores End old mid new net now_net queue now_queue item still.does.seen (ap (λ (x : Knowledge). x.views) still.knowledge) (ap (λ (n : NetState). n.kept) still.does.same) (ap (λ (x : Knowledge). x.queue) still.knowledge) tt
 
-from_moves : {Own Tells : Type 0} {text : List ℕ} (d : ℕ) (bytes : List ℕ) (old mid new : Seen Own) (net now_net : NetState) (queue now_queue : List Event) → Tells → IsTold (From d bytes) old.history mid.history → Handles Tells (From d bytes) text mid new net now_net queue now_queue → OneByOne ItemMove (holding_of old net queue) (holding_of new now_net now_queue)
-from_moves d bytes old mid new net now_net queue now_queue told item handles = elim handles.went [
-  | inl still ↦ from_by d bytes (is_some (rows_at d net.views)) old mid new net now_net queue now_queue told item refl still.knowledge still.does
-  | inr lost ↦ one_move ItemMove (holding_of old net queue) (holding_of new now_net now_queue) (inr (inr (inr (inr (from_lost d bytes old mid new net now_net queue now_queue told item lost)))))
-]
+from_went : {Own Tells : Type 0} (text : List ℕ) (d : ℕ) (bytes : List ℕ) (doubt : Option Key) (old mid new : Seen Own) (net now_net : NetState) (queue now_queue : List Event) → Tells → IsTold (From d bytes) old.history mid.history → doubted d net.views (reading_of bytes) ≡ doubt
+    → WentBy Tells (From d bytes) text doubt mid new net now_net queue now_queue → OneByOne ItemMove (holding_of old net queue) (holding_of new now_net now_queue)
+from_went text d bytes None old mid new net now_net queue now_queue told item none (inl still) = from_by d bytes (is_some (rows_at d net.views)) old mid new net now_net queue now_queue told item refl none still.knowledge still.does
+from_went text d bytes None old mid new net now_net queue now_queue told item none (inr lost) =
+    one_move ItemMove (holding_of old net queue) (holding_of new now_net now_queue) (inr (inr (inr (inr (inl (from_lost d bytes old mid new net now_net queue now_queue told item lost))))))
+from_went text d bytes (Some key) old mid new net now_net queue now_queue told item is doubt = one_move ItemMove (holding_of old net queue) (holding_of new now_net now_queue) (doubt_moves (From d bytes) old mid new net now_net queue now_queue told item doubt)
 
 pub next_moves : {Own Tells : Type 0} {text : List ℕ} (item : Item) (old new : Seen Own) (net now_net : NetState) (queue now_queue : List Event) → Tells → TakesNext Tells item text old new net now_net queue now_queue → OneByOne ItemMove (holding_of old net queue) (holding_of new now_net now_queue)
 unfolding item_step
 next_moves (items.From d n) old new net now_net queue now_queue told takes =
-    from_moves d (take n takes.buf) old takes.mid new net now_net queue now_queue told (next_told (items.From d n) takes.buf old takes.mid told takes.nexts) takes.handles
+    let bytes = take n takes.buf in
+    from_went _ d bytes (doubted d net.views (reading_of bytes)) old takes.mid new net now_net queue now_queue told (next_told (items.From d n) takes.buf old takes.mid told takes.nexts) refl takes.handles.went
 next_moves (items.Joined d n) old new net now_net queue now_queue told takes =
     let bytes = take n takes.buf in
     let item = next_told (items.Joined d n) takes.buf old takes.mid told takes.nexts in

@@ -1,6 +1,6 @@
 -- In the course of a run each message that is kept is of a switch that is joined: a wait is for such a switch, and what was kept of a switch goes
 -- with it. So each of them makes its events when it is taken.
-use Rattle.std.specs.Prelude.{◌==◌, ◌||◌, filter, not, is_some}
+use Rattle.std.specs.Prelude.{◌==◌, ◌||◌, ◌⊎◌, filter, not, is_some}
 use Rattle.std.specs.Option.{option_map}
 use Rattle.std.proofs.Common.{◌≡◌, ◌≢◌, ℕ, ◌+◌, Bool, true, false, List, [], ◌∷◌, ◌++◌, Option, Some, None, Result, Ok, Err, refl, sym, ap, ◌∙◌, subst, inl, inr, if◌then◌else◌}
 use Rattle.std.specs.List.{AllByRecursion}
@@ -25,7 +25,7 @@ use Rattle.lego_model.specs.ViewRows.{rows_without}
 use Rattle.run_course.specs.Tables.{Tables, is_in, with_table, rows_with}
 use Rattle.run_course.specs.Messages.{is_refused, tables_left, tables_read, tables_behind, but_of, AreStored}
 use Rattle.of_types.specs.Membership.{is_among}
-use Rattle.run_course.specs.Moves.{Holding, OfJoined, HoldsStill, Notes, tables_by, Changes, Queries, Releases, Loses, TakesBack, Takes, Joins, Leaves, Go, OneByOne, ItemMove, EndMove, keys_at}
+use Rattle.run_course.specs.Moves.{Holding, OfJoined, HoldsStill, Notes, tables_by, Changes, Queries, Releases, Loses, TakesBack, Takes, Joins, Leaves, Go, OneByOne, ItemMove, EndMove, keys_at, TakesNotice, DropsNotice, Settles}
 use Rattle.lego_model.specs.FlowQueries.{is_about, other_in, others_in}
 use Rattle.run_course.specs.Applications.{Application, listens}
 use Rattle.run_course.specs.Turns.{TalkMove, Talk, Closes, Talks, keys_added, HasTurn, Turning, turning_at, unless_failed, turning_behind, TurnsInstead, GroupCloses, HasInstead, instead_in, IsOffered, unless_stopped, Offers}
@@ -145,6 +145,20 @@ queries_keep asked from to queries all =
     let more = unanswered_of (λ m. is_in m.0 to.tables ≡ true) queries.xid came (wait_of (joined_in to.tables) a queries.waited.got is) in
     subst (Of (joined_in to.tables)) (sym queries.kept) (all_two (λ m. is_in m.0 to.tables ≡ true) from.kept (others_in queries.xid came) (of_same (joined_in from.tables) (joined_in to.tables) from.kept stays all) more)
 
+-- a notice that was in doubt moves no switch
+settled_in : {Own : Type 0} (from to : Holding Own) (d e : ℕ) (bytes : List ℕ) {Lacks Stands : Type 0} → (Lacks × TakesNotice d bytes from to) ⊎ (Stands × DropsNotice from to) → is_in e to.tables ≡ is_in e from.tables
+settled_in from to d e bytes (inl taken) = same_in (tables_read d (reading_of bytes) from.tables) to.tables e (taken.1.tables e) ∙ read_in d e (reading_of bytes) from.tables
+settled_in from to d e bytes (inr dropped) = same_in from.tables to.tables e (dropped.1.tables e)
+
+settles_keep : {Own : Type 0} (from to : Holding Own) → Settles from to → OfJoined from from.kept → OfJoined to to.kept
+settles_keep from to settles all =
+    let a = settles.waited.awaited in
+    let came = kept_of a settles.waited.got in
+    let stays : (e : ℕ) → is_in e to.tables ≡ is_in e from.tables = λ e. settled_in from to settles.dpid e settles.bytes settles.made in
+    let is = ap (λ (x : Awaited). joined_in to.tables x.dpid) settles.awaited_is ∙ (stays settles.dpid ∙ settles.was_in) in
+    let more = unanswered_of (λ m. is_in m.0 to.tables ≡ true) settles.xid came (wait_of (joined_in to.tables) a settles.waited.got is) in
+    subst (Of (joined_in to.tables)) (sym settles.kept) (all_two (λ m. is_in m.0 to.tables ≡ true) from.kept (others_in settles.xid came) (of_same (joined_in from.tables) (joined_in to.tables) from.kept stays all) more)
+
 notes_keep : {Own : Type 0} (from to : Holding Own) → Notes from to → OfJoined from from.kept → OfJoined to to.kept
 notes_keep from to notes all = subst (Of (joined_in to.tables)) (sym notes.kept) (of_same (joined_in from.tables) (joined_in to.tables) from.kept (λ e. same_in from.tables to.tables e (notes.tables e)) all)
 
@@ -219,7 +233,8 @@ item_keeps from to (inl ignores) all = still_keep from to ignores.still all
 item_keeps from to (inr (inl takes)) all = takes_keep from to takes all
 item_keeps from to (inr (inr (inl joins))) all = joins_keep from to joins all
 item_keeps from to (inr (inr (inr (inl leaves)))) all = leaves_keep from to leaves all
-item_keeps from to (inr (inr (inr (inr loses)))) all = loses_keep loses.mid to loses.loses (still_keep from loses.mid loses.still all)
+item_keeps from to (inr (inr (inr (inr (inl loses))))) all = loses_keep loses.mid to loses.loses (still_keep from loses.mid loses.still all)
+item_keeps from to (inr (inr (inr (inr (inr settles))))) all = settles_keep from to settles all
 
 end_keeps : {Own : Type 0} (from to : Holding Own) → EndMove from to → OfJoined from from.kept → OfJoined to to.kept
 end_keeps from to (inl rests) all = still_keep from to rests.still all
