@@ -126,6 +126,12 @@ pub record AllStay (old new : Polled) : Type 0 where
   pub second : Stays old.second new.second
   pub third : Stays old.third new.third
 
+-- each copy that is in was in before
+pub record NoneEnters (old new : Polled) : Type 0 where
+  pub first : new.first.is_in ≡ true → old.first.is_in ≡ true
+  pub second : new.second.is_in ≡ true → old.second.is_in ≡ true
+  pub third : new.third.is_in ≡ true → old.third.is_in ≡ true
+
 -- A piece that a copy gave is held of it, or the copy is out.
 abbrev pub Keeps : Place → List ℕ → Polled → Polled → Type 0
 Keeps place bytes old new =
@@ -136,6 +142,7 @@ pub record Goes {Own W : Type 0} (Tells : Type 0) (see : W → Seen Own) (first 
   pub backed : Tells → (so_far : List ℕ) → Backed first so_far old (see before.links).history → Backed first (so_far ++ more) new (see after.links).history
   pub others : Tells → (n : ℕ) → Apart first n → life_in n (see after.links).history ≡ life_in n (see before.links).history
   pub running : after.running ≡ before.running
+  pub none_enters : NoneEnters old new
 
 abbrev pub found_in : Result (Option (List ℕ)) Short → List ℕ
 found_in (Ok (Some frame)) = frame
@@ -162,6 +169,7 @@ pub record AppGoes {Own W : Type 0} (Tells : Type 0) (see : W → Seen Own) (byt
   pub backed : Tells → old.three ≡ true → (given : List ℕ) → Backed old.first (given ++ old.left) old.ballot (see before.links).history
       → Backed old.first (given ++ (bytes ++ new.left)) new.ballot (see after.links).history
   pub leaves : Leaves Tells see old.three old.first before after
+  pub none_enters : NoneEnters old.ballot new.ballot
 
 -- The copies were started, or not all of them: each that is in begins its life.
 pub record AppBegins {Own W : Type 0} (Tells : Type 0) (see : W → Seen Own) (old new : Voting) (before after : Linkage W) : Type 0 where

@@ -4,3 +4,4 @@ pub mod BackedLaws
 pub mod AppLaws
 pub mod StepLaws
 pub mod WorldLaws
+pub mod CopiesLaws

@@ -7,6 +7,7 @@ ghost use Rattle.linked_world.specs.Still.{Still, Tried};
 ghost use Rattle.frame_votes.specs.declared.ballot.Place.TheVariants.{First};
 ghost use Rattle.frame_votes.specs.laws.VoteLaws.{Follows, AllFollow};
 ghost use Rattle.vote_world.specs.Lives.{life_in, lives_of, Rests, AllStay, Leaves, AppGoes, AppBegins, IsPolled, bytes_in, what_in};
+ghost use Rattle.vote_world.specs.World.{Answers};
 ghost use Rattle.vote_world.specs.Voting.{copy_number, none_in, two_in, is_enough, IsNothing, Votes, Refilled, Passes, Took};
 
 use crate::copy::{end_copy, give_copy, start_copy};
@@ -226,7 +227,7 @@ impl Copies {
     ) -> Result<bool, Short>
         ensures seen { Tried W.Tells result (seen_of W.seen linked.old) (seen_of W.seen linked.new) }
         ensures begins { AppBegins W.Tells W.seen self.old self.new linked.old linked.new }
-        ensures enough { IfOk result (λ enough. enough ≡ is_enough self.new) }
+        ensures answers { Answers result self.new }
     {
         self.clear();
         match start_all(linked, self.first, self.three, &mut self.ballot, words) {
@@ -248,7 +249,7 @@ impl Copies {
         ensures seen { Tried W.Tells result (seen_of W.seen linked.old) (seen_of W.seen linked.new) }
         ensures goes { AppGoes W.Tells W.seen [] self.old self.new linked.old linked.new }
         ensures stay { AllStay self.old.ballot self.new.ballot }
-        ensures enough { IfOk result (λ enough. enough ≡ is_enough self.new) }
+        ensures answers { Answers result self.new }
     {
         match give_all(linked, self.first, &mut self.ballot, bytes) {
             Ok(()) => Ok(self.is_enough()),
@@ -279,6 +280,7 @@ impl Copies {
         ensures leaves { Leaves W.Tells W.seen false self.old.first linked.old linked.new }
         ensures first { self.new.first ≡ self.old.first }
         ensures three { self.new.three ≡ self.old.three }
+        ensures ballot { self.new.ballot ≡ self.old.ballot }
         ensures nothing { IfOk result (λ what. IsNothing what) }
     {
         match piece_of(alloc, linked, self.first, buf) {

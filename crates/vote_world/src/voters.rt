@@ -8,7 +8,7 @@ ghost use Rattle.outside.specs.Calls.{most_message, Opens, Nexts, Starts, Gives,
 ghost use Rattle.linked_world.specs.Linked.{seen_of, IsTakeable};
 ghost use Rattle.linked_world.specs.Still.{Still, Tried};
 ghost use Rattle.vote_world.specs.Lives.{Rests, AppGoes, AppBegins, IsPolled, bytes_in, what_in, taken_in};
-ghost use Rattle.vote_world.specs.World.{IsVotings, TakesOf, Keeps, IsFresh};
+ghost use Rattle.vote_world.specs.World.{IsVotings, TakesOf, Keeps, IsFresh, CopiesAt, Remains, Answers, StartsTo, GivesTo, IsEnded, BegunTo, GivenTo, wants_memory};
 
 use crate::copies::Copies;
 use linked_world::Linked;
@@ -24,11 +24,19 @@ pub(crate) struct Voters<W: World> {
     pub(crate) copies: Vec<Copies>,
 }
 
+/// Tells whether bytes were not given for want of memory.
+fn wants_memory(given: &Result<(), GiveFault>) -> bool
+    ensures { result ≡ wants_memory given.now }
+{
+    matches!(given, Err(GiveFault::Short))
+}
+
 impl<W: World> Voters<W> {
     /// Opens the other world.
     pub(crate) fn open(&mut self, port: u16) -> Result<(), OpenFault>
         ensures seen { Opens W.Tells (seen_of W.seen self.old.linked) (seen_of W.seen self.new.linked) result }
         ensures keeps { Keeps W.Tells W.seen self.old.linked self.old.copies.items self.new.linked self.new.copies.items }
+        ensures copies { self.new.copies.items ≡ self.old.copies.items }
     {
         self.linked.open(port)
     }
@@ -38,6 +46,7 @@ impl<W: World> Voters<W> {
         requires { most_message ≤ length buf.old }
         ensures seen { Nexts W.Tells (seen_of W.seen self.old.linked) (seen_of W.seen self.new.linked) result buf.new }
         ensures keeps { Keeps W.Tells W.seen self.old.linked self.old.copies.items self.new.linked self.new.copies.items }
+        ensures copies { self.new.copies.items ≡ self.old.copies.items }
     {
         self.linked.next(buf)
     }
@@ -47,6 +56,7 @@ impl<W: World> Voters<W> {
         requires { IsOk (reading_of frame.now) }
         ensures seen { Sends W.Tells dpid frame.now (seen_of W.seen self.old.linked) (seen_of W.seen self.new.linked) result }
         ensures keeps { Keeps W.Tells W.seen self.old.linked self.old.copies.items self.new.linked self.new.copies.items }
+        ensures copies { self.new.copies.items ≡ self.old.copies.items }
     {
         self.linked.send(dpid, frame)
     }
@@ -56,6 +66,7 @@ impl<W: World> Voters<W> {
         requires { most_message ≤ length buf.old }
         ensures seen { Receives W.Tells dpid (seen_of W.seen self.old.linked) (seen_of W.seen self.new.linked) result buf.new }
         ensures keeps { Keeps W.Tells W.seen self.old.linked self.old.copies.items self.new.linked self.new.copies.items }
+        ensures copies { self.new.copies.items ≡ self.old.copies.items }
     {
         self.linked.recv(dpid, buf)
     }
@@ -64,6 +75,8 @@ impl<W: World> Voters<W> {
     pub(crate) fn start(&mut self, app: u32, words: &[String]) -> Result<(), StartFault>
         ensures seen { Starts W.Tells app (seen_of W.seen self.old.linked) (seen_of W.seen self.new.linked) result }
         ensures keeps { Keeps W.Tells W.seen self.old.linked self.old.copies.items self.new.linked self.new.copies.items }
+        ensures idle { is_among app self.old.linked.running ≡ false → CopiesAt (StartsTo result) app self.old.copies.items self.new.copies.items }
+        ensures runs { is_among app self.old.linked.running ≡ true → self.new.copies.items ≡ self.old.copies.items }
     {
         if self.linked.runs(app) {
             self.linked.start(app, false)
@@ -76,6 +89,8 @@ impl<W: World> Voters<W> {
     pub(crate) fn give(&mut self, app: u32, bytes: &[u8]) -> Result<(), GiveFault>
         ensures seen { Gives W.Tells app bytes.now (seen_of W.seen self.old.linked) (seen_of W.seen self.new.linked) result }
         ensures keeps { Keeps W.Tells W.seen self.old.linked self.old.copies.items self.new.linked self.new.copies.items }
+        ensures runs { is_among app self.old.linked.running ≡ true → CopiesAt (GivesTo result) app self.old.copies.items self.new.copies.items }
+        ensures idle { is_among app self.old.linked.running ≡ false → self.new.copies.items ≡ self.old.copies.items }
     {
         if self.linked.runs(app) {
             self.give_running(app, bytes)
@@ -89,6 +104,7 @@ impl<W: World> Voters<W> {
         requires { 0 < length buf.old }
         ensures seen { Takes W.Tells app (seen_of W.seen self.old.linked) (seen_of W.seen self.new.linked) result buf.new }
         ensures keeps { Keeps W.Tells W.seen self.old.linked self.old.copies.items self.new.linked self.new.copies.items }
+        ensures copies { CopiesAt Remains app self.old.copies.items self.new.copies.items }
         ensures voted { IsVotings W.Tells W.seen (record { linked = self.old.linked; copies = self.old.copies.items }) → IfOk result (λ taken. W.Tells → TakesOf W.seen app (taken_in (Ok taken) buf.new) (record { linked = self.old.linked; copies = self.old.copies.items }) (record { linked = self.new.linked; copies = self.new.copies.items })) }
     {
         if self.linked.runs(app) {
@@ -102,6 +118,7 @@ impl<W: World> Voters<W> {
     pub(crate) fn end(&mut self, app: u32)
         ensures seen { Ends W.Tells app (seen_of W.seen self.old.linked) (seen_of W.seen self.new.linked) }
         ensures keeps { Keeps W.Tells W.seen self.old.linked self.old.copies.items self.new.linked self.new.copies.items }
+        ensures copies { CopiesAt IsEnded app self.old.copies.items self.new.copies.items }
     {
         self.end_copies(app);
         self.linked.end(app);
@@ -115,6 +132,7 @@ impl<W: World> Voters<W> {
         ensures others { (i : ℕ) → i ≢ app → slice_get self.new.copies.items i ≡ slice_get self.old.copies.items i }
         ensures here { IfSome (slice_get self.old.copies.items app) (λ o. IfSome (slice_get self.new.copies.items app) (λ n. AppBegins W.Tells W.seen o n self.old.linked self.new.linked)) }
         ensures none { slice_get self.old.copies.items app ≡ None → Rests W.Tells W.seen self.old.linked self.new.linked }
+        ensures answers { IfSome (slice_get self.new.copies.items app) (λ n. Answers result n) }
     {
         let place = app as usize;
         if place < self.copies.len() {
@@ -132,6 +150,7 @@ impl<W: World> Voters<W> {
         ensures others { (i : ℕ) → i ≢ app → slice_get self.new.copies.items i ≡ slice_get self.old.copies.items i }
         ensures here { IfSome (slice_get self.old.copies.items app) (λ o. IfSome (slice_get self.new.copies.items app) (λ n. AppGoes W.Tells W.seen [] o n self.old.linked self.new.linked)) }
         ensures none { slice_get self.old.copies.items app ≡ None → Rests W.Tells W.seen self.old.linked self.new.linked }
+        ensures answers { IfSome (slice_get self.new.copies.items app) (λ n. Answers result n) }
     {
         let place = app as usize;
         if place < self.copies.len() {
@@ -169,6 +188,7 @@ impl<W: World> Voters<W> {
         ensures others { (i : ℕ) → i ≢ app → slice_get self.new.copies.items i ≡ slice_get self.old.copies.items i }
         ensures here { IfSome (slice_get self.old.copies.items app) (λ o. IfSome (slice_get self.new.copies.items app) (λ n. AppGoes W.Tells W.seen [] o n self.old.linked self.new.linked)) }
         ensures none { slice_get self.old.copies.items app ≡ None → Rests W.Tells W.seen self.old.linked self.new.linked }
+        ensures ended { IfSome (slice_get self.old.copies.items app) (λ o. IfSome (slice_get self.new.copies.items app) (λ n. IsEnded o n)) }
     {
         let place = app as usize;
         if place < self.copies.len() {
@@ -181,6 +201,8 @@ impl<W: World> Voters<W> {
     fn end_copies_unless(&mut self, app: u32, stands: bool)
         ensures seen { Still W.Tells (seen_of W.seen self.old.linked) (seen_of W.seen self.new.linked) }
         ensures keeps { Keeps W.Tells W.seen self.old.linked self.old.copies.items self.new.linked self.new.copies.items }
+        ensures stand { stands ≡ true → self.new.copies.items ≡ self.old.copies.items }
+        ensures end { stands ≡ false → CopiesAt IsEnded app self.old.copies.items self.new.copies.items }
     {
         if !stands {
             self.end_copies(app);
@@ -193,6 +215,7 @@ impl<W: World> Voters<W> {
         requires idle { is_among app self.old.linked.running ≡ false }
         ensures seen { Starts W.Tells app (seen_of W.seen self.old.linked) (seen_of W.seen self.new.linked) result }
         ensures keeps { Keeps W.Tells W.seen self.old.linked self.old.copies.items self.new.linked self.new.copies.items }
+        ensures copies { CopiesAt (StartsTo result) app self.old.copies.items self.new.copies.items }
     {
         match self.start_copies(app, words) {
             Ok(ready) => self.begun(app, ready),
@@ -202,9 +225,11 @@ impl<W: World> Voters<W> {
 
     /// Gives bytes to an application that runs, and to its copies before.
     fn give_running(&mut self, app: u32, bytes: &[u8]) -> Result<(), GiveFault>
-        requires { W.Tells → is_running app (state (seen_of W.seen self.old.linked)) ≡ true }
+        requires told { W.Tells → is_running app (state (seen_of W.seen self.old.linked)) ≡ true }
+        requires runs { is_among app self.old.linked.running ≡ true }
         ensures seen { Gives W.Tells app bytes.now (seen_of W.seen self.old.linked) (seen_of W.seen self.new.linked) result }
         ensures keeps { Keeps W.Tells W.seen self.old.linked self.old.copies.items self.new.linked self.new.copies.items }
+        ensures copies { CopiesAt (GivesTo result) app self.old.copies.items self.new.copies.items }
     {
         match self.give_copies(app, bytes) {
             Ok(enough) => self.given(app, bytes, enough),
@@ -219,6 +244,7 @@ impl<W: World> Voters<W> {
         requires room { 0 < length buf.old }
         ensures seen { Takes W.Tells app (seen_of W.seen self.old.linked) (seen_of W.seen self.new.linked) result buf.new }
         ensures keeps { Keeps W.Tells W.seen self.old.linked self.old.copies.items self.new.linked self.new.copies.items }
+        ensures copies { CopiesAt Remains app self.old.copies.items self.new.copies.items }
         ensures voted { IsVotings W.Tells W.seen (record { linked = self.old.linked; copies = self.old.copies.items }) → IfOk result (λ taken. W.Tells → TakesOf W.seen app (taken_in (Ok taken) buf.new) (record { linked = self.old.linked; copies = self.old.copies.items }) (record { linked = self.new.linked; copies = self.new.copies.items })) }
     {
         match self.take_copies(app, buf) {
@@ -232,20 +258,24 @@ impl<W: World> Voters<W> {
     fn begun(&mut self, app: u32, ready: bool) -> Result<(), StartFault>
         ensures seen { Starts W.Tells app (seen_of W.seen self.old.linked) (seen_of W.seen self.new.linked) result }
         ensures keeps { (W.Tells → IsFresh W.seen app self.old.linked self.old.copies.items) → Keeps W.Tells W.seen self.old.linked self.old.copies.items self.new.linked self.new.copies.items }
+        ensures begun { BegunTo ready result app self.old.copies.items self.new.copies.items }
     {
         let started = self.linked.start(app, ready);
-        self.end_copies_unless(app, started.is_ok());
+        let stands = started.is_ok();
+        self.end_copies_unless(app, stands);
         started
     }
 
     /// Gives bytes to an application, whose copies were given them or not.
     #[tactic(auto, using(linked_world::specs::laws::StillLaws::gives_before))]
     fn given(&mut self, app: u32, bytes: &[u8], enough: bool) -> Result<(), GiveFault>
+        requires { is_among app self.old.linked.running ≡ true }
         ensures seen { Gives W.Tells app bytes.now (seen_of W.seen self.old.linked) (seen_of W.seen self.new.linked) result }
         ensures keeps { Keeps W.Tells W.seen self.old.linked self.old.copies.items self.new.linked self.new.copies.items }
+        ensures given { GivenTo enough result app self.old.copies.items self.new.copies.items }
     {
         let given = self.linked.give(app, bytes, enough);
-        let stands = !matches!(given, Err(GiveFault::Short));
+        let stands = !wants_memory(&given);
         self.end_copies_unless(app, stands);
         given
     }

@@ -1,13 +1,16 @@
 //! A world in which an application has three copies.
 
-ghost use Rattle.std.specs.Prelude.{◌≡◌, ◌==◌, ◌+◌, ◌<◌, ◌≤◌, [], ◌∷◌, ◌++◌, length, Ok, IfOk, OnOk};
+ghost use Rattle.std.specs.Prelude.{◌≡◌, ◌==◌, ◌+◌, ◌<◌, ◌≤◌, [], ◌∷◌, ◌++◌, length, true, false, Ok, IsOk, IfOk, OnOk};
 ghost use Rattle.outside.specs.InOrder.{InOrder, BringMessages};
 ghost use Rattle.outside.specs.Conforming.{Conforming};
-ghost use Rattle.outside.specs.Calls.{Takes};
+ghost use Rattle.of_types.specs.Membership.{is_among};
+ghost use Rattle.of_wire.specs.Reading.{reading_of};
+ghost use Rattle.outside.specs.Calls.{most_message, Opens, Nexts, Starts, Gives, Takes, Ends, Sends, Receives};
+ghost use Rattle.outside.specs.Parting.{TellsMessage, GivesMessage};
 ghost use Rattle.linked_world.specs.Linked.{seen_of};
 ghost use Rattle.vote_world.specs.Voting.{copies_in, numbered, none_in};
 ghost use Rattle.vote_world.specs.Lives.{taken_in};
-ghost use Rattle.vote_world.specs.World.{TakesOf};
+ghost use Rattle.vote_world.specs.World.{TakesOf, CopiesAt, Remains, StartsTo, GivesTo, IsEnded};
 
 use crate::copies::Copies;
 use crate::voters::Voters;
@@ -117,39 +120,68 @@ impl<W: World> World for VoteWorld<W> {
 
     ghost seen = { λ v. seen_of W.seen v.linked };
 
-    fn open(&mut self, port: u16) -> Result<(), OpenFault> {
+    fn open(&mut self, port: u16) -> Result<(), OpenFault>
+        ensures seen { Opens W.Tells (seen_of W.seen self.old.linked) (seen_of W.seen self.new.linked) result }
+        ensures copies { self.new.copies ≡ self.old.copies }
+    {
         self.parts.open(port)
     }
 
-    fn next(&mut self, buf: &mut [u8]) -> Result<Item, NextFault> {
+    fn next(&mut self, buf: &mut [u8]) -> Result<Item, NextFault>
+        requires { most_message ≤ length buf.old }
+        ensures seen { Nexts W.Tells (seen_of W.seen self.old.linked) (seen_of W.seen self.new.linked) result buf.new }
+        ensures message { ⊥ → TellsMessage result buf.new }
+        ensures copies { self.new.copies ≡ self.old.copies }
+    {
         self.parts.next(buf)
     }
 
-    fn start(&mut self, app: u32, words: &[String]) -> Result<(), StartFault> {
+    fn start(&mut self, app: u32, words: &[String]) -> Result<(), StartFault>
+        ensures seen { Starts W.Tells app (seen_of W.seen self.old.linked) (seen_of W.seen self.new.linked) result }
+        ensures idle { is_among app self.old.linked.running ≡ false → CopiesAt (StartsTo result) app self.old.copies self.new.copies }
+        ensures runs { is_among app self.old.linked.running ≡ true → self.new.copies ≡ self.old.copies }
+    {
         self.parts.start(app, words)
     }
 
-    fn give(&mut self, app: u32, bytes: &[u8]) -> Result<(), GiveFault> {
+    fn give(&mut self, app: u32, bytes: &[u8]) -> Result<(), GiveFault>
+        ensures seen { Gives W.Tells app bytes.now (seen_of W.seen self.old.linked) (seen_of W.seen self.new.linked) result }
+        ensures runs { is_among app self.old.linked.running ≡ true → CopiesAt (GivesTo result) app self.old.copies self.new.copies }
+        ensures idle { is_among app self.old.linked.running ≡ false → self.new.copies ≡ self.old.copies }
+    {
         self.parts.give(app, bytes)
     }
 
     fn take(&mut self, app: u32, buf: &mut [u8]) -> Result<Taken, Short>
         requires { 0 < length buf.old }
         ensures seen { Takes W.Tells app (seen_of W.seen self.old.linked) (seen_of W.seen self.new.linked) result buf.new }
+        ensures copies { CopiesAt Remains app self.old.copies self.new.copies }
         ensures voted { IfOk result (λ taken. W.Tells → TakesOf W.seen app (taken_in (Ok taken) buf.new) self.old self.new) }
     {
         self.parts.take(app, buf)
     }
 
-    fn end(&mut self, app: u32) {
+    fn end(&mut self, app: u32)
+        ensures seen { Ends W.Tells app (seen_of W.seen self.old.linked) (seen_of W.seen self.new.linked) }
+        ensures copies { CopiesAt IsEnded app self.old.copies self.new.copies }
+    {
         self.parts.end(app);
     }
 
-    fn send(&mut self, dpid: Dpid, frame: &[u8]) -> Result<(), LinkFault> {
+    fn send(&mut self, dpid: Dpid, frame: &[u8]) -> Result<(), LinkFault>
+        requires { IsOk (reading_of frame.now) }
+        ensures seen { Sends W.Tells dpid frame.now (seen_of W.seen self.old.linked) (seen_of W.seen self.new.linked) result }
+        ensures copies { self.new.copies ≡ self.old.copies }
+    {
         self.parts.send(dpid, frame)
     }
 
-    fn recv(&mut self, dpid: Dpid, buf: &mut [u8]) -> Result<usize, LinkFault> {
+    fn recv(&mut self, dpid: Dpid, buf: &mut [u8]) -> Result<usize, LinkFault>
+        requires { most_message ≤ length buf.old }
+        ensures seen { Receives W.Tells dpid (seen_of W.seen self.old.linked) (seen_of W.seen self.new.linked) result buf.new }
+        ensures message { ⊥ → GivesMessage result buf.new }
+        ensures copies { self.new.copies ≡ self.old.copies }
+    {
         self.parts.recv(dpid, buf)
     }
 

@@ -14,8 +14,8 @@ use Rattle.outside.specs.declared.step.WorldStep.{WorldStep}
 use Rattle.outside.specs.Seen.{Seen}
 use Rattle.linked_world.specs.Linked.{Linkage}
 use Rattle.vote_world.specs.Voting.{Voting, copy_number, none_in, Passes}
-use Rattle.vote_world.specs.Lives.{life_in, lives_of, Backed, Rests, Touches, Leaves, AppGoes, Polls, IsPolled, bytes_in, what_in}
-use Rattle.vote_world.specs.laws.BackedLaws.{goes_stay, none_stay, none_less}
+use Rattle.vote_world.specs.Lives.{life_in, lives_of, Backed, Rests, Touches, Leaves, NoneEnters, AppGoes, Polls, IsPolled, bytes_in, what_in}
+use Rattle.vote_world.specs.laws.BackedLaws.{goes_stay, none_stay, none_less, all_stay_enters}
 
 -- ---- Other lives
 
@@ -74,6 +74,7 @@ ends_app Tells see old new x y is rests = record {
       ((goes_stay Tells see old.first old.ballot none_in x y (none_stay old.ballot none_in refl) rests).backed told (given ++ old.left) backed) in
       subst (λ (v : Voting). Backed old.first (given ++ v.left) v.ballot (see y.links).history) (sym is) (ended_backed old.first given old.left none_in (see y.links).history stays);
   leaves = rests_leave Tells see old.three old.first x y rests;
+  none_enters = subst (λ (v : Voting). NoneEnters old.ballot v.ballot) (sym is) (all_stay_enters old.ballot none_in (none_stay old.ballot none_in refl));
 }
 
 -- ---- A vote
@@ -96,6 +97,7 @@ taken_goes Tells see bytes old mid new x y z goes same is rests = record {
       subst (λ (p : Polled). Backed old.first (given ++ (bytes ++ new.left)) p (see z.links).history) (sym (ap (λ (v : Voting). v.ballot) is))
       (same_backed old.first (given ++ mid.left) (given ++ (bytes ++ new.left)) mid.ballot (see z.links).history (ap (λ (xs : List ℕ). given ++ xs) same) stays);
   leaves = leaves_rest Tells see old.three old.first x y z goes.leaves rests;
+  none_enters = subst (λ (p : Polled). NoneEnters old.ballot p) (sym (ap (λ (v : Voting). v.ballot) is)) goes.none_enters;
 }
 
 pub took_goes : {Own W : Type 0} (Tells : Type 0) (see : W → Seen Own) (old mid new : Voting) (x y z : Linkage W) (result : Result TookWhat Short) → AppGoes Tells see [] old mid x y

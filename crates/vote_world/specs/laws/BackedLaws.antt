@@ -13,7 +13,7 @@ use Rattle.outside.specs.Seen.{Seen}
 use Rattle.linked_world.specs.Linked.{Linkage}
 use Rattle.linked_world.specs.laws.ThereLaws.{was_started}
 use Rattle.vote_world.specs.Voting.{copy_number, entered, none_in, Hears, Heard}
-use Rattle.vote_world.specs.Lives.{life_in, lives_of, Backed, behind, VotesBehind, Rests, GoesOn, Begins, piece_in, Stays, AllStay, Keeps, Goes, found_in}
+use Rattle.vote_world.specs.Lives.{life_in, lives_of, Backed, behind, VotesBehind, Rests, GoesOn, Begins, piece_in, Stays, AllStay, NoneEnters, Keeps, Goes, found_in}
 
 -- ---- Numbers
 
@@ -118,6 +118,35 @@ stay_none p = all_stay p p refl
 pub none_stay : (p q : Polled) → q ≡ none_in → AllStay p q
 none_stay p q left = record { first = inr (ap (λ (p : Polled). p.first) left); second = inr (ap (λ (p : Polled). p.second) left); third = inr (ap (λ (p : Polled). p.third) left) }
 
+stay_enters : (old new : Given) → Stays old new → new.is_in ≡ true → old.is_in ≡ true
+stay_enters old new (inl same) is = ap (λ (c : Given). c.is_in) (sym same) ∙ is
+stay_enters old new (inr left) is = absurd (false≢true (ap (λ (c : Given). c.is_in) (sym left) ∙ is))
+
+pub all_stay_enters : (old new : Polled) → AllStay old new → NoneEnters old new
+all_stay_enters old new stay = record {
+  first = stay_enters old.first new.first stay.first;
+  second = stay_enters old.second new.second stay.second;
+  third = stay_enters old.third new.third stay.third;
+}
+
+pub enters_twice : (a b c : Polled) → NoneEnters a b → NoneEnters b c → NoneEnters a c
+enters_twice a b c one two = record {
+  first = λ is. one.first (two.first is);
+  second = λ is. one.second (two.second is);
+  third = λ is. one.third (two.third is);
+}
+
+pub enters_none : (p : Polled) → NoneEnters p p
+enters_none p = record { first = λ is. is; second = λ is. is; third = λ is. is }
+
+keeps_enters : (place : Place) (bytes : List ℕ) (old new : Polled) → Keeps place bytes old new → NoneEnters old new
+keeps_enters First bytes old new (inl kept) = subst (λ (p : Polled). NoneEnters old p) (sym kept) (record { first = λ is. is; second = λ is. is; third = λ is. is })
+keeps_enters First bytes old new (inr left) = subst (λ (p : Polled). NoneEnters old p) (sym left) (record { first = λ is. absurd (false≢true is); second = λ is. is; third = λ is. is })
+keeps_enters Second bytes old new (inl kept) = subst (λ (p : Polled). NoneEnters old p) (sym kept) (record { first = λ is. is; second = λ is. is; third = λ is. is })
+keeps_enters Second bytes old new (inr left) = subst (λ (p : Polled). NoneEnters old p) (sym left) (record { first = λ is. is; second = λ is. absurd (false≢true is); third = λ is. is })
+keeps_enters Third bytes old new (inl kept) = subst (λ (p : Polled). NoneEnters old p) (sym kept) (record { first = λ is. is; second = λ is. is; third = λ is. is })
+keeps_enters Third bytes old new (inr left) = subst (λ (p : Polled). NoneEnters old p) (sym left) (record { first = λ is. is; second = λ is. is; third = λ is. absurd (false≢true is) })
+
 -- Where no life goes on and no copy comes in, what was voted stays backed.
 pub goes_stay : {Own W : Type 0} (Tells : Type 0) (see : W → Seen Own) (first : ℕ) (old new : Polled) (before after : Linkage W) → AllStay old new → Rests Tells see before after → Goes Tells see first [] old new before after
 goes_stay Tells see first old new before after stay rests = record {
@@ -130,6 +159,7 @@ goes_stay Tells see first old new before after stay rests = record {
       }) backed);
   others = λ told n apart. rests.lives told n;
   running = rests.running;
+  none_enters = all_stay_enters old new stay;
 }
 
 pub goes_none : {Own W : Type 0} (Tells : Type 0) (see : W → Seen Own) (first : ℕ) (p : Polled) (before after : Linkage W) → Rests Tells see before after → Goes Tells see first [] p p before after
@@ -141,6 +171,7 @@ goes_twice Tells see first more a b c x y z one two = record {
   backed = λ told so_far backed. two.backed told so_far (none_less first so_far b (see y.links).history (one.backed told so_far backed));
   others = λ told n apart. two.others told n apart ∙ one.others told n apart;
   running = two.running ∙ one.running;
+  none_enters = enters_twice a b c one.none_enters two.none_enters;
 }
 
 -- ---- A piece
@@ -191,6 +222,7 @@ heard_goes {W = W} Tells see place first copy bytes old new x y z number goes ke
           (rests.lives told (copy_number first place) ∙ at_place.life told) (λ n other. rests.lives told n ∙ at_place.touches.others told n other) keeps) backed);
       others = λ told n apart. rests.lives told n ∙ at_place.touches.others told n (apart place);
       running = rests.running ∙ at_place.touches.running;
+      none_enters = keeps_enters place bytes old new keeps;
     }
 
 pub rests_by : {Own W : Type 0} (Tells : Type 0) (see : W → Seen Own) (copy : ℕ) (x y : Linkage W) → GoesOn Tells see copy [] x y → Rests Tells see x y
@@ -217,6 +249,22 @@ pub hears_fails : {Own W : Type 0} (Tells : Type 0) (see : W → Seen Own) (firs
 hears_fails Tells see first copy buf short p x y goes = goes_none Tells see first p x y (rests_by Tells see copy x y goes)
 
 -- ---- A vote
+
+agreed_none : (found : Option (List ℕ)) → agreed found None ≡ None
+agreed_none (Some x) = refl
+agreed_none None = refl
+
+settled_out : (found : Option (List ℕ)) (copy : Given) → copy.is_in ≡ false → settled found copy ≡ out
+settled_out found copy is = rw (is, agreed_none found) refl
+
+settled_enters : (found : Option (List ℕ)) (copy : Given) → (settled found copy).is_in ≡ true → copy.is_in ≡ true
+settled_enters found copy is = elim (cases_Bool copy.is_in) [
+  | inl was ↦ was
+  | inr was ↦ absurd (false≢true (ap (λ (c : Given). c.is_in) (sym (settled_out found copy was)) ∙ is))
+]
+
+vote_enters : (p : Polled) → NoneEnters p (after_vote p)
+vote_enters p = record { first = settled_enters (voted p) p.first; second = settled_enters (voted p) p.second; third = settled_enters (voted p) p.third }
 
 settled_none : (so_far life : List ℕ) (copy : Given) → Follows so_far life (settled None copy)
 settled_none so_far life copy is = absurd (false≢true is)
@@ -245,6 +293,7 @@ vote_goes Tells see first old new x y (Ok found) frame ballot err rests = record
       (none_less first so_far old (see y.links).history ((goes_none Tells see first old x y rests).backed told so_far backed)));
   others = λ told n apart. rests.lives told n;
   running = rests.running;
+  none_enters = subst (λ (p : Polled). NoneEnters old p) (sym ballot) (vote_enters old);
 }
 vote_goes Tells see first old new x y (Err short) frame ballot err rests = goes_stay Tells see first old new x y (all_stay old new err) rests
 
@@ -256,13 +305,6 @@ behind_copy so_far life is_in = record { is_in = is_in; held = drop (length so_f
 same_copy : (so_far life : List ℕ) (copy : Given) → Follows so_far life copy → copy.is_in ≡ true → behind_copy so_far life copy.is_in ≡ copy
 same_copy so_far life copy follows is =
     ap (λ (held : List ℕ). record copy { held = held }) (ap (λ (xs : List ℕ). drop (length so_far) xs) (follows is) ∙ drop_at so_far copy.held (length so_far) refl)
-
-agreed_none : (found : Option (List ℕ)) → agreed found None ≡ None
-agreed_none (Some x) = refl
-agreed_none None = refl
-
-settled_out : (found : Option (List ℕ)) (copy : Given) → copy.is_in ≡ false → settled found copy ≡ out
-settled_out found copy is = rw (is, agreed_none found) refl
 
 same_front : (so_far life : List ℕ) (copy : Given) → Follows so_far life copy → front_in (behind_copy so_far life copy.is_in) ≡ front_in copy
 same_front so_far life copy follows = elim (cases_Bool copy.is_in) [

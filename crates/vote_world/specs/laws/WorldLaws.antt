@@ -18,7 +18,7 @@ use Rattle.linked_world.specs.laws.ThereLaws.{none_runs}
 use Rattle.linked_world.specs.Still.{Still, Shorted}
 use Rattle.vote_world.specs.Voting.{Voting, copy_number, copies_in, numbered}
 use Rattle.vote_world.specs.Lives.{life_in, lives_of, Backed, Rests, Elsewhere, Leaves, AppGoes, AppBegins, Polls, IsPolled, bytes_in, taken_in}
-use Rattle.vote_world.specs.World.{AreNumbered, given_by, IsVotedOf, IsVotings, TakesOf, Keeps, IsFresh}
+use Rattle.vote_world.specs.World.{AreNumbered, given_by, IsVotedOf, IsVotings, TakesOf, Keeps, IsFresh, CopiesAt}
 use Rattle.vote_world.specs.laws.StepLaws.{SameLives, opens_same, nexts_same, sends_same, receives_same, gives_same, ends_same, starts_others, starts_failed, starts_fresh, takes_others, takes_more, taken_is}
 use Rattle.outside.specs.declared.faults.OpenFault.{OpenFault}
 use Rattle.outside.specs.declared.faults.NextFault.{NextFault}
@@ -215,19 +215,13 @@ idle_keeps Tells see app x y copies result buf seen links running idle =
 
 -- ---- The copies of one application
 
--- what becomes of one application, while the others stay
-pub record CopiesAt (R : Voting → Voting → Type 0) (app : ℕ) (old new : List Voting) : Type 0 where
-  pub size : length new ≡ length old
-  pub others : (i : ℕ) → i ≢ app → slice_get new i ≡ slice_get old i
-  pub here : IfSome (slice_get old app) (λ o. IfSome (slice_get new app) (λ n. R o n))
-
 -- there is such an application, or there is none
-record FoundAt (R : Voting → Voting → Type 0) (app : ℕ) (old new : List Voting) : Type 0 where
-  was : Voting
-  then : Voting
-  is_was : slice_get old app ≡ Some was
-  is_then : slice_get new app ≡ Some then
-  by : R was then
+pub record FoundAt (R : Voting → Voting → Type 0) (app : ℕ) (old new : List Voting) : Type 0 where
+  pub was : Voting
+  pub then : Voting
+  pub is_was : slice_get old app ≡ Some was
+  pub is_then : slice_get new app ≡ Some then
+  pub by : R was then
 
 some_there : (xs ys : List Voting) (app : ℕ) → length ys ≡ length xs → ((v w : Voting) × (slice_get xs app ≡ Some v) × (slice_get ys app ≡ Some w)) ⊎ ((slice_get xs app ≡ None) × (slice_get ys app ≡ None))
 some_there xs ys app size = elim (slice_get_cases xs app).1 [
@@ -241,18 +235,18 @@ some_there xs ys app size = elim (slice_get_cases xs app).1 [
   ]
 ]
 
-at_here : (R : Voting → Voting → Type 0) (app : ℕ) (old new : List Voting) (o n : Voting) → CopiesAt R app old new → slice_get old app ≡ Some o → slice_get new app ≡ Some n → R o n
+pub at_here : (R : Voting → Voting → Type 0) (app : ℕ) (old new : List Voting) (o n : Voting) → CopiesAt R app old new → slice_get old app ≡ Some o → slice_get new app ≡ Some n → R o n
 at_here R app old new o n at_app is_o is_n =
     let one = subst (λ (found : Option Voting). IfSome found (λ o. IfSome (slice_get new app) (λ n. R o n))) is_o at_app.here in
     subst (λ (found : Option Voting). IfSome found (λ n. R o n)) is_n one
 
-found_at : (R : Voting → Voting → Type 0) (app : ℕ) (old new : List Voting) → CopiesAt R app old new → FoundAt R app old new ⊎ ((slice_get old app ≡ None) × (slice_get new app ≡ None))
+pub found_at : (R : Voting → Voting → Type 0) (app : ℕ) (old new : List Voting) → CopiesAt R app old new → FoundAt R app old new ⊎ ((slice_get old app ≡ None) × (slice_get new app ≡ None))
 found_at R app old new at_app = elim (some_there old new app at_app.size) [
   | inl some ↦ inl (record { was = some.0; then = some.1; is_was = some.2; is_then = some.3; by = at_here R app old new some.0 some.1 at_app some.2 some.3 })
   | inr none ↦ inr none
 ]
 
-none_some : (xs : List Voting) (app : ℕ) (v : Voting) → slice_get xs app ≡ None → slice_get xs app ≡ Some v → ⊥
+pub none_some : (xs : List Voting) (app : ℕ) (v : Voting) → slice_get xs app ≡ None → slice_get xs app ≡ Some v → ⊥
 none_some xs app v none is = absurd (no v (sym none ∙ is))
   where
     no : (v : Voting) → None ≡ Some v → ⊥
@@ -273,7 +267,7 @@ goes_leaving Tells see bytes x y o n goes = record { first = goes.first; three =
 begins_leaving : {Own W : Type 0} (Tells : Type 0) (see : W → Seen Own) (x y : Linkage W) (o n : Voting) → AppBegins Tells see o n x y → Leaving Tells see x y o n
 begins_leaving Tells see x y o n begins = record { first = begins.first; three = begins.three; leaves = begins.leaves }
 
-at_weaker : (R S : Voting → Voting → Type 0) (app : ℕ) (old new : List Voting) → ((o n : Voting) → R o n → S o n) → CopiesAt R app old new → CopiesAt S app old new
+pub at_weaker : (R S : Voting → Voting → Type 0) (app : ℕ) (old new : List Voting) → ((o n : Voting) → R o n → S o n) → CopiesAt R app old new → CopiesAt S app old new
 at_weaker R S app old new weaker at_app = record {
   size = at_app.size;
   others = at_app.others;

@@ -1,5 +1,6 @@
 use Rattle.linked_world.specs.laws.StillLaws.{gives_behind, gives_short}
 use Rattle.vote_world.specs.laws.WorldLaws.{app_keeps, still_same, shorted_same}
+use Rattle.vote_world.specs.laws.CopiesLaws.{gives_to, gives_short as gives_to_short}
 use Rattle.vote_world.proofs.voters.Voters.give_running.Goals as goal
 
 pub returns-in-Ok-clause-seen : goal.returns-in-Ok-clause-seen
@@ -9,7 +10,13 @@ pub returns-in-Ok-clause-keeps : goal.returns-in-Ok-clause-keeps
 returns-in-Ok-clause-keeps g c = λ are. c.given.ensures.keeps (app_keeps g.W.World.Tells g.W.World.seen _ _ _ _ _ (record { size = c.in-Ok.ensures.size; others = c.in-Ok.ensures.others; here = c.in-Ok.ensures.here }) c.in-Ok.ensures.none (still_same g.W.World.Tells _ _ c.in-Ok.ensures.seen) are)
 
 pub returns-in-Err-clause-seen : goal.returns-in-Err-clause-seen
-returns-in-Err-clause-seen g c = gives_short c.in-Err.ensures.seen c.requires
+returns-in-Err-clause-seen g c = gives_short c.in-Err.ensures.seen c.requires.told
 
 pub returns-in-Err-clause-keeps : goal.returns-in-Err-clause-keeps
 returns-in-Err-clause-keeps g c = app_keeps g.W.World.Tells g.W.World.seen _ _ _ _ _ (record { size = c.in-Err.ensures.size; others = c.in-Err.ensures.others; here = c.in-Err.ensures.here }) c.in-Err.ensures.none (shorted_same g.W.World.Tells _ _ c.in-Err.ensures.seen)
+
+pub returns-in-Ok-clause-copies : goal.returns-in-Ok-clause-copies
+returns-in-Ok-clause-copies g c = gives_to g.W.World.Tells g.W.World.seen _ _ _ _ _ _ _ _ (record { size = c.in-Ok.ensures.size; others = c.in-Ok.ensures.others; here = c.in-Ok.ensures.here }) c.in-Ok.ensures.answers c.given.ensures.given
+
+pub returns-in-Err-clause-copies : goal.returns-in-Err-clause-copies
+returns-in-Err-clause-copies g c = gives_to_short g.W.World.Tells g.W.World.seen _ _ _ _ _ _ (record { size = c.in-Err.ensures.size; others = c.in-Err.ensures.others; here = c.in-Err.ensures.here }) c.in-Err.ensures.answers
