@@ -10,24 +10,14 @@ import os
 import sys
 
 sys.path.insert(0, os.path.join(os.path.dirname(os.path.abspath(__file__)), "..", "sdk", "python"))
-from legosdn import App, Match, Output, Port
+from counting import Counting
+from legosdn import Match, Output
 
 
-class LinkWatcher(App):
+class LinkWatcher(Counting):
     def __init__(self, file, last):
         super().__init__()
         self.file, self.last = file, last
-        self.turns = 0
-
-    def get_state(self):
-        return str(self.turns).encode()
-
-    def set_state(self, state):
-        self.turns = int(state)
-
-    def on_join(self, event):
-        self.turns += 1
-        self.add_flow(event.dpid, Match(dl_dst="ff:ff:ff:ff:ff:ff"), [Output(Port.FLOOD)], priority=10, cookie=self.turns)
 
     def on_leave(self, event):
         os._exit(1)

@@ -12,7 +12,8 @@ import sys
 import time
 
 sys.path.insert(0, os.path.join(os.path.dirname(os.path.abspath(__file__)), "..", "sdk", "python"))
-from legosdn import App, Match, Output, Port, UnknownSwitch, frames, messages
+from counting import Counting
+from legosdn import Match, Output, Port, UnknownSwitch, frames, messages
 
 HOW = {
     0x02: "end",
@@ -32,21 +33,7 @@ NOW_AND_THEN = 8
 RESIGNED = 0x0B
 
 
-class Misbehaving(App):
-    def __init__(self):
-        super().__init__()
-        self.turns = 0
-
-    def get_state(self):
-        return str(self.turns).encode()
-
-    def set_state(self, state):
-        self.turns = int(state)
-
-    def on_join(self, event):
-        self.turns += 1
-        self.add_flow(event.dpid, Match(dl_dst="ff:ff:ff:ff:ff:ff"), [Output(Port.FLOOD)], priority=10, cookie=self.turns)
-
+class Misbehaving(Counting):
     def on_packet_in(self, event):
         self.turns += 1
         source = event.data[6:12]
